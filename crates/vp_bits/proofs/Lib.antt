@@ -1,0 +1,4 @@
+pub mod Vectors
+pub mod Reading
+pub mod Writing
+pub mod Rows

@@ -1,0 +1,18 @@
+-- The numbers and the lines of the faults of a source.
+use Rattle.std.specs.Prelude.{ℕ}
+use Rattle.vp_elab.specs.declared.fault.ElabError.{ElabError}
+use Rattle.vp_elab.specs.declared.fault.ElabError.TheVariants.{Duplicate, Undeclared, TooManyObjects, NoMemory}
+
+-- the number of a refusal (profile)
+abbrev pub code_of : ElabError → ℕ
+code_of (Duplicate line) = 501
+code_of (Undeclared line) = 502
+code_of TooManyObjects = 507
+code_of NoMemory = 510
+
+-- its line, 0 where it has none
+abbrev pub line_of : ElabError → ℕ
+line_of (Duplicate line) = line
+line_of (Undeclared line) = line
+line_of TooManyObjects = 0
+line_of NoMemory = 0

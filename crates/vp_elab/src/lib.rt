@@ -1,0 +1,13 @@
+//! The design of a source: its objects, in preorder, with their names and envelopes.
+#![tactic(auto)]
+
+mod design;
+mod elaboration;
+mod fault;
+mod object;
+mod scope;
+
+pub use design::Design;
+pub use elaboration::{OBJECT_LIMIT, elaborate};
+pub use fault::ElabError;
+pub use object::{Kind, Object, ObjectId};

@@ -1,0 +1,14 @@
+-- The numbers and the lines of the faults of a design's expressions.
+use Rattle.std.specs.Prelude.{ℕ}
+use Rattle.vp_expr.specs.declared.fault.ExprError.{ExprError}
+use Rattle.vp_expr.specs.declared.fault.ExprError.TheVariants.{TooWide, NoMemory}
+
+-- the number of a refusal (profile)
+abbrev pub code_of : ExprError → ℕ
+code_of (TooWide line) = 601
+code_of NoMemory = 604
+
+-- its line, 0 where it has none
+abbrev pub line_of : ExprError → ℕ
+line_of (TooWide line) = line
+line_of NoMemory = 0

@@ -1,0 +1,128 @@
+ghost use Rattle.std.specs.Prelude.{◌≡◌, ◌+◌, ◌<◌, ◌^◌, IfOk, OnOk, vec_len};
+
+use std::alloc::{AllocError, Global};
+use vp_lex::Token;
+use vp_list::{Sequence, Text};
+
+/// A part of an expression (clause 5). It names its parts by their places in the list of expressions,
+/// and tokens by their places in the text.
+#[derive(Clone, Copy, Debug, PartialEq, Eq)]
+pub enum Expression {
+    /// A name, by its token.
+    Name(u32),
+    /// A sized literal: its first token, its size in bits (1 to 65,535), and the token of its digits.
+    Literal { place: u32, size: u32, digits: u32 },
+}
+
+/// A statement (clause 9). It names its parts by their places in the list of statements or of expressions.
+#[derive(Clone, Copy, Debug, PartialEq, Eq)]
+pub enum Statement {
+    /// A block without statements.
+    Empty,
+    /// The statements of a block, and one more after them.
+    Then { list: u32, last: u32 },
+    /// A blocking assignment to a name, by its token.
+    Assign { target: u32, value: u32 },
+}
+
+/// An item of a module, by the place of its declaration.
+#[derive(Clone, Copy, Debug, PartialEq, Eq)]
+pub enum Item {
+    /// A reg of one bit, by its name.
+    Reg { name: u32 },
+    /// An `initial`, by its keyword, and its statement.
+    Initial { keyword: u32, body: u32 },
+}
+
+/// A module: the token of its name, and its items from `first` up to `end`.
+#[derive(Clone, Copy, Debug, PartialEq, Eq)]
+pub struct Module {
+    pub name: u32,
+    pub first: u32,
+    pub end: u32,
+}
+
+/// What a text says: its modules, in order, with the lists that they name, its tokens and itself.
+/// A part stands behind its own parts.
+#[derive(Drop)]
+pub struct Source {
+    pub text: Text,
+    pub tokens: Sequence<Token>,
+    pub modules: Sequence<Module>,
+    pub items: Sequence<Item>,
+    pub statements: Sequence<Statement>,
+    pub expressions: Sequence<Expression>,
+}
+
+impl Source {
+    /// The token at a place; none behind the end.
+    pub fn token(&self, place: u32) -> Option<Token> {
+        self.tokens.as_slice().get(place as usize).copied()
+    }
+
+    /// The text of the token at a place; empty behind the end.
+    pub fn word(&self, place: u32) -> &str {
+        match self.tokens.as_slice().get(place as usize) {
+            Some(token) => token.text(self.text.as_str()),
+            None => "",
+        }
+    }
+
+    /// The line of the token at a place, from 1; 0 behind the end.
+    pub fn line(&self, place: u32) -> u32 {
+        match self.tokens.as_slice().get(place as usize) {
+            Some(token) => token.line,
+            None => 0,
+        }
+    }
+}
+
+/// The lists of a source while it is read.
+#[derive(Drop)]
+pub struct Arena {
+    pub items: Vec<Item>,
+    pub statements: Vec<Statement>,
+    pub expressions: Vec<Expression>,
+}
+
+impl Arena {
+    pub fn new(alloc: Global) -> Arena
+        ensures items { vec_len result.items ≡ 0 }
+        ensures statements { vec_len result.statements ≡ 0 }
+        ensures expressions { vec_len result.expressions ≡ 0 }
+    {
+        Arena {
+            items: Vec::new(alloc),
+            statements: Vec::new(alloc),
+            expressions: Vec::new(alloc),
+        }
+    }
+}
+
+/// One more expression, and its place.
+pub fn add_expression(
+    expressions: &mut Vec<Expression>,
+    expression: Expression,
+) -> Result<u32, AllocError>
+    requires { vec_len expressions.old < 2 ^ 32 }
+    ensures place { IfOk result (λ place. place ≡ vec_len expressions.old) }
+    ensures len { OnOk result (vec_len expressions.new ≡ vec_len expressions.old + 1) }
+{
+    let place = expressions.len() as u32;
+    expressions.push(expression)?;
+    Ok(place)
+}
+
+/// One more statement, and its place.
+pub fn add_statement(
+    statements: &mut Vec<Statement>,
+    statement: Statement,
+) -> Result<u32, AllocError>
+    requires { vec_len statements.old < 2 ^ 32 }
+    ensures place { IfOk result (λ place. place ≡ vec_len statements.old) }
+    ensures len { OnOk result (vec_len statements.new ≡ vec_len statements.old + 1) }
+{
+    let place = statements.len() as u32;
+    statements.push(statement)?;
+    Ok(place)
+}

@@ -1,0 +1,74 @@
+ghost use Rattle.std.specs.Prelude.{◌≡◌, ◌≤◌, length, IfOk, vec_len};
+ghost use Rattle.vp_lex.specs.declared.token.TheConstants.{TEXT_LIMIT};
+
+use std::alloc::{AllocError, Global};
+use vp_lex::{Keyword, Punctuator, Token, TokenKind};
+
+/// Numbers of this size and above are told no further.
+pub const NUMBER_LIMIT: u32 = 1 << 31;
+
+/// What the grammar sees of a token.
+#[derive(Clone, Copy, Debug, PartialEq, Eq)]
+pub enum SymbolKind {
+    Name,
+    /// A decimal number, at most `NUMBER_LIMIT`.
+    Number(u32),
+    Base,
+    String,
+    Keyword(Keyword),
+    Punctuator(Punctuator),
+}
+
+/// A token that the grammar sees, with its place.
+#[derive(Clone, Copy, Debug, PartialEq, Eq)]
+pub struct Symbol {
+    pub kind: SymbolKind,
+    pub place: u32,
+}
+
+/// The value of decimal digits, among which `_` counts for nothing; at most `NUMBER_LIMIT`.
+fn decimal(digits: &str) -> u32 {
+    let mut value = 0u32;
+    for digit in digits.bytes() {
+        if digit.is_ascii_digit() {
+            value = value
+                .saturating_mul(10)
+                .saturating_add(u32::from(digit - b'0'))
+                .min(NUMBER_LIMIT);
+        }
+    }
+    value
+}
+
+/// What the grammar sees of a token; none of a directive.
+fn symbol_kind(text: &str, token: Token) -> Option<SymbolKind> {
+    if token.directive {
+        return None;
+    }
+    match token.kind {
+        TokenKind::Name => Some(SymbolKind::Name),
+        TokenKind::Keyword(keyword) => Some(SymbolKind::Keyword(keyword)),
+        TokenKind::Number => Some(SymbolKind::Number(decimal(token.text(text)))),
+        TokenKind::Base => Some(SymbolKind::Base),
+        TokenKind::String => Some(SymbolKind::String),
+        TokenKind::Punctuator(punctuator) => Some(SymbolKind::Punctuator(punctuator)),
+        TokenKind::Directive => None,
+    }
+}
+
+/// The tokens that the grammar sees, in order, each with its place.
+pub fn symbols(alloc: Global, text: &str, tokens: &[Token]) -> Result<Vec<Symbol>, AllocError>
+    requires { length tokens.now ≤ TEXT_LIMIT }
+    ensures { IfOk result (λ symbols. vec_len symbols ≤ length tokens.now) }
+{
+    let mut symbols = Vec::new(alloc);
+    for (place, token) in tokens.iter().enumerate() {
+        if let Some(kind) = symbol_kind(text, *token) {
+            symbols.push(Symbol {
+                kind,
+                place: place as u32,
+            })?;
+        }
+    }
+    Ok(symbols)
+}

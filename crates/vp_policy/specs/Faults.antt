@@ -1,0 +1,9 @@
+-- The numbers of the refusals of a policy file.
+use Rattle.std.specs.Prelude.{ℕ}
+use Rattle.vp_policy.specs.declared.fault.PolicyError.{PolicyError}
+use Rattle.vp_policy.specs.declared.fault.PolicyError.TheVariants.{BadPolicy, NoMemory}
+
+-- the number of a refusal (profile)
+abbrev pub code_of : PolicyError → ℕ
+code_of BadPolicy = 901
+code_of NoMemory = 905

@@ -1,0 +1,46 @@
+ghost use Rattle.std.specs.Prelude.{◌≡◌};
+ghost use Rattle.vp_policy.specs.declared.fault.PolicyError.TheVariants.{NoMemory};
+
+use std::alloc::{AllocError, AllocFailed};
+use thiserror::Error;
+
+/// Why a policy file is refused.
+#[derive(Debug, Drop, Error)]
+pub enum PolicyError {
+    /// It is no policy file (901).
+    #[error("bad policy")]
+    BadPolicy,
+    /// Want of memory (905).
+    #[error("no memory")]
+    NoMemory,
+}
+
+impl PolicyError {
+    ghost use Rattle.vp_policy.specs.Faults.{code_of};
+
+    /// The number of the refusal, 901 or 905.
+    pub fn code(&self) -> u32
+        ensures { result ≡ code_of self.now }
+    {
+        match self {
+            PolicyError::BadPolicy => 901,
+            PolicyError::NoMemory => 905,
+        }
+    }
+}
+
+impl From<AllocError> for PolicyError {
+    ghost from_gives = { λ _ e. e ≡ NoMemory };
+
+    fn from(_e: AllocError) -> PolicyError {
+        PolicyError::NoMemory
+    }
+}
+
+impl<T: Drop> From<AllocFailed<T>> for PolicyError {
+    ghost from_gives = { λ _ e. e ≡ NoMemory };
+
+    fn from(_e: AllocFailed<T>) -> PolicyError {
+        PolicyError::NoMemory
+    }
+}

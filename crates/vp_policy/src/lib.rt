@@ -1,0 +1,12 @@
+//! The policy: who may do what with which object, and what is denied to whom.
+#![tactic(auto)]
+
+mod denial;
+mod fault;
+mod filter;
+mod policy;
+mod reading;
+
+pub use denial::{By, Denial, Look};
+pub use fault::PolicyError;
+pub use policy::{Policy, UserId};

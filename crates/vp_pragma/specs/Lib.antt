@@ -1,0 +1,4 @@
+pub mod Rights
+pub mod Faults
+pub mod Envelopes
+pub mod Reading

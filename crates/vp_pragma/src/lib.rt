@@ -1,0 +1,14 @@
+//! Protect envelopes: their places, their authors, and sets of rights.
+#![tactic(auto)]
+
+mod envelope;
+mod fault;
+mod line;
+mod reading;
+mod rights;
+mod surroundings;
+
+pub use envelope::{Envelope, Envelopes};
+pub use fault::PragmaError;
+pub use reading::envelopes;
+pub use rights::{Right, Rights, access};

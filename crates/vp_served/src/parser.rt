@@ -1,0 +1,79 @@
+use crate::words;
+use crate::words::Misuse;
+use clap::error::ErrorKind;
+use clap::{Arg, ArgAction, ArgMatches, Error};
+use std::alloc::{AllocError, Global};
+use vp_list::Text;
+
+const ABOUT: &str =
+    "Answers questions about a Verilog design, to each user what the policy lets him see.";
+
+const BUNDLE_HELP: &str =
+    "Without a command, a bundle is read from standard input: the design, a line %%, the policy, \
+a line %%, and the script of request lines. Each line of the script is answered by a line.
+
+Exit status: 0 after the script's end, 1 after a fault, which is printed as `fault CODE line N`, 2 after bad words.";
+
+const RUN_HELP: &str =
+    "The script of request lines is read from standard input. Each line is answered by a line.";
+
+/// The program's words.
+fn grammar<'a>(alloc: Global) -> Result<clap::Command<'a>, AllocError> {
+    let design = Arg::new(alloc, "DESIGN")
+        .help("The file of the Verilog text, at most 1,048,576 bytes")
+        .required(true)
+        .action(ArgAction::Set);
+    let policy = Arg::new(alloc, "POLICY")
+        .help("The file of the policy, in JSON, at most 1,048,576 bytes")
+        .required(true)
+        .action(ArgAction::Set);
+    let run = clap::Command::new(alloc, "run")
+        .about("Runs a script over a design under a policy")
+        .after_help(RUN_HELP)
+        .arg(design)?
+        .arg(policy)?;
+    clap::Command::new(alloc, "vp_served")
+        .version("0.1.0")
+        .about(ABOUT)
+        .after_help(BUNDLE_HELP)
+        .subcommand(run)
+}
+
+/// What the program's words ask, of which the first is the program's name; or what is wrong with them
+/// (1608), or want of memory (1607).
+pub fn command<'a>(alloc: Global, words: &'a [String]) -> Result<words::Command<'a>, Misuse> {
+    let Ok(grammar) = grammar(alloc) else {
+        return Err(Misuse::NoMemory);
+    };
+    match grammar.try_get_matches_from(words) {
+        Ok(matches) => Ok(asked(&matches)),
+        Err(error) => unmatched(alloc, &error),
+    }
+}
+
+/// What words ask that fit the grammar.
+fn asked<'a>(matches: &ArgMatches<'a>) -> words::Command<'a> {
+    match matches.subcommand_matches("run") {
+        Some(run) => words::Command::Run {
+            design: run.get_str("DESIGN").unwrap_or(""),
+            policy: run.get_str("POLICY").unwrap_or(""),
+        },
+        None => words::Command::Bundle,
+    }
+}
+
+/// What words ask that do not fit the grammar: help, the version, or nothing that the program does.
+fn unmatched<'a>(alloc: Global, error: &Error) -> Result<words::Command<'a>, Misuse> {
+    if error.kind() == ErrorKind::OutOfMemory {
+        return Err(Misuse::NoMemory);
+    }
+    let Ok(text) = format!(in alloc; "{error}") else {
+        return Err(Misuse::NoMemory);
+    };
+    let text = Text::from_string(text);
+    if error.use_stderr() {
+        Err(Misuse::BadWords(text))
+    } else {
+        Ok(words::Command::Show(text))
+    }
+}

@@ -1,0 +1,13 @@
+-- The numbers of the refusals of a session's calls.
+use Rattle.std.specs.Prelude.{ℕ}
+use Rattle.vp_vpi.specs.declared.fault.VpiError.{VpiError}
+use Rattle.vp_vpi.specs.declared.fault.VpiError.TheVariants.{BadHandle, Denied, WrongKind, TooManyHandles, NoSuchName, NoMemory}
+
+-- the number of a refusal (profile)
+abbrev pub code_of : VpiError → ℕ
+code_of BadHandle = 1101
+code_of (Denied denial) = 1109
+code_of WrongKind = 1102
+code_of TooManyHandles = 1105
+code_of NoSuchName = 1106
+code_of NoMemory = 1107

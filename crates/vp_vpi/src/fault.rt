@@ -1,0 +1,56 @@
+ghost use Rattle.std.specs.Prelude.{◌≡◌};
+ghost use Rattle.vp_vpi.specs.declared.fault.VpiError.TheVariants.{NoMemory};
+
+use std::alloc::{AllocError, AllocFailed};
+use vp_policy::Denial;
+
+/// Why a session's call is refused. The refusals are tested in the order in which they stand here.
+#[derive(Clone, Copy, Debug, PartialEq, Eq)]
+pub enum VpiError {
+    /// A number that is no handle of the session (1101).
+    BadHandle,
+    /// The user lacks the right that the call needs (1109).
+    Denied(Denial),
+    /// The object is of a kind that the call does not take (1102).
+    WrongKind,
+    /// 65,536 handles at once, or no number that was not used before (1105).
+    TooManyHandles,
+    /// Nothing of this name is there, and nothing is hidden there (1106).
+    NoSuchName,
+    /// Want of memory (1107).
+    NoMemory,
+}
+
+impl VpiError {
+    ghost use Rattle.vp_vpi.specs.Faults.{code_of};
+
+    /// The number of the refusal, 1101 to 1109.
+    pub fn code(&self) -> u32
+        ensures { result ≡ code_of self.now }
+    {
+        match self {
+            VpiError::BadHandle => 1101,
+            VpiError::Denied(_) => 1109,
+            VpiError::WrongKind => 1102,
+            VpiError::TooManyHandles => 1105,
+            VpiError::NoSuchName => 1106,
+            VpiError::NoMemory => 1107,
+        }
+    }
+}
+
+impl From<AllocError> for VpiError {
+    ghost from_gives = { λ _ e. e ≡ NoMemory };
+
+    fn from(_e: AllocError) -> VpiError {
+        VpiError::NoMemory
+    }
+}
+
+impl<T: Drop> From<AllocFailed<T>> for VpiError {
+    ghost from_gives = { λ _ e. e ≡ NoMemory };
+
+    fn from(_e: AllocFailed<T>) -> VpiError {
+        VpiError::NoMemory
+    }
+}

@@ -1,0 +1,15 @@
+-- The error texts of lines.
+use Rattle.std.specs.Prelude.{ℕ, List, codes}
+use Rattle.vp_world.specs.declared.reply.Refusal.{Refusal}
+use Rattle.vp_world.specs.declared.reply.Refusal.TheVariants.{BadHandle, WrongKind, TooManyHandles, NoSuchName, SessionsFull, BadToken, NotOpen, NoMemory}
+
+-- the text that a line gives for a refusal (profile)
+abbrev pub text_of : Refusal → List ℕ
+text_of BadHandle = codes "bad handle"
+text_of WrongKind = codes "wrong kind"
+text_of TooManyHandles = codes "too many handles"
+text_of NoSuchName = codes "no such name"
+text_of SessionsFull = codes "sessions full"
+text_of BadToken = codes "bad token"
+text_of NotOpen = codes "not open"
+text_of NoMemory = codes "no memory"

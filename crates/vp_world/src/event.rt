@@ -1,0 +1,41 @@
+use vp_list::Text;
+use vp_policy::UserId;
+
+/// A session: its user, and the how-many-th of his it is, from 1.
+#[derive(Clone, Copy, Debug, PartialEq, Eq, Hash)]
+pub struct SessionId {
+    pub user: UserId,
+    pub opens: u64,
+}
+
+/// What a line asks.
+#[derive(Drop)]
+pub enum Request {
+    /// To open a session for a user, by his name and token.
+    Open { user: Text, token: Text },
+    /// To close the session.
+    Close,
+    /// A handle of the object of a dotted name.
+    Handle { name: Text },
+    /// The value of a handle's object, in binary digits.
+    Value { handle: u32 },
+}
+
+/// What can happen to a world.
+#[derive(Drop)]
+pub enum Event {
+    /// A user opens a session.
+    Open {
+        user: Text,
+        token: Text,
+    },
+    /// A session asks; the request is neither `Open` nor `Close`.
+    Ask {
+        session: SessionId,
+        request: Request,
+    },
+    /// A session is closed.
+    Close {
+        session: SessionId,
+    },
+}
