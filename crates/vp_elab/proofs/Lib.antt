@@ -1,1 +1,2 @@
 pub mod Preorder
+pub mod TreeRows

@@ -1,0 +1,12 @@
+pub mod TokenRows
+pub mod Fronts
+pub mod FirstBytes
+pub mod Reaching
+pub mod CutLaws
+pub mod Complete
+pub mod FaultLaws
+pub mod Places
+pub mod TokenSteps
+pub mod TokenLaws
+pub mod TokenBytes
+pub mod PieceRows

@@ -21,7 +21,7 @@ pub enum Punctuator {
 pub enum TokenKind {
     /// An identifier that is no keyword (clause 3.7).
     Name,
-    /// A keyword (clause 3.7.3).
+    /// A keyword (clause 3.7.2).
     Keyword(Keyword),
     /// Decimal digits and `_` (clause 3.5.1).
     Number,

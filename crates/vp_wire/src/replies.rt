@@ -17,6 +17,7 @@ fn digits(alloc: Global, value: Bits) -> Result<Value, WireError> {
 /// A denial, with the author of its envelope.
 fn denied(alloc: Global, denial: Denial, author: &str) -> Result<Value, AllocError> {
     let by = match denial.by {
+        By::Viewport(_) => "viewport",
         By::Envelope => "envelope",
         By::Grant => "grant",
     };

@@ -1,3 +1,9 @@
+pub use Rattle.vp_elab.specs.Tree
+pub use Rattle.vp_policy.specs.Users
+pub use Rattle.vp_policy.specs.Filter
 pub mod Events
 pub mod Faults
 pub mod Refusals
+pub mod Worlds
+pub mod Answers
+pub mod History

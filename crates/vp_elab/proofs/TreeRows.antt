@@ -1,0 +1,66 @@
+-- The tree of a text with one envelope, computed from its bytes. Each row is an equation that holds by computation.
+use Rattle.std.proofs.Common.{◌≡◌, ℕ, List, [], ◌∷◌, Some, None, Result, Ok, Err, refl}
+use Rattle.std.specs.Prelude.{codes}
+use Rattle.std.specs.Fmt.{digits}
+use Rattle.vp_lex.specs.declared.fault.LexError.{LexError}
+use Rattle.vp_lex.specs.declared.token.Token.{Token}
+use Rattle.vp_lex.specs.Tokens.{tokens_of}
+use Rattle.vp_parse.specs.declared.source.Source.{Source}
+use Rattle.vp_parse.specs.declared.source.Item.TheVariants as item
+use Rattle.vp_pragma.specs.declared.envelope.Envelope.{Envelope}
+use Rattle.vp_pragma.specs.declared.fault.PragmaError.{PragmaError}
+use Rattle.vp_pragma.specs.EnvelopesOf.{envelopes_of}
+use Rattle.vp_elab.specs.declared.object.Kind.{Kind}
+use Rattle.vp_elab.specs.declared.object.Kind.TheVariants.{Module, Reg, Initial}
+use Rattle.vp_elab.specs.Tree.{Step, Node, Tree}
+use Rattle.vp_elab.specs.Elaboration.{tree_of}
+
+abbrev text : List ℕ
+text = codes "module top;\n  reg a;\n`pragma protect author=\"acme\", begin\n  reg k;\n`pragma protect end\n  initial begin end\nendmodule\n"
+
+abbrev tokens_in : Result (List Token) LexError → List Token
+tokens_in (Ok tokens) = tokens
+tokens_in (Err e) = []
+
+abbrev envelopes_in : Result (List Envelope) PragmaError → List Envelope
+envelopes_in (Ok envelopes) = envelopes
+envelopes_in (Err e) = []
+
+-- the source of the text: its statements name nothing
+abbrev source : Source
+source = record {
+  text = text;
+  tokens = tokens_in (tokens_of text);
+  modules = record { name = 1; first = 0; end = 3 } ∷ [];
+  items = item.Reg 4 ∷ item.Reg 14 ∷ item.Initial 19 0 ∷ [];
+  statements = [];
+  expressions = [];
+}
+
+abbrev tree : Tree
+tree = tree_of source (envelopes_in (envelopes_of text (tokens_in (tokens_of text))))
+
+abbrev root : Step
+root = record { name = codes "top"; place = 1; envelope = 0; in_module = None }
+
+abbrev declared : List ℕ → ℕ → ℕ → Kind → ℕ → Node
+declared name place envelope kind line = record {
+  path = root ∷ record { name = name; place = place; envelope = envelope; in_module = Some (codes "top") } ∷ [];
+  kind = kind;
+  width = 1;
+  line = line;
+  definition = None;
+}
+
+nodes_of_text :
+    tree.nodes
+    ≡ record { path = root ∷ []; kind = Module; width = 1; line = 1; definition = Some (codes "top") }
+    ∷ declared (codes "a") 4 0 Reg 2
+    ∷ declared (codes "k") 14 1 Reg 4
+    ∷ declared (codes "initial@6:3") 19 0 Initial 6
+    ∷ []
+unfolding digits
+nodes_of_text = refl
+
+authors_of_text : tree.authors ≡ codes "acme" ∷ []
+authors_of_text = refl

@@ -1,0 +1,99 @@
+-- The tree of a source: what its modules declare, in preorder.
+use Rattle.std.specs.Prelude.{ℕ, List, [], ◌∷◌, ◌++◌, map, slice_get, slice_range, Option, Some, None, codes, decimal}
+use Rattle.std.specs.List.{flat_map}
+use Rattle.std.specs.Option.{option_map_or}
+use Rattle.vp_lex.specs.declared.token.Token.{Token}
+use Rattle.vp_parse.specs.declared.source.Source.{Source}
+use Rattle.vp_parse.specs.declared.source.Module as declared
+use Rattle.vp_parse.specs.declared.source.Item.{Item}
+use Rattle.vp_parse.specs.declared.source.Item.TheVariants as item
+use Rattle.vp_pragma.specs.declared.envelope.Envelope.{Envelope}
+use Rattle.vp_pragma.specs.Envelopes.{envelope_at}
+use Rattle.vp_elab.specs.declared.object.Kind.{Kind}
+use Rattle.vp_elab.specs.declared.object.Kind.TheVariants as kind
+use Rattle.vp_elab.specs.Tree.{Step, Node, Tree}
+
+-- ---- tokens by their places
+
+-- the text of the token at a place
+abbrev pub word_at : Source → ℕ → List ℕ
+word_at source place =
+    option_map_or (λ (t : Token). slice_range source.text t.start t.end) (slice_get source.tokens place) []
+
+-- the line of the token at a place
+abbrev pub line_at : Source → ℕ → ℕ
+line_at source place = option_map_or (λ (t : Token). t.line) (slice_get source.tokens place) 0
+
+-- the column of the token at a place
+abbrev pub column_at : Source → ℕ → ℕ
+column_at source place = option_map_or (λ (t : Token). t.column) (slice_get source.tokens place) 0
+
+-- ---- items
+
+-- the place of a declaration: of its name, or of the keyword of a process (profile)
+abbrev pub item_place : Item → ℕ
+item_place (item.Reg name) = name
+item_place (item.Initial keyword body) = keyword
+
+-- the kind of what an item declares (clause 26.6)
+abbrev pub item_kind : Item → Kind
+item_kind (item.Reg name) = kind.Reg
+item_kind (item.Initial keyword body) = kind.Initial
+
+-- the name of a process: its keyword, its line and its column (profile)
+abbrev pub process_name : List ℕ → Source → ℕ → List ℕ
+process_name keyword source place =
+    keyword ++ codes "@" ++ decimal (line_at source place) ++ codes ":" ++ decimal (column_at source place)
+
+-- the name of what an item declares
+abbrev pub item_name : Source → Item → List ℕ
+item_name source (item.Reg name) = word_at source name
+item_name source (item.Initial keyword body) = process_name (codes "initial") source keyword
+
+-- ---- nodes
+
+-- the step to a declaration in a module
+abbrev pub step_at : List Envelope → Option (List ℕ) → List ℕ → ℕ → Step
+step_at envelopes in_module name place = record {
+  name = name;
+  place = place;
+  envelope = envelope_at envelopes place;
+  in_module = in_module;
+}
+
+-- the step to a top module, by the token of its name
+abbrev pub root_step : Source → List Envelope → ℕ → Step
+root_step source envelopes name = step_at envelopes None (word_at source name) name
+
+-- the node of an item of a top module
+abbrev pub item_node : Source → List Envelope → ℕ → Item → Node
+item_node source envelopes module_name i = record {
+  path =
+      root_step source envelopes module_name
+      ∷ step_at envelopes (Some (word_at source module_name)) (item_name source i) (item_place i)
+      ∷ [];
+  kind = item_kind i;
+  width = 1;
+  line = line_at source (item_place i);
+  definition = None;
+}
+
+-- the nodes of a top module: itself, and those of its items in the order of the text (clause 12.5)
+abbrev pub module_nodes : Source → List Envelope → declared.Module → List Node
+module_nodes source envelopes m =
+    record {
+      path = root_step source envelopes m.name ∷ [];
+      kind = kind.Module;
+      width = 1;
+      line = line_at source m.name;
+      definition = Some (word_at source m.name);
+    }
+    ∷ map (item_node source envelopes m.name) (slice_range source.items m.first m.end)
+
+-- the tree of a source with these envelopes; each module is a top module, since none is instantiated yet
+abbrev pub tree_of : Source → List Envelope → Tree
+tree_of source envelopes = record {
+  nodes = flat_map (module_nodes source envelopes) source.modules;
+  viewports = [];
+  authors = map (λ e. e.author) envelopes;
+}

@@ -1,0 +1,58 @@
+-- A design as a list of nodes in preorder, each with the steps of its path.
+use Rattle.std.specs.Prelude.{ℕ, ◌==◌, ◌&&◌, Bool, true, false, if◌then◌else◌, List, [], ◌∷◌, Option, Some, None, is_some}
+use Rattle.std.specs.List.{filter_map}
+use Rattle.std.specs.Str.{bytes_eq}
+use Rattle.vp_pragma.specs.Envelopes.{Viewport}
+use Rattle.vp_elab.specs.declared.object.Kind.{Kind}
+
+-- a step of a path: the name, the place and the envelope of a declaration, and the module in which it stands; a top
+-- module stands in none (clause 12.5, profile)
+pub record Step : Type 0 where
+  pub name : List ℕ
+  pub place : ℕ
+  pub envelope : ℕ
+  pub in_module : Option (List ℕ)
+
+-- an object: the steps from its top module down to itself, its kind, its width in bits, its line, and of a module the
+-- name of its definition (clause 26.6)
+pub record Node : Type 0 where
+  pub path : List Step
+  pub kind : Kind
+  pub width : ℕ
+  pub line : ℕ
+  pub definition : Option (List ℕ)
+
+-- a design: its nodes in preorder, its viewports in the order of the text, and the author of each envelope
+pub record Tree : Type 0 where
+  pub nodes : List Node
+  pub viewports : List Viewport
+  pub authors : List (List ℕ)
+
+-- the steps have these names
+abbrev pub is_named : List (List ℕ) → List Step → Bool
+is_named [] [] = true
+is_named [] (s ∷ path) = false
+is_named (n ∷ names) [] = false
+is_named (n ∷ names) (s ∷ path) = bytes_eq n s.name && is_named names path
+
+-- the last step of a path that has one step behind these names
+abbrev pub step_in : List (List ℕ) → List Step → Option Step
+step_in [] [] = None
+step_in [] (s ∷ []) = Some s
+step_in [] (s ∷ t ∷ path) = None
+step_in (n ∷ names) [] = None
+step_in (n ∷ names) (s ∷ path) = if bytes_eq n s.name then step_in names path else None
+
+-- what is declared in the scope of these names; in that of no name, the top modules
+abbrev pub declared_in : List (List ℕ) → List Node → List Step
+declared_in scope nodes = filter_map (λ node. step_in scope node.path) nodes
+
+-- two modules' names are given, and the same; or the first is not given
+abbrev pub fits_module : Option (List ℕ) → Option (List ℕ) → Bool
+fits_module None there = true
+fits_module (Some m) None = false
+fits_module (Some m) (Some n) = bytes_eq m n
+
+-- a viewport matches a step: an item of its name, and of its module where it names one, in its envelope (profile)
+abbrev pub matches : Step → Viewport → Bool
+matches s v = (v.envelope == s.envelope) && is_some s.in_module && bytes_eq v.item s.name && fits_module v.in_module s.in_module

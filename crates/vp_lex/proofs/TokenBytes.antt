@@ -1,0 +1,68 @@
+-- The tokens of a text stand in it, in order, each with the bytes of its piece.
+use Rattle.std.proofs.Common.{◌≡◌, ℕ, ◌+◌, ◌-◌, ◌≤◌, ◌<◌, Bool, false, List, [], ◌∷◌, ◌++◌, length, take, drop, map, Option, Some, None, refl, sym, ◌∙◌, ap, subst, arith}
+use Rattle.std.proofs.Math.Seq.{take-append_seam, drop-append_seam}
+use Rattle.std.proofs.lemmas.List.{length-append, append_assoc, append-nil}
+use Rattle.vp_lex.specs.declared.token.Token.{Token}
+use Rattle.vp_lex.specs.declared.token.TokenKind.{TokenKind}
+use Rattle.vp_lex.specs.Pieces.{Piece}
+use Rattle.vp_lex.specs.Cuts.{CutTo, Cut, joined}
+use Rattle.vp_lex.specs.Tokens.{is_mark, marks, token_kind, token_at, with_token, with_bytes, tokens_behind, bytes_of, bytes_of_pieces, AreInOrder, AreTokens}
+use Rattle.vp_lex.proofs.CutLaws.{piece_has_byte}
+
+-- a text is its pieces, one behind the other, and what is left
+pub cut_joins : (text : List ℕ) (pieces : List Piece) (left : List ℕ) → CutTo text pieces left → text ≡ joined pieces ++ left
+cut_joins text [] left h = h
+cut_joins text (piece ∷ pieces) left h =
+    h.1.splits ∙ ap (λ (x : List ℕ). piece.bytes ++ x) (cut_joins h.0 pieces left h.3) ∙ sym (append_assoc piece.bytes (joined pieces) left)
+
+own_bytes : (before bytes rest : List ℕ) (marked : Bool) (kind : TokenKind) (mark : Bool) → bytes_of (before ++ (bytes ++ rest)) (token_at before marked bytes kind mark) ≡ bytes
+own_bytes before bytes rest marked kind mark =
+    let long : length before + length bytes - length before ≡ length bytes = omega arith in
+    ap (λ (n : ℕ). take n (drop (length before) (before ++ (bytes ++ rest)))) long
+    ∙ ap (take (length bytes)) (drop-append_seam before (bytes ++ rest)) ∙ take-append_seam bytes rest
+
+bytes_with : (text before bytes rest : List ℕ) (marked : Bool) (piece : Piece) (kind : Option TokenKind) (tokens : List Token) (others : List (List ℕ)) → text ≡ before ++ (piece.bytes ++ rest) → map (bytes_of text) tokens ≡ others → map (bytes_of text) (with_token before marked piece kind tokens) ≡ with_bytes piece.bytes kind others
+bytes_with text before bytes rest marked piece None tokens others e h = h
+bytes_with text before bytes rest marked piece (Some kind) tokens others e h =
+    let own : bytes_of text (token_at before marked piece.bytes kind (is_mark piece.kind)) ≡ piece.bytes =
+    ap (λ (x : List ℕ). bytes_of x (token_at before marked piece.bytes kind (is_mark piece.kind))) e ∙ own_bytes before piece.bytes rest marked kind (is_mark piece.kind) in
+    ap (λ (x : List ℕ). x ∷ map (bytes_of text) tokens) own ∙ ap (λ (x : List (List ℕ)). piece.bytes ∷ x) h
+
+bytes_behind : (text before : List ℕ) (marked : Bool) (pieces : List Piece) → text ≡ before ++ joined pieces → map (bytes_of text) (tokens_behind before marked pieces) ≡ bytes_of_pieces pieces
+bytes_behind text before marked [] e = refl
+bytes_behind text before marked (piece ∷ pieces) e =
+    bytes_with text before piece.bytes (joined pieces) marked piece (token_kind piece.kind piece.bytes) (tokens_behind (before ++ piece.bytes) (marks marked piece) pieces) (bytes_of_pieces pieces) e
+    (bytes_behind text (before ++ piece.bytes) (marks marked piece) pieces (e ∙ sym (append_assoc before piece.bytes (joined pieces))))
+
+-- the bytes of the tokens are those of the pieces
+pub token_bytes : (text : List ℕ) (tokens : List Token) (h : AreTokens text tokens) → map (bytes_of text) tokens ≡ bytes_of_pieces h.0
+token_bytes text tokens h =
+    ap (map (bytes_of text)) h.2
+    ∙ bytes_behind text [] false h.0 (cut_joins text h.0 [] h.1 ∙ append-nil (joined h.0))
+
+in_order_from : (start other end : ℕ) (tokens : List Token) → start ≤ other → AreInOrder other end tokens → AreInOrder start end tokens
+in_order_from start other end [] l h = omega arith
+in_order_from start other end (token ∷ tokens) l h = (let first = h.0 in omega arith, h.1, h.2)
+
+order_with : (before : List ℕ) (marked : Bool) (piece : Piece) (end : ℕ) (kind : Option TokenKind) (tokens : List Token) → 0 < length piece.bytes → AreInOrder (length before + length piece.bytes) end tokens → AreInOrder (length before) end (with_token before marked piece kind tokens)
+order_with before marked piece end None tokens l h = in_order_from (length before) (length before + length piece.bytes) end tokens (omega arith) h
+order_with before marked piece end (Some kind) tokens l h = (omega arith, omega arith, h)
+
+order_behind : (before : List ℕ) (marked : Bool) (text : List ℕ) (pieces : List Piece) → Cut text pieces → AreInOrder (length before) (length before + length text) (tokens_behind before marked pieces)
+order_behind before marked text [] h = omega arith
+order_behind before marked text (piece ∷ pieces) h =
+    let long : length (before ++ piece.bytes) ≡ length before + length piece.bytes = length-append before piece.bytes in
+    let all : length text ≡ length piece.bytes + length h.0 = ap length h.1.splits ∙ length-append piece.bytes h.0 in
+    let more = order_behind (before ++ piece.bytes) (marks marked piece) h.0 pieces h.3 in
+    let tokens : List Token = tokens_behind (before ++ piece.bytes) (marks marked piece) pieces in
+    let ends : length (before ++ piece.bytes) + length h.0 ≡ length before + length text = omega arith in
+    let more : AreInOrder (length (before ++ piece.bytes)) (length before + length text) tokens = subst (λ (n : ℕ). AreInOrder (length (before ++ piece.bytes)) n tokens) ends more in
+    let more : AreInOrder (length before + length piece.bytes) (length before + length text) tokens = subst (λ (n : ℕ). AreInOrder n (length before + length text) tokens) long more in
+    order_with before marked piece (length before + length text) (token_kind piece.kind piece.bytes) tokens (piece_has_byte piece.kind piece.bytes h.1.is) more
+
+-- the tokens stand in the text, one behind the other
+pub tokens_in_order : (text : List ℕ) (tokens : List Token) → AreTokens text tokens → AreInOrder 0 (length text) tokens
+tokens_in_order text tokens h =
+    let e : 0 + length text ≡ length text = omega arith in
+    let ordered : AreInOrder 0 (length text) (tokens_behind [] false h.0) = subst (λ (n : ℕ). AreInOrder 0 n (tokens_behind [] false h.0)) e (order_behind [] false text h.0 h.1) in
+    subst (λ (x : List Token). AreInOrder 0 (length text) x) (sym h.2) ordered

@@ -1,0 +1,100 @@
+-- The tokens of texts that are worked out by hand.
+use Rattle.std.proofs.Common.{◌≡◌, true, false, [], ◌∷◌, ◌++◌, Ok, Err, refl}
+use Rattle.std.specs.Prelude.{codes}
+use Rattle.vp_lex.specs.declared.fault.LexError.TheVariants.{BadCharacter, OpenString, UnknownDirective}
+use Rattle.vp_lex.specs.declared.keyword.Keyword.TheVariants as keyword
+use Rattle.vp_lex.specs.declared.token.Punctuator.TheVariants.{Equals, Comma, Semicolon}
+use Rattle.vp_lex.specs.declared.token.TokenKind.TheVariants as token
+use Rattle.vp_lex.specs.Tokens.{tokens_of}
+
+-- a = 1'b1; has a name, a punctuator, a number, a base part and a punctuator
+pub row-assignment : tokens_of (codes "a = 1'b1;") ≡ Ok (
+    record { kind = token.Name; start = 0; end = 1; line = 1; column = 1; directive = false }
+    ∷ record { kind = token.Punctuator Equals; start = 2; end = 3; line = 1; column = 3; directive = false }
+    ∷ record { kind = token.Number; start = 4; end = 5; line = 1; column = 5; directive = false }
+    ∷ record { kind = token.Base; start = 5; end = 8; line = 1; column = 6; directive = false }
+    ∷ record { kind = token.Punctuator Semicolon; start = 8; end = 9; line = 1; column = 9; directive = false }
+    ∷ [])
+row-assignment = refl
+
+-- 4'b 1 has a number and one base part, with the space in it
+pub row-base_part : tokens_of (codes "4'b 1") ≡ Ok (
+    record { kind = token.Number; start = 0; end = 1; line = 1; column = 1; directive = false }
+    ∷ record { kind = token.Base; start = 1; end = 5; line = 1; column = 2; directive = false }
+    ∷ [])
+row-base_part = refl
+
+-- reg, a newline (10) and r: a keyword, and a name on line 2
+pub row-lines : tokens_of (codes "reg" ++ 10 ∷ codes "r") ≡ Ok (
+    record { kind = token.Keyword keyword.Reg; start = 0; end = 3; line = 1; column = 1; directive = false }
+    ∷ record { kind = token.Name; start = 4; end = 5; line = 2; column = 1; directive = false }
+    ∷ [])
+row-lines = refl
+
+-- a and b on two lines, b behind two spaces
+pub row-columns : tokens_of (codes "a" ++ 10 ∷ codes "  b") ≡ Ok (
+    record { kind = token.Name; start = 0; end = 1; line = 1; column = 1; directive = false }
+    ∷ record { kind = token.Name; start = 4; end = 5; line = 2; column = 3; directive = false }
+    ∷ [])
+row-columns = refl
+
+-- reg2 and casex1 are names, casex is a keyword that is left out, and so is buf
+pub row-words : tokens_of (codes "reg2 casex1 casex buf") ≡ Ok (
+    record { kind = token.Name; start = 0; end = 4; line = 1; column = 1; directive = false }
+    ∷ record { kind = token.Name; start = 5; end = 11; line = 1; column = 6; directive = false }
+    ∷ record { kind = token.Keyword keyword.Casex; start = 12; end = 17; line = 1; column = 13; directive = false }
+    ∷ record { kind = token.Keyword keyword.LeftOut; start = 18; end = 21; line = 1; column = 19; directive = false }
+    ∷ [])
+row-words = refl
+
+-- `pragma p marks its line and no other
+pub row-directive : tokens_of (codes "a `pragma p" ++ 10 ∷ codes "b") ≡ Ok (
+    record { kind = token.Name; start = 0; end = 1; line = 1; column = 1; directive = false }
+    ∷ record { kind = token.Directive; start = 2; end = 9; line = 1; column = 3; directive = true }
+    ∷ record { kind = token.Name; start = 10; end = 11; line = 1; column = 11; directive = true }
+    ∷ record { kind = token.Name; start = 12; end = 13; line = 2; column = 1; directive = false }
+    ∷ [])
+row-directive = refl
+
+-- a string between quotes (34) and a comma
+pub row-string : tokens_of (34 ∷ codes "a;" ++ 34 ∷ codes ",") ≡ Ok (
+    record { kind = token.String; start = 0; end = 4; line = 1; column = 1; directive = false }
+    ∷ record { kind = token.Punctuator Comma; start = 4; end = 5; line = 1; column = 5; directive = false }
+    ∷ [])
+row-string = refl
+
+-- a text with no token
+pub row-nothing : tokens_of (32 ∷ 10 ∷ []) ≡ Ok []
+row-nothing = refl
+
+-- a backslash (92) begins no token
+pub row-backslash : tokens_of (92 ∷ codes "a") ≡ Err (BadCharacter 1)
+row-backslash = refl
+
+-- a string that does not end
+pub row-open_string : tokens_of (34 ∷ codes "a") ≡ Err (OpenString 1)
+row-open_string = refl
+
+-- a string that does not end on its line
+pub row-string_line : tokens_of (34 ∷ codes "a" ++ 10 ∷ 34 ∷ []) ≡ Err (OpenString 1)
+row-string_line = refl
+
+-- a backslash in a string
+pub row-escape : tokens_of (34 ∷ 92 ∷ codes "n" ++ 34 ∷ []) ≡ Err (BadCharacter 1)
+row-escape = refl
+
+-- a directive other than `pragma
+pub row-define : tokens_of (codes "`define A") ≡ Err (UnknownDirective 1)
+row-define = refl
+
+-- a longer name than pragma
+pub row-pragmas : tokens_of (codes "`pragmas") ≡ Err (UnknownDirective 1)
+row-pragmas = refl
+
+-- the digits of a base part do not begin with an underscore
+pub row-underscore : tokens_of (codes "4'b_1") ≡ Err (BadCharacter 1)
+row-underscore = refl
+
+-- a fault on line 2, behind a token
+pub row-fault_line : tokens_of (codes "a" ++ 10 ∷ codes "b #") ≡ Err (BadCharacter 2)
+row-fault_line = refl

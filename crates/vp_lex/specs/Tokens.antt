@@ -1,0 +1,132 @@
+-- The tokens of a text.
+use Rattle.std.specs.Prelude.{◌≡◌, ℕ, ◌+◌, ◌-◌, ◌≤◌, ◌<◌, ◌==◌, ◌&&◌, ◌||◌, Bool, true, false, not, List, [], ◌∷◌, ◌++◌, length, take, drop, Option, Some, None, Result, Ok, Err, count_by, if◌then◌else◌}
+use Rattle.std.specs.List.{list_all, suffix_len}
+use Rattle.vp_lex.specs.declared.fault.LexError.{LexError}
+use Rattle.vp_lex.specs.declared.fault.LexError.TheVariants as error
+use Rattle.vp_lex.specs.declared.keyword.Keyword.{Keyword}
+use Rattle.vp_lex.specs.declared.piece.Fault.{Fault}
+use Rattle.vp_lex.specs.declared.piece.Fault.TheVariants.{BadCharacter, OpenString, UnknownDirective}
+use Rattle.vp_lex.specs.declared.token.Punctuator.{Punctuator}
+use Rattle.vp_lex.specs.declared.token.Punctuator.TheVariants.{Equals, Comma, Semicolon}
+use Rattle.vp_lex.specs.declared.token.Token.{Token}
+use Rattle.vp_lex.specs.declared.token.TokenKind.{TokenKind}
+use Rattle.vp_lex.specs.declared.token.TokenKind.TheVariants as token
+use Rattle.vp_lex.specs.Bytes.{is_newline}
+use Rattle.vp_lex.specs.Pieces.{PieceKind, WhiteSpace, Word, Number, BasePart, Quoted, Operator, Directive, Piece}
+use Rattle.vp_lex.specs.Cuts.{Refusal, Cut, IsRefused}
+use Rattle.vp_lex.specs.Cutting.{cut_text}
+use Rattle.vp_lex.specs.Words.{keyword_of}
+
+-- ---- what a token is
+
+-- a keyword, or else a name (IEEE Std 1364-2005, 3.7 and 3.7.2)
+abbrev pub word_kind : Option Keyword → TokenKind
+word_kind None = token.Name
+word_kind (Some keyword) = token.Keyword keyword
+
+-- the punctuator that a piece's first byte is (IEEE Std 1364-2005, 3.4 and annex A)
+abbrev pub punctuator_of : List ℕ → Punctuator
+punctuator_of [] = Semicolon
+punctuator_of (byte ∷ bytes) = (if byte == 61 then Equals else (if byte == 44 then Comma else Semicolon))
+
+-- what a piece is as a token: white space is none (IEEE Std 1364-2005, 3.1)
+abbrev pub token_kind : PieceKind → List ℕ → Option TokenKind
+token_kind WhiteSpace bytes = None
+token_kind Word bytes = Some (word_kind (keyword_of bytes))
+token_kind Number bytes = Some token.Number
+token_kind BasePart bytes = Some token.Base
+token_kind Quoted bytes = Some token.String
+token_kind Operator bytes = Some (token.Punctuator (punctuator_of bytes))
+token_kind Directive bytes = Some token.Directive
+
+-- ---- where a token stands
+
+-- the line behind these bytes: 1, and one more for each newline (profile)
+abbrev pub line_behind : List ℕ → ℕ
+line_behind before = count_by is_newline before + 1
+
+-- the column behind these bytes: 1, and one more for each byte since the last newline (profile)
+abbrev pub column_behind : List ℕ → ℕ
+column_behind before = suffix_len (λ byte. not (is_newline byte)) before + 1
+
+-- the piece is a directive
+abbrev pub is_mark : PieceKind → Bool
+is_mark Directive = true
+is_mark kind = false
+
+-- A directive stands on the line before what follows the piece: the piece is one, or one stood before it and no newline is in it (IEEE Std 1364-2005, 19.10; profile)
+abbrev pub marks : Bool → Piece → Bool
+marks marked piece = (is_mark piece.kind || marked) && list_all (λ byte. not (is_newline byte)) piece.bytes
+
+-- the token of this kind that these bytes are, behind those before, on a line with a directive before it or not
+abbrev pub token_at : List ℕ → Bool → List ℕ → TokenKind → Bool → Token
+token_at before marked bytes kind mark = record {
+  kind = kind;
+  start = length before;
+  end = length before + length bytes;
+  line = line_behind before;
+  column = column_behind before;
+  directive = mark || marked;
+}
+
+-- the bytes of a token in its text
+abbrev pub bytes_of : List ℕ → Token → List ℕ
+bytes_of text token = take (token.end - token.start) (drop token.start text)
+
+-- the tokens begin no earlier than this place, one behind the other, each has a byte, and they end no later than that place
+abbrev pub AreInOrder : ℕ → ℕ → List Token → Type 0
+AreInOrder start end [] = start ≤ end
+AreInOrder start end (token ∷ tokens) = (start ≤ token.start) × (token.start < token.end) × AreInOrder token.end end tokens
+
+-- a piece's token in front of others, if it is one
+abbrev pub with_token : List ℕ → Bool → Piece → Option TokenKind → List Token → List Token
+with_token before marked piece None tokens = tokens
+with_token before marked piece (Some kind) tokens = token_at before marked piece.bytes kind (is_mark piece.kind) ∷ tokens
+
+-- the tokens of pieces behind these bytes, on a line with a directive before them or not
+abbrev pub tokens_behind : List ℕ → Bool → List Piece → List Token
+tokens_behind before marked [] = []
+tokens_behind before marked (piece ∷ pieces) =
+    with_token before marked piece (token_kind piece.kind piece.bytes)
+    (tokens_behind (before ++ piece.bytes) (marks marked piece) pieces)
+
+-- the bytes of a piece in front of others, if it is a token
+abbrev pub with_bytes : List ℕ → Option TokenKind → List (List ℕ) → List (List ℕ)
+with_bytes bytes None others = others
+with_bytes bytes (Some kind) others = bytes ∷ others
+
+-- the bytes of those pieces that are tokens
+abbrev pub bytes_of_pieces : List Piece → List (List ℕ)
+bytes_of_pieces [] = []
+bytes_of_pieces (piece ∷ pieces) = with_bytes piece.bytes (token_kind piece.kind piece.bytes) (bytes_of_pieces pieces)
+
+-- ---- all of them
+
+-- the error of a fault on a line (profile)
+abbrev pub error_of : Fault → ℕ → LexError
+error_of BadCharacter line = error.BadCharacter line
+error_of OpenString line = error.OpenString line
+error_of UnknownDirective line = error.UnknownDirective line
+
+-- the error of a refusal of a text, by the line of its place (profile)
+abbrev pub error_at : List ℕ → Refusal → LexError
+error_at text refusal = error_of refusal.fault (line_behind (take refusal.at text))
+
+-- these are the tokens of the text: those of the pieces of its cut, in their order (IEEE Std 1364-2005, 3; profile)
+abbrev pub AreTokens : List ℕ → List Token → Type 0
+AreTokens text tokens = (pieces : List Piece) × Cut text pieces × (tokens ≡ tokens_behind [] false pieces)
+
+-- this is the error of the text: that of its first fault (profile)
+abbrev pub IsError : List ℕ → LexError → Type 0
+IsError text error = (refusal : Refusal) × IsRefused text refusal × (error ≡ error_at text refusal)
+
+-- ---- all of them, computed
+
+-- the tokens of a text that is cut, or its error
+abbrev pub tokens_from : List ℕ → Result (List Piece) Refusal → Result (List Token) LexError
+tokens_from text (Ok pieces) = Ok (tokens_behind [] false pieces)
+tokens_from text (Err refusal) = Err (error_at text refusal)
+
+-- the tokens of a text, in its order, or the error of its first fault (IEEE Std 1364-2005, 3; profile)
+abbrev pub tokens_of : List ℕ → Result (List Token) LexError
+tokens_of text = tokens_from text (cut_text text)

@@ -1,0 +1,96 @@
+-- The filter: what a policy opens of a design to a user, step by step of each path.
+use Rattle.std.specs.Prelude.{ℕ, zero, suc, ◌==◌, ◌&&◌, ◌||◌, not, Bool, if◌then◌else◌, List, [], ◌∷◌, ◌++◌, length, filter, Option, Some, None}
+use Rattle.std.specs.List.{list_any, position}
+use Rattle.vp_pragma.specs.declared.rights.Right.{Right}
+use Rattle.vp_pragma.specs.declared.rights.Right.TheVariants as right
+use Rattle.vp_pragma.specs.Rights.{RightSet, has, nothing, everything, both, either}
+use Rattle.vp_pragma.specs.Envelopes.{Viewport}
+use Rattle.vp_elab.specs.Tree.{Step, Node, Tree, is_named, declared_in, matches}
+use Rattle.vp_policy.specs.declared.denial.By.{By}
+use Rattle.vp_policy.specs.declared.denial.By.TheVariants as by
+use Rattle.vp_policy.specs.declared.denial.Denial.{Denial}
+use Rattle.vp_policy.specs.declared.denial.Look.{Look}
+use Rattle.vp_policy.specs.declared.denial.Look.TheVariants as look
+use Rattle.vp_policy.specs.Users.{Member, granted, has_entry}
+
+-- ---- rights
+
+-- what the viewports that match a step open
+abbrev pub viewed : List Viewport → Step → RightSet
+viewed [] s = nothing
+viewed (v ∷ vs) s = if matches s v then either v.rights (viewed vs s) else viewed vs s
+
+-- what is opened to a user at a step: his grant for its envelope, joined with the viewports that match it (profile)
+abbrev pub opened : Tree → Member → Step → RightSet
+opened tree u s = either (granted u s.envelope) (viewed tree.viewports s)
+
+-- a user's rights on the object with this path: what is opened at every step (profile)
+abbrev pub rights : Tree → Member → List Step → RightSet
+rights tree u [] = everything
+rights tree u (s ∷ path) = both (opened tree u s) (rights tree u path)
+
+-- an object is listed to a user if list is among his rights on it
+abbrev pub is_listed : Tree → Member → Node → Bool
+is_listed tree u node = has right.List (rights tree u node.path)
+
+-- ---- closed lists
+
+-- the numbers below this one, rising
+abbrev pub below : ℕ → List ℕ
+below zero = []
+below (suc n) = below n ++ n ∷ []
+
+-- something is declared in an envelope, in the scope of these names
+abbrev pub declares_in : Tree → List (List ℕ) → ℕ → Bool
+declares_in tree scope envelope = list_any (λ s. s.envelope == envelope) (declared_in scope tree.nodes)
+
+-- the closed list of a scope: the numbers of the envelopes of what is declared in it whose grant lacks list, rising (profile)
+abbrev pub closed : Tree → Member → List (List ℕ) → List ℕ
+closed tree u scope =
+    filter (λ e. declares_in tree scope e && not (has right.List (granted u e))) (below (suc (length tree.authors)))
+
+-- ---- denials
+
+-- what keeps a user out of an envelope: his grant, if it is the open text or he has an entry for it, else the envelope (profile)
+abbrev pub by_grant : Member → ℕ → By
+by_grant u envelope = if (envelope == 0) || has_entry u envelope then by.Grant else by.Envelope
+
+-- what keeps a user out at a step: the first viewport that matches it, if one does (profile)
+abbrev pub by_step : Tree → Member → Step → By
+by_step tree u s =
+    elim (position (matches s) tree.viewports) [ None ↦ by_grant u s.envelope | Some v ↦ by.Viewport v ]
+
+-- why a right on the object with this path is denied: by the first step at which it is not opened; none if it is his
+abbrev pub denial : Tree → Member → Right → List Step → Option Denial
+denial tree u r [] = None
+denial tree u r (s ∷ path) =
+    if has r (opened tree u s)
+    then denial tree u r path
+    else Some (record { by = by_step tree u s; envelope = s.envelope; right = r })
+
+-- ---- names
+
+-- what a name that is not listed in a scope with this closed list is answered, hidden or absent (profile)
+abbrev pub unlisted : Member → List ℕ → Look
+unlisted u [] = look.Absent
+unlisted u (e ∷ es) = look.Denied (record { by = by_grant u e; envelope = e; right = right.List })
+
+-- the number of the object that has these names and is listed to a user
+abbrev pub find_listed : Tree → Member → List (List ℕ) → Option ℕ
+find_listed tree u names = position (λ node. is_listed tree u node && is_named names node.path) tree.nodes
+
+-- where to go on: from the object that was found, or else this answer
+abbrev pub from_found : Option ℕ → Look → (ℕ → Look) → Look
+from_found None otherwise next = otherwise
+from_found (Some o) otherwise next = next o
+
+-- the walk of names: from what was found under the names of the scope, each name further down
+abbrev pub walk : Tree → Member → Look → List (List ℕ) → List (List ℕ) → Look
+walk tree u here scope [] = here
+walk tree u here scope (n ∷ names) =
+    from_found (find_listed tree u (scope ++ n ∷ [])) (unlisted u (closed tree u scope))
+    (λ o. walk tree u (look.Found (record { 0 = o })) (scope ++ n ∷ []) names)
+
+-- what a user finds under names, in the scope of these names (profile)
+abbrev pub look_of : Tree → Member → List (List ℕ) → List (List ℕ) → Look
+look_of tree u scope names = walk tree u look.Absent scope names

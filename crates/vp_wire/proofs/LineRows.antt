@@ -1,0 +1,60 @@
+-- Lines, computed. Each row is an equation that holds by computation.
+use Rattle.std.proofs.Common.{◌≡◌, [], ◌∷◌, refl}
+use Rattle.std.specs.Prelude.{codes}
+use Rattle.std.specs.Fmt.{digits}
+use Rattle.std.specs.Str.{is_utf8, chars}
+use Rattle.std.specs.Str.Lossy.{utf8_valid_len}
+use Rattle.serde_json.proofs.OnLiterals.{serde_json_on_literals}
+use Rattle.vp_bits.specs.declared.bit.Bit.TheVariants.{Zero, One, Unknown, HighImpedance}
+use Rattle.vp_pragma.specs.declared.rights.Right.TheVariants as right
+use Rattle.vp_policy.specs.declared.denial.By.TheVariants as by
+use Rattle.vp_world.specs.declared.event.Request.TheVariants as request
+use Rattle.vp_world.specs.declared.reply.Refusal.TheVariants as refusal
+use Rattle.vp_world.specs.declared.reply.Reply.TheVariants as reply
+use Rattle.vp_wire.specs.Lines.{line_of, meaning_of, NotJson, NotRequest, Asks}
+
+done : line_of reply.Done ≡ codes "{\"ok\":true}\n"
+unfolding serde_json_on_literals
+done = refl
+
+handle : line_of (reply.Handle 12) ≡ codes "{\"h\":12}\n"
+unfolding serde_json_on_literals digits
+handle = refl
+
+value : line_of (reply.Value (HighImpedance ∷ Zero ∷ Unknown ∷ One ∷ [])) ≡ codes "{\"value\":\"1x0z\"}\n"
+unfolding serde_json_on_literals
+value = refl
+
+denied :
+    line_of (reply.Denied (record { by = by.Envelope; envelope = 1; right = right.List }) (codes "acme"))
+    ≡ codes "{\"denied\":{\"author\":\"acme\",\"by\":\"envelope\",\"no\":1,\"right\":\"list\"}}\n"
+unfolding serde_json_on_literals digits
+denied = refl
+
+no_such_name : line_of (reply.Error refusal.NoSuchName) ≡ codes "{\"error\":\"no such name\"}\n"
+unfolding serde_json_on_literals
+no_such_name = refl
+
+asks_handle : meaning_of (codes "{\"op\":\"handle\",\"name\":\"top.a\"}") ≡ Asks (request.Handle (codes "top.a"))
+unfolding serde_json_on_literals utf8_valid_len is_utf8 chars
+asks_handle = refl
+
+asks_value : meaning_of (codes "{\"h\":1,\"op\":\"value\"}") ≡ Asks (request.Value 1)
+unfolding serde_json_on_literals utf8_valid_len is_utf8 chars
+asks_value = refl
+
+cut_off : meaning_of (codes "{\"op\":\"time\"") ≡ NotJson
+unfolding serde_json_on_literals utf8_valid_len is_utf8 chars
+cut_off = refl
+
+no_such_op : meaning_of (codes "{\"op\":\"tim\"}") ≡ NotRequest
+unfolding serde_json_on_literals utf8_valid_len is_utf8 chars
+no_such_op = refl
+
+key_too_many : meaning_of (codes "{\"op\":\"close\",\"h\":1}") ≡ NotRequest
+unfolding serde_json_on_literals utf8_valid_len is_utf8 chars
+key_too_many = refl
+
+wrong_type : meaning_of (codes "{\"op\":\"value\",\"h\":\"1\"}") ≡ NotRequest
+unfolding serde_json_on_literals utf8_valid_len is_utf8 chars
+wrong_type = refl
