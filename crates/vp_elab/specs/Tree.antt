@@ -4,6 +4,7 @@ use Rattle.std.specs.List.{filter_map}
 use Rattle.std.specs.Str.{bytes_eq}
 use Rattle.vp_pragma.specs.Envelopes.{Viewport}
 use Rattle.vp_elab.specs.declared.object.Kind.{Kind}
+use Rattle.vp_elab.specs.declared.object.Kind.TheVariants as kind
 
 -- a step of a path: the name, the place and the envelope of a declaration, and the module in which it stands; a top
 -- module stands in none (clause 12.5, profile)
@@ -27,6 +28,16 @@ pub record Tree : Type 0 where
   pub nodes : List Node
   pub viewports : List Viewport
   pub authors : List (List ℕ)
+
+-- an object of a kind has a value: it is a net, a reg or a localparam (clause 4)
+abbrev pub has_value : Kind → Bool
+has_value kind.Net = true
+has_value kind.Reg = true
+has_value kind.Parameter = true
+has_value kind.Module = false
+has_value kind.Always = false
+has_value kind.Initial = false
+has_value kind.Assign = false
 
 -- the steps have these names
 abbrev pub is_named : List (List ℕ) → List Step → Bool

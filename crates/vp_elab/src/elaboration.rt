@@ -1,4 +1,5 @@
 ghost use Rattle.std.specs.Prelude.{◌≡◌, ◌≤◌, ◌<◌, ◌+◌, ◌++◌, ◌∷◌, [], IfOk, IfSome, OnOk, length};
+ghost use Rattle.vp_elab.specs.Elaboration.{item_kind};
 ghost use Rattle.vp_elab.specs.Objects.{StandBehind};
 
 use crate::design::{Design, Tree};
@@ -52,7 +53,9 @@ fn check_names(source: &Source, modules: &Modules) -> Result<(), ElabError> {
 }
 
 /// The kind of what an item declares.
-fn kind_of(item: Item) -> Kind {
+fn kind_of(item: Item) -> Kind
+    ensures { result ≡ item_kind item }
+{
     match item {
         Item::Reg { .. } => Kind::Reg,
         Item::Initial { .. } => Kind::Initial,

@@ -1,4 +1,4 @@
-ghost use Rattle.std.specs.Prelude.{◌≤◌};
+ghost use Rattle.std.specs.Prelude.{◌≡◌, ◌≤◌};
 
 /// The number of an object of a design, in preorder from 0.
 #[derive(Clone, Copy, Debug, PartialEq, Eq)]
@@ -20,8 +20,12 @@ pub enum Kind {
 }
 
 impl Kind {
+    ghost use Rattle.vp_elab.specs.Tree.{has_value};
+
     /// An object of this kind has a value.
-    pub fn has_value(self) -> bool {
+    pub fn has_value(self) -> bool
+        ensures { result ≡ has_value self }
+    {
         matches!(self, Kind::Net | Kind::Reg | Kind::Parameter)
     }
 }

@@ -1,3 +1,6 @@
+ghost use Rattle.std.specs.Prelude.{◌≡◌};
+ghost use Rattle.vp_elab.specs.Elaboration.{item_place};
+
 use crate::fault::ElabError;
 use indexmap::IndexMap;
 use std::alloc::{AllocError, Global};
@@ -23,7 +26,9 @@ pub struct Scope {
 }
 
 /// The place of an item's declaration.
-pub fn place_of(item: Item) -> u32 {
+pub fn place_of(item: Item) -> u32
+    ensures { result ≡ item_place item }
+{
     match item {
         Item::Reg { name } => name,
         Item::Initial { keyword, .. } => keyword,

@@ -1,4 +1,4 @@
-/// A keyword of IEEE Std 1364-2005, annex B.
+/// A keyword of IEEE Std 1364-2005, annex B, that this profile reserves; the others of the annex are names here.
 #[derive(Clone, Copy, Debug, PartialEq, Eq)]
 pub enum Keyword {
     Module,
@@ -28,7 +28,7 @@ pub enum Keyword {
     Or,
     /// `casex`, which this profile leaves out; it opens a case as `case` does.
     Casex,
-    /// Another keyword that this profile leaves out.
+    /// Another keyword that this profile reserves and leaves out.
     LeftOut,
 }
 

@@ -1,2 +1,5 @@
 pub mod Faults
+pub mod Grammar
+pub mod Kinds
+pub mod Reading
 pub mod Weight

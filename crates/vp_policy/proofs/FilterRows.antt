@@ -10,7 +10,7 @@ use Rattle.vp_policy.specs.declared.denial.By.TheVariants as by
 use Rattle.vp_policy.specs.declared.denial.Look.{Look}
 use Rattle.vp_policy.specs.declared.denial.Look.TheVariants as look
 use Rattle.vp_policy.specs.Users.{Member, login_of}
-use Rattle.vp_policy.specs.Filter.{closed, denial, is_listed, look_of}
+use Rattle.vp_policy.specs.Filter.{closed, denial, is_listed, look_of, run_denial}
 
 -- ---- users
 
@@ -31,6 +31,10 @@ bob = user (codes "bob") everything ((1, everything) ∷ [])
 
 abbrev cem : Member
 cem = user (codes "cem") listing []
+
+-- a user whose run flag is not set
+abbrev without_run : Member
+without_run = record cem { run = false }
 
 abbrev dan : Member
 dan = user (codes "dan") everything ((1, listing) ∷ [])
@@ -146,6 +150,19 @@ watch_denied :
     ≡ Some (record { by = by.Grant; envelope = 0; right = right.Watch })
 watch_denied = refl
 
+-- who may not run the design is denied by his open set
+run_denied : run_denial without_run ≡ Some (by.Grant, 0, codes "run")
+run_denied = refl
+
+run_allowed : run_denial ann ≡ None
+run_allowed = refl
+
+-- a right on what no grant and no viewport opens is denied by the envelope
+denied_by_envelope :
+    denial instance_design ann right.List (in_u (codes "k") 20 1)
+    ≡ Some (record { by = by.Envelope; envelope = 1; right = right.List })
+denied_by_envelope = refl
+
 closed_to_ann : closed instance_design ann (codes "top" ∷ codes "u" ∷ []) ≡ 1 ∷ []
 closed_to_ann = refl
 
@@ -188,6 +205,9 @@ flat_design = record {
 
 flat_ann_s : look_in flat_design ann (codes "top" ∷ codes "s" ∷ []) ≡ found 1
 flat_ann_s = refl
+
+flat_ann_reads_s : denial flat_design ann right.Read (in_flat (codes "s") 11 1) ≡ None
+flat_ann_reads_s = refl
 
 flat_ann_k : look_in flat_design ann (codes "top" ∷ codes "k" ∷ []) ≡ hidden_by_envelope 1
 flat_ann_k = refl
@@ -269,6 +289,21 @@ nested_read_denied :
     denial nested_design hal right.Read (in_leaf shut_leaf (codes "a") 4 0)
     ≡ Some (record { by = by.Grant; envelope = 2; right = right.Read })
 nested_read_denied = refl
+
+-- the same design with a viewport that opens a reg of the leaf to everyone
+abbrev nested_with_viewport : Tree
+nested_with_viewport = record nested_design {
+  viewports = record { envelope = 1; in_module = Some (codes "leaf"); item = codes "k"; rights = reading } ∷ [];
+}
+
+-- it opens the reg under the instance that is listed
+viewport_under_listed : look_in nested_with_viewport ann (codes "top" ∷ codes "v" ∷ codes "k" ∷ []) ≡ found 6
+viewport_under_listed = refl
+
+-- and not under the one that is hidden: what it is denied by is the hidden instance's envelope
+viewport_under_hidden :
+    look_in nested_with_viewport ann (codes "top" ∷ codes "u" ∷ codes "k" ∷ []) ≡ hidden_by_envelope 2
+viewport_under_hidden = refl
 
 -- ---- users by name and token
 

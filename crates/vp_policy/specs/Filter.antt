@@ -1,5 +1,5 @@
 -- The filter: what a policy opens of a design to a user, step by step of each path.
-use Rattle.std.specs.Prelude.{ℕ, zero, suc, ◌==◌, ◌&&◌, ◌||◌, not, Bool, if◌then◌else◌, List, [], ◌∷◌, ◌++◌, length, filter, Option, Some, None}
+use Rattle.std.specs.Prelude.{ℕ, zero, suc, ◌==◌, ◌&&◌, ◌||◌, not, Bool, if◌then◌else◌, List, [], ◌∷◌, ◌++◌, length, filter, Option, Some, None, codes}
 use Rattle.std.specs.List.{list_any, position}
 use Rattle.vp_pragma.specs.declared.rights.Right.{Right}
 use Rattle.vp_pragma.specs.declared.rights.Right.TheVariants as right
@@ -67,6 +67,11 @@ denial tree u r (s ∷ path) =
     if has r (opened tree u s)
     then denial tree u r path
     else Some (record { by = by_step tree u s; envelope = s.envelope; right = r })
+
+-- why a user may not run the design, as what keeps him out, the number of the envelope, and the word of the right: by his
+-- grant for the open text, unless his run flag is set (profile)
+abbrev pub run_denial : Member → Option (By × ℕ × List ℕ)
+run_denial u = if u.run then None else Some (by.Grant, 0, codes "run")
 
 -- ---- names
 

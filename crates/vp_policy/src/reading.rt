@@ -5,7 +5,7 @@ use bitflags::Flags;
 use indexmap::IndexMap;
 use serde_json::Value;
 use std::alloc::Global;
-use vp_json::{Object, ReadError, has_keys, read, text};
+use vp_json::{ReadError, has_keys, read, text};
 use vp_list::Text;
 use vp_pragma::{Rights, access};
 
@@ -20,16 +20,16 @@ fn is_word(word: &str) -> bool {
 }
 
 /// The word under a key.
-fn word<'a>(object: &'a Object, key: &str) -> Result<&'a str, PolicyError> {
-    match text(object, key) {
+fn word<'a>(user: &'a Value, key: &str) -> Result<&'a str, PolicyError> {
+    match text(user, key) {
         Some(word) if is_word(word) => Ok(word),
         _ => Err(PolicyError::BadPolicy),
     }
 }
 
 /// The open set, by default empty.
-fn open_set(object: &Object) -> Result<Rights, PolicyError> {
-    let Some(value) = object.get("open") else {
+fn open_set(user: &Value) -> Result<Rights, PolicyError> {
+    let Some(value) = user.get("open") else {
         return Ok(Rights::empty());
     };
     match value.as_str() {
@@ -40,22 +40,21 @@ fn open_set(object: &Object) -> Result<Rights, PolicyError> {
 }
 
 /// The run flag, by default false.
-fn run_flag(object: &Object) -> Result<bool, PolicyError> {
-    match object.get("run") {
+fn run_flag(user: &Value) -> Result<bool, PolicyError> {
+    match user.get("run") {
         None => Ok(false),
         Some(value) => value.as_bool().ok_or(PolicyError::BadPolicy),
     }
 }
 
 /// The one user of a file.
-fn only_user(file: &Value) -> Result<&Object, PolicyError> {
-    let object = file.as_object().ok_or(PolicyError::BadPolicy)?;
-    if !has_keys(object, ["users"].as_slice(), [].as_slice()) {
+fn only_user(file: &Value) -> Result<&Value, PolicyError> {
+    if !has_keys(file, ["users"].as_slice(), [].as_slice()) {
         return Err(PolicyError::BadPolicy);
     }
-    let users = object.get("users").and_then(Value::as_array);
+    let users = file.get("users").and_then(Value::as_array);
     match users.ok_or(PolicyError::BadPolicy)?.as_slice() {
-        [user] => user.as_object().ok_or(PolicyError::BadPolicy),
+        [user] => Ok(user),
         _ => Err(PolicyError::BadPolicy),
     }
 }
@@ -69,19 +68,19 @@ impl Policy {
             Err(ReadError::NotJson) => return Err(PolicyError::BadPolicy),
             Err(ReadError::NoMemory) => return Err(PolicyError::NoMemory),
         };
-        let object = only_user(&file)?;
+        let only = only_user(&file)?;
         if !has_keys(
-            object,
+            only,
             ["name", "token"].as_slice(),
             ["open", "run"].as_slice(),
         ) {
             return Err(PolicyError::BadPolicy);
         }
-        let name = word(object, "name")?;
+        let name = word(only, "name")?;
         let user = User {
-            token: Text::copy(alloc, word(object, "token")?)?,
-            open: open_set(object)?,
-            run: run_flag(object)?,
+            token: Text::copy(alloc, word(only, "token")?)?,
+            open: open_set(only)?,
+            run: run_flag(only)?,
         };
         let mut users = IndexMap::new(alloc);
         users.insert(String::from_str(alloc, name)?, user)?;

@@ -1,5 +1,5 @@
 -- Envelopes by their numbers, and viewports.
-use Rattle.std.specs.Prelude.{ℕ, zero, suc, ◌==◌, ◌&&◌, Bool, nat_lt, if◌then◌else◌, List, [], ◌∷◌, Option, slice_get}
+use Rattle.std.specs.Prelude.{ℕ, zero, suc, ◌&&◌, Bool, nat_lt, if◌then◌else◌, List, [], ◌∷◌, Option, slice_get}
 use Rattle.std.specs.Option.{option_map_or}
 use Rattle.vp_pragma.specs.declared.envelope.Envelope.{Envelope}
 use Rattle.vp_pragma.specs.Rights.{RightSet}
@@ -13,13 +13,15 @@ author_of envelopes (suc n) = option_map_or (λ e. e.author) (slice_get envelope
 abbrev pub holds : ℕ → Envelope → Bool
 holds place envelope = nat_lt envelope.begin place && nat_lt place envelope.end
 
+-- a later number, or this one if there is none
+abbrev pub or_later : ℕ → ℕ → ℕ
+or_later number zero = number
+or_later number (suc later) = suc later
+
 -- the number of the last of these envelopes that holds a place, where the first has number n; 0 if none does
 abbrev pub last_holding : ℕ → List Envelope → ℕ → ℕ
 last_holding n [] place = 0
-last_holding n (e ∷ es) place =
-    if last_holding (suc n) es place == 0
-    then (if holds place e then n else 0)
-    else last_holding (suc n) es place
+last_holding n (e ∷ es) place = or_later (if holds place e then n else 0) (last_holding (suc n) es place)
 
 -- the number of the envelope of a place: of the last begin before it whose end is after it, else 0 (clause 28, profile)
 abbrev pub envelope_at : List Envelope → ℕ → ℕ

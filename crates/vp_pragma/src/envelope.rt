@@ -11,6 +11,17 @@ pub struct Envelope {
     pub author: Text,
 }
 
+impl Envelope {
+    ghost use Rattle.vp_pragma.specs.Envelopes.{holds};
+
+    /// A place lies behind its `begin` and before its `end`.
+    pub fn holds(&self, place: u32) -> bool
+        ensures { result ≡ holds place self.now }
+    {
+        self.begin < place && place < self.end
+    }
+}
+
 /// The envelopes of a text, at most 255, in the order of their `begin`; the first has number 1.
 /// A contract sees their list.
 #[derive(Drop)]
@@ -30,7 +41,7 @@ impl Model for Envelopes {
 }
 
 impl Envelopes {
-    ghost use Rattle.vp_pragma.specs.Envelopes.{author_of};
+    ghost use Rattle.vp_pragma.specs.Envelopes.{author_of, envelope_at};
 
     /// The envelopes of a list of at most 255.
     pub(crate) fn new(envelopes: Vec<Envelope>) -> Envelopes
@@ -64,10 +75,13 @@ impl Envelopes {
 
     /// The number of the envelope in which a place lies: of the last that begins before it and ends after it,
     /// or 0.
-    pub fn of(&self, place: u32) -> u8 {
+    pub fn of(&self, place: u32) -> u8
+        ensures { result ≡ envelope_at self.now place }
+    {
+        let envelopes = self.envelopes.as_slice();
         let mut number = 0;
-        for (i, envelope) in self.envelopes.as_slice().iter().enumerate() {
-            if envelope.begin < place && place < envelope.end {
+        for (i, envelope) in envelopes.iter().enumerate() {
+            if envelope.holds(place) {
                 number = (i + 1) as u8;
             }
         }

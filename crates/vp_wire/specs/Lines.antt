@@ -1,16 +1,17 @@
 -- The lines of requests and replies.
-use Rattle.std.specs.Prelude.{ℕ, ◌^◌, ◌==◌, ◌&&◌, nat_lt, Bool, true, false, if◌then◌else◌, List, [], ◌∷◌, ◌++◌, map, reverse, length, Option, Some, None, option_and_then, option_map, codes}
-use Rattle.std.specs.List.{list_all, list_any}
+use Rattle.std.specs.Prelude.{ℕ, ◌^◌, ◌==◌, nat_lt, true, if◌then◌else◌, List, [], ◌∷◌, ◌++◌, map, reverse, length, Option, Some, None, option_and_then, option_map, codes}
 use Rattle.std.specs.Str.{bytes_eq}
 use Rattle.std.specs.Str.Lossy.{utf8_valid_len}
-use Rattle.serde_json.specs.Data.{unsigned, Data, null, boolean, number, string, array, object, Members, no_members, member}
+use Rattle.serde_json.specs.Data.{unsigned, Data, boolean, number, string, object, no_members, member}
 use Rattle.serde_json.specs.Find.{get, as_str, as_number, as_u64}
 use Rattle.serde_json.specs.Read.{read}
 use Rattle.serde_json.specs.Written.{compact_text}
+use Rattle.vp_json.specs.Keys.{has_keys}
 use Rattle.vp_bits.specs.Digits.{digit_of}
 use Rattle.vp_pragma.specs.Rights.{name_of}
 use Rattle.vp_policy.specs.declared.denial.By.{By}
 use Rattle.vp_policy.specs.declared.denial.By.TheVariants as by
+use Rattle.vp_policy.specs.declared.denial.Denial.{Denial}
 use Rattle.vp_world.specs.declared.event.Request.{Request}
 use Rattle.vp_world.specs.declared.event.Request.TheVariants as request
 use Rattle.vp_world.specs.declared.reply.Reply.{Reply}
@@ -29,19 +30,23 @@ by_text by.Grant = codes "grant"
 abbrev pub only : List ℕ → Data → Data
 only key value = object (member key value no_members)
 
--- a reply as JSON, each object's keys in the order of their bytes (profile)
-abbrev pub data_of : Reply → Data
-data_of (reply.Opened session) = only (codes "ok") (boolean true)
-data_of reply.Done = only (codes "ok") (boolean true)
-data_of (reply.Handle handle) = only (codes "h") (number (unsigned handle))
-data_of (reply.Value bits) = only (codes "value") (string (map digit_of (reverse bits)))
-data_of (reply.Denied denial author) =
+-- a denial as JSON, with the author of its envelope, its keys in the order of their bytes (profile)
+abbrev pub denial_data : Denial → List ℕ → Data
+denial_data denial author =
     only (codes "denied")
     (object
     (member (codes "author") (string author)
     (member (codes "by") (string (by_text denial.by))
     (member (codes "no") (number (unsigned denial.envelope))
     (member (codes "right") (string (name_of denial.right)) no_members)))))
+
+-- a reply as JSON (profile)
+abbrev pub data_of : Reply → Data
+data_of (reply.Opened session) = only (codes "ok") (boolean true)
+data_of reply.Done = only (codes "ok") (boolean true)
+data_of (reply.Handle handle) = only (codes "h") (number (unsigned handle))
+data_of (reply.Value bits) = only (codes "value") (string (map digit_of (reverse bits)))
+data_of (reply.Denied denial author) = denial_data denial author
 data_of (reply.Error refusal) = only (codes "error") (string (text_of refusal))
 
 -- the line of a reply: compact JSON, and a newline (profile)
@@ -49,24 +54,6 @@ abbrev pub line_of : Reply → List ℕ
 line_of r = compact_text (data_of r) ++ 10 ∷ []
 
 -- ---- requests
-
--- the keys of an object
-abbrev pub keys_of : Members → List (List ℕ)
-keys_of no_members = []
-keys_of (member key value members) = key ∷ keys_of members
-
--- each of these keys is among those
-abbrev pub all_among : List (List ℕ) → List (List ℕ) → Bool
-all_among keys others = list_all (λ key. list_any (bytes_eq key) others) keys
-
--- a value is an object with exactly these keys, in any order
-abbrev pub has_exactly : List (List ℕ) → Data → Bool
-has_exactly keys (object members) = all_among keys (keys_of members) && all_among (keys_of members) keys
-has_exactly keys null = false
-has_exactly keys (boolean b) = false
-has_exactly keys (number n) = false
-has_exactly keys (string s) = false
-has_exactly keys (array items) = false
 
 -- the text under a key
 abbrev pub text_at : List ℕ → Data → Option (List ℕ)
@@ -78,9 +65,9 @@ number_at key d =
     option_and_then (λ n. if nat_lt n (2 ^ 32) then Some n else None)
     (option_and_then as_u64 (option_and_then as_number (get key d)))
 
--- a request, of an object with exactly these keys and op
+-- a request, of an object with exactly these keys beside op
 abbrev pub of_keys : List (List ℕ) → Data → Option Request → Option Request
-of_keys keys d r = if has_exactly (codes "op" ∷ keys) d then r else None
+of_keys keys d r = if has_keys keys (codes "op" ∷ []) d then r else None
 
 -- the request to open a session
 abbrev pub open_request : Data → Option Request
@@ -88,13 +75,25 @@ open_request d =
     of_keys (codes "user" ∷ codes "token" ∷ []) d
     (option_and_then (λ u. option_map (request.Open u) (text_at (codes "token") d)) (text_at (codes "user") d))
 
+-- the request to close a session
+abbrev pub close_request : Data → Option Request
+close_request d = of_keys [] d (Some request.Close)
+
+-- the request of a handle
+abbrev pub handle_request : Data → Option Request
+handle_request d = of_keys (codes "name" ∷ []) d (option_map request.Handle (text_at (codes "name") d))
+
+-- the request of a value
+abbrev pub value_request : Data → Option Request
+value_request d = of_keys (codes "h" ∷ []) d (option_map request.Value (number_at (codes "h") d))
+
 -- the request of an op (profile)
 abbrev pub request_of_op : List ℕ → Data → Option Request
 request_of_op op d =
     if bytes_eq op (codes "open") then open_request d
-    else (if bytes_eq op (codes "close") then of_keys [] d (Some request.Close)
-    else (if bytes_eq op (codes "handle") then of_keys (codes "name" ∷ []) d (option_map request.Handle (text_at (codes "name") d))
-    else (if bytes_eq op (codes "value") then of_keys (codes "h" ∷ []) d (option_map request.Value (number_at (codes "h") d))
+    else (if bytes_eq op (codes "close") then close_request d
+    else (if bytes_eq op (codes "handle") then handle_request d
+    else (if bytes_eq op (codes "value") then value_request d
     else None)))
 
 -- the request of a JSON value; none where it is no request

@@ -1,4 +1,10 @@
 // Replies (docs/FORMATS.md, "Lines").
+ghost use Rattle.std.specs.Prelude.{◌≡◌, IfOk, IsOkUnless, map, reverse};
+ghost use Rattle.serde_json.specs.Data.{string};
+ghost use Rattle.serde_json.specs.View.{view};
+ghost use Rattle.vp_bits.specs.Digits.{digit_of};
+ghost use Rattle.vp_wire.specs.Lines.{by_text, denial_data, data_of, line_of};
+
 use crate::fault::WireError;
 use serde_json::{Value, json};
 use std::alloc::{AllocError, Global};
@@ -7,47 +13,65 @@ use vp_policy::{By, Denial};
 use vp_world::Reply;
 
 /// The value of a vector, in binary digits.
-fn digits(alloc: Global, value: Bits) -> Result<Value, WireError> {
+fn digits(alloc: Global, value: Bits) -> Result<Value, WireError>
+    ensures ok { IfOk result (λ v. view v ≡ string (map digit_of (reverse value))) }
+    ensures err { IsOkUnless result WireError.NoMemory }
+{
     match value.to_bin(alloc) {
         Ok(digits) => Ok(Value::String(digits)),
         Err(_) => Err(WireError::NoMemory),
     }
 }
 
-/// A denial, with the author of its envelope.
-fn denied(alloc: Global, denial: Denial, author: &str) -> Result<Value, AllocError> {
-    let by = match denial.by {
+/// What keeps a user out, in a line.
+fn by_text(by: By) -> &'static str
+    ensures { result.now ≡ by_text by }
+{
+    match by {
         By::Viewport(_) => "viewport",
         By::Envelope => "envelope",
         By::Grant => "grant",
-    };
+    }
+}
+
+/// A denial, with the author of its envelope.
+fn denied(alloc: Global, denial: Denial, author: &str) -> Result<Value, AllocError>
+    ensures { IfOk result (λ v. view v ≡ denial_data denial author.now) }
+{
+    let by = by_text(denial.by);
     let number = u64::from(denial.envelope);
     let right = denial.right.name();
     json!(in alloc; {"denied": {"author": author, "by": by, "no": number, "right": right}})
 }
 
 /// A reply as a JSON value.
-fn value_of(alloc: Global, reply: &Reply) -> Result<Value, WireError> {
-    Ok(match reply {
-        Reply::Opened(_) | Reply::Done => json!(in alloc; {"ok": true})?,
+fn value_of(alloc: Global, reply: &Reply) -> Result<Value, WireError>
+    ensures ok { IfOk result (λ v. view v ≡ data_of reply.now) }
+    ensures err { IsOkUnless result WireError.NoMemory }
+{
+    match reply {
+        Reply::Opened(_) | Reply::Done => Ok(json!(in alloc; {"ok": true})?),
         Reply::Handle(handle) => {
             let handle = u64::from(*handle);
-            json!(in alloc; {"h": handle})?
+            Ok(json!(in alloc; {"h": handle})?)
         }
         Reply::Value(value) => {
             let value = digits(alloc, *value)?;
-            json!(in alloc; {"value": value})?
+            Ok(json!(in alloc; {"value": value})?)
         }
-        Reply::Denied { denial, author } => denied(alloc, *denial, author.as_str())?,
+        Reply::Denied { denial, author } => Ok(denied(alloc, *denial, author.as_str())?),
         Reply::Error(refusal) => {
             let text = refusal.text();
-            json!(in alloc; {"error": text})?
+            Ok(json!(in alloc; {"error": text})?)
         }
-    })
+    }
 }
 
 /// The line of a reply: compact JSON with its keys in the order of their bytes, and a newline. Takes memory (1507).
-pub fn reply_line(alloc: Global, reply: &Reply) -> Result<Vec<u8>, WireError> {
+pub fn reply_line(alloc: Global, reply: &Reply) -> Result<Vec<u8>, WireError>
+    ensures ok { IfOk result (λ line. line.items ≡ line_of reply.now) }
+    ensures err { IsOkUnless result WireError.NoMemory }
+{
     let mut line = value_of(alloc, reply)?.to_vec(alloc)?;
     line.push(b'\n')?;
     Ok(line)

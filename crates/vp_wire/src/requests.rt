@@ -1,49 +1,56 @@
 // Requests (docs/FORMATS.md, "Lines").
 use crate::fault::WireError;
+use serde_json::Value;
 use std::alloc::Global;
-use vp_json::{Object, ReadError, has_keys, number, read, text};
+use vp_json::{ReadError, has_keys, number, read, text};
 use vp_list::Text;
 use vp_world::Request;
 
 /// The text under a key of a request.
-fn text_under(alloc: Global, object: &Object, key: &str) -> Result<Text, WireError> {
-    let text = text(object, key).ok_or(WireError::BadRequest)?;
+fn text_under(alloc: Global, value: &Value, key: &str) -> Result<Text, WireError> {
+    let text = text(value, key).ok_or(WireError::BadRequest)?;
     Ok(Text::copy(alloc, text)?)
 }
 
+/// The handle under a key of a request: a number of 32 bits.
+fn handle_under(value: &Value, key: &str) -> Result<u32, WireError> {
+    let number = number(value, key).ok_or(WireError::BadRequest)?;
+    u32::try_from(number).map_err(|_| WireError::BadRequest)
+}
+
 /// A request has exactly these keys beside `op`.
-fn check_keys(object: &Object, keys: &[&str]) -> Result<(), WireError> {
-    if has_keys(object, keys, ["op"].as_slice()) {
+fn check_keys(value: &Value, keys: &[&str]) -> Result<(), WireError> {
+    if has_keys(value, keys, ["op"].as_slice()) {
         Ok(())
     } else {
         Err(WireError::BadRequest)
     }
 }
 
-/// The request of an op, by the members of its line.
-fn request_of(alloc: Global, op: &str, object: &Object) -> Result<Request, WireError> {
+/// The request of an op, by the value of its line.
+fn request_of(alloc: Global, op: &str, value: &Value) -> Result<Request, WireError> {
     match op {
         "open" => {
-            check_keys(object, ["user", "token"].as_slice())?;
+            check_keys(value, ["user", "token"].as_slice())?;
             Ok(Request::Open {
-                user: text_under(alloc, object, "user")?,
-                token: text_under(alloc, object, "token")?,
+                user: text_under(alloc, value, "user")?,
+                token: text_under(alloc, value, "token")?,
             })
         }
         "close" => {
-            check_keys(object, [].as_slice())?;
+            check_keys(value, [].as_slice())?;
             Ok(Request::Close)
         }
         "handle" => {
-            check_keys(object, ["name"].as_slice())?;
+            check_keys(value, ["name"].as_slice())?;
             Ok(Request::Handle {
-                name: text_under(alloc, object, "name")?,
+                name: text_under(alloc, value, "name")?,
             })
         }
         "value" => {
-            check_keys(object, ["h"].as_slice())?;
+            check_keys(value, ["h"].as_slice())?;
             Ok(Request::Value {
-                handle: number(object, "h").ok_or(WireError::BadRequest)?,
+                handle: handle_under(value, "h")?,
             })
         }
         _ => Err(WireError::BadRequest),
@@ -57,7 +64,6 @@ pub fn request(alloc: Global, line: &[u8]) -> Result<Request, WireError> {
         Err(ReadError::NotJson) => return Err(WireError::BadJson),
         Err(ReadError::NoMemory) => return Err(WireError::NoMemory),
     };
-    let object = value.as_object().ok_or(WireError::BadRequest)?;
-    let op = text(object, "op").ok_or(WireError::BadRequest)?;
-    request_of(alloc, op, object)
+    let op = text(&value, "op").ok_or(WireError::BadRequest)?;
+    request_of(alloc, op, &value)
 }

@@ -7,8 +7,7 @@ use Rattle.vp_bits.specs.declared.bit.Bit.TheVariants.{Unknown}
 use Rattle.vp_pragma.specs.declared.rights.Right.{Right}
 use Rattle.vp_pragma.specs.declared.rights.Right.TheVariants as right
 use Rattle.vp_elab.specs.declared.object.Kind.{Kind}
-use Rattle.vp_elab.specs.declared.object.Kind.TheVariants as kind
-use Rattle.vp_elab.specs.Tree.{Tree}
+use Rattle.vp_elab.specs.Tree.{Tree, has_value}
 use Rattle.vp_policy.specs.declared.denial.Denial.{Denial}
 use Rattle.vp_policy.specs.declared.denial.Look.{Look}
 use Rattle.vp_policy.specs.declared.denial.Look.TheVariants as look
@@ -36,16 +35,10 @@ abbrev pub author_in : List (List ℕ) → ℕ → List ℕ
 author_in authors zero = []
 author_in authors (suc n) = slice_index_or authors n []
 
--- an object has a value: it is a net, a reg or a localparam
-abbrev pub has_value : Option Kind → Bool
-has_value None = false
-has_value (Some kind.Net) = true
-has_value (Some kind.Reg) = true
-has_value (Some kind.Parameter) = true
-has_value (Some kind.Module) = false
-has_value (Some kind.Always) = false
-has_value (Some kind.Initial) = false
-has_value (Some kind.Assign) = false
+-- an object is there and has a value
+abbrev pub is_readable : Option Kind → Bool
+is_readable None = false
+is_readable (Some k) = has_value k
 
 -- a world, as the session of a user looks into it
 abbrev pub observer_of : Tree → Member → Run → Observer
@@ -81,7 +74,7 @@ reply_to_name eyes s (look.Found o) =
 abbrev pub reply_to_read : Observer → ℕ → Reply
 reply_to_read eyes o =
     option_map_or (denied_reply eyes) (eyes.denied right.Read o)
-    (if has_value (eyes.kind_of o) then reply.Value (eyes.value o) else reply.Error refusal.WrongKind)
+    (if is_readable (eyes.kind_of o) then reply.Value (eyes.value o) else reply.Error refusal.WrongKind)
 
 -- the reply to what a session asks: openings and closings are no questions
 abbrev pub reply_to : Observer → SessionState → Request → Reply

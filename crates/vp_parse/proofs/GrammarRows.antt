@@ -1,0 +1,156 @@
+-- Reading, computed on examples. Each row is an equation that holds by computation.
+use Rattle.std.proofs.Common.{◌≡◌, ℕ, zero, suc, ◌+◌, ◌-◌, List, [], ◌∷◌, ◌++◌, Some, None, Result, Ok, Err, refl}
+use Rattle.vp_lex.specs.declared.keyword.Keyword.TheVariants as keyword
+use Rattle.vp_lex.specs.declared.token.Punctuator.TheVariants as punctuator
+use Rattle.vp_parse.specs.declared.symbol.Symbol.{Symbol}
+use Rattle.vp_parse.specs.declared.symbol.SymbolKind.{SymbolKind}
+use Rattle.vp_parse.specs.declared.symbol.SymbolKind.TheVariants as symbol
+use Rattle.vp_parse.specs.Kinds.{symbol_at}
+use Rattle.vp_parse.specs.Grammar.{Name, Literal, Stmt, Assign, Block, Empty, Then, Reg, Initial, Derivation}
+use Rattle.vp_parse.specs.Reading.{Stop, Unexpected, TooDeep, terminal, literal_at, expr_by, expr_at, stmts_at, assign_at, block_at, stmt_by, form_at, stmt_at, further_at, regs_at, initial_at, item_by, item_at, items_at, module_at, only, source_at, read}
+
+-- ---- symbols
+
+-- kinds, each at its place from this one on
+abbrev placed : ℕ → List SymbolKind → List Symbol
+placed n [] = []
+placed n (k ∷ ks) = symbol_at k n ∷ placed (n + 1) ks
+
+-- the kinds of `module` NAME `;`
+abbrev head : List SymbolKind
+head = symbol.Keyword keyword.Module ∷ symbol.Name ∷ symbol.Punctuator punctuator.Semicolon ∷ []
+
+abbrev reg : SymbolKind
+reg = symbol.Keyword keyword.Reg
+
+abbrev initial : SymbolKind
+initial = symbol.Keyword keyword.Initial
+
+abbrev begin : SymbolKind
+begin = symbol.Keyword keyword.Begin
+
+abbrev end : SymbolKind
+end = symbol.Keyword keyword.End
+
+abbrev endmodule : SymbolKind
+endmodule = symbol.Keyword keyword.Endmodule
+
+abbrev equals : SymbolKind
+equals = symbol.Punctuator punctuator.Equals
+
+abbrev comma : SymbolKind
+comma = symbol.Punctuator punctuator.Comma
+
+abbrev semicolon : SymbolKind
+semicolon = symbol.Punctuator punctuator.Semicolon
+
+-- what is read from symbols of these kinds, placed from 0 on
+unfoldable read_kinds : List SymbolKind → Result Derivation Stop
+unfolding terminal literal_at expr_by expr_at stmts_at assign_at block_at stmt_by form_at stmt_at further_at regs_at initial_at item_by item_at items_at module_at only source_at
+read_kinds kinds = read (placed 0 kinds)
+
+-- so many kinds of one sort
+abbrev times : ℕ → SymbolKind → List SymbolKind
+times zero k = []
+times (suc n) k = k ∷ times n k
+
+-- so many blocks within each other, and a = b; in the innermost
+abbrev nested : ℕ → List SymbolKind
+nested n = head ++ initial ∷ times n begin ++ symbol.Name ∷ equals ∷ symbol.Name ∷ semicolon ∷ times n end ++ endmodule ∷ []
+
+-- ---- what is read
+
+-- no symbols
+row_nothing : read_kinds [] ≡ Ok None
+unfolding read_kinds
+row_nothing = refl
+
+-- module m; endmodule
+row_module : read_kinds (head ++ endmodule ∷ []) ≡ Ok (Some (record { keyword = 0; name = 1; semicolon = 2; items = []; endmodule = 3 }))
+unfolding read_kinds
+row_module = refl
+
+-- module m; reg a, b; initial begin a = 1'b1; end endmodule
+row_items : read_kinds (head ++ reg ∷ symbol.Name ∷ comma ∷ symbol.Name ∷ semicolon ∷ initial ∷ begin ∷ symbol.Name ∷ equals ∷ symbol.Number 1 ∷ symbol.Base ∷ semicolon ∷ end ∷ endmodule ∷ [])
+    ≡ Ok (Some (record {
+      keyword = 0;
+      name = 1;
+      semicolon = 2;
+      items = Reg 3 4 (record { comma = 5; name = 6 } ∷ []) 7 ∷ Initial 8 (Block 9 (Then (Assign 10 11 (Literal 12 1 13) 14) Empty) 15) ∷ [];
+      endmodule = 16;
+    }))
+unfolding read_kinds
+row_items = refl
+
+-- module m; initial a = b; endmodule
+row_name : read_kinds (head ++ initial ∷ symbol.Name ∷ equals ∷ symbol.Name ∷ semicolon ∷ endmodule ∷ [])
+    ≡ Ok (Some (record { keyword = 0; name = 1; semicolon = 2; items = Initial 3 (Assign 4 5 (Name 6) 7) ∷ []; endmodule = 8 }))
+unfolding read_kinds
+row_name = refl
+
+-- so many blocks within each other, from the place of the outermost begin to that of its end
+abbrev blocks : (n first last : ℕ) → Stmt
+blocks zero first last = Assign first (first + 1) (Name (first + 2)) (first + 3)
+blocks (suc n) first last = Block first (Then (blocks n (first + 1) (last - 1)) Empty) last
+
+-- 63 blocks: the statement within them has depth 64
+row_deep : read_kinds (nested 63) ≡ Ok (Some (record { keyword = 0; name = 1; semicolon = 2; items = Initial 3 (blocks 63 4 133) ∷ []; endmodule = 134 }))
+unfolding read_kinds
+row_deep = refl
+
+-- ---- what is refused, with the number of symbols left
+
+-- module m; initial a = 1; endmodule
+row_unsized : read_kinds (head ++ initial ∷ symbol.Name ∷ equals ∷ symbol.Number 1 ∷ semicolon ∷ endmodule ∷ []) ≡ Err (Unexpected 3)
+unfolding read_kinds
+row_unsized = refl
+
+-- module m; initial a = 'b1; endmodule
+row_no_size : read_kinds (head ++ initial ∷ symbol.Name ∷ equals ∷ symbol.Base ∷ semicolon ∷ endmodule ∷ []) ≡ Err (Unexpected 3)
+unfolding read_kinds
+row_no_size = refl
+
+-- module m; initial a = 0'b1; endmodule
+row_size_0 : read_kinds (head ++ initial ∷ symbol.Name ∷ equals ∷ symbol.Number 0 ∷ symbol.Base ∷ semicolon ∷ endmodule ∷ []) ≡ Err (Unexpected 4)
+unfolding read_kinds
+row_size_0 = refl
+
+-- module m; initial a = 65536'b1; endmodule
+row_size_65536 : read_kinds (head ++ initial ∷ symbol.Name ∷ equals ∷ symbol.Number 65536 ∷ symbol.Base ∷ semicolon ∷ endmodule ∷ []) ≡ Err (Unexpected 4)
+unfolding read_kinds
+row_size_65536 = refl
+
+-- module m; initial a = b endmodule
+row_no_semicolon : read_kinds (head ++ initial ∷ symbol.Name ∷ equals ∷ symbol.Name ∷ endmodule ∷ []) ≡ Err (Unexpected 1)
+unfolding read_kinds
+row_no_semicolon = refl
+
+-- module m; reg a b; endmodule
+row_no_comma : read_kinds (head ++ reg ∷ symbol.Name ∷ symbol.Name ∷ semicolon ∷ endmodule ∷ []) ≡ Err (Unexpected 3)
+unfolding read_kinds
+row_no_comma = refl
+
+-- module m; endmodule ;
+row_behind : read_kinds (head ++ endmodule ∷ semicolon ∷ []) ≡ Err (Unexpected 1)
+unfolding read_kinds
+row_behind = refl
+
+-- module m; endmodule module n; endmodule
+row_second : read_kinds (head ++ endmodule ∷ head ++ endmodule ∷ []) ≡ Err (Unexpected 4)
+unfolding read_kinds
+row_second = refl
+
+-- module m;
+row_no_endmodule : read_kinds head ≡ Err (Unexpected 0)
+unfolding read_kinds
+row_no_endmodule = refl
+
+-- module m; initial begin
+row_no_end : read_kinds (head ++ initial ∷ begin ∷ []) ≡ Err (Unexpected 0)
+unfolding read_kinds
+row_no_end = refl
+
+-- 64 blocks: the statement within them has depth 65
+row_too_deep : read_kinds (nested 64) ≡ Err (TooDeep 69)
+unfolding read_kinds
+row_too_deep = refl

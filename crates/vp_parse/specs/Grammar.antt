@@ -1,0 +1,170 @@
+-- The grammar: derivations, and the symbols that each spells. A derivation holds the places of its terminals.
+use Rattle.std.specs.Prelude.{◌≡◌, ℕ, ◌+◌, ◌≤◌, max, List, [], ◌∷◌, Option, Some, None}
+use Rattle.vp_lex.specs.declared.keyword.Keyword.TheVariants as keyword
+use Rattle.vp_lex.specs.declared.token.Punctuator.TheVariants as punctuator
+use Rattle.vp_parse.specs.declared.parsing.TheConstants.{DEPTH_LIMIT}
+use Rattle.vp_parse.specs.declared.symbol.Symbol.{Symbol}
+use Rattle.vp_parse.specs.declared.symbol.SymbolKind.TheVariants as symbol
+use Rattle.vp_parse.specs.Kinds.{symbol_at}
+
+-- ---- expressions
+
+-- an expression: a name, or a sized number by its size, the place of its size and that of its base and digits (3.5.1)
+pub data Expr : Type 0 where
+  Name : (place : ℕ) → Expr
+  Literal : (place size digits : ℕ) → Expr
+
+-- an expression's symbols, and then these (3.5.1)
+abbrev pub expr_text : Expr → List Symbol → List Symbol
+expr_text (Name place) rest = symbol_at symbol.Name place ∷ rest
+expr_text (Literal place size digits) rest = symbol_at (symbol.Number size) place ∷ symbol_at symbol.Base digits ∷ rest
+
+-- a size is at least 1 bit (3.5.1), and at most 65,535 bits (profile)
+abbrev pub IsExpr : Expr → Type 0
+IsExpr (Name place) = Unit {0}
+IsExpr (Literal place size digits) = (1 ≤ size) × (size ≤ 65535)
+
+-- ---- statements
+
+mutual
+  -- a statement: a blocking assignment to a name (9.2.1), or a sequential block (9.8.1)
+  pub data Stmt : Type 0 where
+    Assign : (target equals : ℕ) → Expr → (semicolon : ℕ) → Stmt
+    Block : (begin : ℕ) → Stmts → (end : ℕ) → Stmt
+
+  -- the statements of a block, in order (9.8.1)
+  pub data Stmts : Type 0 where
+    Empty : Stmts
+    Then : Stmt → Stmts → Stmts
+
+abbrev mutual
+  -- a statement's symbols, and then these (9.2.1, 9.8.1)
+  pub stmt_text : Stmt → List Symbol → List Symbol
+  stmt_text (Assign target equals value semicolon) rest =
+      symbol_at symbol.Name target ∷ symbol_at (symbol.Punctuator punctuator.Equals) equals
+      ∷ expr_text value (symbol_at (symbol.Punctuator punctuator.Semicolon) semicolon ∷ rest)
+  stmt_text (Block begin body end) rest =
+      symbol_at (symbol.Keyword keyword.Begin) begin ∷ stmts_text body (symbol_at (symbol.Keyword keyword.End) end ∷ rest)
+
+  -- the symbols of a block's statements, and then these (9.8.1)
+  pub stmts_text : Stmts → List Symbol → List Symbol
+  stmts_text Empty rest = rest
+  stmts_text (Then s l) rest = stmt_text s (stmts_text l rest)
+
+abbrev mutual
+  -- each size in a statement has 1 to 65,535 bits (3.5.1, profile)
+  pub IsStmt : Stmt → Type 0
+  IsStmt (Assign target equals value semicolon) = IsExpr value
+  IsStmt (Block begin body end) = AreStmts body
+
+  -- each size in a block's statements has 1 to 65,535 bits (3.5.1, profile)
+  pub AreStmts : Stmts → Type 0
+  AreStmts Empty = Unit {0}
+  AreStmts (Then s l) = IsStmt s × AreStmts l
+
+abbrev mutual
+  -- how deep a statement nests, 1 without a block (profile)
+  pub stmt_depth : Stmt → ℕ
+  stmt_depth (Assign target equals value semicolon) = 1
+  stmt_depth (Block begin body end) = stmts_depth body + 1
+
+  -- how deep the deepest statement of a block nests (profile)
+  pub stmts_depth : Stmts → ℕ
+  stmts_depth Empty = 0
+  stmts_depth (Then s l) = max (stmt_depth s) (stmts_depth l)
+
+-- ---- items
+
+-- a further name of a declaration: the place of its comma, and its own (4.2.2)
+pub record Further : Type 0 where
+  pub comma : ℕ
+  pub name : ℕ
+
+-- an item of a module: a declaration of regs (4.2.2), or an initial construct (9.9.1)
+pub data Item : Type 0 where
+  Reg : (place first : ℕ) → List Further → (semicolon : ℕ) → Item
+  Initial : (place : ℕ) → Stmt → Item
+
+-- the symbols of further names, and then these (4.2.2)
+abbrev pub further_text : List Further → List Symbol → List Symbol
+further_text [] rest = rest
+further_text (f ∷ fs) rest =
+    symbol_at (symbol.Punctuator punctuator.Comma) f.comma ∷ symbol_at symbol.Name f.name ∷ further_text fs rest
+
+-- an item's symbols, and then these (4.2.2, 9.9.1)
+abbrev pub item_text : Item → List Symbol → List Symbol
+item_text (Reg place first further semicolon) rest =
+    symbol_at (symbol.Keyword keyword.Reg) place ∷ symbol_at symbol.Name first
+    ∷ further_text further (symbol_at (symbol.Punctuator punctuator.Semicolon) semicolon ∷ rest)
+item_text (Initial place body) rest = symbol_at (symbol.Keyword keyword.Initial) place ∷ stmt_text body rest
+
+-- the symbols of a module's items, and then these (12.1)
+abbrev pub items_text : List Item → List Symbol → List Symbol
+items_text [] rest = rest
+items_text (i ∷ is) rest = item_text i (items_text is rest)
+
+-- each size in an item has 1 to 65,535 bits (3.5.1, profile)
+abbrev pub IsItem : Item → Type 0
+IsItem (Reg place first further semicolon) = Unit {0}
+IsItem (Initial place body) = IsStmt body
+
+-- each size in a module's items has 1 to 65,535 bits (3.5.1, profile)
+abbrev pub AreItems : List Item → Type 0
+AreItems [] = Unit {0}
+AreItems (i ∷ is) = IsItem i × AreItems is
+
+-- how deep the statement of an item nests, 0 without one (profile)
+abbrev pub item_depth : Item → ℕ
+item_depth (Reg place first further semicolon) = 0
+item_depth (Initial place body) = stmt_depth body
+
+-- how deep the deepest statement of a module nests (profile)
+abbrev pub items_depth : List Item → ℕ
+items_depth [] = 0
+items_depth (i ∷ is) = max (item_depth i) (items_depth is)
+
+-- ---- modules
+
+-- a module definition: the places of its terminals, and its items (12.1)
+pub record Module : Type 0 where
+  pub keyword : ℕ
+  pub name : ℕ
+  pub semicolon : ℕ
+  pub items : List Item
+  pub endmodule : ℕ
+
+-- a module's symbols, and then these (12.1)
+abbrev pub module_text : Module → List Symbol → List Symbol
+module_text m rest =
+    symbol_at (symbol.Keyword keyword.Module) m.keyword ∷ symbol_at symbol.Name m.name
+    ∷ symbol_at (symbol.Punctuator punctuator.Semicolon) m.semicolon
+    ∷ items_text m.items (symbol_at (symbol.Keyword keyword.Endmodule) m.endmodule ∷ rest)
+
+-- a source has no module, or one (profile)
+abbrev pub Derivation : Type 0
+Derivation = Option Module
+
+-- all symbols of a source (12.1)
+abbrev pub source_text : Derivation → List Symbol
+source_text None = []
+source_text (Some m) = module_text m []
+
+-- each size in a source has 1 to 65,535 bits (3.5.1, profile)
+abbrev pub IsSource : Derivation → Type 0
+IsSource None = Unit {0}
+IsSource (Some m) = AreItems m.items
+
+-- how deep the deepest statement of a source nests (profile)
+abbrev pub source_depth : Derivation → ℕ
+source_depth None = 0
+source_depth (Some m) = items_depth m.items
+
+-- the symbols are those of this derivation, whose statements nest at most so deep (profile)
+pub record Derives (limit : ℕ) (d : Derivation) (symbols : List Symbol) : Type 0 where
+  pub spelled : symbols ≡ source_text d
+  pub is : IsSource d
+  pub fits : source_depth d ≤ limit
+
+-- the symbols are those of this derivation (annex A), within the limit of 64 (profile)
+abbrev pub IsDerivation : Derivation → List Symbol → Type 0
+IsDerivation d symbols = Derives DEPTH_LIMIT d symbols
