@@ -8,6 +8,7 @@ use Rattle.vp_bits.specs.declared.bit.Bit.{Bit}
 use Rattle.vp_bits.specs.declared.bit.Bit.TheVariants.{Zero, One, Unknown, HighImpedance}
 use Rattle.vp_bits.specs.Vector.{bits_of, bit_from, aval_bit, bval_bit, aval_of, bval_of, same_bit, same_bits}
 
+-- a vector has as many bits as its width
 pub length-bits_of : (width aval bval : ℕ) → length (bits_of width aval bval) ≡ width
 length-bits_of zero aval bval = refl
 length-bits_of (suc width) aval bval = ap suc (length-bits_of width (aval / 2) (bval / 2))
@@ -29,11 +30,13 @@ bval_bit-bit_from (suc a) (suc b) h = omega arith
 pub half_below : (n k : ℕ) → n < 2 ^ suc k → n / 2 < 2 ^ k
 half_below n k h = omega (arith, pow-suc 2 k)
 
+-- the word aval comes back from the bits
 pub aval_of-bits_of : (width aval bval : ℕ) → aval < 2 ^ width → aval_of (bits_of width aval bval) ≡ aval
 aval_of-bits_of zero aval bval h = omega arith
 aval_of-bits_of (suc width) aval bval h =
     omega (arith, aval_bit-bit_from (aval % 2) (bval % 2), aval_of-bits_of width (aval / 2) (bval / 2) (half_below aval width h))
 
+-- the word bval comes back from the bits
 pub bval_of-bits_of : (width aval bval : ℕ) → bval < 2 ^ width → bval_of (bits_of width aval bval) ≡ bval
 bval_of-bits_of zero aval bval h = omega arith
 bval_of-bits_of (suc width) aval bval h =
@@ -65,9 +68,11 @@ same_bit_own One = refl
 same_bit_own Unknown = refl
 same_bit_own HighImpedance = refl
 
+-- the test of equal bits decides equality
 pub same_bits-Decides : (bits others : List Bit) → Decides (same_bits bits others) (bits ≡ others)
 same_bits-Decides bits others =
     pointwise_decides (λ bit other. (same_bit-same bit other, λ e. ap (same_bit bit) (sym e) ∙ same_bit_own bit)) bits others
 
+-- to have the same bits is an equivalence
 pub same_bits_equiv : IsEquivalence same_bits
 same_bits_equiv = decided same_bits same_bits-Decides

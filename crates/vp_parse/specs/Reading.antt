@@ -20,6 +20,7 @@ left_of (Unexpected left) = left
 left_of (TooDeep left) = left
 
 infixl 10 ◌>>=◌
+-- the next step, unless the one before it stopped
 abbrev pub ◌>>=◌ : {A B : Type 0} → Result A Stop → (A → Result B Stop) → Result B Stop
 (Ok x) >>= f = f x
 (Err e) >>= f = Err e

@@ -63,6 +63,7 @@ abbrev pub ended_all : Progress → Option Begun → Result (List Envelope) Prag
 ended_all r None = Ok r.ended
 ended_all r (Some b) = Err (error.OpenEnvelope b.line)
 
+-- the envelopes at the end of a text that was read, or the refusal that ended the reading
 abbrev pub envelopes_behind : Result Progress PragmaError → Result (List Envelope) PragmaError
 envelopes_behind (Err e) = Err e
 envelopes_behind (Ok r) = ended_all r r.begun

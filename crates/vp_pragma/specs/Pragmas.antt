@@ -17,27 +17,33 @@ word_of text t = slice_range text t.start t.end
 
 -- ---- tests of kinds
 
+-- a name, be it a keyword (clause 3.7)
 abbrev pub is_word : TokenKind → Bool
 is_word token.Name = true
 is_word (token.Keyword k) = true
 is_word _ = false
 
+-- a string (clause 3.6)
 abbrev pub is_string : TokenKind → Bool
 is_string token.String = true
 is_string _ = false
 
+-- a decimal number (clause 3.5.1)
 abbrev pub is_number : TokenKind → Bool
 is_number token.Number = true
 is_number _ = false
 
+-- a base part (clause 3.5.1)
 abbrev pub is_base : TokenKind → Bool
 is_base token.Base = true
 is_base _ = false
 
+-- the sign that gives a keyword its value (clause 19.10)
 abbrev pub is_equals : TokenKind → Bool
 is_equals (token.Punctuator punctuator.Equals) = true
 is_equals _ = false
 
+-- the sign between expressions (clause 19.10)
 abbrev pub is_comma : TokenKind → Bool
 is_comma (token.Punctuator punctuator.Comma) = true
 is_comma _ = false
@@ -103,6 +109,7 @@ unread_words =
     ∷ codes "key_block" ∷ codes "digest_block" ∷ codes "data_public_key" ∷ codes "data_decrypt_key"
     ∷ codes "digest_public_key" ∷ codes "digest_decrypt_key" ∷ codes "key_public_key" ∷ []
 
+-- a word is a protect keyword with an effect that is not read yet
 abbrev pub is_unread : List ℕ → Bool
 is_unread word = list_any (bytes_eq word) unread_words
 

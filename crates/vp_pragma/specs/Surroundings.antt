@@ -21,6 +21,7 @@ abbrev pub opens_block : TokenKind → Bool
 opens_block (token.Keyword keyword.Begin) = true
 opens_block _ = false
 
+-- a begin block closes (clause 9.8.1)
 abbrev pub closes_block : TokenKind → Bool
 closes_block (token.Keyword keyword.End) = true
 closes_block _ = false
@@ -32,6 +33,7 @@ opens_case (token.Keyword keyword.Casez) = true
 opens_case (token.Keyword keyword.Casex) = true
 opens_case _ = false
 
+-- a case statement closes (clause 9.5)
 abbrev pub closes_case : TokenKind → Bool
 closes_case (token.Keyword keyword.Endcase) = true
 closes_case _ = false
@@ -41,6 +43,7 @@ abbrev pub begins_module : TokenKind → Bool
 begins_module (token.Keyword keyword.Module) = true
 begins_module _ = false
 
+-- a module ends (clause 12.1)
 abbrev pub ends_module : TokenKind → Bool
 ends_module (token.Keyword keyword.Endmodule) = true
 ends_module _ = false
@@ -53,6 +56,7 @@ may_end (token.Keyword keyword.Endcase) = true
 may_end (token.Keyword keyword.Endmodule) = true
 may_end _ = false
 
+-- the other branch of an if begins (clause 9.4)
 abbrev pub is_else : TokenKind → Bool
 is_else (token.Keyword keyword.Else) = true
 is_else _ = false

@@ -106,6 +106,7 @@ pub data Meaning : Type 0 where
   NotRequest : Meaning
   Asks : Request → Meaning
 
+-- what a line is, by the JSON value that is read of it, if one is
 abbrev pub meaning_of_value : Option Data → Meaning
 meaning_of_value None = NotJson
 meaning_of_value (Some d) = meaning_of_request (request_of d)
