@@ -77,6 +77,14 @@ bits_of_ones (suc width) (suc n) h =
     let rest : width ≤ n = omega arith in
     rw (first_of_ones n, rest_of_ones n, bits_of_ones width n rest) refl
 
+-- the bits of a word of zeros and one of ones
+pub bits_of_zeros_ones : (width n : ℕ) → width ≤ n → bits_of width 0 (2 ^ n - 1) ≡ replicate width HighImpedance
+bits_of_zeros_ones zero n h = refl
+bits_of_zeros_ones (suc width) zero h = absurd (omega arith)
+bits_of_zeros_ones (suc width) (suc n) h =
+    let rest : width ≤ n = omega arith in
+    rw (first_of_ones n, rest_of_ones n, bits_of_zeros_ones width n rest) refl
+
 -- ---- one more bit, below the others
 
 doubled_half : (n d : ℕ) → d < 2 → (n * 2 + d) / 2 ≡ n

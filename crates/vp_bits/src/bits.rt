@@ -1,6 +1,6 @@
 ghost use Rattle.std.specs.Prelude.{◌≡◌, ◌<◌, ◌%◌, ◌^◌, ◌↔◌, ◌⊎◌, ℕ, List, Some, length, map, reverse, replicate, slice_get, string_bytes, IfOk, IsTrue, IsOk, IsSome, IsNone, IsErrOf, IsOkUnless};
 ghost use Rattle.std.specs.Cmp.{partial_equiv_from_equiv};
-ghost use Rattle.vp_bits.specs.declared.bit.Bit.TheVariants.{Unknown};
+ghost use Rattle.vp_bits.specs.declared.bit.Bit.TheVariants.{HighImpedance, Unknown};
 ghost use Rattle.vp_bits.specs.Digits.{digits_bits, digit_of};
 ghost use Rattle.vp_bits.specs.Vector.{IsWidth, resized, same_bits};
 ghost use Rattle.vp_bits.specs.Words.{same_bits_equiv};
@@ -119,6 +119,18 @@ impl Bits {
             width,
             aval: ones,
             bval: ones,
+        }
+    }
+
+    /// The vector of this width, in bits, whose every bit is z (IEEE Std 1364-2005, 4.1).
+    pub fn high_impedance(width: u8) -> Bits
+        requires { IsWidth width }
+        ensures { result ≡ replicate width HighImpedance }
+    {
+        Bits {
+            width,
+            aval: 0,
+            bval: low(u64::MAX, width),
         }
     }
 

@@ -1,2 +1,11 @@
-pub mod Preorder
 pub mod TreeRows
+pub mod Marks
+pub mod Twice
+pub mod Zip
+pub mod Preorder
+pub mod Authors
+pub mod Distinct
+pub mod Finding
+pub mod Declared
+pub mod Scopes
+pub mod BuiltTables

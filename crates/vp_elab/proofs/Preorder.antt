@@ -1,44 +1,142 @@
--- Objects that stand behind their parents.
-use Rattle.std.proofs.Common.{◌≡◌, ℕ, zero, suc, ◌+◌, ◌<◌, List, [], ◌∷◌, ◌++◌, length, Option, Some, None, slice_get, arith, subst, sym}
-use Rattle.std.specs.Prelude.{IfSome}
+-- The objects of a design beside the nodes of its tree.
+use Rattle.std.proofs.Common.{◌≡◌, ℕ, zero, suc, ◌+◌, ◌<◌, ◌≤◌, List, [], ◌∷◌, ◌++◌, length, map, slice_get, slice_index_or, Option, Some, None, refl, sym, ap, subst, ◌∙◌, arith}
+use Rattle.std.specs.Prelude.{IfSome, MatchOption, option_map}
+use Rattle.std.specs.List.{flat_map}
+use Rattle.std.proofs.lemmas.List.{append_assoc, append-nil, length-append, length-map}
+use Rattle.std.proofs.lemmas.Grind.{flat_map-append}
+use Rattle.std.specs.Option.{option_map_or}
+use Rattle.vp_elab.specs.declared.object.Kind.TheVariants as kind
+use Rattle.vp_parse.specs.Places.{line_at, word_at}
+use Rattle.vp_parse.specs.declared.source.Source.{Source}
+use Rattle.vp_parse.specs.declared.source.Item.{Item}
+use Rattle.vp_parse.specs.declared.source.Module.{Module}
+use Rattle.vp_pragma.specs.declared.envelope.Envelope.{Envelope}
 use Rattle.vp_elab.specs.declared.object.Object.{Object}
 use Rattle.vp_elab.specs.declared.object.ObjectId.{ObjectId}
-use Rattle.vp_elab.specs.Objects.{StandBehind}
+use Rattle.vp_elab.specs.Tree.{Step, Node, path_of}
+use Rattle.vp_elab.specs.Elaboration.{item_name, item_place, items_in, step_at, root_step, item_node, module_nodes}
+use Rattle.vp_elab.specs.Objects.{StandsFor, item_object, module_objects, objects_behind, roots_behind}
+use Rattle.vp_elab.proofs.Zip.{Zip, zip_append, zip_at, zip_all, zip_map, slice_get_behind}
 
-below : (p : Option ObjectId) (m n : ℕ) → m ≡ n → IfSome p (λ q. q.0 < m) → IfSome p (λ q. q.0 < n)
-below None m n e h = tt
-below (Some q) m n e h = omega arith
+module _ (source : Source) (envelopes : List Envelope) where
+  -- the nodes of these modules
+  abbrev pub nodes_in : List Module → List Node
+  nodes_in ms = flat_map (module_nodes source envelopes) ms
 
--- one more object, behind its parent
-pub StandBehind-append :
-    (n : ℕ) (objects : List Object) (o : Object) → StandBehind n objects → IfSome o.parent (λ p. p.0 < n + length objects)
-    → StandBehind n (objects ++ o ∷ [])
-StandBehind-append n [] o s h = (below o.parent (n + 0) n (omega arith) h, tt)
-StandBehind-append n (x ∷ xs) o s h =
-    (s.0, StandBehind-append (suc n) xs o s.1 (below o.parent (n + length (x ∷ xs)) (suc n + length xs) (omega arith) h))
+  -- all nodes
+  abbrev pub all_nodes : List Node
+  all_nodes = nodes_in source.modules
 
--- the object of a number stands behind its parent
-pub StandBehind-at :
-    (n : ℕ) (objects : List Object) (i : ℕ) (o : Object) → StandBehind n objects → slice_get objects i ≡ Some o
-    → IfSome o.parent (λ p. p.0 < n + i)
-StandBehind-at n [] i o s e = absurd (cc)
-StandBehind-at n (x ∷ xs) zero o s e =
-    let same : x ≡ o = cc in
-    let P : Object → Type 0 = λ y. IfSome y.parent (λ p. p.0 < n + 0) in
-    subst P same (below x.parent n (n + 0) (omega arith) s.0)
-StandBehind-at n (x ∷ xs) (suc i) o s e =
-    below o.parent (suc n + i) (n + suc i) (omega arith) (StandBehind-at (suc n) xs i o s.1 e)
+  -- an object is one of an item, or that of a module behind others
+  pub data Role (id : ℕ) (scope : Option ℕ) (path : List Step) : Type 0 where
+    OfItem : (s t : Step) → scope ≡ None → path ≡ s ∷ t ∷ [] → Role id scope path
+    OfModule : (m : Module) (before after : List Module) → source.modules ≡ before ++ m ∷ after → scope ≡ Some (length before) → id ≡ length (nodes_in before) → path ≡ root_step source envelopes m.name ∷ [] → Role id scope path
 
--- one more object behind its parent, from number 0 on
-pub StandBehind-push :
-    (objects : List Object) (o : Object) → StandBehind 0 objects → IfSome o.parent (λ p. p.0 < length objects)
-    → StandBehind 0 (objects ++ o ∷ [])
-StandBehind-push objects o s h =
-    StandBehind-append 0 objects o s (below o.parent (length objects) (0 + length objects) (omega arith) h)
+  -- an object of a number belongs to a node
+  pub record Fits (id : ℕ) (o : Object) (n : Node) : Type 0 where
+    pub step : Step
+    pub kind : o.kind ≡ n.kind
+    pub width : o.width ≡ n.width
+    pub one_bit : o.width ≡ 1
+    pub path : n.path ≡ path_of all_nodes (option_map (λ p. p.0) o.parent) ++ step ∷ []
+    pub place : step.place ≡ o.place
+    pub envelope : step.envelope ≡ o.envelope
+    pub behind : IfSome o.parent (λ p. p.0 < id)
+    pub role : Role id o.scope n.path
 
--- what is found under a number stands behind its parent
-pub found_behind :
-    (objects : List Object) (i : ℕ) (found : Option Object) → StandBehind 0 objects → found ≡ slice_get objects i
-    → IfSome found (λ o. IfSome o.parent (λ p. p.0 < i))
-found_behind objects i None s e = tt
-found_behind objects i (Some o) s e = below o.parent (0 + i) i (omega arith) (StandBehind-at 0 objects i o s (sym e))
+  -- the objects of items, behind their module's
+  items_fit : (m : Module) (base n : ℕ) (is : List Item) → base < n → path_of all_nodes (Some base) ≡ root_step source envelopes m.name ∷ [] → Zip Fits n (map (item_node source envelopes m.name) is) (map (item_object envelopes base) is)
+  items_fit m base n [] l h = tt
+  items_fit m base n (i ∷ is) l h =
+      let own : Step = step_at envelopes (Some (word_at source m.name)) (item_name source i) (item_place i) in (
+        record {
+          step = own;
+          kind = refl;
+          width = refl;
+          one_bit = refl;
+          path = ap (λ (p : List Step). p ++ own ∷ []) (sym h);
+          place = refl;
+          envelope = refl;
+          behind = l;
+          role = OfItem (root_step source envelopes m.name) own refl refl;
+        },
+        items_fit m base (suc n) is (omega arith) h,
+      )
+
+  -- the objects of a module
+  module_fits : (m : Module) (before after : List Module) → source.modules ≡ before ++ m ∷ after → Zip Fits (length (nodes_in before)) (module_nodes source envelopes m) (module_objects source envelopes (length before) (length (nodes_in before)) m)
+  module_fits m before after e =
+      let base : ℕ = length (nodes_in before) in
+      let root : Node = record { path = root_step source envelopes m.name ∷ []; kind = kind.Module; width = 1; line = line_at source m.name; definition = Some (word_at source m.name) } in
+      let behind : List Node = map (item_node source envelopes m.name) (items_in source m) ++ nodes_in after in
+      let all : all_nodes ≡ nodes_in before ++ (root ∷ behind) = ap nodes_in e ∙ flat_map-append (module_nodes source envelopes) before (m ∷ after) in
+      let there : slice_get all_nodes base ≡ Some root = ap (λ (ns : List Node). slice_get ns base) all ∙ slice_get_behind (nodes_in before) root behind in
+      let path : path_of all_nodes (Some base) ≡ root_step source envelopes m.name ∷ [] = ap (λ (o : Option Node). option_map_or (λ n. n.path) o []) there in (
+        record {
+          step = root_step source envelopes m.name;
+          kind = refl;
+          width = refl;
+          one_bit = refl;
+          path = refl;
+          place = refl;
+          envelope = refl;
+          behind = tt;
+          role = OfModule m before after e refl refl refl;
+        },
+        items_fit m base (suc base) (items_in source m) (omega arith) path,
+      )
+
+  -- the objects of modules behind others
+  modules_fit : (before after : List Module) (os : List Object) → source.modules ≡ before ++ after → length os ≡ length (nodes_in before) → Zip Fits 0 (nodes_in before) os → Zip Fits 0 all_nodes (objects_behind source envelopes (length before) after os)
+  modules_fit before [] os e l h = subst (λ (ms : List Module). Zip Fits 0 (nodes_in ms) os) (sym (e ∙ append-nil before)) h
+  modules_fit before (m ∷ ms) os e l h =
+      let split : source.modules ≡ (before ++ m ∷ []) ++ ms = e ∙ sym (append_assoc before (m ∷ []) ms) in
+      let nodes : nodes_in (before ++ m ∷ []) ≡ nodes_in before ++ module_nodes source envelopes m = flat_map-append (module_nodes source envelopes) before (m ∷ []) ∙ ap (λ (ns : List Node). nodes_in before ++ ns) (append-nil (module_nodes source envelopes m)) in
+      let own : List Object = module_objects source envelopes (length before) (length os) m in
+      let more : length (before ++ m ∷ []) ≡ length before + 1 = length-append before (m ∷ []) in
+      let long : length (os ++ own) ≡ length (nodes_in (before ++ m ∷ [])) =
+      length-append os own
+      ∙ (let a = length-map (items_in source m) (item_object envelopes (length os)) in
+      let b = length-map (items_in source m) (item_node source envelopes m.name) in
+      let c = length-append (nodes_in before) (module_nodes source envelopes m) in
+      let d = ap length nodes in
+      omega arith) in
+      let block : Zip Fits (length os) (module_nodes source envelopes m) own = subst (λ (n : ℕ). Zip Fits n (module_nodes source envelopes m) (module_objects source envelopes (length before) n m)) (sym l) (module_fits m before ms e) in
+      let zipped : Zip Fits 0 (nodes_in (before ++ m ∷ [])) (os ++ own) = subst (λ (ns : List Node). Zip Fits 0 ns (os ++ own)) (sym nodes) (zip_append Fits 0 (length os) (nodes_in before) (module_nodes source envelopes m) os own (l ∙ (omega arith)) h block) in
+      subst (λ (k : ℕ). Zip Fits 0 all_nodes (objects_behind source envelopes k ms (os ++ own))) more (modules_fit (before ++ m ∷ []) ms (os ++ own) split long zipped)
+
+  -- each object belongs to the node of its number, and each node has one
+  pub objects_fit : Zip Fits 0 all_nodes (objects_behind source envelopes 0 source.modules [])
+  objects_fit = modules_fit [] source.modules [] refl refl tt
+
+  stands_by : (id : ℕ) (found : Option Object) → MatchOption found (slice_get all_nodes id ≡ None) (λ o. (n : Node) × (slice_get all_nodes id ≡ Some n) × Fits id o n) → MatchOption found (slice_get all_nodes id ≡ None) (λ o. StandsFor all_nodes id o)
+  stands_by id None h = h
+  stands_by id (Some o) h = record {
+    node = h.0;
+    step = h.2.step;
+    there = h.1;
+    kind = h.2.kind;
+    width = h.2.width;
+    path = h.2.path;
+    place = h.2.place;
+    envelope = h.2.envelope;
+    behind = h.2.behind;
+  }
+
+  -- the object of a number stands for the node of that number
+  pub object_stands : (id : ℕ) → MatchOption (slice_get (objects_behind source envelopes 0 source.modules []) id) (slice_get all_nodes id ≡ None) (λ o. StandsFor all_nodes id o)
+  object_stands id = stands_by id (slice_get (objects_behind source envelopes 0 source.modules []) id) (zip_at Fits 0 id id all_nodes (objects_behind source envelopes 0 source.modules []) (omega arith) objects_fit)
+
+  -- kinds and widths of objects are those of the nodes
+  pub kinds_same : map (λ o. o.kind) (objects_behind source envelopes 0 source.modules []) ≡ map (λ n. n.kind) all_nodes
+  kinds_same = zip_map Fits (λ n. n.kind) (λ o. o.kind) (λ k o n h. h.kind) 0 all_nodes (objects_behind source envelopes 0 source.modules []) objects_fit
+
+  pub widths_same : map (λ o. o.width) (objects_behind source envelopes 0 source.modules []) ≡ map (λ n. n.width) all_nodes
+  widths_same = zip_map Fits (λ n. n.width) (λ o. o.width) (λ k o n h. h.width) 0 all_nodes (objects_behind source envelopes 0 source.modules []) objects_fit
+
+  fits_word : (k : ℕ) (o : Object) (n : Node) → Fits k o n → (1 ≤ o.width) × (o.width ≤ 64)
+  fits_word k o n h = let one = h.one_bit in (omega arith, omega arith)
+
+  -- each object has 1 to 64 bits
+  pub widths_fit : (i : ℕ) (d : Object) → i < length (objects_behind source envelopes 0 source.modules []) → (1 ≤ (slice_index_or (objects_behind source envelopes 0 source.modules []) i d).width) × ((slice_index_or (objects_behind source envelopes 0 source.modules []) i d).width ≤ 64)
+  widths_fit = zip_all Fits (λ (o : Object). (1 ≤ o.width) × (o.width ≤ 64)) fits_word 0 all_nodes (objects_behind source envelopes 0 source.modules []) objects_fit

@@ -2,6 +2,8 @@
 use Rattle.std.proofs.Common.{◌≡◌, ℕ, List, [], ◌∷◌, Some, None, Result, Ok, Err, refl}
 use Rattle.std.specs.Prelude.{codes}
 use Rattle.std.specs.Fmt.{digits}
+use Rattle.std.specs.Str.{chars, is_utf8}
+use Rattle.std.specs.Char.{encode_utf8}
 use Rattle.vp_lex.specs.declared.fault.LexError.{LexError}
 use Rattle.vp_lex.specs.declared.token.Token.{Token}
 use Rattle.vp_lex.specs.Tokens.{tokens_of}
@@ -59,8 +61,9 @@ nodes_of_text :
     ∷ declared (codes "k") 14 1 Reg 4
     ∷ declared (codes "initial@6:3") 19 0 Initial 6
     ∷ []
-unfolding digits
+unfolding digits is_utf8 chars encode_utf8
 nodes_of_text = refl
 
 authors_of_text : tree.authors ≡ codes "acme" ∷ []
+unfolding is_utf8 chars encode_utf8
 authors_of_text = refl

@@ -1,8 +1,8 @@
 -- The tree of a source: what its modules declare, in preorder.
-use Rattle.std.specs.Prelude.{ℕ, List, [], ◌∷◌, ◌++◌, map, slice_get, slice_range, Option, Some, None, codes, decimal}
+use Rattle.std.specs.Prelude.{ℕ, List, [], ◌∷◌, ◌++◌, map, Option, Some, None, codes, decimal}
 use Rattle.std.specs.List.{flat_map}
-use Rattle.std.specs.Option.{option_map_or}
-use Rattle.vp_lex.specs.declared.token.Token.{Token}
+use Rattle.vp_list.specs.Lists.{range_of}
+use Rattle.vp_parse.specs.Places.{column_at, line_at, word_at}
 use Rattle.vp_parse.specs.declared.source.Source.{Source}
 use Rattle.vp_parse.specs.declared.source.Module as declared
 use Rattle.vp_parse.specs.declared.source.Item.{Item}
@@ -12,21 +12,6 @@ use Rattle.vp_pragma.specs.Envelopes.{envelope_at}
 use Rattle.vp_elab.specs.declared.object.Kind.{Kind}
 use Rattle.vp_elab.specs.declared.object.Kind.TheVariants as kind
 use Rattle.vp_elab.specs.Tree.{Step, Node, Tree}
-
--- ---- tokens by their places
-
--- the text of the token at a place
-abbrev pub word_at : Source → ℕ → List ℕ
-word_at source place =
-    option_map_or (λ (t : Token). slice_range source.text t.start t.end) (slice_get source.tokens place) []
-
--- the line of the token at a place
-abbrev pub line_at : Source → ℕ → ℕ
-line_at source place = option_map_or (λ (t : Token). t.line) (slice_get source.tokens place) 0
-
--- the column of the token at a place
-abbrev pub column_at : Source → ℕ → ℕ
-column_at source place = option_map_or (λ (t : Token). t.column) (slice_get source.tokens place) 0
 
 -- ---- items
 
@@ -43,7 +28,7 @@ item_kind (item.Initial keyword body) = kind.Initial
 -- the name of a process: its keyword, its line and its column (profile)
 abbrev pub process_name : List ℕ → Source → ℕ → List ℕ
 process_name keyword source place =
-    keyword ++ codes "@" ++ decimal (line_at source place) ++ codes ":" ++ decimal (column_at source place)
+    keyword ++ (codes "@" ++ (decimal (line_at source place) ++ (codes ":" ++ decimal (column_at source place))))
 
 -- the name of what an item declares
 abbrev pub item_name : Source → Item → List ℕ
@@ -64,6 +49,10 @@ step_at envelopes in_module name place = record {
 -- the step to a top module, by the token of its name
 abbrev pub root_step : Source → List Envelope → ℕ → Step
 root_step source envelopes name = step_at envelopes None (word_at source name) name
+
+-- the items of a module, in the order of the text
+abbrev pub items_in : Source → declared.Module → List Item
+items_in source m = range_of source.items m.first m.end
 
 -- the node of an item of a top module
 abbrev pub item_node : Source → List Envelope → ℕ → Item → Node
@@ -88,7 +77,7 @@ module_nodes source envelopes m =
       line = line_at source m.name;
       definition = Some (word_at source m.name);
     }
-    ∷ map (item_node source envelopes m.name) (slice_range source.items m.first m.end)
+    ∷ map (item_node source envelopes m.name) (items_in source m)
 
 -- the tree of a source with these envelopes; each module is a top module, since none is instantiated yet
 abbrev pub tree_of : Source → List Envelope → Tree

@@ -4,3 +4,5 @@ pub mod Faults
 pub mod Objects
 pub mod Tree
 pub mod Elaboration
+pub mod Refusals
+pub mod Built

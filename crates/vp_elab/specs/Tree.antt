@@ -1,6 +1,7 @@
 -- A design as a list of nodes in preorder, each with the steps of its path.
-use Rattle.std.specs.Prelude.{ℕ, ◌==◌, ◌&&◌, Bool, true, false, if◌then◌else◌, List, [], ◌∷◌, Option, Some, None, is_some}
-use Rattle.std.specs.List.{filter_map}
+use Rattle.std.specs.Prelude.{ℕ, zero, suc, ◌==◌, ◌&&◌, Bool, true, false, if◌then◌else◌, List, [], ◌∷◌, ◌++◌, length, map, filter, slice_get, slice_index_or, Option, Some, None, is_some, option_map, option_and_then}
+use Rattle.std.specs.List.{filter_map, list_any, position}
+use Rattle.std.specs.Option.{option_map_or}
 use Rattle.std.specs.Str.{bytes_eq}
 use Rattle.vp_pragma.specs.Envelopes.{Viewport}
 use Rattle.vp_elab.specs.declared.object.Kind.{Kind}
@@ -67,3 +68,53 @@ fits_module (Some m) (Some n) = bytes_eq m n
 -- a viewport matches a step: an item of its name, and of its module where it names one, in its envelope (profile)
 abbrev pub matches : Step → Viewport → Bool
 matches s v = (v.envelope == s.envelope) && is_some s.in_module && bytes_eq v.item s.name && fits_module v.in_module s.in_module
+
+-- the author of the envelope of a number; of number 0, the open text, and of no envelope the empty text
+abbrev pub author_in : List (List ℕ) → ℕ → List ℕ
+author_in authors zero = []
+author_in authors (suc n) = slice_index_or authors n []
+
+-- ---- objects by their numbers
+
+-- the path to the object of a number; the path of no step to what contains the top modules, and where no object is
+abbrev pub path_of : List Node → Option ℕ → List Step
+path_of nodes None = []
+path_of nodes (Some id) = option_map_or (λ n. n.path) (slice_get nodes id) []
+
+-- the names of a path
+abbrev pub names_of : List Step → List (List ℕ)
+names_of path = map (λ s. s.name) path
+
+-- the number of the first object whose path has these names
+abbrev pub find_named : List Node → List (List ℕ) → Option ℕ
+find_named nodes names = position (λ node. is_named names node.path) nodes
+
+-- ---- envelopes of a scope
+
+-- the numbers below this one, rising
+abbrev pub below : ℕ → List ℕ
+below zero = []
+below (suc n) = below n ++ n ∷ []
+
+-- something is declared in an envelope, in the scope of these names
+abbrev pub declares_in : Tree → List (List ℕ) → ℕ → Bool
+declares_in tree scope envelope = list_any (λ s. s.envelope == envelope) (declared_in scope tree.nodes)
+
+-- the numbers of the envelopes of what is declared in the scope of these names, rising, each once
+abbrev pub envelopes_in : Tree → List (List ℕ) → List ℕ
+envelopes_in tree scope = filter (declares_in tree scope) (below (suc (length tree.authors)))
+
+-- ---- scopes
+
+-- the names of a scope, which is an object or contains the top modules; none where the object is not there
+abbrev pub scope_names : List Node → Option ℕ → Option (List (List ℕ))
+scope_names nodes None = Some []
+scope_names nodes (Some id) = option_map (λ n. names_of n.path) (slice_get nodes id)
+
+-- the number of the object of a name in a scope
+abbrev pub find_in : List Node → Option ℕ → List ℕ → Option ℕ
+find_in nodes scope name = option_and_then (λ names. find_named nodes (names ++ name ∷ [])) (scope_names nodes scope)
+
+-- the numbers of the envelopes of what is declared in a scope, rising, each once; none where the object is not there
+abbrev pub declared_envelopes : Tree → Option ℕ → List ℕ
+declared_envelopes tree scope = option_map_or (envelopes_in tree) (scope_names tree.nodes scope) []

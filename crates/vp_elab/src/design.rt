@@ -1,116 +1,173 @@
-ghost use Rattle.std.specs.Prelude.{◌≡◌, ℕ, List, length, slice_get, option_map, ◌<◌, IfSome};
+ghost use Rattle.std.specs.Prelude.{◌≡◌, ◌≤◌, [], All, map, option_and_then, option_map, position, slice_get, MatchOption};
+ghost use Rattle.std.specs.Option.{option_copied};
+ghost use Rattle.std.specs.Str.{bytes_eq};
+ghost use Rattle.vp_elab.specs.Tree.{author_in, declared_envelopes, find_in};
+ghost use Rattle.vp_elab.specs.Objects.{StandsFor};
+ghost use Rattle.vp_elab.specs.Built.{IsBuilt, design_of};
 
+use crate::names::Names;
 use crate::object::{Object, ObjectId};
 use crate::scope::{Modules, Scope};
 use std::marker::Model;
+use vp_list::Sequence;
 use vp_parse::Source;
 use vp_pragma::Envelopes;
 
 /// The objects of a design.
 #[derive(Drop)]
-pub struct Tree {
-    /// In preorder.
-    pub objects: Vec<Object>,
+pub struct Objects {
+    /// All of them, in preorder.
+    pub all: Sequence<Object>,
     /// The top modules, by the number of their module in the text.
-    pub roots: Vec<ObjectId>,
+    pub roots: Sequence<ObjectId>,
     /// The numbers of the envelopes of the top modules, rising, each once.
-    pub root_envelopes: Vec<u8>,
+    pub root_envelopes: Sequence<u8>,
 }
 
 /// A design: its objects in preorder, with the source and the envelopes that it was made of.
-/// A contract sees the objects.
+/// A contract sees the source and the tree.
 #[derive(Drop)]
 pub struct Design {
     source: Source,
     envelopes: Envelopes,
     modules: Modules,
-    tree: Tree,
+    objects: Objects,
 }
 
 impl Model for Design {
-    ghost use Rattle.std.specs.Prelude.{List};
-    ghost use Rattle.vp_elab.specs.declared.object.Object.{Object};
-    ghost use Rattle.vp_elab.specs.Objects.{StandBehind};
+    ghost use Rattle.vp_elab.specs.Built.{Elaborated, IsBuilt, design_of};
 
-    ghost Value = { List Object };
+    ghost Value = { Elaborated };
 
-    ghost view = { λ d. d.tree.objects.items };
+    ghost view = { λ d. design_of d.source d.envelopes };
 
-    ghost invariant = { λ d. StandBehind 0 d.tree.objects.items };
+    ghost invariant = { λ d. IsBuilt d.source d.envelopes d.modules d.objects };
 }
 
+/// The object of a number.
 fn object_at(objects: &[Object], id: ObjectId) -> Option<Object>
     ensures { result ≡ slice_get objects.now id.0 }
 {
     objects.get(id.0 as usize).copied()
 }
 
-impl Design {
-    ghost use Rattle.vp_elab.specs.Objects.{StandBehind};
+/// The scope of a module's object; none of any other object.
+fn scope_at<'a>(objects: &'a [Object], scopes: &'a [Scope], object: ObjectId) -> Option<&'a Scope>
+    ensures { option_copied result ≡ option_and_then (slice_get scopes.now) (option_and_then (λ o. o.scope) (slice_get objects.now object.0)) }
+{
+    let number = object_at(objects, object)?.scope?;
+    scopes.get(number)
+}
 
-    pub(crate) fn new(source: Source, envelopes: Envelopes, modules: Modules, tree: Tree) -> Design
-        requires { StandBehind 0 tree.objects.items }
-        ensures { result ≡ tree.objects.items }
+/// The index of a name that is declared in a module's object.
+fn index_at(objects: &[Object], scopes: &[Scope], object: ObjectId, name: &str) -> Option<usize>
+    ensures { result ≡ option_and_then (λ s. position (bytes_eq name.now) s.names) (option_and_then (slice_get scopes.now) (option_and_then (λ o. o.scope) (slice_get objects.now object.0))) }
+{
+    scope_at(objects, scopes, object)?.names.find(name)
+}
+
+/// The top module of a name.
+fn root_at(names: &Names, roots: &[ObjectId], name: &str) -> Option<ObjectId>
+    ensures { result ≡ option_and_then (slice_get roots.now) (position (bytes_eq name.now) names.now) }
+{
+    let number = names.find(name)?;
+    roots.get(number).copied()
+}
+
+impl Design {
+    pub(crate) fn new(
+        source: Source,
+        envelopes: Envelopes,
+        modules: Modules,
+        objects: Objects,
+    ) -> Design
+        requires { IsBuilt source envelopes modules objects }
+        ensures { result ≡ design_of source envelopes }
     {
         Design {
             source,
             envelopes,
             modules,
-            tree,
+            objects,
         }
     }
 
     /// The source that it was made of.
-    pub fn source(&self) -> &Source {
+    pub fn source(&self) -> &Source
+        ensures { result.now ≡ self.now.source }
+    {
         &self.source
     }
 
-    /// The envelopes of its text.
-    pub fn envelopes(&self) -> &Envelopes {
-        &self.envelopes
+    /// The author of an envelope; empty for number 0, the open text, and for a number that is not there.
+    pub fn author(&self, envelope: u8) -> &str
+        ensures { result.now ≡ author_in self.now.tree.authors envelope }
+    {
+        self.envelopes.author(envelope)
     }
 
     /// Its objects, in preorder.
     pub fn objects(&self) -> &[Object]
-        ensures objects { result.now ≡ self.now }
-        ensures behind { StandBehind 0 result.now }
+        ensures kinds { map (λ o. o.kind) result.now ≡ map (λ n. n.kind) self.now.tree.nodes }
+        ensures widths { map (λ o. o.width) result.now ≡ map (λ n. n.width) self.now.tree.nodes }
+        ensures fit { All (λ o. (1 ≤ o.width) × (o.width ≤ 64)) result.now }
     {
-        &self.tree.objects
+        self.objects.all.as_slice()
     }
 
-    /// The object of a number; none behind the end. Its parent has a smaller number.
+    /// The object of a number; none behind the end. No viewport is read yet.
     pub fn object(&self, id: ObjectId) -> Option<Object>
-        ensures object { result ≡ slice_get self.now id.0 }
-        ensures behind { IfSome result (λ o. IfSome o.parent (λ p. p.0 < id.0)) }
+        ensures viewports { self.now.tree.viewports ≡ [] }
+        ensures node { MatchOption result (slice_get self.now.tree.nodes id.0 ≡ None) (λ o. StandsFor self.now.tree.nodes id.0 o) }
     {
-        object_at(&self.tree.objects, id)
+        object_at(self.objects.all.as_slice(), id)
     }
 
-    /// The object of a name that is declared in a module, or among the top modules.
-    pub fn find(&self, scope: Option<ObjectId>, name: &str) -> Option<ObjectId> {
-        let Some(module) = scope else {
-            let number = self.modules.names.get(name)?;
-            return self.tree.roots.get(*number).copied();
-        };
-        let distance = self.scope(module)?.names.get(name)?;
-        let number = (module.0 as usize).checked_add(*distance)?;
-        Some(ObjectId(u32::try_from(number).ok()?))
-    }
-
-    /// The numbers of the envelopes of the places declared in a module, or of the top modules: rising, each once.
-    /// None for an object that is no module.
-    pub fn declared_envelopes(&self, scope: Option<ObjectId>) -> &[u8] {
+    /// The object of a name that is declared in a module, or among the top modules; none in an object that is no
+    /// module, and in one that is not there.
+    pub fn find(&self, scope: Option<ObjectId>, name: &str) -> Option<ObjectId>
+        ensures { option_map (λ o. o.0) result ≡ find_in self.now.tree.nodes (option_map (λ o. o.0) scope) name.now }
+    {
         match scope {
-            None => &self.tree.root_envelopes,
-            Some(module) => match self.scope(module) {
-                Some(scope) => &scope.envelopes,
-                None => &[],
-            },
+            None => self.root(name),
+            Some(module) => self.child(module, name),
         }
     }
 
-    fn scope(&self, module: ObjectId) -> Option<&Scope> {
-        let number = self.object(module)?.scope?;
-        self.modules.scopes.get(number)
+    fn root(&self, name: &str) -> Option<ObjectId>
+        ensures { option_map (λ o. o.0) result ≡ find_in self.now.tree.nodes None name.now }
+    {
+        root_at(&self.modules.names, self.objects.roots.as_slice(), name)
+    }
+
+    fn child(&self, object: ObjectId, name: &str) -> Option<ObjectId>
+        ensures { option_map (λ o. o.0) result ≡ find_in self.now.tree.nodes (Some object.0) name.now }
+    {
+        let objects = self.objects.all.as_slice();
+        match index_at(objects, self.modules.scopes.as_slice(), object, name) {
+            Some(index) => Some(ObjectId(object.0 + 1 + index as u32)),
+            None => None,
+        }
+    }
+
+    /// The numbers of the envelopes of the places declared in a module, or of the top modules: rising, each once.
+    /// None in an object that is no module, and in one that is not there.
+    pub fn declared_envelopes(&self, scope: Option<ObjectId>) -> &[u8]
+        ensures { result.now ≡ declared_envelopes self.now.tree (option_map (λ o. o.0) scope) }
+    {
+        match scope {
+            None => self.objects.root_envelopes.as_slice(),
+            Some(object) => self.envelopes_in(object),
+        }
+    }
+
+    fn envelopes_in(&self, object: ObjectId) -> &[u8]
+        ensures { result.now ≡ declared_envelopes self.now.tree (Some object.0) }
+    {
+        let objects = self.objects.all.as_slice();
+        match scope_at(objects, self.modules.scopes.as_slice(), object) {
+            Some(scope) => scope.envelopes.as_slice(),
+            None => &[],
+        }
     }
 }

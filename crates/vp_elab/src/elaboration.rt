@@ -1,12 +1,16 @@
-ghost use Rattle.std.specs.Prelude.{◌≡◌, ◌≤◌, ◌<◌, ◌+◌, ◌++◌, ◌∷◌, [], IfOk, IfSome, OnOk, length};
-ghost use Rattle.vp_elab.specs.Elaboration.{item_kind};
-ghost use Rattle.vp_elab.specs.Objects.{StandBehind};
+ghost use Rattle.std.specs.Prelude.{◌≡◌, ◌+◌, ◌≤◌, [], ◌∷◌, ◌++◌, IfErr, IfOk, MatchResult, OnOk, length, map};
+ghost use Rattle.vp_elab.specs.Elaboration.{item_kind, item_name, items_in};
+ghost use Rattle.vp_elab.specs.Built.{design_of};
+ghost use Rattle.vp_elab.specs.Objects.{item_object, module_objects, objects_in, root_object};
+ghost use Rattle.vp_elab.specs.Refusals.{Explains, object_count, refusal_of, too_many, undeclared_among, undeclared_at, undeclared_by, undeclared_in, undeclared_value};
 
-use crate::design::{Design, Tree};
+use crate::design::{Design, Objects};
 use crate::fault::ElabError;
+use crate::names::Names;
 use crate::object::{Kind, Object, ObjectId};
-use crate::scope::{Modules, Scope, items_of, marked, modules_of, place_of};
+use crate::scope::{Scope, items_of, modules_of, place_of, root_envelopes_of};
 use std::alloc::Global;
+use vp_list::Sequence;
 use vp_parse::{Expression, Item, Module, Source, Statement};
 use vp_pragma::Envelopes;
 
@@ -14,42 +18,65 @@ use vp_pragma::Envelopes;
 pub const OBJECT_LIMIT: usize = 65_536;
 
 /// A name of the text is declared in a module; else its line.
-fn declared(source: &Source, scope: &Scope, name: u32) -> Result<(), ElabError> {
-    if scope.names.contains_key(source.word(name)) {
+fn declared(source: &Source, names: &Names, place: u32) -> Result<(), ElabError>
+    ensures { MatchResult result (λ _. undeclared_at source.now names.now place ≡ None) (λ e. Explains (undeclared_at source.now names.now place) e) }
+{
+    if names.has(source.word(place)) {
         Ok(())
     } else {
         Err(ElabError::Undeclared {
-            line: source.line(name),
+            line: source.line(place),
         })
     }
 }
 
-/// Every name of a statement is declared in its module.
-fn declared_in_statement(
+/// The name in an expression, if it is one, is declared in its module.
+fn declared_value(
     source: &Source,
-    scope: &Scope,
-    statement: Statement,
-) -> Result<(), ElabError> {
-    let Statement::Assign { target, value } = statement else {
-        return Ok(());
-    };
-    declared(source, scope, target)?;
-    match source.expressions.as_slice().get(value as usize) {
-        Some(Expression::Name(name)) => declared(source, scope, *name),
+    names: &Names,
+    value: Option<Expression>,
+) -> Result<(), ElabError>
+    ensures { MatchResult result (λ _. undeclared_value source.now names.now value ≡ None) (λ e. Explains (undeclared_value source.now names.now value) e) }
+{
+    match value {
+        Some(Expression::Name(place)) => declared(source, names, place),
         _ => Ok(()),
     }
 }
 
-/// Every name of the statements is declared in its module; else the first that is not.
-/// The text has at most one module, so all statements are in it.
-fn check_names(source: &Source, modules: &Modules) -> Result<(), ElabError> {
-    let Some(scope) = modules.scopes.first() else {
-        return Ok(());
-    };
+/// Every name of a statement is declared in its module.
+fn declared_by(source: &Source, names: &Names, statement: Statement) -> Result<(), ElabError>
+    ensures { MatchResult result (λ _. undeclared_by source.now names.now statement ≡ None) (λ e. Explains (undeclared_by source.now names.now statement) e) }
+{
+    match statement {
+        Statement::Assign { target, value } => {
+            declared(source, names, target)?;
+            let value = source.expressions.as_slice().get(value as usize).copied();
+            declared_value(source, names, value)
+        }
+        Statement::Empty | Statement::Then { .. } => Ok(()),
+    }
+}
+
+/// Every name of the statements is declared in their module; else the first that is not.
+fn declared_among(source: &Source, names: &Names) -> Result<(), ElabError>
+    ensures { MatchResult result (λ _. undeclared_among source.now names.now source.now.statements ≡ None) (λ e. Explains (undeclared_among source.now names.now source.now.statements) e) }
+{
     for statement in source.statements.as_slice() {
-        declared_in_statement(source, scope, *statement)?;
+        declared_by(source, names, *statement)?;
     }
     Ok(())
+}
+
+/// The same of a text, which has at most one module, so that all its statements are in the first.
+fn check_names(source: &Source, scopes: &[Scope]) -> Result<(), ElabError>
+    requires { map (λ s. s.names) scopes.now ≡ map (λ m. map (item_name source.now) (items_in source.now m)) source.now.modules }
+    ensures { MatchResult result (λ _. undeclared_in source.now source.now.modules ≡ None) (λ e. Explains (undeclared_in source.now source.now.modules) e) }
+{
+    match scopes.first() {
+        Some(scope) => declared_among(source, &scope.names),
+        None => Ok(()),
+    }
 }
 
 /// The kind of what an item declares.
@@ -62,20 +89,47 @@ fn kind_of(item: Item) -> Kind
     }
 }
 
-/// One more object.
-fn add_object(objects: &mut Vec<Object>, object: Object) -> Result<ObjectId, ElabError>
-    requires behind { IfSome object.parent (λ p. p.0 < length objects.old.items) }
-    requires before { StandBehind 0 objects.old.items }
-    ensures id { IfOk result (λ id. id.0 ≡ length objects.old.items) }
-    ensures added { OnOk result (objects.new.items ≡ objects.old.items ++ object ∷ []) }
-    ensures after { OnOk result (StandBehind 0 objects.new.items) }
+/// The object of a top module, by the number of its module.
+fn root_of(envelopes: &Envelopes, number: usize, module: Module) -> Object
+    ensures { result ≡ root_object envelopes.now number «module» }
 {
-    let number = objects.len();
-    if number >= OBJECT_LIMIT {
+    Object {
+        kind: Kind::Module,
+        parent: None,
+        scope: Some(number),
+        place: module.name,
+        envelope: envelopes.of(module.name),
+        width: 1,
+    }
+}
+
+/// The object of what an item of a module declares.
+fn object_of(envelopes: &Envelopes, module: ObjectId, item: Item) -> Object
+    ensures { result ≡ item_object envelopes.now «module».0 item }
+{
+    let place = place_of(item);
+    Object {
+        kind: kind_of(item),
+        parent: Some(module),
+        scope: None,
+        place,
+        envelope: envelopes.of(place),
+        width: 1,
+    }
+}
+
+/// One more object; refused where there are as many as there may be.
+fn add_object(objects: &mut Vec<Object>, object: Object) -> Result<(), ElabError>
+    requires { length objects.old.items ≤ OBJECT_LIMIT }
+    ensures added { OnOk result (objects.new.items ≡ objects.old.items ++ object ∷ []) }
+    ensures few { OnOk result (length objects.new.items ≤ OBJECT_LIMIT) }
+    ensures full { IfErr result (λ e. Explains (too_many (length objects.old.items + 1)) e) }
+{
+    if objects.len() >= OBJECT_LIMIT {
         return Err(ElabError::TooManyObjects);
     }
     objects.push(object)?;
-    Ok(ObjectId(number as u32))
+    Ok(())
 }
 
 /// The objects of a top module, at the end: the module, and what its items declare.
@@ -86,60 +140,50 @@ fn add_root(
     number: usize,
     module: Module,
 ) -> Result<ObjectId, ElabError>
-    requires { StandBehind 0 objects.old.items }
-    ensures { OnOk result (StandBehind 0 objects.new.items) }
+    requires { length objects.old.items ≤ OBJECT_LIMIT }
+    ensures root { IfOk result (λ root. root.0 ≡ length objects.old.items) }
+    ensures added { OnOk result (objects.new.items ≡ objects.old.items ++ module_objects source.now envelopes.now number (length objects.old.items) «module») }
+    ensures few { OnOk result (length objects.new.items ≤ OBJECT_LIMIT) }
+    ensures full { IfErr result (λ e. Explains (too_many (length objects.old.items + (length (items_in source.now «module») + 1))) e) }
 {
-    let root = add_object(
-        objects,
-        Object {
-            kind: Kind::Module,
-            parent: None,
-            scope: Some(number),
-            place: module.name,
-            envelope: envelopes.of(module.name),
-            width: 1,
-        },
-    )?;
+    let root = ObjectId(objects.len() as u32);
+    add_object(objects, root_of(envelopes, number, module))?;
     for item in items_of(source, module) {
-        let place = place_of(*item);
-        add_object(
-            objects,
-            Object {
-                kind: kind_of(*item),
-                parent: Some(root),
-                scope: None,
-                place,
-                envelope: envelopes.of(place),
-                width: 1,
-            },
-        )?;
+        add_object(objects, object_of(envelopes, root, *item))?;
     }
     Ok(root)
 }
 
 /// The objects of a text, each of whose modules is a top module.
-fn tree_of(alloc: Global, source: &Source, envelopes: &Envelopes) -> Result<Tree, ElabError>
-    ensures { IfOk result (λ tree. StandBehind 0 tree.objects.items) }
+fn objects_of(alloc: Global, source: &Source, envelopes: &Envelopes) -> Result<Objects, ElabError>
+    ensures objects { IfOk result (λ objects. objects ≡ objects_in source.now envelopes.now) }
+    ensures few { IfOk result (λ objects. length objects.all ≤ OBJECT_LIMIT) }
+    ensures counted { IfOk result (λ objects. too_many (object_count source.now source.now.modules) ≡ None) }
+    ensures full { IfErr result (λ e. Explains (too_many (object_count source.now source.now.modules)) e) }
 {
-    let mut objects = Vec::new(alloc);
+    let mut all = Vec::new(alloc);
     let mut roots = Vec::new(alloc);
-    let mut marks = [false; 256];
     for (number, module) in source.modules.as_slice().iter().enumerate() {
-        roots.push(add_root(&mut objects, source, envelopes, number, *module)?)?;
-        marks[envelopes.of(module.name) as usize] = true;
+        let root = add_root(&mut all, source, envelopes, number, *module)?;
+        roots.push(root)?;
     }
-    Ok(Tree {
-        objects,
-        roots,
-        root_envelopes: marked(alloc, &marks)?,
+    let root_envelopes = root_envelopes_of(alloc, envelopes, source.modules.as_slice())?;
+    Ok(Objects {
+        all: Sequence::from_vec(all),
+        roots: Sequence::from_vec(roots),
+        root_envelopes,
     })
 }
 
 /// The design of a source; or the first refusal that holds (501, 502, 507), or want of memory (510).
 /// The source and the envelopes are of one text; on a refusal both are dropped.
-pub fn elaborate(alloc: Global, source: Source, envelopes: Envelopes) -> Result<Design, ElabError> {
+pub fn elaborate(alloc: Global, source: Source, envelopes: Envelopes) -> Result<Design, ElabError>
+    ensures design { IfOk result (λ design. design ≡ design_of source envelopes) }
+    ensures accepted { IfOk result (λ design. refusal_of source ≡ None) }
+    ensures refused { IfErr result (λ e. Explains (refusal_of source) e) }
+{
     let modules = modules_of(alloc, &source, &envelopes)?;
-    check_names(&source, &modules)?;
-    let tree = tree_of(alloc, &source, &envelopes)?;
-    Ok(Design::new(source, envelopes, modules, tree))
+    check_names(&source, modules.scopes.as_slice())?;
+    let objects = objects_of(alloc, &source, &envelopes)?;
+    Ok(Design::new(source, envelopes, modules, objects))
 }

@@ -4,6 +4,7 @@
 mod design;
 mod elaboration;
 mod fault;
+mod names;
 mod object;
 mod scope;
 

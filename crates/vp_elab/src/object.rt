@@ -1,4 +1,4 @@
-ghost use Rattle.std.specs.Prelude.{◌≡◌, ◌≤◌};
+ghost use Rattle.std.specs.Prelude.{◌≡◌};
 
 /// The number of an object of a design, in preorder from 0.
 #[derive(Clone, Copy, Debug, PartialEq, Eq)]
@@ -44,6 +44,4 @@ pub struct Object {
     pub envelope: u8,
     /// How many bits its value has, 1 to 64; 1 where it has no value.
     pub width: u8,
-    ghost some_bit: { 1 ≤ width },
-    ghost one_word: { width ≤ 64 },
 }

@@ -1,4 +1,6 @@
-ghost use Rattle.std.specs.Prelude.{◌≡◌, List, length, map, slice_index_or, IfOk};
+ghost use Rattle.std.specs.Prelude.{◌≡◌, ◌≤◌, ◌<◌, replicate, length, map, slice_index_or, slice_set, IfOk, IsOkUnless};
+ghost use Rattle.vp_bits.specs.declared.bit.Bit.TheVariants.{Unknown};
+ghost use Rattle.vp_expr.specs.Start.{start_value};
 ghost use Rattle.vp_expr.specs.Values.{start_of, no_value};
 
 use crate::checked::Checked;
@@ -6,7 +8,7 @@ use crate::fault::ExprError;
 use std::alloc::Global;
 use std::marker::Model;
 use vp_bits::Bits;
-use vp_elab::ObjectId;
+use vp_elab::{Kind, Object, ObjectId};
 
 /// A value for each object of a design. A contract sees their list, by object number.
 #[derive(Drop)]
@@ -23,14 +25,27 @@ impl Model for Values {
     ghost view = { λ v. v.values.items };
 }
 
+/// The value of an object before anything has happened; a localparam's is unknown yet.
+fn start(object: Object) -> Bits
+    requires { (1 ≤ object.width) × (object.width ≤ 64) }
+    ensures { result ≡ start_value object.kind object.width (replicate object.width Unknown) }
+{
+    match object.kind {
+        Kind::Reg | Kind::Parameter => Bits::unknown(object.width),
+        Kind::Net => Bits::high_impedance(object.width),
+        Kind::Module | Kind::Always | Kind::Initial | Kind::Assign => Bits::unknown(1),
+    }
+}
+
 impl Values {
     /// The values before anything has happened; takes memory (604).
     pub fn new(alloc: Global, checked: &Checked) -> Result<Values, ExprError>
-        ensures { IfOk result (λ values. values ≡ map start_of checked.now) }
+        ensures values { IfOk result (λ values. values ≡ map start_of checked.now.tree.nodes) }
+        ensures err { IsOkUnless result ExprError.NoMemory }
     {
         let mut values = Vec::new(alloc);
         for object in checked.design().objects() {
-            values.push(Bits::unknown(object.width))?;
+            values.push(start(*object))?;
         }
         Ok(Values { values })
     }
@@ -43,5 +58,27 @@ impl Values {
             Some(value) => *value,
             None => Bits::unknown(1),
         }
+    }
+
+    /// Sets the value of an object, which has this width; changes nothing for a number that is not there.
+    pub fn set(&mut self, id: ObjectId, value: Bits)
+        requires { length (slice_index_or self.old id.0 value) ≡ length value }
+        ensures { self.new ≡ slice_set self.old id.0 value }
+    {
+        if let Some(place) = self.values.get_mut(id.0 as usize) {
+            *place = value;
+        }
+    }
+
+    /// The same values again; takes memory (604).
+    pub fn try_clone(&self, alloc: Global) -> Result<Values, ExprError>
+        ensures values { IfOk result (λ values. values ≡ self.now) }
+        ensures err { IsOkUnless result ExprError.NoMemory }
+    {
+        let mut values = Vec::new(alloc);
+        for value in &self.values {
+            values.push(*value)?;
+        }
+        Ok(Values { values })
     }
 }

@@ -10,3 +10,9 @@ pub mod TokenSteps
 pub mod TokenLaws
 pub mod TokenBytes
 pub mod PieceRows
+pub mod Parts
+pub mod Scans
+pub mod WordLaws
+pub mod PieceEnds
+pub mod PieceSteps
+pub mod TokenTexts

@@ -1,12 +1,12 @@
 -- The line and the column behind more bytes.
-use Rattle.std.proofs.Common.{◌≡◌, ℕ, ◌+◌, ◌<◌, Bool, true, false, cond, ◌&&◌, List, [], ◌∷◌, ◌++◌, length, refl, ◌∙◌, ap, arith}
-use Rattle.std.specs.Prelude.{not, reverse, eqb}
+use Rattle.std.proofs.Common.{◌≡◌, ℕ, ◌+◌, ◌-◌, ◌<◌, ◌≤◌, get_or, take, drop, Bool, true, false, cond, ◌&&◌, List, [], ◌∷◌, ◌++◌, length, refl, ◌∙◌, ap, arith}
+use Rattle.std.specs.Prelude.{not, reverse, eqb, slice_range}
 use Rattle.std.specs.List.{prefix_len, suffix_len, list_all, count_by}
 use Rattle.std.proofs.lemmas.Bool.{and_parts, ne_eqb, eq-eqb}
 use Rattle.std.proofs.lemmas.Grind.{reverse_onto}
-use Rattle.std.proofs.lemmas.List.{length-reverse, reverse-append}
+use Rattle.std.proofs.lemmas.List.{length-reverse, reverse-append, take_more, length-take, length-drop, get_or-drop}
 use Rattle.std.proofs.lemmas.List.Folds.{prefix_len-append, list_all-append}
-use Rattle.std.proofs.lemmas.List.Sums.{sum_by-append}
+use Rattle.std.proofs.lemmas.List.Sums.{sum_by-append, count_by-le-length}
 use Rattle.vp_lex.specs.Bytes.{is_newline}
 use Rattle.vp_lex.specs.Tokens.{line_behind, column_behind}
 
@@ -65,3 +65,52 @@ column_new_line before bytes h =
     let apart : eqb (prefix_len p (reverse bytes)) (length (reverse bytes)) ≡ false = ne_eqb _ _ (λ e. omega arith) in
     let parts = suffix_parts p before bytes ∙ ap (λ (v : Bool). cond v (length (reverse bytes) + suffix_len p before) (prefix_len p (reverse bytes))) apart in
     omega (arith, parts)
+
+-- ---- one byte more
+
+line_by : (text : List ℕ) (at : ℕ) → at < length text → line_behind (take (at + 1) text) ≡ line_behind (take at text) + (0 + cond (is_newline (get_or text at 0)) 1 0)
+line_by text at l = ap line_behind (take_more text at 0 l) ∙ line_behind-append (take at text) (get_or text at 0 ∷ [])
+
+-- behind a newline stands the next line
+pub line_newline : (text : List ℕ) (at : ℕ) → at < length text → is_newline (get_or text at 0) ≡ true → line_behind (take (at + 1) text) ≡ line_behind (take at text) + 1
+line_newline text at l e = let by = rw e at (line_by text at l) in omega arith
+
+-- behind another byte stands the same
+pub line_other : (text : List ℕ) (at : ℕ) → at < length text → is_newline (get_or text at 0) ≡ false → line_behind (take (at + 1) text) ≡ line_behind (take at text)
+line_other text at l e = let by = rw e at (line_by text at l) in omega arith
+
+-- behind a newline the columns begin again
+pub column_newline : (text : List ℕ) (at : ℕ) → at < length text → is_newline (get_or text at 0) ≡ true → column_behind (take (at + 1) text) ≡ 1
+column_newline text at l e =
+    let b : ℕ = get_or text at 0 in
+    let none : list_all (λ byte. not (is_newline byte)) (b ∷ []) ≡ false = rw e refl in
+    let one : column_behind (b ∷ []) ≡ 1 = rw e refl in
+    ap column_behind (take_more text at 0 l) ∙ column_new_line (take at text) (b ∷ []) none ∙ one
+
+-- behind another byte stands the next column
+pub column_other : (text : List ℕ) (at : ℕ) → at < length text → is_newline (get_or text at 0) ≡ false → column_behind (take (at + 1) text) ≡ column_behind (take at text) + 1
+column_other text at l e =
+    let b : ℕ = get_or text at 0 in
+    let all : list_all (λ byte. not (is_newline byte)) (b ∷ []) ≡ true = rw e refl in
+    ap column_behind (take_more text at 0 l) ∙ column_same_line (take at text) (b ∷ []) all
+
+-- a line has no fewer bytes before it than lines
+pub line_counted : (text : List ℕ) (at : ℕ) → at ≤ length text → line_behind (take at text) ≤ at + 1
+line_counted text at l = omega (arith, count_by-le-length is_newline (take at text), length-take at text)
+
+-- no newline stands in a part and the byte behind it
+pub all_more : (p : ℕ → Bool) (text : List ℕ) (start at : ℕ) → start ≤ at → at < length text → list_all p (slice_range text start (at + 1)) ≡ (list_all p (slice_range text start at) && p (get_or text at 0))
+all_more p text start at l m =
+    let n : ℕ = at - start in
+    let long : at + 1 - start ≡ n + 1 = omega arith in
+    let within : n < length (drop start text) = omega (arith, length-drop start text) in
+    let place : start + n ≡ at = omega arith in
+    ap (λ (k : ℕ). list_all p (take k (drop start text))) long
+    ∙ ap (list_all p) (take_more (drop start text) n 0 within)
+    ∙ list_all-append p (take n (drop start text)) (get_or (drop start text) n 0 ∷ [])
+    ∙ ap (λ (v : Bool). list_all p (take n (drop start text)) && v) (all_one p (get_or (drop start text) n 0))
+    ∙ ap (λ (b : ℕ). list_all p (take n (drop start text)) && p b) (get_or-drop start text n 0 ∙ ap (λ (k : ℕ). get_or text k 0) place)
+
+pub both_join : (x y z : Bool) → ((x && y) && z) ≡ (x && (y && z))
+both_join true y z = refl
+both_join false y z = refl

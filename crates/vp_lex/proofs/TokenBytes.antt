@@ -15,7 +15,7 @@ cut_joins text [] left h = h
 cut_joins text (piece ∷ pieces) left h =
     h.1.splits ∙ ap (λ (x : List ℕ). piece.bytes ++ x) (cut_joins h.0 pieces left h.3) ∙ sym (append_assoc piece.bytes (joined pieces) left)
 
-own_bytes : (before bytes rest : List ℕ) (marked : Bool) (kind : TokenKind) (mark : Bool) → bytes_of (before ++ (bytes ++ rest)) (token_at before marked bytes kind mark) ≡ bytes
+pub own_bytes : (before bytes rest : List ℕ) (marked : Bool) (kind : TokenKind) (mark : Bool) → bytes_of (before ++ (bytes ++ rest)) (token_at before marked bytes kind mark) ≡ bytes
 own_bytes before bytes rest marked kind mark =
     let long : length before + length bytes - length before ≡ length bytes = omega arith in
     ap (λ (n : ℕ). take n (drop (length before) (before ++ (bytes ++ rest)))) long

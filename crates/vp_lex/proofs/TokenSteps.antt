@@ -1,14 +1,16 @@
 -- The tokens of what is left of a text behind a place, and how they go on by one piece: what a loop over the text keeps.
-use Rattle.std.proofs.Common.{◌≡◌, ℕ, ◌+◌, ◌≤◌, Bool, false, List, [], ◌∷◌, ◌++◌, length, take, drop, Result, Ok, Err, refl, sym, ◌∙◌, ap, arith}
+use Rattle.std.proofs.Common.{◌≡◌, ℕ, ◌+◌, ◌-◌, ◌<◌, ◌≤◌, Bool, true, false, List, [], ◌∷◌, ◌++◌, length, take, drop, Option, Some, None, Result, Ok, Err, refl, sym, ◌∙◌, ap, arith}
 use Rattle.std.proofs.Math.Seq.{take-add, take-append_seam}
-use Rattle.std.proofs.lemmas.List.{drop-drop}
+use Rattle.std.specs.Prelude.{option_map, option_to_list, slice_range}
+use Rattle.std.proofs.lemmas.List.{drop-drop, append_assoc, append-nil, length-take, length-drop}
 use Rattle.vp_lex.specs.declared.fault.LexError.{LexError}
 use Rattle.vp_lex.specs.declared.piece.Fault.{Fault}
 use Rattle.vp_lex.specs.declared.token.Token.{Token}
-use Rattle.vp_lex.specs.Pieces.{Piece}
+use Rattle.vp_lex.specs.declared.token.TokenKind.{TokenKind}
+use Rattle.vp_lex.specs.Pieces.{PieceKind, Piece, is_piece}
 use Rattle.vp_lex.specs.Cuts.{Refusal}
 use Rattle.vp_lex.specs.Cutting.{first_piece, on_piece, behind_piece, cut_from, cut_text}
-use Rattle.vp_lex.specs.Tokens.{error_of, error_at, line_behind, marks, token_kind, with_token, tokens_behind, tokens_from, tokens_of}
+use Rattle.vp_lex.specs.Tokens.{error_of, error_at, line_behind, is_mark, marks, token_kind, token_at, with_token, tokens_behind, tokens_from, tokens_of}
 use Rattle.vp_lex.proofs.CutLaws.{first_piece_found}
 use Rattle.vp_lex.proofs.Complete.{cut_more}
 
@@ -64,3 +66,32 @@ piece_left text at marked piece e =
     ∙ after_piece text (take at text) marked piece _
     ∙ ap (λ (x : List ℕ). on_tokens more (tokens_after text x (marks marked piece) (cut_from (length (drop (length piece.bytes) (drop at text))) (at + length piece.bytes) (drop (length piece.bytes) (drop at text))))) before
     ∙ ap (λ (x : List ℕ). on_tokens more (tokens_after text (take (at + length piece.bytes) text) (marks marked piece) (cut_from (length x) (at + length piece.bytes) x))) behind
+
+more_tokens : (before : List ℕ) (marked : Bool) (piece : Piece) (o : Option TokenKind) (items : List Token) (r : Result (List Token) LexError) → on_tokens (λ more. items ++ more) (on_tokens (with_token before marked piece o) r) ≡ on_tokens (λ more. (items ++ option_to_list (option_map (λ its. token_at before marked piece.bytes its (is_mark piece.kind)) o)) ++ more) r
+more_tokens before marked piece None items (Ok tokens) = ap (λ (x : List Token). (let r : Result (List Token) LexError = Ok (x ++ tokens) in r)) (sym (append-nil items))
+more_tokens before marked piece (Some its) items (Ok tokens) = ap (λ (x : List Token). (let r : Result (List Token) LexError = Ok x in r)) (sym (append_assoc items (token_at before marked piece.bytes its (is_mark piece.kind) ∷ []) tokens))
+more_tokens before marked piece o items (Err error) = refl
+
+-- what is left behind a piece, and its token behind those that there were
+pub left_next : (text : List ℕ) (at end : ℕ) (marked : Bool) (kind : PieceKind) (items : List Token) → at < end → end ≤ length text → first_piece (drop at text) ≡ Ok (record { kind = kind; bytes = slice_range text at end }) → tokens_of text ≡ on_tokens (λ more. items ++ more) (tokens_left text at marked) → tokens_of text ≡ on_tokens (λ more. (items ++ option_to_list (option_map (λ its. token_at (take at text) marked (slice_range text at end) its (is_mark kind)) (token_kind kind (slice_range text at end)))) ++ more) (tokens_left text end (marks marked (record { kind = kind; bytes = slice_range text at end })))
+left_next text at end marked kind items l m first left =
+    let bytes : List ℕ = slice_range text at end in
+    let piece : Piece = record { kind = kind; bytes = bytes } in
+    let long : at + length bytes ≡ end = omega (arith, length-take (end - at) (drop at text), length-drop at text) in
+    left ∙ ap (on_tokens (λ more. items ++ more)) (piece_left text at marked piece first)
+    ∙ more_tokens (take at text) marked piece (token_kind kind bytes) items (tokens_left text (at + length bytes) (marks marked piece))
+    ∙ ap (λ (n : ℕ). on_tokens (λ more. (items ++ option_to_list (option_map (λ its. token_at (take at text) marked bytes its (is_mark kind)) (token_kind kind bytes))) ++ more) (tokens_left text n (marks marked piece))) long
+
+-- the first piece of what is left is one
+pub first_is_piece : (text : List ℕ) (piece : Piece) → first_piece text ≡ Ok piece → is_piece piece.kind piece.bytes ≡ true
+first_is_piece text piece e = (first_piece_found text piece e).1.is
+
+-- the same for what a loop has then: the token in a list, the place and the mark
+pub left_moved : (text : List ℕ) (at end : ℕ) (marked : Bool) (kind : PieceKind) (items : List Token) → at < end → end ≤ length text → first_piece (drop at text) ≡ Ok (record { kind = kind; bytes = slice_range text at end }) → tokens_of text ≡ on_tokens (λ more. items ++ more) (tokens_left text at marked) → (token : Option Token) (moved : List Token) (here : ℕ) (mark : Bool) → token ≡ option_map (λ its. token_at (take at text) marked (slice_range text at end) its (is_mark kind)) (token_kind kind (slice_range text at end)) → moved ≡ items ++ option_to_list token → here ≡ end → mark ≡ marks marked (record { kind = kind; bytes = slice_range text at end }) → tokens_of text ≡ on_tokens (λ more. moved ++ more) (tokens_left text here mark)
+left_moved text at end marked kind items l m first left token moved here mark t i h k =
+    let all : moved ≡ items ++ option_to_list (option_map (λ its. token_at (take at text) marked (slice_range text at end) its (is_mark kind)) (token_kind kind (slice_range text at end))) =
+    i ∙ ap (λ (o : Option Token). items ++ option_to_list o) t in
+    left_next text at end marked kind items l m first left
+    ∙ ap (λ (x : List Token). on_tokens (λ more. x ++ more) (tokens_left text end (marks marked (record { kind = kind; bytes = slice_range text at end })))) (sym all)
+    ∙ ap (λ (n : ℕ). on_tokens (λ more. moved ++ more) (tokens_left text n (marks marked (record { kind = kind; bytes = slice_range text at end })))) (sym h)
+    ∙ ap (λ (v : Bool). on_tokens (λ more. moved ++ more) (tokens_left text here v)) (sym k)

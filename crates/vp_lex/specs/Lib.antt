@@ -6,3 +6,5 @@ pub mod Cuts
 pub mod Cutting
 pub mod Words
 pub mod Tokens
+pub mod Texts
+pub mod Scanning

@@ -1,7 +1,10 @@
--- Places in a text, by byte and by line.
-use Rattle.std.specs.Prelude.{◌+◌, ◌≤◌}
+-- Places in a text, by byte, line and column.
+use Rattle.std.specs.Prelude.{◌≡◌, ℕ, ◌+◌, ◌≤◌, List, length, take}
 use Rattle.vp_lex.specs.declared.token.Position.{Position}
+use Rattle.vp_lex.specs.Tokens.{line_behind, column_behind}
 
--- a line begins no later than the place, and each earlier line has a byte
-abbrev pub IsCounted : Position → Type 0
-IsCounted here = (here.line ≤ here.at + 1) × (here.line_start ≤ here.at)
+-- the place is in the text, on the line behind the bytes before it, and as far behind that line's start as their column says
+pub record IsPlace (text : List ℕ) (here : Position) : Type 0 where
+  pub within : here.at ≤ length text
+  pub line : here.line ≡ line_behind (take here.at text)
+  pub column : here.line_start + column_behind (take here.at text) ≡ here.at + 1

@@ -24,9 +24,12 @@ pub enum LexError {
 
 impl LexError {
     ghost use Rattle.vp_lex.specs.Faults.{code_of, line_of};
+    ghost use Rattle.vp_lex.specs.Tokens.{error_of};
 
     /// The error of a fault on a line.
-    pub(crate) fn at(fault: Fault, line: u32) -> LexError {
+    pub(crate) fn at(fault: Fault, line: u32) -> LexError
+        ensures { result ≡ error_of fault line }
+    {
         match fault {
             Fault::BadCharacter => LexError::BadCharacter { line },
             Fault::OpenString => LexError::OpenString { line },

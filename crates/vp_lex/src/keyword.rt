@@ -1,3 +1,6 @@
+ghost use Rattle.std.specs.Prelude.{◌≡◌};
+ghost use Rattle.vp_lex.specs.Words.{used_words, left_out_words, looked_up, left_out, keyword_of};
+
 /// A keyword of IEEE Std 1364-2005, annex B, that this profile reserves; the others of the annex are names here.
 #[derive(Clone, Copy, Debug, PartialEq, Eq)]
 pub enum Keyword {
@@ -33,11 +36,19 @@ pub enum Keyword {
 }
 
 /// The keyword that a word is.
-pub fn keyword_of(word: &str) -> Option<Keyword> {
-    used_keyword(word).or_else(|| left_out_keyword(word))
+pub fn keyword_of(word: &str) -> Option<Keyword>
+    ensures { result ≡ keyword_of word.now }
+{
+    match used_keyword(word) {
+        Some(keyword) => Some(keyword),
+        None => left_out_keyword(word),
+    }
 }
 
-fn used_keyword(word: &str) -> Option<Keyword> {
+/// The keyword that the language uses and a word is, or `casex`.
+fn used_keyword(word: &str) -> Option<Keyword>
+    ensures { result ≡ looked_up used_words word.now None }
+{
     Some(match word {
         "module" => Keyword::Module,
         "endmodule" => Keyword::Endmodule,
@@ -64,13 +75,16 @@ fn used_keyword(word: &str) -> Option<Keyword> {
         "posedge" => Keyword::Posedge,
         "negedge" => Keyword::Negedge,
         "or" => Keyword::Or,
+        "casex" => Keyword::Casex,
         _ => return None,
     })
 }
 
-fn left_out_keyword(word: &str) -> Option<Keyword> {
+/// The other keyword that a word is.
+fn left_out_keyword(word: &str) -> Option<Keyword>
+    ensures { result ≡ left_out left_out_words word.now }
+{
     Some(match word {
-        "casex" => Keyword::Casex,
         "inout"
         | "parameter"
         | "defparam"

@@ -1,8 +1,10 @@
-ghost use Rattle.std.specs.Prelude.{◌≡◌, ◌<◌, ◌≤◌, ◌+◌, length, IfOk, vec_len};
+ghost use Rattle.std.specs.Prelude.{◌≡◌, ◌⊎◌, ◌<◌, ◌≤◌, ◌+◌, true, length, IfOk, IfErr, vec_len};
+ghost use Rattle.vp_lex.specs.Texts.{part_of};
+ghost use Rattle.vp_lex.specs.Tokens.{tokens_of};
 
 use crate::fault::LexError;
 use crate::keyword::Keyword;
-use crate::piece::{Piece, piece_at};
+use crate::piece::{Kind, piece_at, token_kind};
 use std::alloc::Global;
 
 /// The greatest length of a text, in bytes.
@@ -52,10 +54,26 @@ pub struct Token {
 }
 
 impl Token {
+    ghost use Rattle.vp_lex.specs.Texts.{text_of};
+
     /// The token's part of its text; empty where the text has no such part.
-    pub fn text<'a>(&self, text: &'a str) -> &'a str {
-        text.get(self.start as usize..self.end as usize)
-            .unwrap_or("")
+    pub fn text<'a>(&self, text: &'a str) -> &'a str
+        ensures { result.now ≡ text_of text.now self.now }
+    {
+        part(text.as_bytes(), self.start as usize, self.end as usize)
+    }
+}
+
+/// The bytes between two places, where they are there and are text; else nothing.
+fn part(bytes: &[u8], start: usize, end: usize) -> &str
+    ensures { result.now ≡ part_of bytes.now start end }
+{
+    let Some(part) = bytes.get(start..end) else {
+        return "";
+    };
+    match str::from_utf8(part) {
+        Ok(text) => text,
+        Err(_) => "",
     }
 }
 
@@ -69,46 +87,70 @@ struct Position {
 }
 
 impl Position {
-    ghost use Rattle.vp_lex.specs.Positions.{IsCounted};
+    ghost use Rattle.std.specs.Prelude.{◌&&◌, ◌||◌, not, take, option_map, slice_range, slice_index};
+    ghost use Rattle.std.specs.List.{list_all};
+    ghost use Rattle.vp_lex.specs.Bytes.{is_newline};
+    ghost use Rattle.vp_lex.specs.Pieces.{is_piece};
+    ghost use Rattle.vp_lex.specs.Positions.{IsPlace};
+    ghost use Rattle.vp_lex.specs.Scanning.{kind_of};
+    ghost use Rattle.vp_lex.specs.Tokens.{is_mark, token_kind, token_at};
 
-    /// The token of a kind that begins here and has this end.
-    fn token(self, kind: TokenKind, end: usize) -> Token
-        requires ordered { self.at ≤ end }
-        requires within { end ≤ TEXT_LIMIT }
-        requires counted { IsCounted self }
+    /// The token that a piece from here to this end is; white space is none.
+    fn token(self, text: &str, end: usize, kind: Kind) -> Option<Token>
+        requires within { (self.at < end) × (end ≤ length text.now) × (length text.now ≤ TEXT_LIMIT) }
+        requires place { IsPlace text.now self }
+        requires piece { is_piece (kind_of kind) (slice_range text.now self.at end) ≡ true }
+        ensures { let bytes = slice_range text.now self.at end in result ≡ option_map (λ its. token_at (take self.at text.now) self.directive bytes its (is_mark (kind_of kind))) (token_kind (kind_of kind) bytes) }
     {
-        Token {
-            kind,
-            start: self.at as u32,
-            end: end as u32,
-            line: self.line as u32,
-            column: (self.at - self.line_start + 1) as u32,
-            directive: self.directive || kind == TokenKind::Directive,
+        match token_kind(text, self.at, end, kind) {
+            None => None,
+            Some(its) => Some(Token {
+                kind: its,
+                start: self.at as u32,
+                end: end as u32,
+                line: self.line as u32,
+                column: (self.at - self.line_start + 1) as u32,
+                directive: kind.is_mark() || self.directive,
+            }),
         }
     }
 
-    /// The place behind a piece with this end.
-    fn behind(self, bytes: &[u8], end: usize, piece: Piece) -> Position
-        requires ordered { self.at < end }
-        requires within { end ≤ length bytes.now }
-        requires counted { IsCounted self }
+    /// The place behind a piece from here to this end.
+    fn behind(self, bytes: &[u8], end: usize, kind: Kind) -> Position
+        requires within { (self.at ≤ end) × (end ≤ length bytes.now) }
+        requires place { IsPlace bytes.now self }
         ensures at { result.at ≡ end }
-        ensures counted { IsCounted result }
+        ensures place { IsPlace bytes.now result }
+        ensures directive { result.directive ≡ ((is_mark (kind_of kind) || self.directive) && list_all (λ byte. not (is_newline byte)) (slice_range bytes.now self.at end)) }
     {
-        let rows = &bytes[self.at..end];
-        match rows.iter().rposition(|byte| *byte == b'\n') {
-            None => Position {
-                at: end,
-                line: self.line,
-                line_start: self.line_start,
-                directive: self.directive || matches!(piece, Piece::Token(TokenKind::Directive)),
-            },
-            Some(last) => Position {
-                at: end,
-                line: self.line + rows.iter().filter(|byte| **byte == b'\n').count(),
-                line_start: self.at + last + 1,
+        let mut here = Position {
+            directive: kind.is_mark() || self.directive,
+            ..self
+        };
+        while here.at < end {
+            here = here.behind_byte(bytes);
+        }
+        here
+    }
+
+    /// The place behind the next byte. A newline begins a line, on which no directive stands yet.
+    fn behind_byte(self, bytes: &[u8]) -> Position
+        requires within { self.at < length bytes.now }
+        requires place { IsPlace bytes.now self }
+        ensures at { result.at ≡ self.at + 1 }
+        ensures place { IsPlace bytes.now result }
+        ensures directive { result.directive ≡ (self.directive && not (is_newline (slice_index bytes.now self.at))) }
+    {
+        let at = self.at + 1;
+        if bytes[self.at] == b'\n' {
+            Position {
+                at,
+                line: self.line + 1,
+                line_start: at,
                 directive: false,
-            },
+            }
+        } else {
+            Position { at, ..self }
         }
     }
 }
@@ -119,7 +161,10 @@ impl Position {
 pub fn tokens(alloc: Global, text: &str) -> Result<Vec<Token>, LexError>
     requires { length text.now ≤ TEXT_LIMIT }
     ensures count { IfOk result (λ tokens. vec_len tokens ≤ length text.now) }
+    ensures ok { IfOk result (λ tokens. tokens_of text.now ≡ Ok tokens.items) }
+    ensures fault { IfErr result (λ error. (error ≡ LexError.NoMemory) ⊎ (tokens_of text.now ≡ Err error)) }
 {
+    let bytes = text.as_bytes();
     let mut tokens = Vec::new(alloc);
     let mut here = Position {
         at: 0,
@@ -127,15 +172,15 @@ pub fn tokens(alloc: Global, text: &str) -> Result<Vec<Token>, LexError>
         line_start: 0,
         directive: false,
     };
-    while here.at < text.len() {
-        let (piece, end) = match piece_at(text, here.at) {
+    while here.at < bytes.len() {
+        let (kind, end) = match piece_at(bytes, here.at) {
             Ok(found) => found,
             Err(fault) => return Err(LexError::at(fault, here.line as u32)),
         };
-        if let Piece::Token(kind) = piece {
-            tokens.push(here.token(kind, end))?;
+        if let Some(token) = here.token(text, end, kind) {
+            tokens.push(token)?;
         }
-        here = here.behind(text.as_bytes(), end, piece);
+        here = here.behind(bytes, end, kind);
     }
     Ok(tokens)
 }

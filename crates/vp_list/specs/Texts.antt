@@ -1,5 +1,5 @@
 -- Texts cut at a byte.
-use Rattle.std.specs.Prelude.{ℕ, ◌==◌, if◌then◌else◌, List, [], ◌∷◌}
+use Rattle.std.specs.Prelude.{ℕ, ◌==◌, if◌then◌else◌, List, [], ◌∷◌, Option, Some, None}
 
 -- a byte in front of the first part
 abbrev pub begun : ℕ → List (List ℕ) → List (List ℕ)
@@ -11,3 +11,8 @@ abbrev pub parts : ℕ → List ℕ → List (List ℕ)
 parts separator [] = [] ∷ []
 parts separator (byte ∷ bytes) =
     if byte == separator then [] ∷ parts separator bytes else begun byte (parts separator bytes)
+
+-- a part in front of those of what follows its separating byte, if one does
+abbrev pub behind_part : ℕ → List ℕ → Option (List ℕ) → List (List ℕ)
+behind_part separator part None = part ∷ []
+behind_part separator part (Some rest) = part ∷ parts separator rest

@@ -1,8 +1,10 @@
 //! Texts and lists that contracts see as lists.
 #![tactic(auto)]
 
+mod part;
 mod sequence;
 mod text;
 
+pub use part::first_part;
 pub use sequence::Sequence;
 pub use text::Text;

@@ -4,3 +4,9 @@ pub mod Laws
 pub mod Raise
 pub mod Takes
 pub mod Within
+pub mod LayoutRows
+pub mod Loops
+pub mod Placed
+pub mod Seen
+pub mod Found
+pub mod SameKinds

@@ -1,4 +1,4 @@
-ghost use Rattle.std.specs.Prelude.{◌≡◌, ◌+◌, ◌<◌, ◌^◌, IfOk, OnOk, vec_len};
+ghost use Rattle.std.specs.Prelude.{◌≡◌, [], ◌∷◌, ◌++◌, length, ◌+◌, ◌<◌, ◌^◌, IfOk, OnOk, vec_len};
 
 use std::alloc::{AllocError, Global};
 use vp_lex::Token;
@@ -55,13 +55,19 @@ pub struct Source {
 }
 
 impl Source {
+    ghost use Rattle.vp_parse.specs.Places.{line_at, token_at, word_at};
+
     /// The token at a place; none behind the end.
-    pub fn token(&self, place: u32) -> Option<Token> {
+    pub fn token(&self, place: u32) -> Option<Token>
+        ensures { result ≡ token_at self.now place }
+    {
         self.tokens.as_slice().get(place as usize).copied()
     }
 
     /// The text of the token at a place; empty behind the end.
-    pub fn word(&self, place: u32) -> &str {
+    pub fn word(&self, place: u32) -> &str
+        ensures { result.now ≡ word_at self.now place }
+    {
         match self.tokens.as_slice().get(place as usize) {
             Some(token) => token.text(self.text.as_str()),
             None => "",
@@ -69,7 +75,9 @@ impl Source {
     }
 
     /// The line of the token at a place, from 1; 0 behind the end.
-    pub fn line(&self, place: u32) -> u32 {
+    pub fn line(&self, place: u32) -> u32
+        ensures { result ≡ line_at self.now place }
+    {
         match self.tokens.as_slice().get(place as usize) {
             Some(token) => token.line,
             None => 0,
@@ -86,7 +94,11 @@ pub struct Arena {
 }
 
 impl Arena {
+    ghost use Rattle.vp_parse.specs.Layout.{no_parts};
+    ghost use Rattle.vp_parse.specs.Placing.{lists_in};
+
     pub fn new(alloc: Global) -> Arena
+        ensures none { lists_in result ≡ no_parts }
         ensures items { vec_len result.items ≡ 0 }
         ensures statements { vec_len result.statements ≡ 0 }
         ensures expressions { vec_len result.expressions ≡ 0 }
@@ -105,7 +117,8 @@ pub fn add_expression(
     expression: Expression,
 ) -> Result<u32, AllocError>
     requires { vec_len expressions.old < 2 ^ 32 }
-    ensures place { IfOk result (λ place. place ≡ vec_len expressions.old) }
+    ensures place { IfOk result (λ place. place ≡ length expressions.old.items) }
+    ensures added { OnOk result (expressions.new.items ≡ expressions.old.items ++ expression ∷ []) }
     ensures len { OnOk result (vec_len expressions.new ≡ vec_len expressions.old + 1) }
 {
     let place = expressions.len() as u32;
@@ -119,7 +132,8 @@ pub fn add_statement(
     statement: Statement,
 ) -> Result<u32, AllocError>
     requires { vec_len statements.old < 2 ^ 32 }
-    ensures place { IfOk result (λ place. place ≡ vec_len statements.old) }
+    ensures place { IfOk result (λ place. place ≡ length statements.old.items) }
+    ensures added { OnOk result (statements.new.items ≡ statements.old.items ++ statement ∷ []) }
     ensures len { OnOk result (vec_len statements.new ≡ vec_len statements.old + 1) }
 {
     let place = statements.len() as u32;

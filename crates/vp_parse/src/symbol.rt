@@ -1,5 +1,6 @@
 ghost use Rattle.std.specs.Prelude.{◌≡◌, ◌≤◌, length, IfOk, vec_len};
 ghost use Rattle.vp_lex.specs.declared.token.TheConstants.{TEXT_LIMIT};
+ghost use Rattle.vp_parse.specs.Symbols.{with_digit as one_more, decimal_value, symbol_kind as kind_of, symbols_of};
 
 use std::alloc::{AllocError, Global};
 use vp_lex::{Keyword, Punctuator, Token, TokenKind};
@@ -26,22 +27,34 @@ pub struct Symbol {
     pub place: u32,
 }
 
+/// A value with one more decimal digit, at most `NUMBER_LIMIT`; `_` counts for nothing.
+fn with_digit(value: u32, byte: u8) -> u32
+    ensures { result ≡ one_more value byte }
+{
+    if !byte.is_ascii_digit() {
+        return value;
+    }
+    value
+        .saturating_mul(10)
+        .saturating_add(u32::from(byte - b'0'))
+        .min(NUMBER_LIMIT)
+}
+
 /// The value of decimal digits, among which `_` counts for nothing; at most `NUMBER_LIMIT`.
-fn decimal(digits: &str) -> u32 {
+fn decimal(digits: &str) -> u32
+    ensures { result ≡ decimal_value digits.now }
+{
     let mut value = 0u32;
-    for digit in digits.bytes() {
-        if digit.is_ascii_digit() {
-            value = value
-                .saturating_mul(10)
-                .saturating_add(u32::from(digit - b'0'))
-                .min(NUMBER_LIMIT);
-        }
+    for byte in digits.as_bytes() {
+        value = with_digit(value, *byte);
     }
     value
 }
 
 /// What the grammar sees of a token; none of a directive.
-fn symbol_kind(text: &str, token: Token) -> Option<SymbolKind> {
+fn symbol_kind(text: &str, token: Token) -> Option<SymbolKind>
+    ensures { result ≡ kind_of text.now token }
+{
     if token.directive {
         return None;
     }
@@ -59,7 +72,8 @@ fn symbol_kind(text: &str, token: Token) -> Option<SymbolKind> {
 /// The tokens that the grammar sees, in order, each with its place.
 pub fn symbols(alloc: Global, text: &str, tokens: &[Token]) -> Result<Vec<Symbol>, AllocError>
     requires { length tokens.now ≤ TEXT_LIMIT }
-    ensures { IfOk result (λ symbols. vec_len symbols ≤ length tokens.now) }
+    ensures ok { IfOk result (λ symbols. symbols.items ≡ symbols_of text.now tokens.now) }
+    ensures count { IfOk result (λ symbols. vec_len symbols ≤ length tokens.now) }
 {
     let mut symbols = Vec::new(alloc);
     for (place, token) in tokens.iter().enumerate() {

@@ -1,11 +1,12 @@
 -- The filter: what a policy opens of a design to a user, step by step of each path.
-use Rattle.std.specs.Prelude.{ℕ, zero, suc, ◌==◌, ◌&&◌, ◌||◌, not, Bool, if◌then◌else◌, List, [], ◌∷◌, ◌++◌, length, filter, Option, Some, None, codes}
-use Rattle.std.specs.List.{list_any, position}
+use Rattle.std.specs.Prelude.{ℕ, ◌==◌, ◌||◌, not, Bool, false, if◌then◌else◌, List, [], ◌∷◌, ◌++◌, filter, slice_get, Option, Some, None, option_and_then, codes}
+use Rattle.std.specs.List.{position}
+use Rattle.std.specs.Option.{option_map_or}
 use Rattle.vp_pragma.specs.declared.rights.Right.{Right}
 use Rattle.vp_pragma.specs.declared.rights.Right.TheVariants as right
 use Rattle.vp_pragma.specs.Rights.{RightSet, has, nothing, everything, both, either}
 use Rattle.vp_pragma.specs.Envelopes.{Viewport}
-use Rattle.vp_elab.specs.Tree.{Step, Node, Tree, is_named, declared_in, matches}
+use Rattle.vp_elab.specs.Tree.{Step, Node, Tree, envelopes_in, find_named, matches, path_of}
 use Rattle.vp_policy.specs.declared.denial.By.{By}
 use Rattle.vp_policy.specs.declared.denial.By.TheVariants as by
 use Rattle.vp_policy.specs.declared.denial.Denial.{Denial}
@@ -29,25 +30,23 @@ abbrev pub rights : Tree → Member → List Step → RightSet
 rights tree u [] = everything
 rights tree u (s ∷ path) = both (opened tree u s) (rights tree u path)
 
+-- a user's rights on the object of a number; none where it is not there
+abbrev pub rights_at : Tree → Member → ℕ → RightSet
+rights_at tree u o = option_map_or (λ node. rights tree u node.path) (slice_get tree.nodes o) nothing
+
 -- an object is listed to a user if list is among his rights on it
 abbrev pub is_listed : Tree → Member → Node → Bool
 is_listed tree u node = has right.List (rights tree u node.path)
 
 -- ---- closed lists
 
--- the numbers below this one, rising
-abbrev pub below : ℕ → List ℕ
-below zero = []
-below (suc n) = below n ++ n ∷ []
-
--- something is declared in an envelope, in the scope of these names
-abbrev pub declares_in : Tree → List (List ℕ) → ℕ → Bool
-declares_in tree scope envelope = list_any (λ s. s.envelope == envelope) (declared_in scope tree.nodes)
+-- a user may not list what is declared in an envelope by his grant
+abbrev pub is_closed : Member → ℕ → Bool
+is_closed u envelope = not (has right.List (granted u envelope))
 
 -- the closed list of a scope: the numbers of the envelopes of what is declared in it whose grant lacks list, rising (profile)
 abbrev pub closed : Tree → Member → List (List ℕ) → List ℕ
-closed tree u scope =
-    filter (λ e. declares_in tree scope e && not (has right.List (granted u e))) (below (suc (length tree.authors)))
+closed tree u scope = filter (is_closed u) (envelopes_in tree scope)
 
 -- ---- denials
 
@@ -68,6 +67,10 @@ denial tree u r (s ∷ path) =
     then denial tree u r path
     else Some (record { by = by_step tree u s; envelope = s.envelope; right = r })
 
+-- why a right on the object of a number is denied; none if it is his, and where no object is
+abbrev pub denial_at : Tree → Member → Right → ℕ → Option Denial
+denial_at tree u r o = denial tree u r (path_of tree.nodes (Some o))
+
 -- why a user may not run the design, as what keeps him out, the number of the envelope, and the word of the right: by his
 -- grant for the open text, unless his run flag is set (profile)
 abbrev pub run_denial : Member → Option (By × ℕ × List ℕ)
@@ -80,9 +83,17 @@ abbrev pub unlisted : Member → List ℕ → Look
 unlisted u [] = look.Absent
 unlisted u (e ∷ es) = look.Denied (record { by = by_grant u e; envelope = e; right = right.List })
 
--- the number of the object that has these names and is listed to a user
+-- the object of a number is listed to a user
+abbrev pub is_listed_at : Tree → Member → ℕ → Bool
+is_listed_at tree u o = option_map_or (is_listed tree u) (slice_get tree.nodes o) false
+
+-- the number of an object that was found, if it is listed to a user
+abbrev pub listed_in : Tree → Member → Option ℕ → Option ℕ
+listed_in tree u found = option_and_then (λ o. if is_listed_at tree u o then Some o else None) found
+
+-- the number of the object that has these names, if it is listed to a user
 abbrev pub find_listed : Tree → Member → List (List ℕ) → Option ℕ
-find_listed tree u names = position (λ node. is_listed tree u node && is_named names node.path) tree.nodes
+find_listed tree u names = listed_in tree u (find_named tree.nodes names)
 
 -- where to go on: from the object that was found, or else this answer
 abbrev pub from_found : Option ℕ → Look → (ℕ → Look) → Look

@@ -1,6 +1,7 @@
 -- The users of a policy, and what is granted to them.
-use Rattle.std.specs.Prelude.{ℕ, zero, suc, ◌==◌, ◌&&◌, Bool, if◌then◌else◌, List, [], ◌∷◌, Option}
+use Rattle.std.specs.Prelude.{ℕ, zero, suc, ◌==◌, Bool, false, if◌then◌else◌, List, [], ◌∷◌, slice_get, slice_index_or, Option, Some, None, option_and_then}
 use Rattle.std.specs.List.{list_any, position}
+use Rattle.std.specs.Option.{option_map_or}
 use Rattle.std.specs.Str.{bytes_eq}
 use Rattle.vp_pragma.specs.Rights.{RightSet, nothing, either}
 
@@ -26,6 +27,23 @@ granted u (suc e) = granted_by u.grants (suc e)
 abbrev pub has_entry : Member → ℕ → Bool
 has_entry u envelope = list_any (λ g. g.0 == envelope) u.grants
 
--- the number of the user of a name whose token this is (profile)
+-- what stands for a user who is not there
+abbrev pub nobody : Member
+nobody = record { name = []; token = []; open_set = nothing; grants = []; run = false }
+
+-- the user of a number
+abbrev pub member_at : List Member → ℕ → Member
+member_at users n = slice_index_or users n nobody
+
+-- the number of the user of a name
+abbrev pub user_of : List Member → List ℕ → Option ℕ
+user_of users name = position (λ u. bytes_eq name u.name) users
+
+-- a token is that of the user of a number
+abbrev pub has_token : List Member → List ℕ → ℕ → Bool
+has_token users token user = option_map_or (λ u. bytes_eq token u.token) (slice_get users user) false
+
+-- the number of the user of a name, if this token is his (profile)
 abbrev pub login_of : List Member → List ℕ → List ℕ → Option ℕ
-login_of users name token = position (λ u. bytes_eq name u.name && bytes_eq token u.token) users
+login_of users name token =
+    option_and_then (λ user. if has_token users token user then Some user else None) (user_of users name)

@@ -1,83 +1,117 @@
 // What is opened to a user, step by step of an object's path (docs/FORMATS.md, "Rights").
-ghost use Rattle.std.specs.Prelude.{◌≡◌, IfOk};
+ghost use Rattle.std.specs.Prelude.{◌≡◌, [], Some, IsSome, IfOk, filter, option_map};
+ghost use Rattle.vp_list.specs.Texts.{parts};
+ghost use Rattle.vp_pragma.specs.Rights.{set_of};
+ghost use Rattle.vp_elab.specs.Tree.{declared_envelopes, find_in};
+ghost use Rattle.vp_policy.specs.Filter.{by_grant, denial_at, is_closed, is_listed_at, listed_in, look_of, rights_at, unlisted};
+ghost use Rattle.vp_policy.specs.Users.{granted, has_entry, member_at};
 
 use crate::denial::{By, Denial, Look};
 use crate::fault::PolicyError;
 use crate::policy::{Policy, UserId};
-use bitflags::Flags;
 use std::alloc::Global;
 use vp_elab::{Design, ObjectId};
-use vp_list::Sequence;
+use vp_list::{Sequence, first_part};
 use vp_pragma::{Right, Rights};
 
-/// A denial of a right in an envelope, for which nobody has a grant.
-fn denial(envelope: u8, right: Right) -> Denial {
-    Denial {
-        by: if envelope == 0 {
-            By::Grant
-        } else {
-            By::Envelope
-        },
-        envelope,
-        right,
-    }
-}
-
 impl Policy {
-    /// What is granted to a user in an envelope: in the open text his open set, elsewhere nothing.
-    fn granted(&self, user: UserId, envelope: u8) -> Rights {
+    /// What is granted to a user in an envelope: in the open text his open set, elsewhere his grants.
+    fn granted(&self, user: UserId, envelope: u8) -> Rights
+        ensures { set_of result ≡ granted (member_at self.now user.0) envelope }
+    {
         if envelope == 0 {
             self.open_rights(user)
         } else {
-            Rights::empty()
+            self.granted_apart(user, envelope)
         }
     }
 
-    /// The rights of a user on an object: what is opened to him at every step of its path.
-    pub fn rights(&self, design: &Design, user: UserId, object: ObjectId) -> Rights {
-        let mut rights = Rights::all();
+    /// A denial of a right in an envelope: by a user's grant, or by the envelope, for which nobody has a grant yet.
+    fn denial(&self, user: UserId, envelope: u8, right: Right) -> Denial
+        ensures { result ≡ record { by = by_grant (member_at self.now user.0) envelope; envelope = envelope; right = right } }
+    {
+        let by = if envelope == 0 || self.has_entry(user, envelope) {
+            By::Grant
+        } else {
+            By::Envelope
+        };
+        Denial {
+            by,
+            envelope,
+            right,
+        }
+    }
+
+    /// The rights of a user on an object: what is opened to him at every step of its path; none where no object is.
+    pub fn rights(&self, design: &Design, user: UserId, object: ObjectId) -> Rights
+        ensures { set_of result ≡ rights_at design.now.tree (member_at self.now user.0) object.0 }
+    {
+        let mut rights = Rights::every();
         let mut step = Some(object);
         while let Some(id) = step {
             let Some(here) = design.object(id) else {
-                return Rights::empty();
+                return Rights::none();
             };
-            rights = rights.intersection(self.granted(user, here.envelope));
+            rights = rights.both(self.granted(user, here.envelope));
             step = here.parent;
         }
         rights
     }
 
-    /// Why a right on an object is denied: by the first step of its path at which the right is not opened.
-    /// The right is lacking, which is a condition of the caller.
-    pub fn deny(&self, design: &Design, user: UserId, object: ObjectId, right: Right) -> Denial {
-        let mut envelope = 0;
+    /// Why a right on an object is denied: by the first step of its path at which the right is not opened. None if
+    /// it is his, and where no object is.
+    pub fn lacking(
+        &self,
+        design: &Design,
+        user: UserId,
+        object: ObjectId,
+        right: Right,
+    ) -> Option<Denial>
+        ensures { result ≡ denial_at design.now.tree (member_at self.now user.0) right object.0 }
+    {
+        let mut found = None;
         let mut step = Some(object);
         while let Some(id) = step {
             let Some(here) = design.object(id) else {
                 break;
             };
             if !self.granted(user, here.envelope).has(right) {
-                envelope = here.envelope;
+                found = Some(self.denial(user, here.envelope, right));
             }
             step = here.parent;
         }
-        denial(envelope, right)
+        found
+    }
+
+    /// Why a right on an object is denied, which he lacks: by the first step of its path at which it is not opened.
+    pub fn deny(&self, design: &Design, user: UserId, object: ObjectId, right: Right) -> Denial
+        requires { IsSome (denial_at design.now.tree (member_at self.now user.0) right object.0) }
+        ensures { denial_at design.now.tree (member_at self.now user.0) right object.0 ≡ Some result }
+    {
+        match self.lacking(design, user, object, right) {
+            Some(denial) => denial,
+            None => unreachable!(),
+        }
     }
 
     /// A user may not list what is declared in an envelope.
-    fn is_closed(&self, user: UserId, envelope: u8) -> bool {
+    fn is_closed(&self, user: UserId, envelope: u8) -> bool
+        ensures { result ≡ is_closed (member_at self.now user.0) envelope }
+    {
         !self.granted(user, envelope).has(Right::List)
     }
 
     /// The numbers of the envelopes of the places declared in a module, or of the top modules, that are closed
-    /// to a user: rising, each once. None for an object that is no module.
+    /// to a user: rising, each once. None for an object that is no module. Takes memory (905).
     pub fn closed(
         &self,
         alloc: Global,
         design: &Design,
         user: UserId,
         scope: Option<ObjectId>,
-    ) -> Result<Sequence<u8>, PolicyError> {
+    ) -> Result<Sequence<u8>, PolicyError>
+        ensures { IfOk result (λ numbers. numbers ≡ filter (is_closed (member_at self.now user.0)) (declared_envelopes design.now.tree (option_map (λ o. o.0) scope))) }
+    {
         let mut numbers = Vec::new(alloc);
         for envelope in design.declared_envelopes(scope) {
             if self.is_closed(user, *envelope) {
@@ -89,28 +123,56 @@ impl Policy {
 
     /// What is answered to a name that is not listed in a scope: it is denied by the scope's first closed
     /// envelope, the same for a hidden name as for an absent one.
-    fn unlisted(&self, design: &Design, user: UserId, scope: Option<ObjectId>) -> Look {
+    fn unlisted(&self, design: &Design, user: UserId, scope: Option<ObjectId>) -> Look
+        ensures { result ≡ unlisted (member_at self.now user.0) (filter (is_closed (member_at self.now user.0)) (declared_envelopes design.now.tree (option_map (λ o. o.0) scope))) }
+    {
         for envelope in design.declared_envelopes(scope) {
             if self.is_closed(user, *envelope) {
-                return Look::Denied(denial(*envelope, Right::List));
+                return Look::Denied(self.denial(user, *envelope, Right::List));
             }
         }
         Look::Absent
     }
 
-    /// What a user finds under a dotted name, from the top modules down.
-    pub fn look(&self, design: &Design, user: UserId, name: &str) -> Look {
-        let mut scope = None;
-        let mut found = Look::Absent;
-        for part in name.split('.') {
-            match design.find(scope, part) {
-                Some(object) if self.rights(design, user, object).has(Right::List) => {
-                    scope = Some(object);
-                    found = Look::Found(object);
-                }
-                _ => return self.unlisted(design, user, scope),
-            }
+    /// An object is listed to a user.
+    fn is_listed(&self, design: &Design, user: UserId, object: ObjectId) -> bool
+        ensures { result ≡ is_listed_at design.now.tree (member_at self.now user.0) object.0 }
+    {
+        self.rights(design, user, object).has(Right::List)
+    }
+
+    /// The object of a name in a scope, if it is listed to a user.
+    fn find_listed(
+        &self,
+        design: &Design,
+        user: UserId,
+        scope: Option<ObjectId>,
+        name: &str,
+    ) -> Option<ObjectId>
+        ensures { option_map (λ o. o.0) result ≡ listed_in design.now.tree (member_at self.now user.0) (find_in design.now.tree.nodes (option_map (λ o. o.0) scope) name.now) }
+    {
+        match design.find(scope, name) {
+            Some(object) if self.is_listed(design, user, object) => Some(object),
+            _ => None,
         }
-        found
+    }
+
+    /// What a user finds under a dotted name, from the top modules down.
+    pub fn look(&self, design: &Design, user: UserId, name: &str) -> Look
+        ensures { result ≡ look_of design.now.tree (member_at self.now user.0) [] (parts 46 name.now) }
+    {
+        let mut scope = None;
+        let mut rest = name;
+        loop {
+            let (part, behind) = first_part(rest, '.');
+            let Some(object) = self.find_listed(design, user, scope, part) else {
+                return self.unlisted(design, user, scope);
+            };
+            match behind {
+                Some(further) => rest = further,
+                None => return Look::Found(object),
+            }
+            scope = Some(object);
+        }
     }
 }

@@ -1,5 +1,10 @@
-use bitflags::Flags;
+ghost use Rattle.std.specs.Prelude.{◌≡◌, length, map, option_map};
+ghost use Rattle.vp_pragma.specs.Rights.{set_of};
+ghost use Rattle.vp_policy.specs.Members.{member_of};
+ghost use Rattle.vp_policy.specs.Users.{granted_by, has_entry, login_of, member_at};
+
 use indexmap::IndexMap;
+use std::marker::Model;
 use vp_list::Text;
 use vp_pragma::Rights;
 
@@ -17,27 +22,45 @@ pub struct User {
     pub run: bool,
 }
 
-/// The users of a policy file.
+/// The users of a policy file. A contract sees their list, in the order of the file.
 #[derive(Drop)]
 pub struct Policy {
     /// By name, in the order of the file.
     users: IndexMap<String, User>,
 }
 
+impl Model for Policy {
+    ghost use Rattle.std.specs.Prelude.{List, map};
+    ghost use Rattle.vp_policy.specs.Users.{Member};
+    ghost use Rattle.vp_policy.specs.Members.{member_of};
+
+    ghost Value = { List Member };
+
+    ghost view = { λ p. map member_of p.users.entries };
+}
+
 impl Policy {
-    pub(crate) fn new(users: IndexMap<String, User>) -> Policy {
+    pub(crate) fn new(users: IndexMap<String, User>) -> Policy
+        ensures { result ≡ map member_of users.entries }
+    {
         Policy { users }
     }
 
     /// How many users the file has.
-    pub fn count(&self) -> usize {
+    pub fn count(&self) -> usize
+        ensures { result ≡ length self.now }
+    {
         self.users.len()
     }
 
     /// The user of a name, if the token is his.
-    pub fn login(&self, name: &str, token: &str) -> Option<UserId> {
-        let (number, _, user) = self.users.get_full(name)?;
-        if user.token.as_str() == token {
+    pub fn login(&self, name: &str, token: &str) -> Option<UserId>
+        ensures { option_map (λ u. u.0) result ≡ login_of self.now name.now token.now }
+    {
+        let Some((number, _, user)) = self.users.get_full(name) else {
+            return None;
+        };
+        if token == user.token.as_str() {
             Some(UserId(number))
         } else {
             None
@@ -45,10 +68,28 @@ impl Policy {
     }
 
     /// His rights in the open text; none for a number that is not there.
-    pub(crate) fn open_rights(&self, user: UserId) -> Rights {
+    pub(crate) fn open_rights(&self, user: UserId) -> Rights
+        ensures { set_of result ≡ (member_at self.now user.0).open_set }
+    {
         match self.users.get_index(user.0) {
             Some((_, user)) => user.open,
-            None => Rights::empty(),
+            None => Rights::none(),
         }
+    }
+
+    /// His grants for an envelope outside of the open text; a file gives none yet.
+    pub(crate) fn granted_apart(&self, user: UserId, envelope: u8) -> Rights
+        ensures { set_of result ≡ granted_by (member_at self.now user.0).grants envelope }
+    {
+        let _users = &self.users;
+        Rights::none()
+    }
+
+    /// He has a grant for an envelope; a file gives none yet.
+    pub(crate) fn has_entry(&self, user: UserId, envelope: u8) -> bool
+        ensures { result ≡ has_entry (member_at self.now user.0) envelope }
+    {
+        let _users = &self.users;
+        false
     }
 }

@@ -1,2 +1,7 @@
 pub mod Holding
+pub mod Quotes
+pub mod Behind
+pub mod Refusals
+pub mod Turns
+pub mod RightBits
 pub mod PragmaRows

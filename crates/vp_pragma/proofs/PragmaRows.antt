@@ -1,6 +1,8 @@
 -- Envelopes of short texts, computed. Each row is an equation that holds by computation.
 use Rattle.std.proofs.Common.{◌≡◌, ℕ, List, [], ◌∷◌, Some, None, Result, Ok, Err, refl}
 use Rattle.std.specs.Prelude.{codes}
+use Rattle.std.specs.Str.{chars, is_utf8}
+use Rattle.std.specs.Char.{encode_utf8}
 use Rattle.vp_lex.specs.declared.fault.LexError.{LexError}
 use Rattle.vp_lex.specs.declared.token.Token.{Token}
 use Rattle.vp_lex.specs.Tokens.{tokens_of}
@@ -46,31 +48,55 @@ envelope begin end author = record { begin = begin; end = end; author = author }
 
 one_envelope :
     envelopes_in (codes "`pragma protect author=\"a\", begin\n`pragma protect end\n") ≡ Ok (envelope 6 9 (codes "a") ∷ [])
+unfolding is_utf8 chars encode_utf8
 one_envelope = refl
 
 no_effect : envelopes_in (codes "`pragma protect\n`pragma other begin\n`pragma protect encoding=\"x\"") ≡ Ok []
+unfolding is_utf8 chars encode_utf8
 no_effect = refl
 
 nested : envelopes_in (codes "`pragma protect begin\n`pragma protect begin") ≡ Err (error.NestedBegin 2)
+unfolding is_utf8 chars encode_utf8
 nested = refl
 
 end_alone : envelopes_in (codes "`pragma protect end") ≡ Err (error.EndWithoutBegin 1)
+unfolding is_utf8 chars encode_utf8
 end_alone = refl
 
 left_open : envelopes_in (codes "`pragma protect begin") ≡ Err (error.OpenEnvelope 1)
+unfolding is_utf8 chars encode_utf8
 left_open = refl
 
 in_a_block : envelopes_in (codes "initial begin\n`pragma protect begin\n") ≡ Err (error.Unbalanced 2)
+unfolding is_utf8 chars encode_utf8
 in_a_block = refl
 
 over_a_module : envelopes_in (codes "`pragma protect begin\nmodule m;\n`pragma protect end\n") ≡ Err (error.Unbalanced 3)
+unfolding is_utf8 chars encode_utf8
 over_a_module = refl
 
 trailing_comma : envelopes_in (codes "`pragma protect begin,") ≡ Err (error.BadPragma 1)
+unfolding is_utf8 chars encode_utf8
 trailing_comma = refl
 
 not_read_yet : envelopes_in (codes "`pragma reset protect") ≡ Err (error.BadPragma 1)
+unfolding is_utf8 chars encode_utf8
 not_read_yet = refl
+
+-- the author that is in force at the begin counts
+author_before :
+    envelopes_in (codes "`pragma protect author=\"a\", begin, author=\"b\", end") ≡ Ok (envelope 6 12 (codes "a") ∷ [])
+unfolding is_utf8 chars encode_utf8
+author_before = refl
+
+before_an_else : envelopes_in (codes "if\n`pragma protect begin\nelse") ≡ Err (error.Unbalanced 2)
+unfolding is_utf8 chars encode_utf8
+before_an_else = refl
+
+-- a value alone and an unknown keyword do nothing
+values_alone : envelopes_in (codes "`pragma protect 8'h1, \"s\", other=3") ≡ Ok []
+unfolding is_utf8 chars encode_utf8
+values_alone = refl
 
 -- ---- the envelope of a place
 

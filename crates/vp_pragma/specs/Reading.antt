@@ -1,7 +1,80 @@
 -- What is kept while the pragmas of a text are read.
-use Rattle.std.specs.Prelude.{◌+◌, ◌≤◌, if◌then◌else◌, is_some, vec_len}
+use Rattle.std.specs.Prelude.{◌≡◌, ℕ, ◌+◌, ◌≤◌, if◌then◌else◌, List, [], length, map, Option, Some, None, option_map, is_some, Result, Ok, drop, IfSome}
+use Rattle.std.specs.List.{enumerate_from}
+use Rattle.vp_lex.specs.declared.token.TheConstants.{TEXT_LIMIT}
+use Rattle.vp_lex.specs.declared.token.Token.{Token}
+use Rattle.vp_lex.specs.Texts.{text_of}
+use Rattle.vp_pragma.specs.declared.deed.Deed.{Deed}
+use Rattle.vp_pragma.specs.declared.fault.PragmaError.{PragmaError}
+use Rattle.vp_pragma.specs.declared.line.Rest.{Rest}
+use Rattle.vp_pragma.specs.declared.reading.Before.{Before}
+use Rattle.vp_pragma.specs.declared.reading.Line.{Line}
+use Rattle.vp_pragma.specs.declared.reading.Open.{Open}
 use Rattle.vp_pragma.specs.declared.reading.Reading.{Reading}
+use Rattle.vp_pragma.specs.Surroundings.{CountsUpTo, around_of, is_before_else, is_free, kinds_before, module_at}
+use Rattle.vp_pragma.specs.Pragmas.{Placed, deeds_behind, unquoted}
+use Rattle.vp_pragma.specs.EnvelopesOf.{Begun, Progress, after_deed, after_deeds}
+
+-- the tokens of a line that are left, with their places
+abbrev pub placed : Rest → List Placed
+placed rest = enumerate_from rest.at rest.tokens.now
+
+-- a text has their places
+abbrev pub HasPlaces : Rest → Type 0
+HasPlaces rest = rest.at + length rest.tokens.now ≤ TEXT_LIMIT
+
+-- ---- what has been read
+
+-- the author that a string names, if there is one
+abbrev pub author_in : List ℕ → Option Token → List ℕ
+author_in text None = []
+author_in text (Some string) = unquoted (text_of text string)
+
+-- the envelope that has begun
+abbrev pub begun_of : Open → Begun
+begun_of b = record { place = b.begin; line = b.line; inside = b.«module»; author = b.author }
+
+-- what a reading of a text has come to
+abbrev pub progress_of : List ℕ → Reading → Progress
+progress_of text reading = record {
+  ended = reading.closed.items;
+  begun = option_map begun_of reading.open;
+  author = author_in text reading.author;
+}
 
 -- the envelopes that are closed, and the one that is open, are at most 255 (profile)
 abbrev pub HasRoom : Reading → Type 0
-HasRoom reading = vec_len reading.closed + (if is_some reading.open then 1 else 0) ≤ 255
+HasRoom reading = length reading.closed.items + (if is_some reading.open then 1 else 0) ≤ 255
+
+-- ---- a line
+
+-- what stands around a line, as its directive's place says
+abbrev pub IsLine : Line → Type 0
+IsLine line = (line.free ≡ is_free line.tokens.now line.place) × (line.«module» ≡ module_at line.tokens.now line.place)
+
+-- the directive of a line, with its place
+abbrev pub directive_of : Line → Placed
+directive_of line = (line.place, line.directive)
+
+-- what a deed on a line makes of a reading
+abbrev pub after_one : Line → Reading → Deed → Result Progress PragmaError
+after_one line reading deed =
+    after_deed line.text.now line.tokens.now (progress_of line.text.now reading) (directive_of line) deed
+
+-- what deeds on a line make of a reading
+abbrev pub after_all : Line → Reading → List Deed → Result Progress PragmaError
+after_all line reading deeds =
+    after_deeds line.text.now line.tokens.now (Ok (progress_of line.text.now reading)) (map (λ deed. (directive_of line, deed)) deeds)
+
+-- ---- a text
+
+-- what stands before a place of a text: what is open there, and on the line of a pragma whether an else follows
+abbrev pub IsBefore : List Token → ℕ → Before → Type 0
+IsBefore tokens place before =
+    (before.around ≡ around_of (kinds_before place tokens)) × CountsUpTo place before.around
+    × IfSome before.line (λ _. before.before_else ≡ is_before_else tokens place)
+
+-- what the tokens from a place on make of a reading, where the token before them stands on this pragma's line or on none
+abbrev pub after_left : List ℕ → List Token → Reading → Option ℕ → ℕ → Result Progress PragmaError
+after_left text tokens reading before place =
+    after_deeds text tokens (Ok (progress_of text reading)) (deeds_behind text before place (drop place tokens))

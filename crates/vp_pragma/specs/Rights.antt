@@ -1,7 +1,9 @@
 -- Rights, and sets of rights.
-use Rattle.std.specs.Prelude.{ℕ, Bool, true, false, ◌&&◌, ◌||◌, List, codes}
+use Rattle.std.specs.Prelude.{ℕ, ◌==◌, Bool, true, false, ◌&&◌, ◌||◌, List, codes}
+use Rattle.std.specs.Int.RustNames.{bit_and}
 use Rattle.vp_pragma.specs.declared.rights.Right.{Right}
 use Rattle.vp_pragma.specs.declared.rights.Right.TheVariants as right
+use Rattle.vp_pragma.specs.declared.rights.Rights.{Rights}
 
 -- the name of a right, in access strings and lines (profile)
 abbrev pub name_of : Right → List ℕ
@@ -62,3 +64,21 @@ with_right right.Read set = record set { read = true }
 with_right right.Watch set = record set { watch = true }
 with_right right.Put set = record set { put = true }
 with_right right.Race set = record set { race = true }
+
+-- the set of one right
+abbrev pub only : Right → RightSet
+only r = with_right r nothing
+
+-- a number has a bit, which is given by its value
+abbrev pub has_bit : ℕ → ℕ → Bool
+has_bit n bit = bit_and n bit == bit
+
+-- the set of a value of Rights: list, read, watch, put and race are its bits from the lowest on
+abbrev pub set_of : Rights → RightSet
+set_of r = record {
+  list = has_bit r.0 1;
+  read = has_bit r.0 2;
+  watch = has_bit r.0 4;
+  put = has_bit r.0 8;
+  race = has_bit r.0 16;
+}

@@ -1,5 +1,5 @@
 -- What stands around a place of a text: whether an envelope may begin or end there, and in which module.
-use Rattle.std.specs.Prelude.{ℕ, suc, ◌+◌, ◌-◌, ◌==◌, ◌&&◌, not, Bool, true, false, if◌then◌else◌, List, map, filter, take, drop, fold, count_by, Option, Some, None, option_map}
+use Rattle.std.specs.Prelude.{ℕ, ◌≤◌, ◌+◌, ◌-◌, ◌==◌, ◌&&◌, not, Bool, true, false, if◌then◌else◌, List, map, filter, take, drop, fold, count_by, Option, Some, None, option_map}
 use Rattle.std.specs.List.{find}
 use Rattle.std.specs.Option.{option_map_or}
 use Rattle.vp_lex.specs.declared.keyword.Keyword.TheVariants as keyword
@@ -7,14 +7,15 @@ use Rattle.vp_lex.specs.declared.token.Punctuator.TheVariants as punctuator
 use Rattle.vp_lex.specs.declared.token.Token.{Token}
 use Rattle.vp_lex.specs.declared.token.TokenKind.{TokenKind}
 use Rattle.vp_lex.specs.declared.token.TokenKind.TheVariants as token
+use Rattle.vp_pragma.specs.declared.surroundings.Surroundings.{Surroundings}
 
 -- the kinds of the tokens before a place that the grammar sees
 abbrev pub kinds_before : ℕ → List Token → List TokenKind
 kinds_before place tokens = map (λ t. t.kind) (filter (λ t. not t.directive) (take place tokens))
 
--- the kind of the first token behind a place that the grammar sees
-abbrev pub kind_behind : ℕ → List Token → Option TokenKind
-kind_behind place tokens = option_map (λ t. t.kind) (find (λ t. not t.directive) (drop (suc place) tokens))
+-- the kind of the first token from a place on that the grammar sees
+abbrev pub kind_from : ℕ → List Token → Option TokenKind
+kind_from place tokens = option_map (λ t. t.kind) (find (λ t. not t.directive) (drop place tokens))
 
 -- a begin block opens (clause 9.8.1)
 abbrev pub opens_block : TokenKind → Bool
@@ -69,19 +70,59 @@ open_count opens closes kinds = fold (λ n kind. if opens kind then n + 1 else (
 abbrev pub is_at_boundary : List TokenKind → Bool
 is_at_boundary kinds = fold (λ before kind. may_end kind) true kinds
 
--- an envelope may begin or end at a place (profile)
+-- no block and no case is open behind these kinds, and a statement, an item or a module may have ended
+abbrev pub is_free_behind : List TokenKind → Bool
+is_free_behind kinds =
+    (open_count opens_block closes_block kinds == 0)
+    && (open_count opens_case closes_case kinds == 0)
+    && is_at_boundary kinds
+
+-- the grammar's next token from a place on is an else
+abbrev pub is_before_else : List Token → ℕ → Bool
+is_before_else tokens place = option_map_or is_else (kind_from place tokens) false
+
+-- an envelope may begin or end on the line of the directive at a place (profile)
 abbrev pub is_free : List Token → ℕ → Bool
-is_free tokens place =
-    (open_count opens_block closes_block (kinds_before place tokens) == 0)
-    && (open_count opens_case closes_case (kinds_before place tokens) == 0)
-    && is_at_boundary (kinds_before place tokens)
-    && not (option_map_or is_else (kind_behind place tokens) false)
+is_free tokens place = is_free_behind (kinds_before place tokens) && not (is_before_else tokens place)
 
 -- behind these kinds a module is open
 abbrev pub is_in_module : List TokenKind → Bool
 is_in_module kinds = fold (λ inside kind. if begins_module kind then true else (if ends_module kind then false else inside)) false kinds
 
+-- behind these kinds the how-many-th module is open; none outside of all modules
+abbrev pub module_behind : List TokenKind → Option ℕ
+module_behind kinds = if is_in_module kinds then Some (count_by begins_module kinds) else None
+
 -- the how-many-th module a place stands in; none outside of all modules
 abbrev pub module_at : List Token → ℕ → Option ℕ
-module_at tokens place =
-    if is_in_module (kinds_before place tokens) then Some (count_by begins_module (kinds_before place tokens)) else None
+module_at tokens place = module_behind (kinds_before place tokens)
+
+-- ---- as they are kept while a text is read
+
+-- what is open behind these kinds
+abbrev pub around_of : List TokenKind → Surroundings
+around_of kinds = record {
+  blocks = open_count opens_block closes_block kinds;
+  cases = open_count opens_case closes_case kinds;
+  modules = count_by begins_module kinds;
+  in_module = is_in_module kinds;
+  at_boundary = is_at_boundary kinds;
+}
+
+-- the count behind one more token that opens, closes, or does neither
+abbrev pub counted : Bool → Bool → ℕ → ℕ
+counted opens closes n = if opens then n + 1 else (if closes then n - 1 else n)
+
+-- what is open behind one more token
+abbrev pub around_behind : Surroundings → TokenKind → Surroundings
+around_behind s kind = record {
+  blocks = counted (opens_block kind) (closes_block kind) s.blocks;
+  cases = counted (opens_case kind) (closes_case kind) s.cases;
+  modules = counted (begins_module kind) false s.modules;
+  in_module = if begins_module kind then true else (if ends_module kind then false else s.in_module);
+  at_boundary = may_end kind;
+}
+
+-- no count is above this
+abbrev pub CountsUpTo : ℕ → Surroundings → Type 0
+CountsUpTo limit s = (s.blocks ≤ limit) × (s.cases ≤ limit) × (s.modules ≤ limit)

@@ -1,6 +1,7 @@
 //! Protect envelopes: their places, their authors, and sets of rights.
 #![tactic(auto)]
 
+mod deed;
 mod envelope;
 mod fault;
 mod line;

@@ -1,77 +1,170 @@
 // The line of a pragma, cut into its expressions (clause 19.10).
-ghost use Rattle.std.specs.Prelude.{◌≡◌, ◌<◌, ◌≤◌, ◌+◌, length, IfSome};
+ghost use Rattle.std.specs.Prelude.{◌≡◌, ◌≤◌, ◌+◌, [], ◌∷◌, length, drop, if◌then◌else◌, option_map, MatchOption, IfSome};
+ghost use Rattle.std.specs.List.{enumerate_from, prefix_len, take_while};
+ghost use Rattle.vp_lex.specs.declared.token.TheConstants.{TEXT_LIMIT};
+ghost use Rattle.vp_pragma.specs.Pragmas.{begins_with, expression_at, is_base, is_comma, is_equals, is_on, is_word, rest_of, value_at};
+ghost use Rattle.vp_pragma.specs.Reading.{HasPlaces, placed};
 
 use vp_lex::{Punctuator, Token, TokenKind};
 
-/// A value of a pragma's keyword, by its place.
+/// A value of a pragma's keyword.
 #[derive(Clone, Copy)]
 pub enum Value {
-    String(usize),
+    /// A string, by its token.
+    Text(Token),
     Other,
 }
 
-/// An expression of a pragma. Its keyword stands where the expression begins.
+/// An expression of a pragma.
 #[derive(Clone, Copy)]
 pub enum Expression {
-    Keyword,
-    Assignment(Value),
-    Value,
+    /// A keyword alone, by its place and its token.
+    Alone(u32, Token),
+    /// A keyword with a value.
+    Assigned(Token, Value),
+    /// A value alone.
+    Only,
+}
+
+/// The tokens of a line from a place on.
+#[derive(Clone, Copy)]
+pub struct Rest<'a> {
+    pub tokens: &'a [Token],
+    pub at: u32,
 }
 
 /// A word of a text, keyword or not.
-pub fn is_word(token: Token) -> bool {
+pub fn is_word(token: Token) -> bool
+    ensures { result ≡ is_word token.kind }
+{
     matches!(token.kind, TokenKind::Name | TokenKind::Keyword(_))
 }
 
-/// The end of the pragma's line that begins at a place, as a place.
-pub fn line_end(tokens: &[Token], start: usize) -> usize
-    requires { start < length tokens.now }
-    ensures { (start < result) × (result ≤ length tokens.now) }
+/// The token gives a keyword its value.
+fn is_equals(token: Token) -> bool
+    ensures { result ≡ is_equals token.kind }
 {
-    let line = tokens[start].line;
-    for place in start + 1..tokens.len() {
-        if !tokens[place].directive || tokens[place].line != line {
+    matches!(token.kind, TokenKind::Punctuator(Punctuator::Equals))
+}
+
+/// The token stands between expressions.
+pub fn is_comma(token: Token) -> bool
+    ensures { result ≡ is_comma token.kind }
+{
+    matches!(token.kind, TokenKind::Punctuator(Punctuator::Comma))
+}
+
+/// The first token, and what follows it.
+pub fn split(rest: Rest<'_>) -> Option<(Token, Rest<'_>)>
+    requires { HasPlaces rest }
+    ensures parts { MatchOption result (placed rest.entry ≡ []) (λ s. placed rest.entry ≡ (rest.entry.at, s.0) ∷ placed s.1) }
+    ensures places { IfSome result (λ s. HasPlaces s.1) }
+{
+    match rest.tokens {
+        [] => None,
+        [first, tokens @ ..] => Some((
+            *first,
+            Rest {
+                tokens,
+                at: rest.at + 1,
+            },
+        )),
+    }
+}
+
+/// What follows a number: behind a base part, if one is first.
+fn behind_base(rest: Rest<'_>) -> Rest<'_>
+    requires { HasPlaces rest }
+    ensures parts { placed result ≡ (if begins_with is_base (placed rest.entry) then rest_of (placed rest.entry) else placed rest.entry) }
+    ensures places { HasPlaces result }
+{
+    match split(rest) {
+        Some((first, others)) => match first.kind {
+            TokenKind::Base => others,
+            _ => rest,
+        },
+        None => rest,
+    }
+}
+
+/// What follows an equals sign, if one is first.
+fn behind_equals(rest: Rest<'_>) -> Option<Rest<'_>>
+    requires { HasPlaces rest }
+    ensures parts { option_map placed result ≡ (if begins_with is_equals (placed rest.entry) then Some (rest_of (placed rest.entry)) else None) }
+    ensures places { IfSome result HasPlaces }
+{
+    match split(rest) {
+        Some((first, others)) if is_equals(first) => Some(others),
+        _ => None,
+    }
+}
+
+/// The value at the front of a line's tokens, and what follows it.
+fn value_at(rest: Rest<'_>) -> Option<(Value, Rest<'_>)>
+    requires { HasPlaces rest }
+    ensures parts { option_map (λ v. (v.0, placed v.1)) result ≡ value_at (placed rest.entry) }
+    ensures places { IfSome result (λ v. HasPlaces v.1) }
+{
+    let (first, others) = split(rest)?;
+    match first.kind {
+        TokenKind::String => Some((Value::Text(first), others)),
+        TokenKind::Number => Some((Value::Other, behind_base(others))),
+        TokenKind::Base | TokenKind::Name | TokenKind::Keyword(_) => Some((Value::Other, others)),
+        TokenKind::Punctuator(_) | TokenKind::Directive => None,
+    }
+}
+
+/// The expression at the front of a line's tokens, and what follows it.
+pub fn expression_at(rest: Rest<'_>) -> Option<(Expression, Rest<'_>)>
+    requires { HasPlaces rest }
+    ensures parts { option_map (λ e. (e.0, placed e.1)) result ≡ expression_at (placed rest.entry) }
+    ensures places { IfSome result (λ e. HasPlaces e.1) }
+{
+    let (first, others) = split(rest)?;
+    if !is_word(first) {
+        let (_, behind) = value_at(rest)?;
+        return Some((Expression::Only, behind));
+    }
+    match behind_equals(others) {
+        Some(value) => {
+            let (value, behind) = value_at(value)?;
+            Some((Expression::Assigned(first, value), behind))
+        }
+        None => Some((Expression::Alone(rest.at, first), others)),
+    }
+}
+
+/// A token stands on the pragma of a line.
+fn is_on(line: u32, token: Token) -> bool
+    ensures { result ≡ is_on line token }
+{
+    token.directive && token.line == line
+}
+
+/// The end of the run of tokens from a place on that stand on the pragma of a line.
+fn line_end(tokens: &[Token], line: u32, from: usize) -> usize
+    requires { from ≤ length tokens.now }
+    ensures run { result ≡ from + prefix_len (is_on line) (drop from tokens.now) }
+    ensures within { (from ≤ result) × (result ≤ length tokens.now) }
+{
+    for place in from..tokens.len() {
+        if !is_on(line, tokens[place]) {
             return place;
         }
     }
     tokens.len()
 }
 
-/// The value at the front of a line's tokens, and how many tokens it has.
-fn value_at(tokens: &[Token], at: usize) -> Option<(Value, usize)>
-    requires { at ≤ length tokens.now }
-    ensures { IfSome result (λ found. (at < found.1) × (found.1 ≤ length tokens.now)) }
+/// The tokens from a place on that stand on the pragma of a line.
+pub fn run_of(tokens: &[Token], line: u32, from: usize) -> Rest<'_>
+    requires place { from ≤ length tokens.now }
+    requires few { length tokens.now ≤ TEXT_LIMIT }
+    ensures parts { placed result ≡ enumerate_from from (take_while (is_on line) (drop from tokens.now)) }
+    ensures places { HasPlaces result }
 {
-    if at == tokens.len() {
-        return None;
+    let end = line_end(tokens, line, from);
+    Rest {
+        tokens: &tokens[from..end],
+        at: from as u32,
     }
-    match tokens[at].kind {
-        TokenKind::String => Some((Value::String(at), at + 1)),
-        TokenKind::Number if at + 1 < tokens.len() && tokens[at + 1].kind == TokenKind::Base => {
-            Some((Value::Other, at + 2))
-        }
-        TokenKind::Number | TokenKind::Base | TokenKind::Name | TokenKind::Keyword(_) => {
-            Some((Value::Other, at + 1))
-        }
-        _ => None,
-    }
-}
-
-/// The expression at a place of a line that ends where the tokens end, and the place behind it.
-pub fn expression_at(tokens: &[Token], at: usize) -> Option<(Expression, usize)>
-    requires { at ≤ length tokens.now }
-    ensures { IfSome result (λ found. (at < found.1) × (found.1 ≤ length tokens.now)) }
-{
-    if at == tokens.len() {
-        return None;
-    }
-    if !is_word(tokens[at]) {
-        let (_, end) = value_at(tokens, at)?;
-        return Some((Expression::Value, end));
-    }
-    if at + 1 == tokens.len() || tokens[at + 1].kind != TokenKind::Punctuator(Punctuator::Equals) {
-        return Some((Expression::Keyword, at + 1));
-    }
-    let (value, end) = value_at(tokens, at + 2)?;
-    Some((Expression::Assignment(value), end))
 }

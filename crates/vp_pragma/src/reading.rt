@@ -1,13 +1,20 @@
-ghost use Rattle.std.specs.Prelude.{◌≡◌, ◌<◌, ◌≤◌, ◌+◌, length, IfOk, OnOk, vec_len};
+ghost use Rattle.std.specs.Prelude.{◌≡◌, ℕ, suc, ◌<◌, ◌≤◌, ◌+◌, ◌==◌, ◌&&◌, not, drop, length, List, slice_index_or, IfErr, IfNone, IfOk, IfSome, MatchResult, OnOk};
 ghost use Rattle.vp_lex.specs.declared.token.TheConstants.{TEXT_LIMIT};
-ghost use Rattle.vp_pragma.specs.Reading.{HasRoom};
+ghost use Rattle.vp_lex.specs.declared.token.Token.{Token};
+ghost use Rattle.vp_pragma.specs.declared.deed.Deed.{Deed};
+ghost use Rattle.vp_pragma.specs.EnvelopesOf.{after_deeds, at_start, envelopes_behind, envelopes_of, same_module};
+ghost use Rattle.vp_pragma.specs.Pragmas.{before_deeds, begins_line, deeds_from, deeds_of_text, line_deeds, named_deeds, on_line, pragma_line, protect_deeds, unquoted};
+ghost use Rattle.vp_pragma.specs.Faults.{Explains};
+ghost use Rattle.vp_pragma.specs.Reading.{HasPlaces, HasRoom, IsBefore, IsLine, after_all, after_left, after_one, author_in, placed, progress_of};
+ghost use Rattle.vp_pragma.specs.Surroundings.{is_before_else};
 
+use crate::deed::{Deed, deed_of};
 use crate::envelope::{Envelope, Envelopes};
 use crate::fault::PragmaError;
-use crate::line::{Expression, Value, expression_at, is_word, line_end};
-use crate::surroundings::{Surroundings, next_seen};
+use crate::line::{Rest, expression_at, is_comma, is_word, run_of, split};
+use crate::surroundings::{Surroundings, is_before_else};
 use std::alloc::Global;
-use vp_lex::{Keyword, Punctuator, Token, TokenKind};
+use vp_lex::Token;
 use vp_list::Text;
 
 /// The greatest number of envelopes.
@@ -33,157 +40,59 @@ pub struct Reading {
 
 /// The line of a pragma, and what stands around it.
 #[derive(Clone, Copy)]
-struct Line<'a> {
+pub struct Line<'a> {
     text: &'a str,
-    /// The tokens of the text up to the end of the line.
     tokens: &'a [Token],
-    number: u32,
+    /// The place of its directive.
+    place: usize,
+    directive: Token,
+    /// An envelope may begin or end here.
+    free: bool,
+    module: Option<u32>,
+}
+
+/// What stands before a token.
+#[derive(Clone, Copy)]
+pub struct Before {
     around: Surroundings,
-    /// The grammar's next token is `else`.
+    /// The line of the pragma on which the token before stands.
+    line: Option<u32>,
+    /// The grammar's next token is `else`. It is told on the line of a pragma alone.
     before_else: bool,
 }
 
-impl Line<'_> {
-    fn bad(&self) -> PragmaError {
-        PragmaError::BadPragma { line: self.number }
-    }
-
-    /// An envelope may begin or end here.
-    fn is_free(&self) -> bool {
-        self.around.is_free() && !self.before_else
-    }
-
-    /// The text of the token at a place.
-    fn word(&self, place: usize) -> &str {
-        match self.tokens.get(place) {
-            Some(token) => token.text(self.text),
-            None => "",
-        }
-    }
-}
-
-/// A protect keyword with an effect that is not read yet.
-fn is_unread(word: &str) -> bool {
-    matches!(
-        word,
-        "viewport"
-            | "reset"
-            | "begin_protected"
-            | "end_protected"
-            | "data_block"
-            | "key_block"
-            | "digest_block"
-            | "data_public_key"
-            | "data_decrypt_key"
-            | "digest_public_key"
-            | "digest_decrypt_key"
-            | "key_public_key"
-    )
-}
-
-/// What stands between the quotes of a string.
-fn unquoted(string: &str) -> &str {
-    string
-        .strip_prefix('"')
-        .and_then(|rest| rest.strip_suffix('"'))
-        .unwrap_or("")
-}
-
-/// Reads the line of a pragma whose directive stands at a place.
-fn read_line(
-    alloc: Global,
-    reading: &mut Reading,
-    line: Line<'_>,
-    start: usize,
-) -> Result<(), PragmaError>
-    requires place { start < length line.tokens.now }
-    requires few { length line.tokens.now ≤ TEXT_LIMIT }
-    requires room { HasRoom reading.old }
-    ensures room { OnOk result (HasRoom reading.new) }
+/// What stands between the quotes of a string; nothing where it has none.
+fn unquoted(string: &str) -> &str
+    ensures { result.now ≡ unquoted string.now }
 {
-    let name = start + 1;
-    if name == line.tokens.len() || !is_word(line.tokens[name]) {
-        return Err(line.bad());
-    }
-    match line.word(name) {
-        "protect" => protect(alloc, reading, line, name + 1),
-        "reset" | "resetall" => Err(line.bad()),
-        _ => Ok(()),
-    }
-}
-
-/// Applies the expressions of a protect pragma, from the first on.
-fn protect(
-    alloc: Global,
-    reading: &mut Reading,
-    line: Line<'_>,
-    first: usize,
-) -> Result<(), PragmaError>
-    requires place { first ≤ length line.tokens.now }
-    requires few { length line.tokens.now ≤ TEXT_LIMIT }
-    requires room { HasRoom reading.old }
-    ensures room { OnOk result (HasRoom reading.new) }
-{
-    let end = line.tokens.len();
-    if first == end {
-        return Ok(());
-    }
-    let mut at = first;
-    loop {
-        let Some((expression, next)) = expression_at(line.tokens, at) else {
-            return Err(line.bad());
-        };
-        apply(alloc, reading, line, at, expression)?;
-        if next == end {
-            return Ok(());
-        }
-        if line.tokens[next].kind != TokenKind::Punctuator(Punctuator::Comma) {
-            return Err(line.bad());
-        }
-        at = next + 1;
-    }
-}
-
-/// Applies the expression of a protect pragma that begins at a place.
-fn apply(
-    alloc: Global,
-    reading: &mut Reading,
-    line: Line<'_>,
-    place: usize,
-    expression: Expression,
-) -> Result<(), PragmaError>
-    requires place { place ≤ TEXT_LIMIT }
-    requires room { HasRoom reading.old }
-    ensures room { OnOk result (HasRoom reading.new) }
-{
-    match expression {
-        Expression::Value => Ok(()),
-        Expression::Keyword => match line.word(place) {
-            "begin" => begin(alloc, reading, line, place),
-            "end" => end(reading, line, place),
-            "author" => Err(line.bad()),
-            word if is_unread(word) => Err(line.bad()),
-            _ => Ok(()),
-        },
-        Expression::Assignment(value) => match line.word(place) {
-            "author" => author(reading, line, value),
-            "begin" | "end" => Err(line.bad()),
-            word if is_unread(word) => Err(line.bad()),
-            _ => Ok(()),
-        },
-    }
-}
-
-/// Sets the author in force.
-fn author(reading: &mut Reading, line: Line<'_>, value: Value) -> Result<(), PragmaError>
-    requires { HasRoom reading.old }
-    ensures { OnOk result (HasRoom reading.new) }
-{
-    let Value::String(place) = value else {
-        return Err(line.bad());
+    let Some(rest) = string.strip_prefix('"') else {
+        return "";
     };
-    reading.author = line.tokens.get(place).copied();
-    Ok(())
+    match rest.strip_suffix('"') {
+        Some(inner) => inner,
+        None => "",
+    }
+}
+
+/// The author in force.
+fn author_in(text: &str, author: Option<Token>) -> &str
+    ensures { result.now ≡ author_in text.now author }
+{
+    match author {
+        Some(string) => unquoted(string.text(text)),
+        None => "",
+    }
+}
+
+/// Two places stand in one module, or both outside of all modules.
+fn same_module(left: Option<u32>, right: Option<u32>) -> bool
+    ensures { result ≡ same_module left right }
+{
+    match (left, right) {
+        (None, None) => true,
+        (Some(left), Some(right)) => left == right,
+        _ => false,
+    }
 }
 
 /// Opens an envelope at the place of its `begin`.
@@ -191,91 +100,323 @@ fn begin(
     alloc: Global,
     reading: &mut Reading,
     line: Line<'_>,
-    place: usize,
+    place: u32,
 ) -> Result<(), PragmaError>
-    requires place { place ≤ TEXT_LIMIT }
+    requires line { IsLine line }
     requires room { HasRoom reading.old }
     ensures room { OnOk result (HasRoom reading.new) }
+    ensures begun { let after = after_one line.entry reading.old (Deed.Begins place) in MatchResult result (λ _. after ≡ Ok (progress_of line.entry.text.now reading.new)) (λ e. Explains after e) }
 {
+    let number = line.directive.line;
     if reading.open.is_some() {
-        return Err(PragmaError::NestedBegin { line: line.number });
+        return Err(PragmaError::NestedBegin { line: number });
     }
-    if !line.is_free() {
-        return Err(PragmaError::Unbalanced { line: line.number });
+    if !line.free {
+        return Err(PragmaError::Unbalanced { line: number });
     }
-    if reading.closed.len() == ENVELOPE_LIMIT {
-        return Err(PragmaError::TooMany { line: line.number });
+    if reading.closed.len() >= ENVELOPE_LIMIT {
+        return Err(PragmaError::TooMany { line: number });
     }
-    let author = match reading.author {
-        Some(string) => unquoted(string.text(line.text)),
-        None => "",
-    };
+    let author = Text::copy(alloc, author_in(line.text, reading.author))?;
     reading.open = Some(Open {
-        begin: place as u32,
-        line: line.number,
-        module: line.around.module(),
-        author: Text::copy(alloc, author)?,
+        begin: place,
+        line: number,
+        module: line.module,
+        author,
     });
     Ok(())
 }
 
 /// Closes the open envelope at the place of its `end`.
-fn end(reading: &mut Reading, line: Line<'_>, place: usize) -> Result<(), PragmaError>
-    requires place { place ≤ TEXT_LIMIT }
+fn end(reading: &mut Reading, line: Line<'_>, place: u32) -> Result<(), PragmaError>
+    requires line { IsLine line }
     requires room { HasRoom reading.old }
     ensures room { OnOk result (HasRoom reading.new) }
+    ensures ended { let after = after_one line.entry reading.old (Deed.Ends place) in MatchResult result (λ _. after ≡ Ok (progress_of line.entry.text.now reading.new)) (λ e. Explains after e) }
 {
+    let number = line.directive.line;
     let Some(open) = reading.open.take() else {
-        return Err(PragmaError::EndWithoutBegin { line: line.number });
+        return Err(PragmaError::EndWithoutBegin { line: number });
     };
-    if !line.is_free() || line.around.module() != open.module {
-        return Err(PragmaError::Unbalanced { line: line.number });
+    if !line.free || !same_module(line.module, open.module) {
+        return Err(PragmaError::Unbalanced { line: number });
     }
     reading.closed.push(Envelope {
         begin: open.begin,
-        end: place as u32,
+        end: place,
         author: open.author,
     })?;
     Ok(())
 }
 
-/// The envelopes of a text, of its tokens; or the first fault of its pragmas (301, 302, 304, 308, 309;
-/// 303 last), or want of memory (310).
-pub fn envelopes<'a>(
+/// Does what an expression of a protect pragma does.
+fn apply(
     alloc: Global,
-    text: &'a str,
-    tokens: &'a [Token],
-) -> Result<Envelopes, PragmaError>
+    reading: &mut Reading,
+    line: Line<'_>,
+    deed: Deed,
+) -> Result<(), PragmaError>
+    requires line { IsLine line }
+    requires room { HasRoom reading.old }
+    ensures room { OnOk result (HasRoom reading.new) }
+    ensures done { let after = after_one line.entry reading.old deed in MatchResult result (λ _. after ≡ Ok (progress_of line.entry.text.now reading.new)) (λ e. Explains after e) }
+{
+    match deed {
+        Deed::Begins(place) => begin(alloc, reading, line, place),
+        Deed::Ends(place) => end(reading, line, place),
+        Deed::Names(string) => {
+            reading.author = Some(string);
+            Ok(())
+        }
+        Deed::Bad => Err(PragmaError::BadPragma {
+            line: line.directive.line,
+        }),
+    }
+}
+
+/// Does what an expression does, if it does something.
+#[tactic(auto, using(crate::proofs::Refusals::explains_more))]
+fn apply_any(
+    alloc: Global,
+    reading: &mut Reading,
+    line: Line<'_>,
+    deed: Option<Deed>,
+) -> Result<(), PragmaError>
+    requires line { IsLine line }
+    requires room { HasRoom reading.old }
+    ensures room { OnOk result (HasRoom reading.new) }
+    ensures done { OnOk result ((ds : List Deed) → after_all line.entry reading.old (before_deeds deed ds) ≡ after_all line.entry reading.new ds) }
+    ensures fault { IfErr result (λ e. (ds : List Deed) → Explains (after_all line.entry reading.old (before_deeds deed ds)) e) }
+{
+    match deed {
+        Some(deed) => apply(alloc, reading, line, deed),
+        None => Ok(()),
+    }
+}
+
+/// Applies the first expression of a protect pragma's tokens; what follows its comma, if more is to follow.
+fn apply_first<'a>(
+    alloc: Global,
+    reading: &mut Reading,
+    line: Line<'_>,
+    rest: Rest<'a>,
+) -> Result<Option<Rest<'a>>, PragmaError>
+    requires line { IsLine line }
+    requires places { HasPlaces rest }
+    requires room { HasRoom reading.old }
+    ensures room { OnOk result (HasRoom reading.new) }
+    ensures places { IfOk result (λ next. IfSome next HasPlaces) }
+    ensures last { IfOk result (λ next. IfNone next ((n : ℕ) → after_all line.entry reading.old (deeds_from line.entry.text.now (suc n) (placed rest.entry)) ≡ Ok (progress_of line.entry.text.now reading.new))) }
+    ensures more { IfOk result (λ next. IfSome next (λ r. (n : ℕ) → after_all line.entry reading.old (deeds_from line.entry.text.now (suc n) (placed rest.entry)) ≡ after_all line.entry reading.new (deeds_from line.entry.text.now n (placed r)))) }
+    ensures fault { IfErr result (λ e. (n : ℕ) → Explains (after_all line.entry reading.old (deeds_from line.entry.text.now (suc n) (placed rest.entry))) e) }
+{
+    let number = line.directive.line;
+    let Some((expression, behind)) = expression_at(rest) else {
+        return Err(PragmaError::BadPragma { line: number });
+    };
+    apply_any(alloc, reading, line, deed_of(line.text, expression))?;
+    let Some((comma, next)) = split(behind) else {
+        return Ok(None);
+    };
+    if !is_comma(comma) {
+        return Err(PragmaError::BadPragma { line: number });
+    }
+    Ok(Some(next))
+}
+
+/// Applies the expressions of a protect pragma.
+fn protect(
+    alloc: Global,
+    reading: &mut Reading,
+    line: Line<'_>,
+    rest: Rest<'_>,
+) -> Result<(), PragmaError>
+    requires line { IsLine line }
+    requires places { HasPlaces rest }
+    requires room { HasRoom reading.old }
+    ensures room { OnOk result (HasRoom reading.new) }
+    ensures done { let after = after_all line.entry reading.old (protect_deeds line.entry.text.now (placed rest.entry)) in MatchResult result (λ _. after ≡ Ok (progress_of line.entry.text.now reading.new)) (λ e. Explains after e) }
+{
+    let count = rest.tokens.len();
+    if count == 0 {
+        return Ok(());
+    }
+    // Each expression has a token at least.
+    let mut left = rest;
+    for _ in 0..count {
+        match apply_first(alloc, reading, line, left)? {
+            Some(next) => left = next,
+            None => return Ok(()),
+        }
+    }
+    Err(PragmaError::BadPragma {
+        line: line.directive.line,
+    })
+}
+
+/// Reads the pragma of a name, behind the name.
+fn read_named(
+    alloc: Global,
+    reading: &mut Reading,
+    line: Line<'_>,
+    name: &str,
+    rest: Rest<'_>,
+) -> Result<(), PragmaError>
+    requires line { IsLine line }
+    requires places { HasPlaces rest }
+    requires room { HasRoom reading.old }
+    ensures room { OnOk result (HasRoom reading.new) }
+    ensures done { let after = after_all line.entry reading.old (named_deeds line.entry.text.now name.now (placed rest.entry)) in MatchResult result (λ _. after ≡ Ok (progress_of line.entry.text.now reading.new)) (λ e. Explains after e) }
+{
+    match name {
+        "protect" => protect(alloc, reading, line, rest),
+        "reset" | "resetall" => Err(PragmaError::BadPragma {
+            line: line.directive.line,
+        }),
+        _ => Ok(()),
+    }
+}
+
+/// Reads the line of a pragma.
+fn read_line(alloc: Global, reading: &mut Reading, line: Line<'_>) -> Result<(), PragmaError>
+    requires line { IsLine line }
+    requires place { line.place < length line.tokens.now }
+    requires few { length line.tokens.now ≤ TEXT_LIMIT }
+    requires room { HasRoom reading.old }
+    ensures room { OnOk result (HasRoom reading.new) }
+    ensures done { let after = after_all line.entry reading.old (line_deeds line.entry.text.now (on_line line.entry.place line.entry.directive (drop (line.entry.place + 1) line.entry.tokens.now))) in MatchResult result (λ _. after ≡ Ok (progress_of line.entry.text.now reading.new)) (λ e. Explains after e) }
+{
+    let number = line.directive.line;
+    match split(run_of(line.tokens, number, line.place + 1)) {
+        Some((name, rest)) if is_word(name) => {
+            read_named(alloc, reading, line, name.text(line.text), rest)
+        }
+        _ => Err(PragmaError::BadPragma { line: number }),
+    }
+}
+
+/// A token is the directive of a pragma, where the token before it stands on this pragma's line or on none.
+fn begins_line(before: Option<u32>, token: Token) -> bool
+    ensures { result ≡ begins_line before token }
+{
+    match before {
+        Some(line) => token.directive && token.line != line,
+        None => token.directive,
+    }
+}
+
+/// The grammar's next token from a place on is `else`, as it is told before the place if that is on a pragma's line.
+fn else_from(tokens: &[Token], place: usize, before: Before) -> bool
+    requires { IsBefore tokens.now place before }
+    ensures { result ≡ is_before_else tokens.now place }
+{
+    match before.line {
+        Some(_) => before.before_else,
+        None => is_before_else(tokens, place),
+    }
+}
+
+/// What stands before the token behind the one at a place.
+fn step(tokens: &[Token], place: usize, before: Before) -> Before
+    requires place { place < length tokens.now }
+    requires few { length tokens.now ≤ TEXT_LIMIT }
+    requires before { IsBefore tokens.now place before }
+    ensures before { IsBefore tokens.now (place + 1) result }
+    ensures line { (d : Token) → result.line ≡ pragma_line (slice_index_or tokens.now place d) }
+{
+    let token = tokens[place];
+    if token.directive {
+        Before {
+            around: before.around,
+            line: Some(token.line),
+            before_else: else_from(tokens, place, before),
+        }
+    } else {
+        Before {
+            around: before.around.behind(token.kind),
+            line: None,
+            before_else: false,
+        }
+    }
+}
+
+/// On the line of a pragma, an envelope may begin or end.
+fn is_free(before: Before) -> bool
+    ensures { result ≡ ((before.around.blocks == 0) && (before.around.cases == 0) && before.around.at_boundary && not before.before_else) }
+{
+    before.around.is_free() && !before.before_else
+}
+
+/// Reads the line of the pragma whose directive stands at a place, if one does.
+fn read_token(
+    alloc: Global,
+    reading: &mut Reading,
+    text: &str,
+    tokens: &[Token],
+    place: usize,
+    before: Option<u32>,
+    behind: Before,
+) -> Result<(), PragmaError>
+    requires place { place < length tokens.now }
+    requires few { length tokens.now ≤ TEXT_LIMIT }
+    requires behind { IsBefore tokens.now (place + 1) behind }
+    requires line { (d : Token) → behind.line ≡ pragma_line (slice_index_or tokens.now place d) }
+    requires room { HasRoom reading.old }
+    ensures room { OnOk result (HasRoom reading.new) }
+    ensures done { let after = after_left text.now tokens.now reading.old before place in MatchResult result (λ _. after ≡ after_left text.now tokens.now reading.new behind.line (place + 1)) (λ e. Explains after e) }
+{
+    let directive = tokens[place];
+    if !begins_line(before, directive) {
+        return Ok(());
+    }
+    let line = Line {
+        text,
+        tokens,
+        place,
+        directive,
+        free: is_free(behind),
+        module: behind.around.module(),
+    };
+    read_line(alloc, reading, line)
+}
+
+/// What the pragmas of a text come to.
+fn read(alloc: Global, text: &str, tokens: &[Token]) -> Result<Reading, PragmaError>
     requires { length tokens.now ≤ TEXT_LIMIT }
+    ensures room { IfOk result HasRoom }
+    ensures done { let after = after_deeds text.now tokens.now (Ok at_start) (deeds_of_text text.now tokens.now) in MatchResult result (λ reading. after ≡ Ok (progress_of text.now reading)) (λ e. Explains after e) }
 {
     let mut reading = Reading {
         closed: Vec::new(alloc),
         open: None,
         author: None,
     };
-    let mut around = Surroundings::new();
-    let mut next = 0;
-    let mut place = 0;
-    while place < tokens.len() {
-        if !tokens[place].directive {
-            around = around.behind(tokens[place].kind);
-            place += 1;
-            continue;
-        }
-        let end = line_end(tokens, place);
-        if next < end {
-            next = next_seen(tokens, end);
-        }
-        let line = Line {
+    let mut before = Before {
+        around: Surroundings::new(),
+        line: None,
+        before_else: false,
+    };
+    for place in 0..tokens.len() {
+        let behind = step(tokens, place, before);
+        read_token(
+            alloc,
+            &mut reading,
             text,
-            tokens: &tokens[..end],
-            number: tokens[place].line,
-            around,
-            before_else: is_else(tokens, next),
-        };
-        read_line(alloc, &mut reading, line, place)?;
-        place = end;
+            tokens,
+            place,
+            before.line,
+            behind,
+        )?;
+        before = behind;
     }
+    Ok(reading)
+}
+
+/// The envelopes of a reading at the end of its text.
+fn ended(reading: Reading) -> Result<Envelopes, PragmaError>
+    requires { HasRoom reading }
+    ensures { (text : List ℕ) → let after = envelopes_behind (Ok (progress_of text reading)) in MatchResult result (λ envelopes. after ≡ Ok envelopes) (λ e. Explains after e) }
+{
     let Reading { closed, open, .. } = reading;
     match open {
         Some(open) => Err(PragmaError::OpenEnvelope { line: open.line }),
@@ -283,10 +424,12 @@ pub fn envelopes<'a>(
     }
 }
 
-/// The token at a place is `else`.
-fn is_else(tokens: &[Token], place: usize) -> bool {
-    match tokens.get(place) {
-        Some(token) => token.kind == TokenKind::Keyword(Keyword::Else),
-        None => false,
-    }
+/// The envelopes of a text, of its tokens; or the first fault of its pragmas (301, 302, 304, 308, 309;
+/// 303 last), or want of memory (310).
+pub fn envelopes(alloc: Global, text: &str, tokens: &[Token]) -> Result<Envelopes, PragmaError>
+    requires { length tokens.now ≤ TEXT_LIMIT }
+    ensures ok { IfOk result (λ envelopes. envelopes_of text.now tokens.now ≡ Ok envelopes) }
+    ensures fault { IfErr result (λ error. Explains (envelopes_of text.now tokens.now) error) }
+{
+    ended(read(alloc, text, tokens)?)
 }

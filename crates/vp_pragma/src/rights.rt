@@ -1,6 +1,9 @@
-ghost use Rattle.std.specs.Prelude.{⊤, ◌≡◌, [], ◌∷◌, codes};
+ghost use Rattle.std.specs.Prelude.{⊤, ◌≡◌, [], ◌∷◌, codes, option_map};
+ghost use Rattle.vp_pragma.specs.Access.{access_of, right_of};
+ghost use Rattle.vp_pragma.specs.Rights.{set_of};
 
 use bitflags::{Flag, Flags, bitflag_items};
+use vp_list::first_part;
 
 /// What a user may do with an object (docs/FORMATS.md, "Access strings").
 #[derive(Clone, Copy, Debug, PartialEq, Eq)]
@@ -71,6 +74,10 @@ impl Flags for Rights {
 }
 
 impl From<Right> for Rights {
+    ghost use Rattle.vp_pragma.specs.Rights.{only};
+
+    ghost from_gives = { λ right rights. set_of rights ≡ only right };
+
     fn from(right: Right) -> Rights {
         match right {
             Right::List => Rights::LIST,
@@ -83,22 +90,70 @@ impl From<Right> for Rights {
 }
 
 impl Rights {
+    ghost use Rattle.vp_pragma.specs.Rights.{both, either, everything, has, nothing};
+
+    /// No right.
+    pub fn none() -> Rights
+        ensures { set_of result ≡ nothing }
+    {
+        Rights::empty()
+    }
+
+    /// All five rights.
+    pub fn every() -> Rights
+        ensures { set_of result ≡ everything }
+    {
+        Rights(0b1_1111)
+    }
+
     /// The right is among these.
-    pub fn has(self, right: Right) -> bool {
-        self.contains(Rights::from(right))
+    pub fn has(self, right: Right) -> bool
+        ensures { result ≡ has right (set_of self) }
+    {
+        match right {
+            Right::List => self.contains(Rights::LIST),
+            Right::Read => self.contains(Rights::READ),
+            Right::Watch => self.contains(Rights::WATCH),
+            Right::Put => self.contains(Rights::PUT),
+            Right::Race => self.contains(Rights::RACE),
+        }
+    }
+
+    /// What is among these rights and among the others.
+    pub fn both(self, other: Rights) -> Rights
+        ensures { set_of result ≡ both (set_of self) (set_of other) }
+    {
+        Rights(self.0 & other.0)
+    }
+
+    /// What is among these rights or among the others.
+    pub fn either(self, other: Rights) -> Rights
+        ensures { set_of result ≡ either (set_of self) (set_of other) }
+    {
+        Rights(self.0 | other.0)
     }
 }
 
 /// The rights that an access string names: names of rights joined by `+`. Every set that is named contains list.
-pub fn access(text: &str) -> Option<Rights> {
-    let mut rights = Rights::LIST;
-    for name in text.split('+') {
-        rights.insert(Rights::from(right_named(name)?));
+pub fn access(text: &str) -> Option<Rights>
+    ensures { option_map set_of result ≡ access_of text.now }
+{
+    let mut rights = Rights::none();
+    let mut rest = text;
+    loop {
+        let (name, behind) = first_part(rest, '+');
+        rights = rights.either(Rights::from(right_named(name)?));
+        match behind {
+            Some(further) => rest = further,
+            None => return Some(rights.either(Rights::LIST)),
+        }
     }
-    Some(rights)
 }
 
-fn right_named(name: &str) -> Option<Right> {
+/// The right of a name.
+fn right_named(name: &str) -> Option<Right>
+    ensures { result ≡ right_of name.now }
+{
     match name {
         "list" => Some(Right::List),
         "read" => Some(Right::Read),

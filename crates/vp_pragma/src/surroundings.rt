@@ -1,3 +1,7 @@
+ghost use Rattle.std.specs.Prelude.{◌≡◌, ◌==◌, ◌&&◌, [], if◌then◌else◌};
+ghost use Rattle.vp_lex.specs.declared.token.TheConstants.{TEXT_LIMIT};
+ghost use Rattle.vp_pragma.specs.Surroundings.{is_before_else, is_else, may_end};
+
 use vp_lex::{Keyword, Punctuator, Token, TokenKind};
 
 /// What is open behind the tokens that the grammar has seen so far.
@@ -15,8 +19,12 @@ pub struct Surroundings {
 }
 
 impl Surroundings {
+    ghost use Rattle.vp_pragma.specs.Surroundings.{CountsUpTo, around_behind, around_of};
+
     /// Before the first token.
-    pub fn new() -> Surroundings {
+    pub fn new() -> Surroundings
+        ensures { result ≡ around_of [] }
+    {
         Surroundings {
             blocks: 0,
             cases: 0,
@@ -27,7 +35,9 @@ impl Surroundings {
     }
 
     /// The module in which the next token stands, counted from 1; none outside of all modules.
-    pub fn module(self) -> Option<u32> {
+    pub fn module(self) -> Option<u32>
+        ensures { result ≡ (if self.in_module then Some self.modules else None) }
+    {
         if self.in_module {
             Some(self.modules)
         } else {
@@ -36,41 +46,63 @@ impl Surroundings {
     }
 
     /// No block and no case is open, and the last token ends a statement, an item or a module.
-    pub fn is_free(self) -> bool {
+    pub fn is_free(self) -> bool
+        ensures { result ≡ ((self.blocks == 0) && (self.cases == 0) && self.at_boundary) }
+    {
         self.blocks == 0 && self.cases == 0 && self.at_boundary
     }
 
     /// What is open behind one more token.
-    pub fn behind(self, kind: TokenKind) -> Surroundings {
+    pub fn behind(self, kind: TokenKind) -> Surroundings
+        requires { CountsUpTo TEXT_LIMIT self }
+        ensures { result ≡ around_behind self kind }
+    {
         let mut after = self;
+        after.at_boundary = may_end(kind);
         match kind {
-            TokenKind::Keyword(Keyword::Begin) => after.blocks = self.blocks.saturating_add(1),
+            TokenKind::Keyword(Keyword::Begin) => after.blocks = self.blocks + 1,
             TokenKind::Keyword(Keyword::End) => after.blocks = self.blocks.saturating_sub(1),
             TokenKind::Keyword(Keyword::Case | Keyword::Casez | Keyword::Casex) => {
-                after.cases = self.cases.saturating_add(1);
+                after.cases = self.cases + 1;
             }
             TokenKind::Keyword(Keyword::Endcase) => after.cases = self.cases.saturating_sub(1),
             TokenKind::Keyword(Keyword::Module) => {
-                after.modules = self.modules.saturating_add(1);
+                after.modules = self.modules + 1;
                 after.in_module = true;
             }
             TokenKind::Keyword(Keyword::Endmodule) => after.in_module = false,
             _ => {}
         }
-        after.at_boundary = matches!(
-            kind,
-            TokenKind::Punctuator(Punctuator::Semicolon)
-                | TokenKind::Keyword(Keyword::End | Keyword::Endcase | Keyword::Endmodule)
-        );
         after
     }
 }
 
-/// The place of the first token from here on that the grammar sees.
-pub fn next_seen(tokens: &[Token], from: usize) -> usize {
-    let mut next = from;
-    while next < tokens.len() && tokens[next].directive {
-        next += 1;
+/// A statement, an item or a module may end with this token.
+fn may_end(kind: TokenKind) -> bool
+    ensures { result ≡ may_end kind }
+{
+    matches!(
+        kind,
+        TokenKind::Punctuator(Punctuator::Semicolon)
+            | TokenKind::Keyword(Keyword::End | Keyword::Endcase | Keyword::Endmodule)
+    )
+}
+
+/// The token is `else`.
+fn is_else(kind: TokenKind) -> bool
+    ensures { result ≡ is_else kind }
+{
+    matches!(kind, TokenKind::Keyword(Keyword::Else))
+}
+
+/// The next token from a place on that the grammar sees is `else`.
+pub fn is_before_else(tokens: &[Token], from: usize) -> bool
+    ensures { result ≡ is_before_else tokens.now from }
+{
+    for place in from..tokens.len() {
+        if !tokens[place].directive {
+            return is_else(tokens[place].kind);
+        }
     }
-    next
+    false
 }

@@ -1,8 +1,13 @@
-ghost use Rattle.std.specs.Prelude.{◌≡◌};
+ghost use Rattle.std.specs.Prelude.{◌≡◌, suc, [], option_map, Ok, Err, IfErr, IfOk, IsOkAnd, OnErr};
+ghost use Rattle.vp_list.specs.Texts.{parts};
+ghost use Rattle.vp_policy.specs.Users.{member_at};
+ghost use Rattle.vp_policy.specs.Filter.{look_of};
+ghost use Rattle.vp_vpi.specs.Observers.{Explains, handle_of, no_handles, object_of, observer_of, value_of, with_handle};
 
 use crate::fault::VpiError;
 use indexmap::IndexMap;
 use std::alloc::Global;
+use std::marker::Model;
 use vp_bits::Bits;
 use vp_elab::{Design, ObjectId};
 use vp_expr::Values;
@@ -13,7 +18,7 @@ use vp_pragma::Right;
 pub const HANDLE_LIMIT: usize = 65_536;
 
 /// A user's session: his handles, each with its object. Handles are numbered 1, 2, .., and no number is
-/// used again.
+/// used again. A contract sees its user and his handles.
 #[derive(Drop)]
 pub struct Session {
     user: UserId,
@@ -22,9 +27,23 @@ pub struct Session {
     newest: u32,
 }
 
+impl Model for Session {
+    ghost use Rattle.std.specs.Prelude.{map};
+    ghost use Rattle.vp_vpi.specs.Observers.{Seat};
+    ghost use Rattle.vp_vpi.specs.Bounds.{AtMost};
+
+    ghost Value = { Seat };
+
+    ghost view = { λ s. record { user = s.user.0; handles = record { made = map (λ h. (h.0, h.1.0)) s.handles.entries; newest = s.newest } } };
+
+    ghost invariant = { λ s. AtMost s.newest s.handles.entries };
+}
+
 impl Session {
     /// A session without handles.
-    pub fn new(alloc: Global, user: UserId) -> Session {
+    pub fn new(alloc: Global, user: UserId) -> Session
+        ensures { result ≡ record { user = user.0; handles = no_handles } }
+    {
         Session {
             user,
             handles: IndexMap::new(alloc),
@@ -40,22 +59,40 @@ impl Session {
         design: &Design,
         policy: &Policy,
         name: &str,
-    ) -> Result<u32, VpiError> {
-        let found = match policy.look(design, self.user, name) {
-            Look::Denied(denial) => return Err(VpiError::Denied(denial)),
-            Look::Found(object) => Some(object),
-            Look::Absent => None,
-        };
-        if self.handles.len() >= HANDLE_LIMIT || self.newest == u32::MAX {
-            return Err(VpiError::TooManyHandles);
-        }
-        let Some(object) = found else {
-            return Err(VpiError::NoSuchName);
-        };
+    ) -> Result<u32, VpiError>
+        ensures handle { IfOk result (λ handle. handle ≡ suc self.old.handles.newest) }
+        ensures made { IfOk result (λ handle. IsOkAnd (handle_of self.old.handles (look_of design.now.tree (member_at policy.now self.old.user) [] (parts 46 name.now))) (λ o. self.new ≡ record { user = self.old.user; handles = with_handle o self.old.handles })) }
+        ensures refused { IfErr result (λ e. Explains (handle_of self.old.handles (look_of design.now.tree (member_at policy.now self.old.user) [] (parts 46 name.now))) e) }
+        ensures unchanged { OnErr result (self.new ≡ self.old) }
+    {
+        let found = policy.look(design, self.user, name);
+        let object = self.room_for(found)?;
         let handle = self.newest + 1;
         self.handles.insert(handle, object)?;
         self.newest = handle;
         Ok(handle)
+    }
+
+    /// The object of a look-up, for which there is room for a handle.
+    fn room_for(&self, found: Look) -> Result<ObjectId, VpiError>
+        ensures ok { IfOk result (λ o. handle_of self.now.handles found ≡ Ok o.0) }
+        ensures refused { IfErr result (λ e. handle_of self.now.handles found ≡ Err e) }
+    {
+        match found {
+            Look::Denied(denial) => Err(VpiError::Denied(denial)),
+            _ if self.handles.len() >= HANDLE_LIMIT || self.newest == u32::MAX => {
+                Err(VpiError::TooManyHandles)
+            }
+            Look::Found(object) => Ok(object),
+            Look::Absent => Err(VpiError::NoSuchName),
+        }
+    }
+
+    /// The object of a handle.
+    fn object(&self, handle: u32) -> Option<ObjectId>
+        ensures { option_map (λ o. o.0) result ≡ object_of self.now.handles.made handle }
+    {
+        self.handles.get(&handle).copied()
     }
 
     /// The value of a handle's object. Refused where the number is no handle (1101), the user lacks the right
@@ -66,10 +103,12 @@ impl Session {
         policy: &Policy,
         values: &Values,
         handle: u32,
-    ) -> Result<Bits, VpiError> {
-        let object = *self.handles.get(&handle).ok_or(VpiError::BadHandle)?;
-        if !policy.rights(design, self.user, object).has(Right::Read) {
-            let denial = policy.deny(design, self.user, object, Right::Read);
+    ) -> Result<Bits, VpiError>
+        ensures ok { IfOk result (λ value. value_of (observer_of design.now.tree (member_at policy.now self.now.user) values.now) (object_of self.now.handles.made handle) ≡ Ok value) }
+        ensures refused { IfErr result (λ e. value_of (observer_of design.now.tree (member_at policy.now self.now.user) values.now) (object_of self.now.handles.made handle) ≡ Err e) }
+    {
+        let object = self.object(handle).ok_or(VpiError::BadHandle)?;
+        if let Some(denial) = policy.lacking(design, self.user, object, Right::Read) {
             return Err(VpiError::Denied(denial));
         }
         match design.object(object) {

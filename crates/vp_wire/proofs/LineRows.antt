@@ -3,7 +3,6 @@ use Rattle.std.proofs.Common.{◌≡◌, [], ◌∷◌, refl}
 use Rattle.std.specs.Prelude.{codes}
 use Rattle.std.specs.Fmt.{digits}
 use Rattle.std.specs.Str.{is_utf8, chars}
-use Rattle.std.specs.Str.Lossy.{utf8_valid_len}
 use Rattle.serde_json.proofs.OnLiterals.{serde_json_on_literals}
 use Rattle.vp_bits.specs.declared.bit.Bit.TheVariants.{Zero, One, Unknown, HighImpedance}
 use Rattle.vp_pragma.specs.declared.rights.Right.TheVariants as right
@@ -36,25 +35,35 @@ unfolding serde_json_on_literals
 no_such_name = refl
 
 asks_handle : meaning_of (codes "{\"op\":\"handle\",\"name\":\"top.a\"}") ≡ Asks (request.Handle (codes "top.a"))
-unfolding serde_json_on_literals utf8_valid_len is_utf8 chars
+unfolding serde_json_on_literals is_utf8 chars
 asks_handle = refl
 
 asks_value : meaning_of (codes "{\"h\":1,\"op\":\"value\"}") ≡ Asks (request.Value 1)
-unfolding serde_json_on_literals utf8_valid_len is_utf8 chars
+unfolding serde_json_on_literals is_utf8 chars
 asks_value = refl
 
 cut_off : meaning_of (codes "{\"op\":\"time\"") ≡ NotJson
-unfolding serde_json_on_literals utf8_valid_len is_utf8 chars
+unfolding serde_json_on_literals is_utf8 chars
 cut_off = refl
 
 no_such_op : meaning_of (codes "{\"op\":\"tim\"}") ≡ NotRequest
-unfolding serde_json_on_literals utf8_valid_len is_utf8 chars
+unfolding serde_json_on_literals is_utf8 chars
 no_such_op = refl
 
 key_too_many : meaning_of (codes "{\"op\":\"close\",\"h\":1}") ≡ NotRequest
-unfolding serde_json_on_literals utf8_valid_len is_utf8 chars
+unfolding serde_json_on_literals is_utf8 chars
 key_too_many = refl
 
 wrong_type : meaning_of (codes "{\"op\":\"value\",\"h\":\"1\"}") ≡ NotRequest
-unfolding serde_json_on_literals utf8_valid_len is_utf8 chars
+unfolding serde_json_on_literals is_utf8 chars
 wrong_type = refl
+
+-- the greatest handle is one below 2 ^ 32
+handle_too_great : meaning_of (codes "{\"op\":\"value\",\"h\":4294967296}") ≡ NotRequest
+unfolding serde_json_on_literals is_utf8 chars
+handle_too_great = refl
+
+-- a text of one byte that is no UTF-8
+no_utf8 : meaning_of (34 ∷ 255 ∷ 34 ∷ []) ≡ NotJson
+unfolding is_utf8 chars lib.Utf8.encode
+no_utf8 = refl

@@ -1,7 +1,6 @@
 -- The lines of requests and replies.
-use Rattle.std.specs.Prelude.{ℕ, ◌^◌, ◌==◌, nat_lt, true, if◌then◌else◌, List, [], ◌∷◌, ◌++◌, map, reverse, length, Option, Some, None, option_and_then, option_map, codes}
-use Rattle.std.specs.Str.{bytes_eq}
-use Rattle.std.specs.Str.Lossy.{utf8_valid_len}
+use Rattle.std.specs.Prelude.{ℕ, ◌^◌, nat_lt, true, if◌then◌else◌, List, [], ◌∷◌, ◌++◌, map, reverse, Option, Some, None, option_and_then, option_map, codes}
+use Rattle.std.specs.Str.{bytes_eq, is_utf8}
 use Rattle.serde_json.specs.Data.{unsigned, Data, boolean, number, string, object, no_members, member}
 use Rattle.serde_json.specs.Find.{get, as_str, as_number, as_u64}
 use Rattle.serde_json.specs.Read.{read}
@@ -117,4 +116,4 @@ meaning_of_value (Some d) = meaning_of_request (request_of d)
 
 -- what a line is, by its bytes without the newline: a text that is no UTF-8 is no JSON (profile)
 abbrev pub meaning_of : List ℕ → Meaning
-meaning_of line = if utf8_valid_len line == length line then meaning_of_value (read line) else NotJson
+meaning_of line = if is_utf8 line then meaning_of_value (read line) else NotJson

@@ -11,8 +11,9 @@ use Rattle.vp_world.specs.declared.fault.WorldError.TheVariants as error
 use Rattle.vp_world.specs.declared.reply.Refusal.TheVariants as refusal
 use Rattle.vp_world.specs.declared.reply.Reply.{Reply}
 use Rattle.vp_world.specs.declared.reply.Reply.TheVariants as reply
-use Rattle.vp_world.specs.Worlds.{Opening, State, SessionState, same_session, session_of, with_handle, with_session, start}
-use Rattle.vp_world.specs.Answers.{Observer, observer_of, reply_to, made_by}
+use Rattle.vp_vpi.specs.Observers.{Observer, no_handles, observer_of}
+use Rattle.vp_world.specs.Worlds.{Opening, State, SessionState, same_session, session_of, with_handle_of, with_session, start}
+use Rattle.vp_world.specs.Answers.{reply_to, made_by}
 
 -- ---- refusals
 
@@ -42,13 +43,13 @@ next_session s u = record { user = record { 0 = u }; opens = slice_index s.opens
 -- the observer of a session
 abbrev pub eyes_of : Opening → State → SessionId → Option Observer
 eyes_of opening s id =
-    elim (slice_get opening.users id.user.0) [ None ↦ None | Some u ↦ Some (observer_of opening.tree u s.run) ]
+    elim (slice_get opening.users id.user.0) [ None ↦ None | Some u ↦ Some (observer_of opening.tree u s.run.values) ]
 
 -- the reply to a request of an open session
 abbrev pub asked : Option Observer → Option SessionState → Request → Reply
 asked None session r = reply.Error refusal.NotOpen
 asked (Some eyes) None r = reply.Error refusal.NotOpen
-asked (Some eyes) (Some session) r = reply_to eyes session r
+asked (Some eyes) (Some session) r = reply_to eyes session.handles r
 
 -- the reply to an event that is accepted
 abbrev pub answer : Opening → State → Event → Reply
@@ -60,7 +61,7 @@ answer opening s (event.Close id) = reply.Done
 -- the state with one session more, of a user
 abbrev pub opened_by : State → ℕ → State
 opened_by s u = record s {
-  sessions = s.sessions ++ record { id = next_session s u; handles = []; newest = 0 } ∷ [];
+  sessions = s.sessions ++ record { id = next_session s u; handles = no_handles } ∷ [];
   opens = slice_set s.opens u (slice_index s.opens u + 1);
 }
 
@@ -69,7 +70,7 @@ abbrev pub state_asked : Option Observer → Option SessionState → State → S
 state_asked None session s id r = s
 state_asked (Some eyes) None s id r = s
 state_asked (Some eyes) (Some session) s id r =
-    option_map_or (λ o. record s { sessions = with_session (with_handle o) id s.sessions }) (made_by eyes session r) s
+    option_map_or (λ o. record s { sessions = with_session (with_handle_of o) id s.sessions }) (made_by eyes session.handles r) s
 
 -- the state behind an event that is accepted
 abbrev pub after : Opening → State → Event → State

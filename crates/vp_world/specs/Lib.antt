@@ -1,6 +1,7 @@
 pub use Rattle.vp_elab.specs.Tree
 pub use Rattle.vp_policy.specs.Users
 pub use Rattle.vp_policy.specs.Filter
+pub use Rattle.vp_vpi.specs.Observers
 pub mod Events
 pub mod Faults
 pub mod Refusals

@@ -1,9 +1,10 @@
 -- A world: how it begins, and its state.
-use Rattle.std.specs.Prelude.{ℕ, suc, ◌==◌, ◌&&◌, Bool, if◌then◌else◌, List, [], ◌∷◌, ◌++◌, map, Option, Some, None}
+use Rattle.std.specs.Prelude.{ℕ, ◌==◌, ◌&&◌, Bool, if◌then◌else◌, List, [], map, Option}
 use Rattle.std.specs.List.{find}
 use Rattle.vp_bits.specs.declared.bit.Bit.{Bit}
 use Rattle.vp_elab.specs.Tree.{Tree}
 use Rattle.vp_policy.specs.Users.{Member}
+use Rattle.vp_vpi.specs.Observers.{Handles, with_handle}
 use Rattle.vp_world.specs.declared.event.SessionId.{SessionId}
 use Rattle.vp_world.specs.declared.world.Limits.{Limits}
 
@@ -20,11 +21,10 @@ pub record Opening : Type 0 where
   pub limits : Limits
   pub run : Run
 
--- an open session: its name, its handles, each with its object, and the number of the newest
+-- an open session: its name, and its handles
 pub record SessionState : Type 0 where
   pub id : SessionId
-  pub handles : List (ℕ × ℕ)
-  pub newest : ℕ
+  pub handles : Handles
 
 -- the state of a world: the run, its open sessions, and how often each user has opened one
 pub record State : Type 0 where
@@ -40,14 +40,9 @@ same_session a b = (a.user.0 == b.user.0) && (a.opens == b.opens)
 abbrev pub session_of : List SessionState → SessionId → Option SessionState
 session_of sessions id = find (λ s. same_session s.id id) sessions
 
--- the object of a handle
-abbrev pub object_of : List (ℕ × ℕ) → ℕ → Option ℕ
-object_of [] handle = None
-object_of (h ∷ hs) handle = if h.0 == handle then Some h.1 else object_of hs handle
-
--- a session with one handle more, of the next number; no number is used again (profile)
-abbrev pub with_handle : ℕ → SessionState → SessionState
-with_handle object s = record s { handles = s.handles ++ (suc s.newest, object) ∷ []; newest = suc s.newest }
+-- a session with one handle more
+abbrev pub with_handle_of : ℕ → SessionState → SessionState
+with_handle_of object s = record s { handles = with_handle object s.handles }
 
 -- the sessions, with this change to the one of a name
 abbrev pub with_session : (SessionState → SessionState) → SessionId → List SessionState → List SessionState

@@ -59,7 +59,7 @@ fn refused(alloc: Global, design: &Design, error: VpiError) -> Result<Reply, Wor
 
 /// The reply of a denial, which names the envelope's author.
 fn denied(alloc: Global, design: &Design, denial: Denial) -> Result<Reply, WorldError> {
-    let author = design.envelopes().author(denial.envelope);
+    let author = design.author(denial.envelope);
     Ok(Reply::Denied {
         denial,
         author: Text::copy(alloc, author)?,

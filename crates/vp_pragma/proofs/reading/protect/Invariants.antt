@@ -1,9 +1,13 @@
-use Rattle.std.proofs.Common.{◌+◌, ◌-◌, ◌≤◌, length}
-use Rattle.vp_pragma.specs.Reading.{HasRoom}
+use Rattle.std.proofs.Common.{◌≡◌, ◌-◌}
+use Rattle.vp_pragma.specs.Pragmas.{deeds_from, protect_deeds}
+use Rattle.vp_pragma.specs.Reading.{HasPlaces, HasRoom, after_all, placed}
 use Rattle.vp_pragma.proofs.reading.protect.Given as goal
 
-abbrev pub invariant-loop-expression : goal.invariant-loop-expression
-invariant-loop-expression l = HasRoom l.reading × (l.at ≤ length l.line.tokens.now)
-
-abbrev pub decreases-loop-expression : goal.decreases-loop-expression
-decreases-loop-expression l = length l.line.tokens.now + 1 - l.at
+abbrev pub invariant-loop : goal.invariant-loop
+invariant-loop l = record {
+  places : HasPlaces l.left;
+  room : HasRoom l.reading;
+  left :
+      after_all l.line l.reading (deeds_from l.line.text.now (l.count - l.counter) (placed l.left))
+      ≡ after_all l.line l.fn.reading (protect_deeds l.line.text.now (placed l.rest));
+}

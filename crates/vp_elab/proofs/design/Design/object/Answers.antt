@@ -1,9 +1,18 @@
-use Rattle.std.proofs.Common.{◌≡◌, slice_get}
-use Rattle.vp_elab.proofs.Preorder.{found_behind}
+use Rattle.std.proofs.Common.{◌≡◌, ◌∙◌, ap, sym, subst, List, None, Option, slice_get}
+use Rattle.std.specs.Prelude.{MatchOption}
+use Rattle.vp_elab.specs.declared.object.Object.{Object}
+use Rattle.vp_elab.specs.declared.design.Objects.{Objects}
+use Rattle.vp_elab.specs.Tree.{Node}
+use Rattle.vp_elab.specs.Built.{Elaborated}
+use Rattle.vp_elab.specs.Objects.{StandsFor}
+use Rattle.vp_elab.proofs.Preorder.{all_nodes, object_stands}
 use Rattle.vp_elab.proofs.design.Design.object.Goals as goal
 
-pub returns-clause-behind : goal.returns-clause-behind
-returns-clause-behind c =
-    let objects = c.self.inside.tree.objects.items in
-    let found : c.object_at.result ≡ slice_get objects c.args.id.0 = rw (← c.deref.ensures.value) c.object_at.ensures in
-    found_behind objects c.args.id.0 c.object_at.result c.self.invariant found
+pub returns-clause-node : goal.returns-clause-node
+returns-clause-node c =
+    let id = c.args.id.0 in
+    let found = c.object_at.ensures ∙ ap (λ (os : List Object). slice_get os id) (c.as_slice.ensures ∙ ap (λ (o : Objects). o.all) c.self.invariant.flat) in
+    let nodes : List Node = all_nodes c.self.inside.source c.self.inside.envelopes in
+    let stands = object_stands c.self.inside.source c.self.inside.envelopes id in
+    subst (λ (d : Elaborated). MatchOption c.object_at.result (slice_get d.tree.nodes id ≡ None) (λ o. StandsFor d.tree.nodes id o)) c.self.view_is
+    (subst (λ (o : Option Object). MatchOption o (slice_get nodes id ≡ None) (λ o. StandsFor nodes id o)) (sym found) stands)

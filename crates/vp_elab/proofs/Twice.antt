@@ -1,0 +1,39 @@
+-- Names that are declared twice, module by module.
+use Rattle.std.proofs.Common.{◌≡◌, ℕ, suc, ◌+◌, ◌<◌, Bool, true, false, cond, List, [], ◌∷◌, ◌++◌, length, drop, map, get_or, Option, Some, None, refl, sym, ap, ◌∙◌, arith}
+use Rattle.std.proofs.Math.Seq.{drop-cons}
+use Rattle.vp_parse.specs.Places.{line_at, word_at}
+use Rattle.vp_parse.specs.declared.source.Source.{Source}
+use Rattle.vp_parse.specs.declared.source.Module.{Module}
+use Rattle.vp_elab.specs.declared.fault.ElabError.{ElabError}
+use Rattle.vp_elab.specs.declared.fault.ElabError.TheVariants.{Duplicate}
+use Rattle.vp_elab.specs.Elaboration.{item_name, items_in}
+use Rattle.vp_elab.specs.Objects.{scope_in}
+use Rattle.vp_pragma.specs.declared.envelope.Envelope.{Envelope}
+use Rattle.vp_elab.specs.Refusals.{first_of_two, is_among, twice, twice_in}
+
+-- behind a module whose names are new and declared once, the modules go on
+pub twice_behind :
+    (source : Source) (names : List (List ℕ)) (m : Module) (ms : List Module)
+    → is_among names (word_at source m.name) ≡ false → twice source [] (items_in source m) ≡ None
+    → twice_in source names (m ∷ ms) ≡ twice_in source (names ++ word_at source m.name ∷ []) ms
+twice_behind source names m ms new once =
+    ap (λ (b : Bool). cond b (Some (Duplicate (line_at source m.name))) (first_of_two (twice source [] (items_in source m)) (twice_in source (names ++ word_at source m.name ∷ []) ms))) new
+    ∙ ap (λ (e : Option ElabError). first_of_two e (twice_in source (names ++ word_at source m.name ∷ []) ms)) once
+
+-- the same at a place of a list
+pub twice_next :
+    (source : Source) (names : List (List ℕ)) (ms : List Module) (i : ℕ) (d : Module) → i < length ms
+    → is_among names (word_at source (get_or ms i d).name) ≡ false → twice source [] (items_in source (get_or ms i d)) ≡ None
+    → twice_in source names (drop i ms) ≡ twice_in source (names ++ word_at source (get_or ms i d).name ∷ []) (drop (i + 1) ms)
+twice_next source names ms i d in_list new once =
+    let m : Module = get_or ms i d in
+    let next : suc i ≡ i + 1 = omega arith in
+    ap (twice_in source names) (drop-cons ms i d in_list) ∙ twice_behind source names m (drop (suc i) ms) new once
+    ∙ ap (λ (n : ℕ). twice_in source (names ++ word_at source m.name ∷ []) (drop n ms)) next
+
+-- the names in the tables of modules are those of their items
+pub names_of_scopes :
+    (source : Source) (envelopes : List Envelope) (ms : List Module)
+    → map (λ s. s.names) (map (scope_in source envelopes) ms) ≡ map (λ m. map (item_name source) (items_in source m)) ms
+names_of_scopes source envelopes [] = refl
+names_of_scopes source envelopes (m ∷ ms) = ap (λ (ns : List (List (List ℕ))). map (item_name source) (items_in source m) ∷ ns) (names_of_scopes source envelopes ms)

@@ -1,0 +1,96 @@
+-- Why a source has no design: the refusals, each tested over the whole text, in this order.
+use Rattle.std.specs.Prelude.{◌≡◌, ℕ, ◌+◌, nat_lt, Bool, if◌then◌else◌, List, [], ◌∷◌, ◌++◌, length, map, slice_get, sum_by, Option, Some, None}
+use Rattle.std.specs.List.{list_any}
+use Rattle.std.specs.Str.{bytes_eq}
+use Rattle.vp_parse.specs.Places.{line_at, word_at}
+use Rattle.vp_parse.specs.declared.source.Source.{Source}
+use Rattle.vp_parse.specs.declared.source.Expression.{Expression}
+use Rattle.vp_parse.specs.declared.source.Expression.TheVariants as expression
+use Rattle.vp_parse.specs.declared.source.Item.{Item}
+use Rattle.vp_parse.specs.declared.source.Module as declared
+use Rattle.vp_parse.specs.declared.source.Statement.{Statement}
+use Rattle.vp_parse.specs.declared.source.Statement.TheVariants as statement
+use Rattle.vp_elab.specs.declared.elaboration.TheConstants.{OBJECT_LIMIT}
+use Rattle.vp_elab.specs.declared.fault.ElabError.{ElabError}
+use Rattle.vp_elab.specs.declared.fault.ElabError.TheVariants.{Duplicate, Undeclared, TooManyObjects, NoMemory}
+use Rattle.vp_elab.specs.Elaboration.{item_name, item_place, items_in}
+
+-- the first of two refusals that holds
+abbrev pub first_of_two : Option ElabError → Option ElabError → Option ElabError
+first_of_two None other = other
+first_of_two (Some e) other = Some e
+
+-- an error is this refusal; want of memory may be told at any time
+abbrev pub Explains : Option ElabError → ElabError → Type 0
+Explains refusal NoMemory = Unit {0}
+Explains refusal (Duplicate line) = refusal ≡ Some (Duplicate line)
+Explains refusal (Undeclared line) = refusal ≡ Some (Undeclared line)
+Explains refusal TooManyObjects = refusal ≡ Some TooManyObjects
+
+-- a name is among these
+abbrev pub is_among : List (List ℕ) → List ℕ → Bool
+is_among names name = list_any (bytes_eq name) names
+
+-- ---- names that are declared twice
+
+-- the first of these items whose name is among those before it (clause 12.7)
+abbrev pub twice : Source → List (List ℕ) → List Item → Option ElabError
+twice source names [] = None
+twice source names (i ∷ is) =
+    if is_among names (item_name source i) then Some (Duplicate (line_at source (item_place i)))
+    else twice source (names ++ item_name source i ∷ []) is
+
+-- the first name that is declared twice in these modules, or among the modules and these names before them
+abbrev pub twice_in : Source → List (List ℕ) → List declared.Module → Option ElabError
+twice_in source names [] = None
+twice_in source names (m ∷ ms) =
+    if is_among names (word_at source m.name) then Some (Duplicate (line_at source m.name))
+    else first_of_two (twice source [] (items_in source m)) (twice_in source (names ++ word_at source m.name ∷ []) ms)
+
+-- ---- names that are not declared
+
+-- a name of the text that is not among those declared (clause 4.2.2)
+abbrev pub undeclared_at : Source → List (List ℕ) → ℕ → Option ElabError
+undeclared_at source names place =
+    if is_among names (word_at source place) then None else Some (Undeclared (line_at source place))
+
+-- a name in an expression
+abbrev pub undeclared_value : Source → List (List ℕ) → Option Expression → Option ElabError
+undeclared_value source names None = None
+undeclared_value source names (Some (expression.Name place)) = undeclared_at source names place
+undeclared_value source names (Some (expression.Literal place size digits)) = None
+
+-- the first in a statement: its target, then its value
+abbrev pub undeclared_by : Source → List (List ℕ) → Statement → Option ElabError
+undeclared_by source names statement.Empty = None
+undeclared_by source names (statement.Then chain last) = None
+undeclared_by source names (statement.Assign target value) =
+    first_of_two (undeclared_at source names target) (undeclared_value source names (slice_get source.expressions value))
+
+-- the first in statements
+abbrev pub undeclared_among : Source → List (List ℕ) → List Statement → Option ElabError
+undeclared_among source names [] = None
+undeclared_among source names (s ∷ ss) = first_of_two (undeclared_by source names s) (undeclared_among source names ss)
+
+-- the first in a text, which has at most one module so far: all its statements stand in the first
+abbrev pub undeclared_in : Source → List declared.Module → Option ElabError
+undeclared_in source [] = None
+undeclared_in source (m ∷ ms) = undeclared_among source (map (item_name source) (items_in source m)) source.statements
+
+-- ---- too many objects
+
+-- how many objects modules have: each its own, and one for each item
+abbrev pub object_count : Source → List declared.Module → ℕ
+object_count source ms = sum_by (λ m. length (items_in source m) + 1) ms
+
+-- there are more than 65,536 (profile)
+abbrev pub too_many : ℕ → Option ElabError
+too_many count = if nat_lt OBJECT_LIMIT count then Some TooManyObjects else None
+
+-- ---- all of them
+
+-- the first refusal of a source that holds; none where it has a design (profile)
+abbrev pub refusal_of : Source → Option ElabError
+refusal_of source =
+    first_of_two (twice_in source [] source.modules)
+    (first_of_two (undeclared_in source source.modules) (too_many (object_count source source.modules)))

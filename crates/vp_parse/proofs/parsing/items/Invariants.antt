@@ -1,0 +1,14 @@
+use Rattle.std.proofs.Common.{◌≤◌, length}
+use Rattle.vp_parse.specs.Weight.{weight}
+use Rattle.vp_parse.specs.Placing.{lists_in, stmt_into, items_into}
+use Rattle.vp_parse.proofs.Loops.{ItemsGoOn}
+use Rattle.vp_parse.proofs.parsing.items.Given as goal
+
+abbrev pub invariant-loop-arena : goal.invariant-loop-arena
+invariant-loop-arena l = record {
+  lighter : weight l.arena l.rest ≤ weight l.initial.arena l.symbols;
+  goes_on : ItemsGoOn (stmt_into l.depth) (lists_in l.arena) l.rest (items_into (stmt_into l.depth) (length l.symbols) (lists_in l.initial.arena) l.symbols);
+}
+
+abbrev pub decreases-loop-arena : goal.decreases-loop-arena
+decreases-loop-arena l = length l.rest

@@ -1,0 +1,32 @@
+-- What the error of a text tells: where reading its symbols stops.
+use Rattle.std.specs.Prelude.{◌≡◌, ℕ, ◌-◌, max, List, length, Option, slice_get, Result, Err}
+use Rattle.std.specs.Option.{option_and_then, option_map_or}
+use Rattle.vp_lex.specs.declared.token.Token.{Token}
+use Rattle.vp_parse.specs.declared.fault.ParseError.{ParseError}
+use Rattle.vp_parse.specs.declared.fault.ParseError.TheVariants as error
+use Rattle.vp_parse.specs.declared.symbol.Symbol.{Symbol}
+use Rattle.vp_parse.specs.Grammar.{Derivation}
+use Rattle.vp_parse.specs.Reading.{Stop, Unexpected, TooDeep}
+
+-- the symbol at which reading stops, with so many left; the last one at the end of the text
+abbrev pub stopped_at : List Symbol → ℕ → Option Symbol
+stopped_at symbols left = slice_get symbols (length symbols - max left 1)
+
+-- its place; 0 where there is none
+abbrev pub place_told : List Symbol → ℕ → ℕ
+place_told symbols left = option_map_or (λ (s : Symbol). s.place) (stopped_at symbols left) 0
+
+-- the line of its token; 0 where there is none
+abbrev pub line_told : List Token → List Symbol → ℕ → ℕ
+line_told tokens symbols left =
+    option_map_or (λ (t : Token). t.line) (option_and_then (λ (s : Symbol). slice_get tokens s.place) (stopped_at symbols left)) 0
+
+-- an error tells why and where reading stops, a word left out as one that is unexpected; want of memory tells nothing of it
+abbrev pub Tells : List Token → List Symbol → ParseError → Result Derivation Stop → Type 0
+Tells tokens symbols (error.Syntax line) read =
+    (left : ℕ) × (read ≡ Err (Unexpected left)) × (line ≡ line_told tokens symbols left)
+Tells tokens symbols (error.LeftOut word line) read =
+    (left : ℕ) × (read ≡ Err (Unexpected left)) × (word ≡ place_told symbols left) × (line ≡ line_told tokens symbols left)
+Tells tokens symbols (error.TooDeep line) read =
+    (left : ℕ) × (read ≡ Err (TooDeep left)) × (line ≡ line_told tokens symbols left)
+Tells tokens symbols error.NoMemory read = Unit {0}

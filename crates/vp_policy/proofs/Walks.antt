@@ -1,0 +1,289 @@
+-- Rights and denials, from an object up its path; names, from the top modules down.
+use Rattle.std.proofs.Common.{◌≡◌, ℕ, zero, suc, ◌<◌, Bool, true, false, ◌&&◌, ◌||◌, List, [], ◌∷◌, ◌++◌, length, map, filter, get_or, slice_get, ◌==◌, Option, Some, None, refl, sym, ap, subst, ◌∙◌, arith}
+use Rattle.std.specs.Prelude.{IfSome, if◌then◌else◌, option_map, option_and_then, position}
+use Rattle.std.specs.Option.{option_map_or}
+use Rattle.std.specs.Str.{bytes_eq}
+use Rattle.std.proofs.lemmas.Slice.Eq.{bytes_eq-Decides}
+use Rattle.std.proofs.lemmas.Bool.{and_parts}
+use Rattle.std.proofs.lemmas.List.Quantifiers.{position-Some}
+use Rattle.vp_list.specs.Texts.{behind_part, begun, parts}
+use Rattle.vp_pragma.specs.declared.rights.Right.{Right}
+use Rattle.vp_pragma.specs.declared.rights.Right.TheVariants as right
+use Rattle.vp_pragma.specs.Rights.{RightSet, both, either, everything, has, nothing}
+use Rattle.vp_pragma.specs.Envelopes.{Viewport}
+use Rattle.vp_elab.specs.declared.object.Kind.TheVariants as kind
+use Rattle.vp_elab.specs.declared.object.Object.{Object}
+use Rattle.vp_elab.specs.declared.object.ObjectId.{ObjectId}
+use Rattle.vp_elab.specs.Objects.{StandsFor}
+use Rattle.vp_elab.specs.Tree.{Step, Node, Tree, declared_envelopes, envelopes_in, find_in, find_named, is_named, names_of, path_of, scope_names}
+use Rattle.vp_policy.specs.declared.denial.Denial.{Denial}
+use Rattle.vp_policy.specs.declared.denial.Look.{Look}
+use Rattle.vp_policy.specs.declared.denial.Look.TheVariants as look
+use Rattle.vp_policy.specs.Users.{Member, granted}
+use Rattle.vp_policy.specs.Filter.{is_listed_at, by_grant, by_step, closed, denial, denial_at, find_listed, from_found, is_closed, listed_in, opened, rights, rights_at, unlisted, viewed, walk}
+
+-- ---- sets of rights
+
+and_true : (b : Bool) → b && true ≡ b
+and_true true = refl
+and_true false = refl
+
+and_false : (b : Bool) → b && false ≡ false
+and_false true = refl
+and_false false = refl
+
+or_false : (b : Bool) → b || false ≡ b
+or_false true = refl
+or_false false = refl
+
+and_assoc : (a b c : Bool) → (a && b) && c ≡ a && (b && c)
+and_assoc true b c = refl
+and_assoc false b c = refl
+
+and_swap : (a b c : Bool) → (a && b) && c ≡ a && (c && b)
+and_swap true true true = refl
+and_swap true true false = refl
+and_swap true false true = refl
+and_swap true false false = refl
+and_swap false b c = refl
+
+same_fields : (a b c d e f g h i j : Bool) → a ≡ f → b ≡ g → c ≡ h → d ≡ i → e ≡ j → ◌≡◌ {A = RightSet} (record { list = a; read = b; watch = c; put = d; race = e }) (record { list = f; read = g; watch = h; put = i; race = j })
+same_fields a b c d e f g h i j p q r s t = cc
+
+same_sets : (a b : RightSet) → a.list ≡ b.list → a.read ≡ b.read → a.watch ≡ b.watch → a.put ≡ b.put → a.race ≡ b.race → a ≡ b
+same_sets a b l r w p c = same_fields a.list a.read a.watch a.put a.race b.list b.read b.watch b.put b.race l r w p c
+
+both-everything : (a : RightSet) → both a everything ≡ a
+both-everything a = same_sets _ _ (and_true a.list) (and_true a.read) (and_true a.watch) (and_true a.put) (and_true a.race)
+
+pub both-nothing : (a : RightSet) → both a nothing ≡ nothing
+both-nothing a = same_sets _ _ (and_false a.list) (and_false a.read) (and_false a.watch) (and_false a.put) (and_false a.race)
+
+both-assoc : (a b c : RightSet) → both (both a b) c ≡ both a (both b c)
+both-assoc a b c = same_sets _ _ (and_assoc a.list b.list c.list) (and_assoc a.read b.read c.read) (and_assoc a.watch b.watch c.watch) (and_assoc a.put b.put c.put) (and_assoc a.race b.race c.race)
+
+both-swap : (a b c : RightSet) → both (both a b) c ≡ both a (both c b)
+both-swap a b c = same_sets _ _ (and_swap a.list b.list c.list) (and_swap a.read b.read c.read) (and_swap a.watch b.watch c.watch) (and_swap a.put b.put c.put) (and_swap a.race b.race c.race)
+
+either-nothing : (a : RightSet) → either a nothing ≡ a
+either-nothing a = same_sets _ _ (or_false a.list) (or_false a.read) (or_false a.watch) (or_false a.put) (or_false a.race)
+
+-- where there is no viewport, what is opened at a step is what is granted for its envelope
+opened_is : (tree : Tree) (u : Member) (s : Step) → tree.viewports ≡ [] → opened tree u s ≡ granted u s.envelope
+opened_is tree u s none = ap (λ (vs : List Viewport). either (granted u s.envelope) (viewed vs s)) none ∙ either-nothing (granted u s.envelope)
+
+-- ---- the rights on a path, from its end
+
+rights-append : (tree : Tree) (u : Member) (above : List Step) (s : Step) → rights tree u (above ++ s ∷ []) ≡ both (rights tree u above) (opened tree u s)
+rights-append tree u [] s = both-everything (opened tree u s)
+rights-append tree u (t ∷ above) s = ap (both (opened tree u t)) (rights-append tree u above s) ∙ sym (both-assoc (opened tree u t) (rights tree u above) (opened tree u s))
+
+-- the rights on what a step leads to; all where there is no step
+abbrev pub rights_left : Tree → Member → Option ObjectId → RightSet
+rights_left tree u None = everything
+rights_left tree u (Some id) = rights_at tree u id.0
+
+there_before : (nodes : List Node) (i j : ℕ) (n : Node) → slice_get nodes i ≡ Some n → j < i → (m : Node) × (slice_get nodes j ≡ Some m)
+there_before [] i j n h l = absurd cc
+there_before (x ∷ xs) zero j n h l = absurd (omega arith)
+there_before (x ∷ xs) (suc i) zero n h l = (x, refl)
+there_before (x ∷ xs) (suc i) (suc j) n h l = there_before xs i j n h (omega arith)
+
+left_is : (tree : Tree) (u : Member) (i : ℕ) (n : Node) (p : Option ObjectId) → slice_get tree.nodes i ≡ Some n → IfSome p (λ q. q.0 < i) → rights_left tree u p ≡ rights tree u (path_of tree.nodes (option_map (λ q. q.0) p))
+left_is tree u i n None h l = refl
+left_is tree u i n (Some q) h l =
+    let m = there_before tree.nodes i q.0 n h l in
+    ap (λ (o : Option Node). option_map_or (λ (x : Node). rights tree u x.path) o nothing) m.1
+    ∙ sym (ap (λ (o : Option Node). rights tree u (option_map_or (λ (x : Node). x.path) o [])) m.1)
+
+-- the rights on an object are what is granted for its envelope, and the rights on its parent
+pub rights_step : (tree : Tree) (u : Member) (id : ℕ) (o : Object) (r g : RightSet) → tree.viewports ≡ [] → StandsFor tree.nodes id o → g ≡ granted u o.envelope → both (both r g) (rights_left tree u o.parent) ≡ both r (rights_at tree u id)
+rights_step tree u id o r g none h is =
+    let above : List Step = path_of tree.nodes (option_map (λ q. q.0) o.parent) in
+    let own : opened tree u h.step ≡ g = opened_is tree u h.step none ∙ ap (granted u) h.envelope ∙ sym is in
+    let here : rights_at tree u id ≡ both (rights tree u above) g =
+    ap (λ (x : Option Node). option_map_or (λ (x : Node). rights tree u x.path) x nothing) h.there ∙ ap (rights tree u) h.path
+    ∙ rights-append tree u above h.step ∙ ap (both (rights tree u above)) own in
+    ap (both (both r g)) (left_is tree u id h.node o.parent h.there h.behind)
+    ∙ both-swap r g (rights tree u above) ∙ ap (both r) (sym here)
+
+-- no rights on what is not there
+pub rights_absent : (tree : Tree) (u : Member) (id : ℕ) → slice_get tree.nodes id ≡ None → rights_at tree u id ≡ nothing
+rights_absent tree u id h = ap (λ (x : Option Node). option_map_or (λ (x : Node). rights tree u x.path) x nothing) h
+
+-- ---- denials, from the end of a path
+
+-- the first of two denials
+abbrev pub first_denial : Option Denial → Option Denial → Option Denial
+first_denial None other = other
+first_denial (Some d) other = Some d
+
+first-assoc : (a b c : Option Denial) → first_denial (first_denial a b) c ≡ first_denial a (first_denial b c)
+first-assoc None b c = refl
+first-assoc (Some d) b c = refl
+
+pub first-none : (a : Option Denial) → first_denial a None ≡ a
+first-none None = refl
+first-none (Some d) = refl
+
+denial_by : (b : Bool) (d : Denial) (rest last : Option Denial) → (if b then first_denial rest last else Some d) ≡ first_denial (if b then rest else Some d) last
+denial_by true d rest last = refl
+denial_by false d rest last = refl
+
+denial-append : (tree : Tree) (u : Member) (r : Right) (above : List Step) (s : Step) → denial tree u r (above ++ s ∷ []) ≡ first_denial (denial tree u r above) (denial tree u r (s ∷ []))
+denial-append tree u r [] s = refl
+denial-append tree u r (t ∷ above) s =
+    let own : Denial = record { by = by_step tree u t; envelope = t.envelope; right = r } in
+    ap (λ (o : Option Denial). if has r (opened tree u t) then o else Some own) (denial-append tree u r above s)
+    ∙ denial_by (has r (opened tree u t)) own (denial tree u r above) (denial tree u r (s ∷ []))
+
+-- why a right on what a step leads to is denied
+abbrev pub denial_left : Tree → Member → Right → Option ObjectId → Option Denial
+denial_left tree u r None = None
+denial_left tree u r (Some id) = denial_at tree u r id.0
+
+-- the denial at one step
+abbrev pub denial_here : Member → Right → ℕ → Option Denial
+denial_here u r envelope =
+    if has r (granted u envelope) then None else Some (record { by = by_grant u envelope; envelope = envelope; right = r })
+
+here_is : (tree : Tree) (u : Member) (r : Right) (s : Step) → tree.viewports ≡ [] → denial tree u r (s ∷ []) ≡ denial_here u r s.envelope
+here_is tree u r s none = rw none (ap (λ (x : RightSet). if has r x then None else Some (record { by = by_grant u s.envelope; envelope = s.envelope; right = r })) (either-nothing (granted u s.envelope)))
+
+above_is : (tree : Tree) (u : Member) (r : Right) (p : Option ObjectId) → denial tree u r (path_of tree.nodes (option_map (λ q. q.0) p)) ≡ denial_left tree u r p
+above_is tree u r None = refl
+above_is tree u r (Some q) = refl
+
+-- a right on an object is denied as it is on its parent, else at its own step
+pub denial_step : (tree : Tree) (u : Member) (r : Right) (id : ℕ) (o : Object) (found : Option Denial) → tree.viewports ≡ [] → StandsFor tree.nodes id o → first_denial (denial_left tree u r o.parent) (first_denial (denial_here u r o.envelope) found) ≡ first_denial (denial_at tree u r id) found
+denial_step tree u r id o found none h =
+    let above : List Step = path_of tree.nodes (option_map (λ q. q.0) o.parent) in
+    let here : denial_at tree u r id ≡ first_denial (denial_left tree u r o.parent) (denial_here u r o.envelope) =
+    ap (λ (x : Option Node). denial tree u r (option_map_or (λ (x : Node). x.path) x [])) h.there ∙ ap (denial tree u r) h.path
+    ∙ denial-append tree u r above h.step ∙ ap (first_denial (denial tree u r above)) (here_is tree u r h.step none ∙ ap (denial_here u r) h.envelope)
+    ∙ ap (λ (d : Option Denial). first_denial d (denial_here u r o.envelope)) (above_is tree u r o.parent) in
+    sym (first-assoc (denial_left tree u r o.parent) (denial_here u r o.envelope) found) ∙ ap (λ (d : Option Denial). first_denial d found) (sym here)
+
+-- nothing is denied of what is not there
+pub denial_absent : (tree : Tree) (u : Member) (r : Right) (id : ℕ) → slice_get tree.nodes id ≡ None → denial_at tree u r id ≡ None
+denial_absent tree u r id h = ap (λ (x : Option Node). denial tree u r (option_map_or (λ (x : Node). x.path) x [])) h
+
+-- ---- names
+
+same_texts : (xs ys : List ℕ) → bytes_eq xs ys ≡ true → xs ≡ ys
+same_texts xs ys h = (bytes_eq-Decides xs ys).0 h
+
+named_names : (names : List (List ℕ)) (path : List Step) → is_named names path ≡ true → names_of path ≡ names
+named_names [] [] h = refl
+named_names [] (s ∷ path) h = absurd cc
+named_names (n ∷ names) [] h = absurd cc
+named_names (n ∷ names) (s ∷ path) h =
+    let parts = and_parts (bytes_eq n s.name) (is_named names path) h in
+    ap (λ (x : List ℕ). x ∷ names_of path) (sym (same_texts n s.name parts.0)) ∙ ap (λ (ns : List (List ℕ)). n ∷ ns) (named_names names path parts.1)
+
+slice_get_some : (nodes : List Node) (i : ℕ) (d : Node) → i < length nodes → slice_get nodes i ≡ Some (get_or nodes i d)
+slice_get_some [] i d l = absurd (omega arith)
+slice_get_some (x ∷ xs) zero d l = refl
+slice_get_some (x ∷ xs) (suc i) d l = slice_get_some xs i d (omega arith)
+
+-- the names of the scope that is found are those that were asked
+pub names_found : (nodes : List Node) (names : List (List ℕ)) (o : ℕ) → find_named nodes names ≡ Some o → scope_names nodes (Some o) ≡ Some names
+names_found nodes names o h =
+    let blank : Node = record { path = []; kind = kind.Reg; width = 0; line = 0; definition = None } in
+    let at = position-Some (λ (n : Node). is_named names n.path) nodes o blank h in
+    let there = slice_get_some nodes o blank at.0 in
+    ap (option_map (λ (n : Node). names_of n.path)) there
+    ∙ ap (λ (ns : List (List ℕ)). (let r : Option (List (List ℕ)) = Some ns in r)) (named_names names (get_or nodes o blank).path at.1)
+
+-- a name in a scope of these names
+pub find_is : (nodes : List Node) (scope : Option ℕ) (names : List (List ℕ)) (name : List ℕ) → scope_names nodes scope ≡ Some names → find_in nodes scope name ≡ find_named nodes (names ++ name ∷ [])
+find_is nodes scope names name h = ap (option_and_then (λ ns. find_named nodes (ns ++ name ∷ []))) h
+
+-- the closed list of a scope of these names
+pub closed_is : (tree : Tree) (u : Member) (scope : Option ℕ) (names : List (List ℕ)) → scope_names tree.nodes scope ≡ Some names → filter (is_closed u) (declared_envelopes tree scope) ≡ closed tree u names
+closed_is tree u scope names h = ap (λ (o : Option (List (List ℕ))). filter (is_closed u) (option_map_or (envelopes_in tree) o [])) h
+
+listed_by : (b : Bool) (p o : ℕ) → Some o ≡ (if b then Some p else None) → ◌≡◌ {A = Option ℕ} (Some p) (Some o)
+listed_by true p o h = sym h
+listed_by false p o h = absurd cc
+
+begun_part : (b : ℕ) (first : List ℕ) (others : List (List ℕ)) (ps : List (List ℕ)) → ps ≡ first ∷ others → (cut : Bool) → (f : List ℕ) × (os : List (List ℕ)) × ((if cut then [] ∷ ps else begun b ps) ≡ f ∷ os)
+begun_part b first others ps e true = ([], ps, refl)
+begun_part b first others ps e false = (b ∷ first, others, ap (begun b) e)
+
+listed_found : (tree : Tree) (u : Member) (found : Option ℕ) (o : ℕ) → Some o ≡ listed_in tree u found → found ≡ Some o
+listed_found tree u None o h = absurd cc
+listed_found tree u (Some p) o h = listed_by (is_listed_at tree u p) p o h
+
+-- the walk of a name behind which others follow
+parts_behind : (text : List ℕ) → (first : List ℕ) × (others : List (List ℕ)) × (parts 46 text ≡ first ∷ others)
+parts_behind [] = ([], [], refl)
+parts_behind (b ∷ bytes) = begun_part b (parts_behind bytes).0 (parts_behind bytes).1 (parts 46 bytes) (parts_behind bytes).2 (b == 46)
+
+-- where a walk stands makes no difference to what follows a name
+pub walk_here : (tree : Tree) (u : Member) (here there : Look) (scope : List (List ℕ)) (text : List ℕ) → walk tree u here scope (parts 46 text) ≡ walk tree u there scope (parts 46 text)
+walk_here tree u here there scope text =
+    let p = parts_behind text in
+    ap (walk tree u here scope) p.2 ∙ sym (ap (walk tree u there scope) p.2)
+
+-- a name that is listed, with others behind it
+pub walk_next :
+    (tree : Tree) (u : Member) (scope : Option ℕ) (names : List (List ℕ)) (text part further : List ℕ) (o : ℕ)
+    → scope_names tree.nodes scope ≡ Some names → parts 46 text ≡ behind_part 46 part (Some further) → Some o ≡ listed_in tree u (find_in tree.nodes scope part)
+    → walk tree u look.Absent (names ++ part ∷ []) (parts 46 further) ≡ walk tree u look.Absent names (parts 46 text)
+walk_next tree u scope names text part further o named split found =
+    let next : ℕ → Look = λ o. walk tree u (look.Found (record { 0 = o })) (names ++ part ∷ []) (parts 46 further) in
+    walk_here tree u look.Absent (look.Found (record { 0 = o })) (names ++ part ∷ []) further
+    ∙ ap (λ (x : Option ℕ). from_found x (unlisted u (closed tree u names)) next) (found ∙ ap (listed_in tree u) (find_is tree.nodes scope names part named))
+    ∙ sym (ap (walk tree u look.Absent names) split)
+
+-- the last name, which is listed
+pub walk_last :
+    (tree : Tree) (u : Member) (scope : Option ℕ) (names : List (List ℕ)) (text part : List ℕ) (o : ℕ)
+    → scope_names tree.nodes scope ≡ Some names → parts 46 text ≡ behind_part 46 part None → Some o ≡ listed_in tree u (find_in tree.nodes scope part)
+    → look.Found (record { 0 = o }) ≡ walk tree u look.Absent names (parts 46 text)
+walk_last tree u scope names text part o named split found =
+    let next : ℕ → Look = λ o. walk tree u (look.Found (record { 0 = o })) (names ++ part ∷ []) [] in
+    ap (λ (x : Option ℕ). from_found x (unlisted u (closed tree u names)) next) (found ∙ ap (listed_in tree u) (find_is tree.nodes scope names part named))
+    ∙ sym (ap (walk tree u look.Absent names) split)
+
+-- a name that is not listed
+pub walk_none :
+    (tree : Tree) (u : Member) (scope : Option ℕ) (names : List (List ℕ)) (text part : List ℕ) (behind : Option (List ℕ))
+    → scope_names tree.nodes scope ≡ Some names → parts 46 text ≡ behind_part 46 part behind → None ≡ listed_in tree u (find_in tree.nodes scope part)
+    → unlisted u (filter (is_closed u) (declared_envelopes tree scope)) ≡ walk tree u look.Absent names (parts 46 text)
+walk_none tree u scope names text part None named split found =
+    let next : ℕ → Look = λ o. walk tree u (look.Found (record { 0 = o })) (names ++ part ∷ []) [] in
+    ap (unlisted u) (closed_is tree u scope names named)
+    ∙ ap (λ (x : Option ℕ). from_found x (unlisted u (closed tree u names)) next) (found ∙ ap (listed_in tree u) (find_is tree.nodes scope names part named))
+    ∙ sym (ap (walk tree u look.Absent names) split)
+walk_none tree u scope names text part (Some further) named split found =
+    let next : ℕ → Look = λ o. walk tree u (look.Found (record { 0 = o })) (names ++ part ∷ []) (parts 46 further) in
+    ap (unlisted u) (closed_is tree u scope names named)
+    ∙ ap (λ (x : Option ℕ). from_found x (unlisted u (closed tree u names)) next) (found ∙ ap (listed_in tree u) (find_is tree.nodes scope names part named))
+    ∙ sym (ap (walk tree u look.Absent names) split)
+
+-- the names of the object that a name leads to
+pub scope_next :
+    (tree : Tree) (u : Member) (scope : Option ℕ) (names : List (List ℕ)) (part : List ℕ) (o : ℕ)
+    → scope_names tree.nodes scope ≡ Some names → Some o ≡ listed_in tree u (find_in tree.nodes scope part) → scope_names tree.nodes (Some o) ≡ Some (names ++ part ∷ [])
+scope_next tree u scope names part o named found =
+    names_found tree.nodes (names ++ part ∷ []) o
+    (listed_found tree u (find_named tree.nodes (names ++ part ∷ [])) o (found ∙ ap (listed_in tree u) (find_is tree.nodes scope names part named)))
+
+-- ---- one turn of each walk
+
+-- a step at which the right is lacking
+pub lacking_step : (tree : Tree) (u : Member) (r : Right) (id : ℕ) (o : Object) (found : Option Denial) (d : Denial) → tree.viewports ≡ [] → StandsFor tree.nodes id o → has r (granted u o.envelope) ≡ false → d ≡ record { by = by_grant u o.envelope; envelope = o.envelope; right = r } → first_denial (denial_left tree u r o.parent) (Some d) ≡ first_denial (denial_at tree u r id) found
+lacking_step tree u r id o found d none h lacks is =
+    let own : Denial = record { by = by_grant u o.envelope; envelope = o.envelope; right = r } in
+    ap (λ (x : Denial). first_denial (denial_left tree u r o.parent) (Some x)) is
+    ∙ sym (ap (λ (b : Bool). first_denial (denial_left tree u r o.parent) (first_denial (if b then None else Some own) found)) lacks)
+    ∙ denial_step tree u r id o found none h
+
+-- a step at which it is his
+pub having_step : (tree : Tree) (u : Member) (r : Right) (id : ℕ) (o : Object) (found : Option Denial) → tree.viewports ≡ [] → StandsFor tree.nodes id o → has r (granted u o.envelope) ≡ true → first_denial (denial_left tree u r o.parent) found ≡ first_denial (denial_at tree u r id) found
+having_step tree u r id o found none h his =
+    let own : Denial = record { by = by_grant u o.envelope; envelope = o.envelope; right = r } in
+    sym (ap (λ (b : Bool). first_denial (denial_left tree u r o.parent) (first_denial (if b then None else Some own) found)) his)
+    ∙ denial_step tree u r id o found none h

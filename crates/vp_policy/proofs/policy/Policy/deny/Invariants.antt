@@ -1,5 +1,0 @@
-use Rattle.vp_policy.proofs.Steps.{steps_left}
-use Rattle.vp_policy.proofs.policy.Policy.deny.Given as goal
-
-abbrev pub decreases-loop-step : goal.decreases-loop-step
-decreases-loop-step l = steps_left l.step

@@ -1,0 +1,67 @@
+-- A refusal of the deeds so far is that of all.
+use Rattle.std.proofs.Common.{◌≡◌, ℕ, suc, ◌<◌, Bool, false, cond, eqb, length, List, [], ◌∷◌, map, Option, Some, Result, Err, refl, sym, ap, subst, ◌∙◌, arith}
+use Rattle.std.specs.Prelude.{IfSome}
+use Rattle.std.proofs.lemmas.Bool.Decides.{nat_tests}
+use Rattle.vp_pragma.specs.declared.deed.Deed.{Deed}
+use Rattle.vp_pragma.specs.declared.fault.PragmaError.{PragmaError}
+use Rattle.vp_pragma.specs.declared.fault.PragmaError.TheVariants as error
+use Rattle.vp_pragma.specs.declared.line.Expression.{Expression}
+use Rattle.vp_pragma.specs.declared.line.Rest.{Rest}
+use Rattle.vp_pragma.specs.declared.reading.Line.{Line}
+use Rattle.vp_pragma.specs.declared.reading.Reading.{Reading}
+use Rattle.vp_pragma.specs.EnvelopesOf.{Progress, after_deeds}
+use Rattle.vp_pragma.specs.Pragmas.{Placed, before_deeds, deed_of, deeds_from, expression_at, first_deeds, next_deeds, protect_deeds}
+use Rattle.vp_pragma.specs.Faults.{Explains}
+use Rattle.vp_pragma.specs.Reading.{after_all, after_one, directive_of, placed}
+
+-- what keeps a refusal keeps its explanation
+pub explains_through :
+    {A B : Type 0} (f : Result A PragmaError → Result B PragmaError) (given : Result A PragmaError) (e : PragmaError)
+    → ((x : PragmaError) → f (Err x) ≡ Err x) → Explains given e → Explains (f given) e
+explains_through f given error.NoMemory keeps h = tt
+explains_through f given (error.NestedBegin line) keeps h = ap f h ∙ keeps (error.NestedBegin line)
+explains_through f given (error.EndWithoutBegin line) keeps h = ap f h ∙ keeps (error.EndWithoutBegin line)
+explains_through f given (error.OpenEnvelope line) keeps h = ap f h ∙ keeps (error.OpenEnvelope line)
+explains_through f given (error.Unbalanced line) keeps h = ap f h ∙ keeps (error.Unbalanced line)
+explains_through f given (error.TooMany line) keeps h = ap f h ∙ keeps (error.TooMany line)
+explains_through f given (error.BadPragma line) keeps h = ap f h ∙ keeps (error.BadPragma line)
+
+-- the refusal of a deed is that of the deeds from it on
+pub explains_more :
+    (line : Line) (reading : Reading) (deed : Deed) (e : PragmaError) → Explains (after_one line reading deed) e
+    → (ds : List Deed) → Explains (after_all line reading (deed ∷ ds)) e
+explains_more line reading deed e h ds =
+    explains_through (λ (r : Result Progress PragmaError). after_deeds line.text.now line.tokens.now r (map (λ (d : Deed). (directive_of line, d)) ds))
+    (after_one line reading deed) e (λ x. refl) h
+
+-- the refusal of an expression is that of the expressions from it on
+pub explains_first :
+    (line : Line) (reading : Reading) (ps : List Placed) (first : Expression) (behind : List Placed) (deed : Option Deed) (e : PragmaError)
+    → Some (first, behind) ≡ expression_at ps → deed ≡ deed_of line.text.now first
+    → ((ds : List Deed) → Explains (after_all line reading (before_deeds deed ds)) e)
+    → (n : ℕ) → Explains (after_all line reading (deeds_from line.text.now (suc n) ps)) e
+explains_first line reading ps first behind deed e is deed_is h n =
+    subst (λ (found : Option (Expression × List Placed)). Explains (after_all line reading (first_deeds line.text.now (deeds_from line.text.now n) found)) e) is
+    (subst (λ (d : Option Deed). Explains (after_all line reading (before_deeds d (next_deeds (deeds_from line.text.now n) behind))) e) deed_is (h _))
+
+-- a number that is not zero
+not_none : (n : ℕ) → 0 < n → eqb n 0 ≡ false
+not_none n lt = grind (arith, nat_tests)
+
+-- the expressions of a pragma that has some
+pub protect_some : (text : List ℕ) (ps : List Placed) (n : ℕ) → length ps ≡ n → 0 < n → deeds_from text n ps ≡ protect_deeds text ps
+protect_some text ps n e lt =
+    let some : eqb (length ps) 0 ≡ false = not_none (length ps) (omega arith) in
+    ap (λ (k : ℕ). deeds_from text k ps) (sym e) ∙ sym (ap (λ (b : Bool). cond b [] (deeds_from text (length ps) ps)) some)
+
+-- what is there has what it is to have
+pub at_some : {A : Type 0} (P : A → Type 0) (o : Option A) (x : A) → o ≡ Some x → IfSome o P → P x
+at_some P o x e h = subst (λ (q : Option _). IfSome q P) e h
+
+-- the expressions that are left
+pub next_left :
+    (line : Line) (before after : Reading) (ps : List Placed) (o : Option Rest) (next : Rest) → o ≡ Some next
+    → IfSome o (λ (r : Rest). (n : ℕ) → after_all line before (deeds_from line.text.now (suc n) ps) ≡ after_all line after (deeds_from line.text.now n (placed r)))
+    → (n : ℕ) → after_all line before (deeds_from line.text.now (suc n) ps) ≡ after_all line after (deeds_from line.text.now n (placed next))
+next_left line before after ps o next e h =
+    at_some (λ (r : Rest). (n : ℕ) → after_all line before (deeds_from line.text.now (suc n) ps) ≡ after_all line after (deeds_from line.text.now n (placed r))) o next e h
