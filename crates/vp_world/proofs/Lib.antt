@@ -1,1 +1,4 @@
 pub mod WorldRows
+pub mod Lists
+pub mod Standings
+pub mod Naming

@@ -1,5 +1,5 @@
 -- A world, computed event by event. Each row is an equation that holds by computation.
-use Rattle.std.proofs.Common.{◌≡◌, ℕ, true, List, [], ◌∷◌, Option, Some, None, refl}
+use Rattle.std.proofs.Common.{◌≡◌, ℕ, true, false, List, [], ◌∷◌, Option, Some, None, refl}
 use Rattle.std.specs.Prelude.{codes}
 use Rattle.vp_bits.specs.declared.bit.Bit.TheVariants.{Unknown, One}
 use Rattle.vp_pragma.specs.declared.rights.Right.TheVariants as right
@@ -69,7 +69,7 @@ opening = record {
   run = record {
     values = (Unknown ∷ []) ∷ (One ∷ []) ∷ (Unknown ∷ []) ∷ (Unknown ∷ []) ∷ [];
     time = 0;
-    finished = true;
+    finished = false;
   };
 }
 

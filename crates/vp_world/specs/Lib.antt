@@ -8,3 +8,4 @@ pub mod Refusals
 pub mod Worlds
 pub mod Answers
 pub mod History
+pub mod Shown

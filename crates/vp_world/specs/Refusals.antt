@@ -1,7 +1,16 @@
--- The error texts of lines.
+-- What a line is told where it is refused.
 use Rattle.std.specs.Prelude.{ℕ, List, codes}
+use Rattle.vp_world.specs.declared.fault.WorldError.{WorldError}
+use Rattle.vp_world.specs.declared.fault.WorldError.TheVariants as error
 use Rattle.vp_world.specs.declared.reply.Refusal.{Refusal}
 use Rattle.vp_world.specs.declared.reply.Refusal.TheVariants.{BadHandle, WrongKind, TooManyHandles, NoSuchName, SessionsFull, BadToken, NotOpen, NoMemory}
+
+-- what a line is told where the world refuses its event (profile)
+abbrev pub refusal_of_error : WorldError → Refusal
+refusal_of_error error.BadToken = BadToken
+refusal_of_error error.SessionsFull = SessionsFull
+refusal_of_error error.NotOpen = NotOpen
+refusal_of_error error.NoMemory = NoMemory
 
 -- the text that a line gives for a refusal (profile)
 abbrev pub text_of : Refusal → List ℕ

@@ -1,10 +1,10 @@
 -- A world: how it begins, and its state.
-use Rattle.std.specs.Prelude.{ℕ, ◌==◌, ◌&&◌, Bool, if◌then◌else◌, List, [], map, Option}
-use Rattle.std.specs.List.{find}
+use Rattle.std.specs.Prelude.{ℕ, ◌==◌, ◌&&◌, Bool, List, [], map, Option}
+use Rattle.std.specs.List.{position}
 use Rattle.vp_bits.specs.declared.bit.Bit.{Bit}
 use Rattle.vp_elab.specs.Tree.{Tree}
 use Rattle.vp_policy.specs.Users.{Member}
-use Rattle.vp_vpi.specs.Observers.{Handles, with_handle}
+use Rattle.vp_vpi.specs.Observers.{Seat}
 use Rattle.vp_world.specs.declared.event.SessionId.{SessionId}
 use Rattle.vp_world.specs.declared.world.Limits.{Limits}
 
@@ -21,10 +21,10 @@ pub record Opening : Type 0 where
   pub limits : Limits
   pub run : Run
 
--- an open session: its name, and its handles
+-- an open session: its name; its user and his handles
 pub record SessionState : Type 0 where
   pub id : SessionId
-  pub handles : Handles
+  pub seat : Seat
 
 -- the state of a world: the run, its open sessions, and how often each user has opened one
 pub record State : Type 0 where
@@ -32,21 +32,18 @@ pub record State : Type 0 where
   pub sessions : List SessionState
   pub opens : List ℕ
 
+-- a world: how it began, and how it stands
+pub record Standing : Type 0 where
+  pub opening : Opening
+  pub state : State
+
 -- two sessions' names are the same
 abbrev pub same_session : SessionId → SessionId → Bool
 same_session a b = (a.user.0 == b.user.0) && (a.opens == b.opens)
 
--- the open session of a name
-abbrev pub session_of : List SessionState → SessionId → Option SessionState
-session_of sessions id = find (λ s. same_session s.id id) sessions
-
--- a session with one handle more
-abbrev pub with_handle_of : ℕ → SessionState → SessionState
-with_handle_of object s = record s { handles = with_handle object s.handles }
-
--- the sessions, with this change to the one of a name
-abbrev pub with_session : (SessionState → SessionState) → SessionId → List SessionState → List SessionState
-with_session change id sessions = map (λ s. if same_session s.id id then change s else s) sessions
+-- where the open session of a name stands among the open sessions; none where it is not open
+abbrev pub index_of : List SessionState → SessionId → Option ℕ
+index_of sessions id = position (λ s. same_session s.id id) sessions
 
 -- a state in which nothing has happened
 abbrev pub start : Opening → State

@@ -4,6 +4,7 @@
 mod event;
 mod fault;
 mod reply;
+mod session;
 mod world;
 
 pub use event::{Event, Request, SessionId};

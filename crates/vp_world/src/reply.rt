@@ -40,6 +40,10 @@ impl Refusal {
 }
 
 impl From<WorldError> for Refusal {
+    ghost use Rattle.vp_world.specs.Refusals.{refusal_of_error};
+
+    ghost from_gives = { λ error refusal. refusal ≡ refusal_of_error error };
+
     fn from(error: WorldError) -> Refusal {
         match error {
             WorldError::BadToken => Refusal::BadToken,
