@@ -1,10 +1,11 @@
 -- The objects of a design beside the nodes of its tree.
-use Rattle.std.proofs.Common.{◌≡◌, ℕ, zero, suc, ◌+◌, ◌<◌, ◌≤◌, List, [], ◌∷◌, ◌++◌, length, map, slice_get, slice_index_or, Option, Some, None, refl, sym, ap, subst, ◌∙◌, arith}
-use Rattle.std.specs.Prelude.{IfSome, MatchOption, option_map}
+use Rattle.std.proofs.Common.{◌≡◌, ℕ, suc, ◌+◌, ◌<◌, ◌≤◌, List, [], ◌∷◌, ◌++◌, length, map, slice_get, slice_index_or, Option, Some, None, refl, sym, ap, subst, ◌∙◌, arith}
+use Rattle.std.specs.Prelude.{IfSome, MatchOption, option_and_then, option_map}
 use Rattle.std.specs.List.{flat_map}
 use Rattle.std.proofs.lemmas.List.{append_assoc, append-nil, length-append, length-map}
 use Rattle.std.proofs.lemmas.Grind.{flat_map-append}
 use Rattle.std.specs.Option.{option_map_or}
+use Rattle.std.proofs.lemmas.Option.{slice_get-map}
 use Rattle.vp_elab.specs.declared.object.Kind.TheVariants as kind
 use Rattle.vp_parse.specs.Places.{line_at, word_at}
 use Rattle.vp_parse.specs.declared.source.Source.{Source}
@@ -12,10 +13,9 @@ use Rattle.vp_parse.specs.declared.source.Item.{Item}
 use Rattle.vp_parse.specs.declared.source.Module.{Module}
 use Rattle.vp_pragma.specs.declared.envelope.Envelope.{Envelope}
 use Rattle.vp_elab.specs.declared.object.Object.{Object}
-use Rattle.vp_elab.specs.declared.object.ObjectId.{ObjectId}
 use Rattle.vp_elab.specs.Tree.{Step, Node, path_of}
 use Rattle.vp_elab.specs.Elaboration.{item_name, item_place, items_in, step_at, root_step, item_node, module_nodes}
-use Rattle.vp_elab.specs.Objects.{StandsFor, item_object, module_objects, objects_behind, roots_behind}
+use Rattle.vp_elab.specs.Objects.{AreObjects, StandsFor, item_object, module_name_at, module_names, module_objects, objects_behind}
 use Rattle.vp_elab.proofs.Zip.{Zip, zip_append, zip_at, zip_all, zip_map, slice_get_behind}
 
 module _ (source : Source) (envelopes : List Envelope) where
@@ -43,6 +43,7 @@ module _ (source : Source) (envelopes : List Envelope) where
     pub envelope : step.envelope ≡ o.envelope
     pub behind : IfSome o.parent (λ p. p.0 < id)
     pub role : Role id o.scope n.path
+    pub definition : module_name_at source o.scope ≡ n.definition
 
   -- the objects of items, behind their module's
   items_fit : (m : Module) (base n : ℕ) (is : List Item) → base < n → path_of all_nodes (Some base) ≡ root_step source envelopes m.name ∷ [] → Zip Fits n (map (item_node source envelopes m.name) is) (map (item_object envelopes base) is)
@@ -59,6 +60,7 @@ module _ (source : Source) (envelopes : List Envelope) where
           envelope = refl;
           behind = l;
           role = OfItem (root_step source envelopes m.name) own refl refl;
+          definition = refl;
         },
         items_fit m base (suc n) is (omega arith) h,
       )
@@ -71,6 +73,9 @@ module _ (source : Source) (envelopes : List Envelope) where
       let behind : List Node = map (item_node source envelopes m.name) (items_in source m) ++ nodes_in after in
       let all : all_nodes ≡ nodes_in before ++ (root ∷ behind) = ap nodes_in e ∙ flat_map-append (module_nodes source envelopes) before (m ∷ after) in
       let there : slice_get all_nodes base ≡ Some root = ap (λ (ns : List Node). slice_get ns base) all ∙ slice_get_behind (nodes_in before) root behind in
+      let named : slice_get (module_names source source.modules) (length before) ≡ Some (word_at source m.name) =
+      slice_get-map (λ (m : Module). word_at source m.name) source.modules (length before)
+      ∙ ap (option_map (λ (m : Module). word_at source m.name)) (ap (λ (ms : List Module). slice_get ms (length before)) e ∙ slice_get_behind before m after) in
       let path : path_of all_nodes (Some base) ≡ root_step source envelopes m.name ∷ [] = ap (λ (o : Option Node). option_map_or (λ n. n.path) o []) there in (
         record {
           step = root_step source envelopes m.name;
@@ -82,6 +87,7 @@ module _ (source : Source) (envelopes : List Envelope) where
           envelope = refl;
           behind = tt;
           role = OfModule m before after e refl refl refl;
+          definition = named;
         },
         items_fit m base (suc base) (items_in source m) (omega arith) path,
       )
@@ -127,12 +133,29 @@ module _ (source : Source) (envelopes : List Envelope) where
   pub object_stands : (id : ℕ) → MatchOption (slice_get (objects_behind source envelopes 0 source.modules []) id) (slice_get all_nodes id ≡ None) (λ o. StandsFor all_nodes id o)
   object_stands id = stands_by id (slice_get (objects_behind source envelopes 0 source.modules []) id) (zip_at Fits 0 id id all_nodes (objects_behind source envelopes 0 source.modules []) (omega arith) objects_fit)
 
+  -- the objects stand for the nodes
+  pub objects_stand : AreObjects all_nodes (objects_behind source envelopes 0 source.modules [])
+  objects_stand = object_stands
+
   -- kinds and widths of objects are those of the nodes
   pub kinds_same : map (λ o. o.kind) (objects_behind source envelopes 0 source.modules []) ≡ map (λ n. n.kind) all_nodes
   kinds_same = zip_map Fits (λ n. n.kind) (λ o. o.kind) (λ k o n h. h.kind) 0 all_nodes (objects_behind source envelopes 0 source.modules []) objects_fit
 
   pub widths_same : map (λ o. o.width) (objects_behind source envelopes 0 source.modules []) ≡ map (λ n. n.width) all_nodes
   widths_same = zip_map Fits (λ n. n.width) (λ o. o.width) (λ k o n h. h.width) 0 all_nodes (objects_behind source envelopes 0 source.modules []) objects_fit
+
+  -- of an object that was found
+  definition_by : (id : ℕ) (found : Option Object) → MatchOption found (slice_get all_nodes id ≡ None) (λ o. (n : Node) × (slice_get all_nodes id ≡ Some n) × Fits id o n) → IfSome found (λ o. module_name_at source o.scope ≡ option_and_then (λ n. n.definition) (slice_get all_nodes id))
+  definition_by id None h = tt
+  definition_by id (Some o) h = h.2.definition ∙ sym (ap (option_and_then (λ (n : Node). n.definition)) h.1)
+
+  -- the scope of the object of a number is the module of its node's definition
+  pub object_scope : (id : ℕ) → IfSome (slice_get (objects_behind source envelopes 0 source.modules []) id) (λ o. module_name_at source o.scope ≡ option_and_then (λ n. n.definition) (slice_get all_nodes id))
+  object_scope id = definition_by id (slice_get (objects_behind source envelopes 0 source.modules []) id) (zip_at Fits 0 id id all_nodes (objects_behind source envelopes 0 source.modules []) (omega arith) objects_fit)
+
+  -- the scopes of objects are the modules of the definitions of the nodes
+  pub scopes_same : map (λ o. module_name_at source o.scope) (objects_behind source envelopes 0 source.modules []) ≡ map (λ n. n.definition) all_nodes
+  scopes_same = zip_map Fits (λ n. n.definition) (λ o. module_name_at source o.scope) (λ k o n h. h.definition) 0 all_nodes (objects_behind source envelopes 0 source.modules []) objects_fit
 
   fits_word : (k : ℕ) (o : Object) (n : Node) → Fits k o n → (1 ≤ o.width) × (o.width ≤ 64)
   fits_word k o n h = let one = h.one_bit in (omega arith, omega arith)

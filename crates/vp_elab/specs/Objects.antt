@@ -1,5 +1,5 @@
 -- The objects of a design, in preorder, and how each belongs to its node of the tree.
-use Rattle.std.specs.Prelude.{◌≡◌, ℕ, suc, ◌+◌, ◌<◌, ◌==◌, List, [], ◌∷◌, ◌++◌, length, map, filter, fold, slice_get, Option, Some, None, option_map, IfSome}
+use Rattle.std.specs.Prelude.{◌≡◌, ℕ, suc, ◌+◌, ◌<◌, ◌==◌, List, [], ◌∷◌, ◌++◌, length, map, filter, slice_get, Option, Some, None, option_and_then, option_map, IfSome, MatchOption}
 use Rattle.std.specs.List.{list_any}
 use Rattle.vp_parse.specs.Places.{word_at}
 use Rattle.vp_parse.specs.declared.source.Source.{Source}
@@ -33,6 +33,10 @@ scope_in source envelopes m = record {
 -- the names of modules
 abbrev pub module_names : Source → List declared.Module → List (List ℕ)
 module_names source ms = map (λ m. word_at source m.name) ms
+
+-- the name of the module that has this number in the text
+abbrev pub module_name_at : Source → Option ℕ → Option (List ℕ)
+module_name_at source number = option_and_then (slice_get (module_names source source.modules)) number
 
 -- the modules of a text, by their names, with what each declares
 abbrev pub modules_in : Source → List Envelope → Modules
@@ -105,3 +109,8 @@ pub record StandsFor (nodes : List Node) (id : ℕ) (o : Object) : Type 0 where
   pub place : step.place ≡ o.place
   pub envelope : step.envelope ≡ o.envelope
   pub behind : IfSome o.parent (λ p. p.0 < id)
+
+-- these objects stand for the nodes: each for that of its number, and none is left out
+abbrev pub AreObjects : List Node → List Object → Type 0
+AreObjects nodes objects =
+    (id : ℕ) → MatchOption (slice_get objects id) (slice_get nodes id ≡ None) (λ o. StandsFor nodes id o)

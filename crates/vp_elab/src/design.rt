@@ -1,8 +1,8 @@
-ghost use Rattle.std.specs.Prelude.{◌≡◌, ◌≤◌, [], All, map, option_and_then, option_map, position, slice_get, MatchOption};
+ghost use Rattle.std.specs.Prelude.{◌≡◌, ◌≤◌, [], All, map, option_and_then, option_map, position, slice_get, IfSome, MatchOption};
 ghost use Rattle.std.specs.Option.{option_copied};
 ghost use Rattle.std.specs.Str.{bytes_eq};
 ghost use Rattle.vp_elab.specs.Tree.{author_in, declared_envelopes, find_in};
-ghost use Rattle.vp_elab.specs.Objects.{StandsFor};
+ghost use Rattle.vp_elab.specs.Objects.{AreObjects, StandsFor, module_name_at};
 ghost use Rattle.vp_elab.specs.Built.{IsBuilt, design_of};
 
 use crate::names::Names;
@@ -108,8 +108,10 @@ impl Design {
 
     /// Its objects, in preorder.
     pub fn objects(&self) -> &[Object]
+        ensures nodes { AreObjects self.now.tree.nodes result.now }
         ensures kinds { map (λ o. o.kind) result.now ≡ map (λ n. n.kind) self.now.tree.nodes }
         ensures widths { map (λ o. o.width) result.now ≡ map (λ n. n.width) self.now.tree.nodes }
+        ensures scopes { map (λ o. module_name_at self.now.source o.scope) result.now ≡ map (λ n. n.definition) self.now.tree.nodes }
         ensures fit { All (λ o. (1 ≤ o.width) × (o.width ≤ 64)) result.now }
     {
         self.objects.all.as_slice()
@@ -119,6 +121,7 @@ impl Design {
     pub fn object(&self, id: ObjectId) -> Option<Object>
         ensures viewports { self.now.tree.viewports ≡ [] }
         ensures node { MatchOption result (slice_get self.now.tree.nodes id.0 ≡ None) (λ o. StandsFor self.now.tree.nodes id.0 o) }
+        ensures scope { IfSome result (λ o. module_name_at self.now.source o.scope ≡ option_and_then (λ n. n.definition) (slice_get self.now.tree.nodes id.0)) }
     {
         object_at(self.objects.all.as_slice(), id)
     }

@@ -1,5 +1,5 @@
 // What is opened to a user, step by step of an object's path (docs/FORMATS.md, "Rights").
-ghost use Rattle.std.specs.Prelude.{◌≡◌, [], Some, IsSome, IfOk, filter, option_map};
+ghost use Rattle.std.specs.Prelude.{◌≡◌, [], Some, IsSome, IfOk, IsOkUnless, filter, option_map};
 ghost use Rattle.vp_list.specs.Texts.{parts};
 ghost use Rattle.vp_pragma.specs.Rights.{set_of};
 ghost use Rattle.vp_elab.specs.Tree.{declared_envelopes, find_in};
@@ -110,7 +110,8 @@ impl Policy {
         user: UserId,
         scope: Option<ObjectId>,
     ) -> Result<Sequence<u8>, PolicyError>
-        ensures { IfOk result (λ numbers. numbers ≡ filter (is_closed (member_at self.now user.0)) (declared_envelopes design.now.tree (option_map (λ o. o.0) scope))) }
+        ensures numbers { IfOk result (λ numbers. numbers ≡ filter (is_closed (member_at self.now user.0)) (declared_envelopes design.now.tree (option_map (λ o. o.0) scope))) }
+        ensures err { IsOkUnless result PolicyError.NoMemory }
     {
         let mut numbers = Vec::new(alloc);
         for envelope in design.declared_envelopes(scope) {

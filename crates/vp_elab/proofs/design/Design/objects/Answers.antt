@@ -1,13 +1,19 @@
-use Rattle.std.proofs.Common.{◌≡◌, ◌≤◌, ◌∙◌, ap, sym, subst, ℕ, List, [], map}
+use Rattle.std.proofs.Common.{◌≤◌, ◌∙◌, ap, sym, subst, List, map}
 use Rattle.std.specs.Prelude.{All}
 use Rattle.vp_elab.specs.declared.object.Object.{Object}
-use Rattle.vp_elab.specs.declared.object.Kind.{Kind}
 use Rattle.vp_elab.specs.declared.design.Objects.{Objects}
 use Rattle.vp_elab.specs.Tree.{Node}
 use Rattle.vp_elab.specs.Built.{Elaborated}
-use Rattle.vp_elab.specs.Objects.{objects_behind}
-use Rattle.vp_elab.proofs.Preorder.{kinds_same, widths_fit, widths_same}
+use Rattle.vp_elab.specs.Objects.{AreObjects, module_name_at}
+use Rattle.vp_elab.proofs.Preorder.{all_nodes, kinds_same, objects_stand, scopes_same, widths_fit, widths_same}
 use Rattle.vp_elab.proofs.design.Design.objects.Goals as goal
+
+pub returns-clause-nodes : goal.returns-clause-nodes
+returns-clause-nodes c =
+    let nodes : List Node = all_nodes c.self.inside.source c.self.inside.envelopes in
+    subst (λ (d : Elaborated). AreObjects d.tree.nodes c.as_slice.result.now) c.self.view_is
+    (subst (AreObjects nodes) (sym (c.as_slice.ensures ∙ ap (λ (o : Objects). o.all) c.self.invariant.flat))
+    (objects_stand c.self.inside.source c.self.inside.envelopes))
 
 pub returns-clause-kinds : goal.returns-clause-kinds
 returns-clause-kinds c =
@@ -18,6 +24,12 @@ pub returns-clause-widths : goal.returns-clause-widths
 returns-clause-widths c =
     ap (map (λ (o : Object). o.width)) (c.as_slice.ensures ∙ ap (λ (o : Objects). o.all) c.self.invariant.flat)
     ∙ widths_same c.self.inside.source c.self.inside.envelopes ∙ ap (λ (d : Elaborated). map (λ (n : Node). n.width) d.tree.nodes) c.self.view_is
+
+pub returns-clause-scopes : goal.returns-clause-scopes
+returns-clause-scopes c =
+    ap (λ (d : Elaborated). map (λ (o : Object). module_name_at d.source o.scope) c.as_slice.result.now) (sym c.self.view_is)
+    ∙ ap (map (λ (o : Object). module_name_at c.self.inside.source o.scope)) (c.as_slice.ensures ∙ ap (λ (o : Objects). o.all) c.self.invariant.flat)
+    ∙ scopes_same c.self.inside.source c.self.inside.envelopes ∙ ap (λ (d : Elaborated). map (λ (n : Node). n.definition) d.tree.nodes) c.self.view_is
 
 pub returns-clause-fit : goal.returns-clause-fit
 returns-clause-fit c =
