@@ -12,7 +12,7 @@ pub mod TokenBytes
 pub mod PieceRows
 pub mod Parts
 pub mod Scans
-pub mod WordLaws
 pub mod PieceEnds
 pub mod PieceSteps
 pub mod TokenTexts
+pub mod WordLaws

@@ -1,23 +1,23 @@
--- A word is looked up in one table, and then in what is given.
-use Rattle.std.proofs.Common.{◌≡◌, ℕ, Bool, true, false, cond, List, [], ◌∷◌, Option, Some, None, refl}
+-- A table of words is searched an entry at a time.
+use Rattle.std.proofs.Common.{◌≡◌, ℕ, ◌+◌, ◌<◌, Bool, true, false, cond, List, length, get_or, drop, Some, ◌∙◌, ap}
 use Rattle.std.specs.Prelude.{bytes_eq}
+use Rattle.std.specs.Borrow.{Bor}
+use Rattle.std.proofs.lemmas.List.{drop_more}
 use Rattle.vp_lex.specs.declared.keyword.Keyword.{Keyword}
-use Rattle.vp_lex.specs.Words.{looked_up}
+use Rattle.vp_lex.specs.Words.{found_in}
 
-found_at : (entries : List (List ℕ × Keyword)) (word : List ℕ) (other : Option Keyword) (keyword found : Keyword) (test : Bool) → (looked_up entries word None ≡ Some keyword → looked_up entries word other ≡ Some keyword) → cond test (Some found) (looked_up entries word None) ≡ Some keyword → cond test (Some found) (looked_up entries word other) ≡ Some keyword
-found_at entries word other keyword found true more e = e
-found_at entries word other keyword found false more e = more e
+abbrev Entry : Type 0
+Entry = Bor (List ℕ) × Keyword
 
--- a word that stands in the table is what stands beside it
-pub looked_up_found : (entries : List (List ℕ × Keyword)) (word : List ℕ) (other : Option Keyword) (keyword : Keyword) → looked_up entries word None ≡ Some keyword → looked_up entries word other ≡ Some keyword
-looked_up_found [] word other keyword e = absurd cc
-looked_up_found ((entry, found) ∷ entries) word other keyword e = found_at entries word other keyword found (bytes_eq word entry) (looked_up_found entries word other keyword) e
+at : (table : List Entry) (word : List ℕ) (i : ℕ) (other : Entry) → i < length table → found_in (drop i table) word ≡ cond (bytes_eq word (get_or table i other).0.now) (Some (get_or table i other).1) (found_in (drop (i + 1) table) word)
+at table word i other l = ap (λ (entries : List Entry). found_in entries word) (drop_more table i other l)
 
-absent_at : (entries : List (List ℕ × Keyword)) (word : List ℕ) (other : Option Keyword) (found : Keyword) (test : Bool) → (looked_up entries word None ≡ None → looked_up entries word other ≡ other) → cond test (Some found) (looked_up entries word None) ≡ None → cond test (Some found) (looked_up entries word other) ≡ other
-absent_at entries word other found true more e = absurd cc
-absent_at entries word other found false more e = more e
+-- an entry with the word gives its keyword
+pub entry_found : (table : List Entry) (word : List ℕ) (i : ℕ) (other : Entry) → i < length table → bytes_eq word (get_or table i other).0.now ≡ true → found_in (drop i table) word ≡ Some (get_or table i other).1
+entry_found table word i other l e =
+    at table word i other l ∙ ap (λ (b : Bool). cond b (Some (get_or table i other).1) (found_in (drop (i + 1) table) word)) e
 
--- and one that does not is what is given
-pub looked_up_absent : (entries : List (List ℕ × Keyword)) (word : List ℕ) (other : Option Keyword) → looked_up entries word None ≡ None → looked_up entries word other ≡ other
-looked_up_absent [] word other e = refl
-looked_up_absent ((entry, found) ∷ entries) word other e = absent_at entries word other found (bytes_eq word entry) (looked_up_absent entries word other) e
+-- and one with another word is passed over
+pub entry_passed : (table : List Entry) (word : List ℕ) (i : ℕ) (other : Entry) → i < length table → bytes_eq word (get_or table i other).0.now ≡ false → found_in (drop i table) word ≡ found_in (drop (i + 1) table) word
+entry_passed table word i other l e =
+    at table word i other l ∙ ap (λ (b : Bool). cond b (Some (get_or table i other).1) (found_in (drop (i + 1) table) word)) e

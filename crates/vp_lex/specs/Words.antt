@@ -1,5 +1,6 @@
 -- The keywords, by their words.
-use Rattle.std.specs.Prelude.{ℕ, List, [], ◌∷◌, Option, Some, None, codes, bytes_eq, if◌then◌else◌}
+use Rattle.std.specs.Prelude.{ℕ, List, [], ◌∷◌, Option, Some, None, map, codes, bytes_eq, if◌then◌else◌}
+use Rattle.std.specs.Borrow.{Bor}
 use Rattle.vp_lex.specs.declared.keyword.Keyword.{Keyword}
 use Rattle.vp_lex.specs.declared.keyword.Keyword.TheVariants as keyword
 
@@ -44,3 +45,7 @@ left_out (entry ∷ entries) word = if bytes_eq word entry then Some keyword.Lef
 -- the keyword that a word is, if it is one (IEEE Std 1364-2005, 3.7.2 and annex B)
 abbrev pub keyword_of : List ℕ → Option Keyword
 keyword_of word = looked_up used_words word (left_out left_out_words word)
+
+-- what a table of words beside their keywords says of a word
+abbrev pub found_in : List (Bor (List ℕ) × Keyword) → List ℕ → Option Keyword
+found_in table word = looked_up (map (λ entry. (entry.0.now, entry.1)) table) word None
