@@ -1,6 +1,6 @@
 -- The envelopes of what is declared in a scope, from the tree and from the tables.
-use Rattle.std.proofs.Common.{◌≡◌, ℕ, suc, ◌+◌, ◌==◌, Bool, true, false, cond, ◌||◌, List, [], ◌∷◌, ◌++◌, length, map, filter, Option, Some, None, refl, sym, ap, ◌∙◌}
-use Rattle.std.specs.List.{cons_option, filter_map, flat_map, list_any}
+use Rattle.std.proofs.Common.{◌≡◌, ℕ, suc, ◌==◌, Bool, true, false, cond, List, [], ◌∷◌, ◌++◌, length, map, filter, Option, Some, None, refl, sym, ap, ◌∙◌}
+use Rattle.std.specs.List.{cons_option, list_any}
 use Rattle.std.specs.Str.{bytes_eq}
 use Rattle.std.proofs.lemmas.List.{append-nil, length-map}
 use Rattle.std.proofs.lemmas.List.Elements.{filter_map-append}
@@ -11,7 +11,7 @@ use Rattle.vp_parse.specs.declared.source.Item.{Item}
 use Rattle.vp_parse.specs.declared.source.Module.{Module}
 use Rattle.vp_pragma.specs.declared.envelope.Envelope.{Envelope}
 use Rattle.vp_pragma.specs.Envelopes.{envelope_at}
-use Rattle.vp_elab.specs.Tree.{Step, Node, Tree, below, declared_in, declares_in, envelopes_in, step_in}
+use Rattle.vp_elab.specs.Tree.{Step, Node, below, declared_in, declares_in, envelopes_in, step_in}
 use Rattle.vp_elab.specs.Elaboration.{item_name, item_place, items_in, step_at, root_step, item_node, module_nodes, tree_of}
 use Rattle.vp_elab.specs.Objects.{numbers_of}
 use Rattle.vp_elab.proofs.Distinct.{AllOther, bytes_eq-self}

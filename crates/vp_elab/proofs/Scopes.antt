@@ -1,5 +1,5 @@
 -- Look-ups in the tables of a design are look-ups in its tree.
-use Rattle.std.proofs.Common.{◌≡◌, ℕ, suc, ◌+◌, ◌<◌, ◌≤◌, List, [], ◌∷◌, ◌++◌, length, map, position, slice_get, slice_index_or, Option, Some, None, refl, sym, ap, subst, ◌∙◌, arith}
+use Rattle.std.proofs.Common.{◌≡◌, ℕ, ◌+◌, ◌<◌, List, [], ◌∷◌, ◌++◌, length, map, position, slice_get, Option, Some, None, refl, sym, ap, ◌∙◌, arith}
 use Rattle.std.specs.Prelude.{MatchOption, option_map, option_and_then}
 use Rattle.std.specs.List.{position_from}
 use Rattle.std.specs.Option.{option_map_or}
@@ -14,14 +14,14 @@ use Rattle.vp_elab.specs.declared.object.Kind.TheVariants as kind
 use Rattle.vp_elab.specs.declared.object.Object.{Object}
 use Rattle.vp_elab.specs.declared.scope.Scope.{Scope}
 use Rattle.vp_elab.specs.Tree.{Step, Node, Tree, names_of, find_named, find_in, is_named, declared_envelopes, envelopes_in}
-use Rattle.vp_elab.specs.Elaboration.{item_name, items_in, root_step, tree_of}
+use Rattle.vp_elab.specs.Elaboration.{item_name, items_in, tree_of}
 use Rattle.vp_elab.specs.Objects.{module_names, objects_behind, roots_behind, scope_in}
 use Rattle.vp_elab.specs.Refusals.{twice_in}
 use Rattle.vp_elab.proofs.Zip.{zip_at, slice_get_behind, position_is}
 use Rattle.vp_elab.proofs.Distinct.{others}
 use Rattle.vp_elab.proofs.Preorder.{Role, OfItem, OfModule, Fits, nodes_in, all_nodes, objects_fit}
 use Rattle.vp_elab.proofs.Finding.{child_found, nothing_found, roots_found}
-use Rattle.vp_elab.proofs.Declared.{child_numbers, no_numbers, root_numbers}
+use Rattle.vp_elab.proofs.Declared.{child_numbers, no_numbers}
 
 -- the scope of an object, by its number in the lists
 abbrev pub scope_of_object : List Object → List Scope → ℕ → Option Scope

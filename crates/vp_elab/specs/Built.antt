@@ -1,5 +1,5 @@
 -- What a design is, and how its tables belong to it.
-use Rattle.std.specs.Prelude.{◌≡◌, ◌≤◌, [], length, Option, None, List}
+use Rattle.std.specs.Prelude.{◌≡◌, ◌≤◌, [], length, None, List}
 use Rattle.vp_parse.specs.declared.source.Source.{Source}
 use Rattle.vp_pragma.specs.declared.envelope.Envelope.{Envelope}
 use Rattle.vp_elab.specs.declared.design.Objects.{Objects}

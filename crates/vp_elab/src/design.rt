@@ -1,4 +1,4 @@
-ghost use Rattle.std.specs.Prelude.{◌≡◌, ◌≤◌, [], All, map, option_and_then, option_map, position, slice_get, IfSome, MatchOption};
+ghost use Rattle.std.specs.Prelude.{◌≡◌, ◌≤◌, [], All, map, option_and_then, option_map, length, position, slice_get, IfSome, MatchOption};
 ghost use Rattle.std.specs.Option.{option_copied};
 ghost use Rattle.std.specs.Str.{bytes_eq};
 ghost use Rattle.vp_elab.specs.Tree.{author_in, declared_envelopes, find_in};
@@ -115,6 +115,13 @@ impl Design {
         ensures fit { All (λ o. (1 ≤ o.width) × (o.width ≤ 64)) result.now }
     {
         self.objects.all.as_slice()
+    }
+
+    /// How many objects there are.
+    pub fn count(&self) -> u32
+        ensures { result ≡ length self.now.tree.nodes }
+    {
+        self.objects.all.len() as u32
     }
 
     /// The object of a number; none behind the end. No viewport is read yet.

@@ -1,7 +1,10 @@
-ghost use Rattle.std.specs.Prelude.{◌≡◌, None, Some, IfErr, IfOk, MatchResult};
-ghost use Rattle.vp_expr.specs.Checks.{too_wide, wide_at};
+ghost use Rattle.std.specs.Prelude.{◌≡◌, None, Some, IfErr, IfOk, MatchResult, OnOk};
+ghost use Rattle.vp_expr.specs.Tables.{tables_of};
+ghost use Rattle.vp_expr.specs.Checks.{Explains, too_wide, wide_at};
 
 use crate::fault::ExprError;
+use crate::tables::{Tables, tables_of};
+use std::alloc::Global;
 use std::marker::Model;
 use vp_elab::Design;
 use vp_parse::{Expression, Source};
@@ -9,10 +12,12 @@ use vp_parse::{Expression, Source};
 /// The greatest width of a vector, in bits.
 const WIDTH_LIMIT: u32 = 64;
 
-/// A design whose expressions are at most 64 bits wide. A contract sees the design.
+/// A design whose expressions are at most 64 bits wide, with the tables that a simulator runs. A contract sees the design,
+/// of which the tables are a function.
 #[derive(Drop)]
 pub struct Checked {
     design: Design,
+    tables: Tables,
 }
 
 impl Model for Checked {
@@ -21,6 +26,11 @@ impl Model for Checked {
     ghost Value = { Elaborated };
 
     ghost view = { λ c. c.design };
+
+    ghost use Rattle.std.specs.Prelude.{◌≡◌};
+    ghost use Rattle.vp_expr.specs.Tables.{tables_of};
+
+    ghost invariant = { λ c. c.tables ≡ tables_of c.design };
 }
 
 impl Checked {
@@ -29,6 +39,13 @@ impl Checked {
         ensures { result.now ≡ self.now }
     {
         &self.design
+    }
+
+    /// What a simulator runs.
+    pub fn tables(&self) -> &Tables
+        ensures { result.now ≡ tables_of self.now }
+    {
+        &self.tables
     }
 }
 
@@ -54,13 +71,14 @@ fn check_widths(source: &Source) -> Result<(), ExprError>
     Ok(())
 }
 
-/// A design's expressions, checked; or the first that is too wide (601), by its line. On a refusal the design
-/// is dropped.
-pub fn check(design: Design) -> Result<Checked, ExprError>
+/// A design's expressions, checked; or the first that is too wide (601), by its line, or want of memory (604). On a
+/// refusal the design is dropped.
+pub fn check(alloc: Global, design: Design) -> Result<Checked, ExprError>
     ensures design { IfOk result (λ checked. checked ≡ design) }
-    ensures accepted { IfOk result (λ checked. too_wide design.source design.source.expressions ≡ None) }
-    ensures refused { IfErr result (λ e. too_wide design.source design.source.expressions ≡ Some e) }
+    ensures accepted { OnOk result (too_wide design.source design.source.expressions ≡ None) }
+    ensures refused { IfErr result (λ e. Explains (too_wide design.source design.source.expressions) e) }
 {
     check_widths(design.source())?;
-    Ok(Checked { design })
+    let tables = tables_of(alloc, &design)?;
+    Ok(Checked { design, tables })
 }

@@ -3,8 +3,11 @@
 
 mod checked;
 mod fault;
+mod literal;
+mod tables;
 mod values;
 
 pub use checked::{Checked, check};
 pub use fault::ExprError;
+pub use tables::{Action, Operand, Process, Tables, eval};
 pub use values::Values;

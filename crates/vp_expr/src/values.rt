@@ -1,4 +1,4 @@
-ghost use Rattle.std.specs.Prelude.{◌≡◌, ◌≤◌, ◌<◌, replicate, length, map, slice_index_or, slice_set, IfOk, IsOkUnless};
+ghost use Rattle.std.specs.Prelude.{◌≡◌, ◌≤◌, ◌<◌, replicate, length, map, slice_get, slice_index_or, slice_set, IfOk, IsOkUnless};
 ghost use Rattle.vp_bits.specs.declared.bit.Bit.TheVariants.{Unknown};
 ghost use Rattle.vp_expr.specs.Start.{start_value};
 ghost use Rattle.vp_expr.specs.Values.{start_of, no_value};
@@ -58,6 +58,13 @@ impl Values {
             Some(value) => *value,
             None => Bits::unknown(1),
         }
+    }
+
+    /// The value of an object; none for a number that is not there.
+    pub fn find(&self, id: ObjectId) -> Option<Bits>
+        ensures { result ≡ slice_get self.now id.0 }
+    {
+        self.values.get(id.0 as usize).copied()
     }
 
     /// Sets the value of an object, which has this width; changes nothing for a number that is not there.

@@ -1,5 +1,5 @@
 -- The parts of a text, and its first separator.
-use Rattle.std.proofs.Common.{◌≡◌, ℕ, suc, ◌+◌, ◌<◌, ◌==◌, Bool, true, false, cond, List, [], ◌∷◌, length, take, drop, refl, ap, ◌∙◌, arith}
+use Rattle.std.proofs.Common.{◌≡◌, ℕ, zero, suc, ◌+◌, ◌++◌, get_or, ◌<◌, ◌==◌, Bool, true, false, cond, List, [], ◌∷◌, length, take, drop, refl, ap, ◌∙◌, arith}
 use Rattle.std.specs.Prelude.{not}
 use Rattle.std.specs.List.{position_or_len, before_first, after_first}
 use Rattle.vp_list.specs.Texts.{begun, parts}
@@ -32,3 +32,12 @@ split_by separator byte bytes false e more h =
 pub split_part : (separator : ℕ) (text : List ℕ) → position_or_len (is_it separator) text < length text → parts separator text ≡ before_first (is_it separator) text ∷ parts separator (after_first (is_it separator) text)
 split_part separator [] h = absurd (omega arith)
 split_part separator (byte ∷ bytes) h = split_by separator byte bytes (is_it separator byte) refl (split_part separator bytes) h
+
+-- a list is what stands before a place, what stands there, and what stands behind it
+pub split_at : (xs : List ℕ) (n : ℕ) → n < length xs → xs ≡ take n xs ++ get_or xs n 0 ∷ drop (n + 1) xs
+split_at [] n h = absurd (omega arith)
+split_at (x ∷ xs) zero h = refl
+split_at (x ∷ xs) (suc n) h =
+    let next : suc (n + 1) ≡ suc n + 1 = omega arith in
+    ap (λ (ys : List ℕ). x ∷ ys) (split_at xs n (omega arith))
+    ∙ ap (λ (k : ℕ). take (suc n) (x ∷ xs) ++ get_or xs n 0 ∷ drop k (x ∷ xs)) next

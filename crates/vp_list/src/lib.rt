@@ -5,6 +5,6 @@ mod part;
 mod sequence;
 mod text;
 
-pub use part::first_part;
+pub use part::{first_part, first_piece};
 pub use sequence::Sequence;
 pub use text::Text;

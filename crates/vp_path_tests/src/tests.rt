@@ -1,5 +1,6 @@
 mod asking;
 mod reading;
+mod running;
 mod serving;
 
 use std::alloc::Global;
@@ -51,7 +52,7 @@ fn design(alloc: Global) -> Option<Design> {
 
 /// The design, checked.
 fn checked(alloc: Global) -> Option<Checked> {
-    check(design(alloc)?).ok()
+    check(alloc, design(alloc)?).ok()
 }
 
 /// The policy, read.

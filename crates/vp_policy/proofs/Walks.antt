@@ -1,6 +1,6 @@
 -- Rights and denials, from an object up its path; names, from the top modules down.
-use Rattle.std.proofs.Common.{◌≡◌, ℕ, zero, suc, ◌<◌, Bool, true, false, ◌&&◌, ◌||◌, List, [], ◌∷◌, ◌++◌, length, map, filter, get_or, slice_get, ◌==◌, Option, Some, None, refl, sym, ap, subst, ◌∙◌, arith}
-use Rattle.std.specs.Prelude.{IfSome, if◌then◌else◌, option_map, option_and_then, position}
+use Rattle.std.proofs.Common.{◌≡◌, ℕ, zero, suc, ◌<◌, Bool, true, false, ◌&&◌, ◌||◌, List, [], ◌∷◌, ◌++◌, length, filter, get_or, slice_get, ◌==◌, Option, Some, None, refl, sym, ap, ◌∙◌, arith}
+use Rattle.std.specs.Prelude.{IfSome, if◌then◌else◌, option_map, option_and_then}
 use Rattle.std.specs.Option.{option_map_or}
 use Rattle.std.specs.Str.{bytes_eq}
 use Rattle.std.proofs.lemmas.Slice.Eq.{bytes_eq-Decides}
@@ -8,7 +8,6 @@ use Rattle.std.proofs.lemmas.Bool.{and_parts}
 use Rattle.std.proofs.lemmas.List.Quantifiers.{position-Some}
 use Rattle.vp_list.specs.Texts.{behind_part, begun, parts}
 use Rattle.vp_pragma.specs.declared.rights.Right.{Right}
-use Rattle.vp_pragma.specs.declared.rights.Right.TheVariants as right
 use Rattle.vp_pragma.specs.Rights.{RightSet, both, either, everything, has, nothing}
 use Rattle.vp_pragma.specs.Envelopes.{Viewport}
 use Rattle.vp_elab.specs.declared.object.Kind.TheVariants as kind
@@ -20,7 +19,7 @@ use Rattle.vp_policy.specs.declared.denial.Denial.{Denial}
 use Rattle.vp_policy.specs.declared.denial.Look.{Look}
 use Rattle.vp_policy.specs.declared.denial.Look.TheVariants as look
 use Rattle.vp_policy.specs.Users.{Member, granted}
-use Rattle.vp_policy.specs.Filter.{is_listed_at, by_grant, by_step, closed, denial, denial_at, find_listed, from_found, is_closed, listed_in, opened, rights, rights_at, unlisted, viewed, walk}
+use Rattle.vp_policy.specs.Filter.{is_listed_at, by_grant, by_step, closed, denial, denial_at, from_found, is_closed, listed_in, opened, rights, rights_at, unlisted, viewed, walk}
 
 -- ---- sets of rights
 

@@ -67,6 +67,16 @@ impl Policy {
         }
     }
 
+    /// He may let the design run; not a user who is not there.
+    pub fn may_run(&self, user: UserId) -> bool
+        ensures { result ≡ (member_at self.now user.0).run }
+    {
+        match self.users.get_index(user.0) {
+            Some((_, user)) => user.run,
+            None => false,
+        }
+    }
+
     /// His rights in the open text; none for a number that is not there.
     pub(crate) fn open_rights(&self, user: UserId) -> Rights
         ensures { set_of result ≡ (member_at self.now user.0).open_set }

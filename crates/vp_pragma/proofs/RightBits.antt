@@ -1,6 +1,6 @@
 -- Rights as bits.
 use Rattle.std.proofs.Common.{◌≡◌, ℕ, zero, suc, ◌*◌, ◌^◌, ◌<◌, ◌≤◌, ◌==◌, Bool, true, false, ◌&&◌, ◌||◌, refl, sym, ap, ◌∙◌, arith}
-use Rattle.std.specs.Prelude.{min, max, List, [], ◌∷◌, option_and_then, option_map, Option, Some, None}
+use Rattle.std.specs.Prelude.{min, max, List, [], option_and_then, option_map, Option, Some, None}
 use Rattle.vp_list.specs.Texts.{behind_part, parts}
 use Rattle.vp_pragma.specs.Access.{right_of, rights_named}
 use Rattle.std.specs.Int.{bit_at}
@@ -8,7 +8,6 @@ use Rattle.std.specs.Int.RustNames.{bit_and, bit_or}
 use Rattle.std.proofs.lemmas.Bool.{eq-eqb, ne_eqb}
 use Rattle.std.proofs.lemmas.Nat.{pow_pos}
 use Rattle.std.proofs.lemmas.Nat.Bits.{and_pow, bit_at_and, bit_at_or, bit_at-lt}
-use Rattle.vp_pragma.specs.declared.rights.Rights.{Rights}
 use Rattle.vp_pragma.specs.declared.rights.Right.{Right}
 use Rattle.vp_pragma.specs.declared.rights.Right.TheVariants as right
 use Rattle.vp_pragma.specs.Rights.{RightSet, both, either, has_bit, only, set_of, with_right}

@@ -1,34 +1,35 @@
-ghost use Rattle.std.specs.Prelude.{◌≤◌, length};
+ghost use Rattle.std.specs.Prelude.{◌≡◌, codes, option_map};
+ghost use Rattle.std.specs.Str.{bytes_eq};
+ghost use Rattle.vp_served.specs.Bundles.{cut_of};
 
 use crate::fault::ServeFault;
 use crate::script::{Ran, run_script};
 use crate::sources::{BUNDLE_LIMIT, text_of};
 use std::alloc::Global;
 use std::io::Write;
+use vp_list::first_piece;
 
-/// What stands before the first line `%%`, and what stands behind it.
-fn cut(bytes: &[u8]) -> Option<(&[u8], &[u8])> {
-    let mut start = 0;
-    while start < bytes.len() {
-        let line = line_at(bytes, start);
-        if line == b"%%".as_slice() {
-            let behind = (start + line.len() + 1).min(bytes.len());
-            return Some((&bytes[..start], &bytes[behind..]));
-        }
-        start += line.len() + 1;
-    }
-    None
+/// A line is `%%`.
+fn is_mark(line: &[u8]) -> bool
+    ensures { result ≡ bytes_eq line.now (codes "%%") }
+{
+    matches!(line, [b'%', b'%'])
 }
 
-/// The line that begins at a byte, without its newline.
-fn line_at(bytes: &[u8], start: usize) -> &[u8]
-    requires { start ≤ length bytes.now }
+/// What stands before the first line `%%`, and what stands behind it.
+fn cut(bytes: &[u8]) -> Option<(&[u8], &[u8])>
+    ensures { option_map (λ c. (c.0.now, c.1.now)) result ≡ cut_of bytes.now }
 {
-    let rest = &bytes[start..];
-    match rest.iter().position(|byte| *byte == b'\n') {
-        Some(end) => &rest[..end],
-        None => rest,
+    let mut left = Some(bytes);
+    while let Some(rest) = left {
+        let (line, behind) = first_piece(rest, b'\n');
+        if is_mark(line) {
+            let start = bytes.len() - rest.len();
+            return Some((&bytes[..start], behind.unwrap_or(&[])));
+        }
+        left = behind;
     }
+    None
 }
 
 /// Runs a bundle: a design, a line `%%`, a policy, a line `%%`, and a script; or the first fault: `TooLong` (1603),

@@ -1,3 +1,6 @@
+ghost use Rattle.std.specs.Prelude.{◌≡◌};
+ghost use Rattle.vp_served.specs.declared.fault.ServeFault.TheVariants.{NoMemory};
+
 use std::alloc::{AllocError, AllocFailed};
 use thiserror::Error;
 use vp_elab::ElabError;
@@ -43,8 +46,12 @@ pub enum ServeFault {
 }
 
 impl ServeFault {
+    ghost use Rattle.vp_served.specs.Faults.{code_of, line_of};
+
     /// The number of the fault.
-    pub fn code(&self) -> u32 {
+    pub fn code(&self) -> u32
+        ensures { result ≡ code_of self.now }
+    {
         match self {
             ServeFault::Tokens(error) => error.code(),
             ServeFault::Envelopes(error) => error.code(),
@@ -62,7 +69,9 @@ impl ServeFault {
     }
 
     /// The line of the design at fault, from 1; 0 where none is known.
-    pub fn line(&self) -> u32 {
+    pub fn line(&self) -> u32
+        ensures { result ≡ line_of self.now }
+    {
         match self {
             ServeFault::Tokens(error) => error.line(),
             ServeFault::Envelopes(error) => error.line(),
@@ -75,12 +84,16 @@ impl ServeFault {
 }
 
 impl From<AllocError> for ServeFault {
+    ghost from_gives = { λ _ e. e ≡ NoMemory };
+
     fn from(_e: AllocError) -> ServeFault {
         ServeFault::NoMemory
     }
 }
 
 impl<T: Drop> From<AllocFailed<T>> for ServeFault {
+    ghost from_gives = { λ _ e. e ≡ NoMemory };
+
     fn from(_e: AllocFailed<T>) -> ServeFault {
         ServeFault::NoMemory
     }

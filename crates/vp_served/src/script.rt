@@ -30,7 +30,7 @@ fn checked(alloc: Global, text: &str) -> Result<Checked, ServeFault> {
     let envelopes = envelopes(alloc, text, &tokens).map_err(ServeFault::Envelopes)?;
     let source = parse(alloc, text, &tokens).map_err(ServeFault::Source)?;
     let design = elaborate(alloc, source, envelopes).map_err(ServeFault::Design)?;
-    check(design).map_err(ServeFault::Expressions)
+    check(alloc, design).map_err(ServeFault::Expressions)
 }
 
 /// The policy of a file.

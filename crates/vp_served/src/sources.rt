@@ -1,5 +1,6 @@
 // What the program reads before it runs.
-ghost use Rattle.std.specs.Prelude.{◌≡◌, ◌≤◌, length, IfOk};
+ghost use Rattle.std.specs.Prelude.{◌≡◌, ◌≤◌, ◌<◌, length, IfErr, IfOk, IsUtf8, OnOk};
+ghost use Rattle.vp_served.specs.declared.fault.ServeFault.TheVariants.{TooLong};
 
 use crate::fault::ServeFault;
 use std::alloc::Global;
@@ -30,7 +31,10 @@ pub fn read_at_most<R: Read + Drop>(
 
 /// The text of a design's bytes; or `TooLong` (1603), or a fault where they are no UTF-8.
 pub fn text_of(bytes: &[u8], no_text: ServeFault) -> Result<&str, ServeFault>
-    ensures { IfOk result (λ text. text.now ≡ bytes.now) }
+    ensures ok { IfOk result (λ text. text.now ≡ bytes.now) }
+    ensures accepted { OnOk result ((length bytes.now ≤ TEXT_LIMIT) × IsUtf8 bytes.now) }
+    ensures too_long { IfErr result (λ e. TEXT_LIMIT < length bytes.now → e ≡ TooLong) }
+    ensures no_text { IfErr result (λ e. length bytes.now ≤ TEXT_LIMIT → (e ≡ no_text) × (IsUtf8 bytes.now → ⊥)) }
 {
     if bytes.len() > TEXT_LIMIT {
         return Err(ServeFault::TooLong);

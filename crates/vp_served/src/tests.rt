@@ -167,6 +167,39 @@ fn kinds_and_closing(rt: HostRuntime) {
 }
 
 #[test]
+fn running(rt: HostRuntime) {
+    let script = "{\"op\":\"run\",\"until\":0}
+{\"op\":\"handle\",\"name\":\"top.a\"}
+{\"op\":\"value\",\"h\":1}
+{\"op\":\"time\"}
+";
+    let lines = "{\"ok\":true}
+{\"h\":1}
+{\"value\":\"1\"}
+{\"finished\":false,\"time\":0}
+";
+    let text = answered(rt.alloc(), POLICY, script);
+    assert_eq!(rt; text.as_str(), lines);
+}
+
+/// A user who may read, but not let the design run.
+const WATCHER: &str = "{\"users\":[{\"name\":\"ann\",\"token\":\"t1\",\"open\":\"list+read\"}]}";
+
+#[test]
+fn run_denied(rt: HostRuntime) {
+    let script = "{\"op\":\"run\",\"until\":0}
+{\"op\":\"handle\",\"name\":\"top.a\"}
+{\"op\":\"value\",\"h\":1}
+";
+    let lines = "{\"denied\":{\"author\":\"\",\"by\":\"grant\",\"no\":0,\"right\":\"run\"}}
+{\"h\":1}
+{\"value\":\"x\"}
+";
+    let text = answered(rt.alloc(), WATCHER, script);
+    assert_eq!(rt; text.as_str(), lines);
+}
+
+#[test]
 fn long_line(rt: HostRuntime) {
     let long = copies(rt.alloc(), "1", 65_537);
     let script = joined(rt.alloc(), &long, "\n{\"op\":\"value\",\"h\":1}\n");

@@ -51,6 +51,13 @@ impl Session {
         }
     }
 
+    /// Its user.
+    pub fn user(&self) -> UserId
+        ensures { result.0 ≡ self.now.user }
+    {
+        self.user
+    }
+
     /// A new handle of the object of a dotted name. Refused where the user may not list it, or the scope hides
     /// something (1109), with too many handles (1105), where nothing is there (1106), or for want of memory (1107).
     /// A refusal leaves the session as it was.

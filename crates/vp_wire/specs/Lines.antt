@@ -1,5 +1,5 @@
 -- The lines of requests and replies.
-use Rattle.std.specs.Prelude.{ℕ, ◌^◌, nat_lt, true, if◌then◌else◌, List, [], ◌∷◌, ◌++◌, map, reverse, Option, Some, None, option_and_then, option_map, codes}
+use Rattle.std.specs.Prelude.{ℕ, ◌^◌, nat_lt, Bool, true, if◌then◌else◌, List, [], ◌∷◌, ◌++◌, map, reverse, Option, Some, None, option_and_then, option_map, codes}
 use Rattle.std.specs.Str.{bytes_eq, is_utf8}
 use Rattle.serde_json.specs.Data.{unsigned, Data, boolean, number, string, object, no_members, member}
 use Rattle.serde_json.specs.Find.{get, as_str, as_number, as_u64}
@@ -39,6 +39,21 @@ denial_data denial author =
     (member (codes "no") (number (unsigned denial.envelope))
     (member (codes "right") (string (name_of denial.right)) no_members)))))
 
+-- the denial of a run: by the grant for the open text, which has no author (profile)
+abbrev pub run_denial_data : Data
+run_denial_data =
+    only (codes "denied")
+    (object
+    (member (codes "author") (string [])
+    (member (codes "by") (string (codes "grant"))
+    (member (codes "no") (number (unsigned 0))
+    (member (codes "right") (string (codes "run")) no_members)))))
+
+-- the current time as JSON, its keys in the order of their bytes (profile)
+abbrev pub time_data : ℕ → Bool → Data
+time_data time finished =
+    object (member (codes "finished") (boolean finished) (member (codes "time") (number (unsigned time)) no_members))
+
 -- a reply as JSON (profile)
 abbrev pub data_of : Reply → Data
 data_of (reply.Opened session) = only (codes "ok") (boolean true)
@@ -46,6 +61,8 @@ data_of reply.Done = only (codes "ok") (boolean true)
 data_of (reply.Handle handle) = only (codes "h") (number (unsigned handle))
 data_of (reply.Value bits) = only (codes "value") (string (map digit_of (reverse bits)))
 data_of (reply.Denied denial author) = denial_data denial author
+data_of reply.RunDenied = run_denial_data
+data_of (reply.Time time finished) = time_data time finished
 data_of (reply.Error refusal) = only (codes "error") (string (text_of refusal))
 
 -- the line of a reply: compact JSON, and a newline (profile)
@@ -62,6 +79,12 @@ text_at key d = option_and_then as_str (get key d)
 abbrev pub number_at : List ℕ → Data → Option ℕ
 number_at key d =
     option_and_then (λ n. if nat_lt n (2 ^ 32) then Some n else None)
+    (option_and_then as_u64 (option_and_then as_number (get key d)))
+
+-- the time under a key: a number below 2^62
+abbrev pub time_at : List ℕ → Data → Option ℕ
+time_at key d =
+    option_and_then (λ n. if nat_lt n (2 ^ 62) then Some n else None)
     (option_and_then as_u64 (option_and_then as_number (get key d)))
 
 -- a request, of an object with exactly these keys beside op
@@ -86,6 +109,14 @@ handle_request d = of_keys (codes "name" ∷ []) d (option_map request.Handle (t
 abbrev pub value_request : Data → Option Request
 value_request d = of_keys (codes "h" ∷ []) d (option_map request.Value (number_at (codes "h") d))
 
+-- the request to let the design run
+abbrev pub run_request : Data → Option Request
+run_request d = of_keys (codes "until" ∷ []) d (option_map request.Run (time_at (codes "until") d))
+
+-- the request of the time
+abbrev pub time_request : Data → Option Request
+time_request d = of_keys [] d (Some request.Time)
+
 -- the request of an op (profile)
 abbrev pub request_of_op : List ℕ → Data → Option Request
 request_of_op op d =
@@ -93,7 +124,9 @@ request_of_op op d =
     else (if bytes_eq op (codes "close") then close_request d
     else (if bytes_eq op (codes "handle") then handle_request d
     else (if bytes_eq op (codes "value") then value_request d
-    else None)))
+    else (if bytes_eq op (codes "run") then run_request d
+    else (if bytes_eq op (codes "time") then time_request d
+    else None)))))
 
 -- the request of a JSON value; none where it is no request
 abbrev pub request_of : Data → Option Request

@@ -3,7 +3,7 @@ ghost use Rattle.std.specs.Prelude.{◌≡◌, IfOk, IsOkUnless, map, reverse};
 ghost use Rattle.serde_json.specs.Data.{string};
 ghost use Rattle.serde_json.specs.View.{view};
 ghost use Rattle.vp_bits.specs.Digits.{digit_of};
-ghost use Rattle.vp_wire.specs.Lines.{by_text, denial_data, data_of, line_of};
+ghost use Rattle.vp_wire.specs.Lines.{by_text, denial_data, data_of, line_of, run_denial_data, time_data};
 
 use crate::fault::WireError;
 use serde_json::{Value, json};
@@ -44,6 +44,21 @@ fn denied(alloc: Global, denial: Denial, author: &str) -> Result<Value, AllocErr
     json!(in alloc; {"denied": {"author": author, "by": by, "no": number, "right": right}})
 }
 
+/// The denial of a run: by the grant for the open text, which has no author.
+fn run_denied(alloc: Global) -> Result<Value, AllocError>
+    ensures { IfOk result (λ v. view v ≡ run_denial_data) }
+{
+    let open_text = 0u64;
+    json!(in alloc; {"denied": {"author": "", "by": "grant", "no": open_text, "right": "run"}})
+}
+
+/// The current time, in time units, and whether `$finish` was executed.
+fn time_value(alloc: Global, time: u64, finished: bool) -> Result<Value, AllocError>
+    ensures { IfOk result (λ v. view v ≡ time_data time finished) }
+{
+    json!(in alloc; {"finished": finished, "time": time})
+}
+
 /// A reply as a JSON value.
 fn value_of(alloc: Global, reply: &Reply) -> Result<Value, WireError>
     ensures ok { IfOk result (λ v. view v ≡ data_of reply.now) }
@@ -60,6 +75,8 @@ fn value_of(alloc: Global, reply: &Reply) -> Result<Value, WireError>
             Ok(json!(in alloc; {"value": value})?)
         }
         Reply::Denied { denial, author } => Ok(denied(alloc, *denial, author.as_str())?),
+        Reply::RunDenied => Ok(run_denied(alloc)?),
+        Reply::Time { time, finished } => Ok(time_value(alloc, *time, *finished)?),
         Reply::Error(refusal) => {
             let text = refusal.text();
             Ok(json!(in alloc; {"error": text})?)

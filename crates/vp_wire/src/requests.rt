@@ -2,7 +2,7 @@
 ghost use Rattle.std.specs.Prelude.{◌≡◌, ◌⊎◌, [], ◌∷◌, None, Some, codes, false, map, true, IfErr, IfOk, IsErrOf, IsOkUnless, OnOk};
 ghost use Rattle.serde_json.specs.View.{view};
 ghost use Rattle.vp_json.specs.Keys.{has_keys};
-ghost use Rattle.vp_wire.specs.Lines.{close_request, handle_request, meaning_of, number_at, open_request, request_of, request_of_op, text_at, value_request, Asks, NotJson, NotRequest};
+ghost use Rattle.vp_wire.specs.Lines.{close_request, handle_request, meaning_of, number_at, open_request, request_of, request_of_op, run_request, text_at, time_at, time_request, value_request, Asks, NotJson, NotRequest};
 
 use crate::fault::WireError;
 use serde_json::Value;
@@ -10,6 +10,9 @@ use std::alloc::Global;
 use vp_json::{ReadError, has_keys, number, read, text};
 use vp_list::Text;
 use vp_world::Request;
+
+/// Every time is below this one, in time units.
+const TIME_END: u64 = 1 << 62;
 
 /// The text under a key of a request.
 fn text_under(alloc: Global, value: &Value, key: &str) -> Result<Text, WireError>
@@ -32,6 +35,18 @@ fn handle_under(value: &Value, key: &str) -> Result<u32, WireError>
     match number(value, key) {
         Some(number) => u32::try_from(number).map_err(|_| WireError::BadRequest),
         None => Err(WireError::BadRequest),
+    }
+}
+
+/// The time under a key of a request: a number below 2^62.
+fn time_under(value: &Value, key: &str) -> Result<u64, WireError>
+    ensures ok { IfOk result (λ n. time_at key.now (view value.now) ≡ Some n) }
+    ensures bad { IsErrOf result WireError.BadRequest → time_at key.now (view value.now) ≡ None }
+    ensures err { IsOkUnless result WireError.BadRequest }
+{
+    match number(value, key) {
+        Some(time) if time < TIME_END => Ok(time),
+        _ => Err(WireError::BadRequest),
     }
 }
 
@@ -95,6 +110,28 @@ fn value_request(value: &Value) -> Result<Request, WireError>
     })
 }
 
+/// The request to let the design run.
+fn run_request(value: &Value) -> Result<Request, WireError>
+    ensures ok { IfOk result (λ r. run_request (view value.now) ≡ Some r) }
+    ensures bad { IsErrOf result WireError.BadRequest → run_request (view value.now) ≡ None }
+    ensures err { IsOkUnless result WireError.BadRequest }
+{
+    check_keys(value, ["until"].as_slice())?;
+    Ok(Request::Run {
+        until: time_under(value, "until")?,
+    })
+}
+
+/// The request of the time.
+fn time_request(value: &Value) -> Result<Request, WireError>
+    ensures ok { IfOk result (λ r. time_request (view value.now) ≡ Some r) }
+    ensures bad { IsErrOf result WireError.BadRequest → time_request (view value.now) ≡ None }
+    ensures err { IsOkUnless result WireError.BadRequest }
+{
+    check_keys(value, [].as_slice())?;
+    Ok(Request::Time)
+}
+
 /// The request of an op.
 fn request_of_op(alloc: Global, op: &str, value: &Value) -> Result<Request, WireError>
     ensures ok { IfOk result (λ r. request_of_op op.now (view value.now) ≡ Some r) }
@@ -106,6 +143,8 @@ fn request_of_op(alloc: Global, op: &str, value: &Value) -> Result<Request, Wire
         "close" => close_request(value),
         "handle" => handle_request(alloc, value),
         "value" => value_request(value),
+        "run" => run_request(value),
+        "time" => time_request(value),
         _ => Err(WireError::BadRequest),
     }
 }

@@ -1,4 +1,5 @@
-pub mod WorldRows
 pub mod Lists
 pub mod Standings
 pub mod Naming
+pub mod Logs
+pub mod WorldRows

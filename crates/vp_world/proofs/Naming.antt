@@ -1,29 +1,29 @@
 -- A request for a handle, in the session of a place.
-use Rattle.std.proofs.Common.{◌≡◌, ◌≢◌, ℕ, ◌<◌, List, [], length, map, Some, Result, Ok, Err, refl, sym, ap, subst, ◌∙◌}
+use Rattle.std.proofs.Common.{◌≡◌, ◌≢◌, ℕ, ◌<◌, List, [], length, map, Option, Some, Result, Ok, Err, refl, sym, ap, subst, ◌∙◌}
 use Rattle.std.specs.Prelude.{slice_get, slice_index_or, IsOkAnd}
 use Rattle.std.specs.Prelude.{option_map, slice_set, OnOk}
 use Rattle.std.specs.Option.{option_map_or}
 use Rattle.std.proofs.lemmas.List.{map-set, set-get_or}
 use Rattle.std.proofs.lemmas.Option.{slice_get-map, slice_get-get_or}
-use Rattle.vp_bits.specs.declared.bit.Bit.{Bit}
+use Rattle.vp_sim.specs.States as sim
 use Rattle.vp_list.specs.Texts.{parts}
 use Rattle.vp_elab.specs.Built.{Elaborated}
 use Rattle.vp_policy.specs.Filter.{look_of}
 use Rattle.vp_policy.specs.Users.{Member, member_at}
 use Rattle.vp_world.specs.declared.session.OpenSession.{OpenSession}
-use Rattle.vp_world.specs.declared.world.Limits.{Limits}
+use Rattle.vp_world.specs.declared.limits.Limits.{Limits}
 use Rattle.vp_world.specs.Shown.{session_shown, shown}
 use Rattle.vp_vpi.specs.declared.fault.VpiError.{VpiError}
 use Rattle.vp_vpi.specs.declared.fault.VpiError.TheVariants as vpi
 use Rattle.vp_vpi.specs.Observers.{Explains, Seat, handle_of, with_handle}
 use Rattle.vp_world.specs.declared.event.Request.TheVariants as request
 use Rattle.vp_world.specs.Answers.{accepted}
-use Rattle.vp_world.specs.History.{eyes_of, state_asked, with_handle_of, with_session}
+use Rattle.vp_world.specs.History.{outlook_of, state_asked, with_handle_of, with_session}
 use Rattle.vp_world.specs.Worlds.{Opening, SessionState, Standing, State}
 
 -- what a name is answered in a session
 abbrev pub named : Opening → State → SessionState → List ℕ → Result ℕ VpiError
-named opening s session name = handle_of session.seat.handles ((eyes_of opening s session.seat).named name)
+named opening s session name = handle_of session.seat.handles ((outlook_of opening s session.seat).eyes.named name)
 
 -- a session whose seat is another
 abbrev pub seated : SessionState → Seat → SessionState
@@ -71,26 +71,26 @@ named_by design users seat name = handle_of seat.handles (look_of design.tree (m
 
 -- a handle was made
 pub made_shown :
-    (design : Elaborated) (users : List Member) (limits : Limits) (values : List (List Bit)) (sessions : List OpenSession) (opens : List ℕ)
+    (run : sim.State) (users : List Member) (limits : Limits) (sessions : List OpenSession) (opens : List ℕ) (goal : Option ℕ)
     (place : ℕ) (session : OpenSession) (new : Seat) (name : List ℕ) (w : Standing)
-    → shown design users limits values sessions opens ≡ w → place < length sessions → session ≡ slice_index_or sessions place session
-    → IsOkAnd (named_by design users session.session name) (λ o. new ≡ record { user = session.session.user; handles = with_handle o session.session.handles })
-    → shown design users limits values (slice_set sessions place (record { id = session.id; session = new })) opens ≡ standing_asked w place name
-made_shown design users limits values sessions opens place session new name w is within at h =
-    let old : Standing = shown design users limits values sessions opens in
+    → shown run users limits sessions opens goal ≡ w → place < length sessions → session ≡ slice_index_or sessions place session
+    → IsOkAnd (named_by run.design users session.session name) (λ o. new ≡ record { user = session.session.user; handles = with_handle o session.session.handles })
+    → shown run users limits (slice_set sessions place (record { id = session.id; session = new })) opens goal ≡ standing_asked w place name
+made_shown run users limits sessions opens goal place session new name w is within at h =
+    let old : Standing = shown run users limits sessions opens goal in
     ap (λ s. record old { state = record old.state { sessions = s } }) (map-set session_shown sessions place (record { id = session.id; session = new }))
     ∙ ap (λ s. record old { state = s }) (made old.opening old.state place (session_shown session) new name (session_found sessions place session within at) h)
     ∙ ap (λ v. standing_asked v place name) is
 
 -- none was made
 pub unmade_shown :
-    (design : Elaborated) (users : List Member) (limits : Limits) (values : List (List Bit)) (sessions : List OpenSession) (opens : List ℕ)
+    (run : sim.State) (users : List Member) (limits : Limits) (sessions : List OpenSession) (opens : List ℕ) (goal : Option ℕ)
     (place : ℕ) (session : OpenSession) (e : VpiError) (name : List ℕ) (w : Standing)
-    → shown design users limits values sessions opens ≡ w → place < length sessions → session ≡ slice_index_or sessions place session
-    → Explains (named_by design users session.session name) e → e ≢ vpi.NoMemory
+    → shown run users limits sessions opens goal ≡ w → place < length sessions → session ≡ slice_index_or sessions place session
+    → Explains (named_by run.design users session.session name) e → e ≢ vpi.NoMemory
     → w ≡ standing_asked w place name
-unmade_shown design users limits values sessions opens place session e name w is within at h other =
-    let old : Standing = shown design users limits values sessions opens in
+unmade_shown run users limits sessions opens goal place session e name w is within at h other =
+    let old : Standing = shown run users limits sessions opens goal in
     subst (λ v. v ≡ standing_asked v place name) is
     (ap (λ s. record old { state = s }) (unmade old.opening old.state place (session_shown session) e name (session_found sessions place session within at) h other))
 

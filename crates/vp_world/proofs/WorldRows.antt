@@ -1,9 +1,17 @@
 -- A world, computed event by event. Each row is an equation that holds by computation.
 use Rattle.std.proofs.Common.{◌≡◌, ℕ, true, false, List, [], ◌∷◌, Option, Some, None, refl}
-use Rattle.std.specs.Prelude.{codes}
+use Rattle.std.specs.Prelude.{codes, fold}
+use Rattle.std.specs.Str.{chars, is_utf8}
+use Rattle.std.proofs.Math.Utf8.{encode}
 use Rattle.vp_bits.specs.declared.bit.Bit.TheVariants.{Unknown, One}
 use Rattle.vp_pragma.specs.declared.rights.Right.TheVariants as right
 use Rattle.vp_pragma.specs.Rights.{nothing, with_right}
+use Rattle.vp_lex.specs.declared.token.Token.{Token}
+use Rattle.vp_lex.specs.declared.token.TokenKind.TheVariants.{Name}
+use Rattle.vp_parse.specs.declared.source.Source.{Source}
+use Rattle.vp_parse.specs.declared.source.Expression.TheVariants as expression
+use Rattle.vp_parse.specs.declared.source.Statement.TheVariants as statement
+use Rattle.vp_parse.specs.declared.source.Item.TheVariants as item
 use Rattle.vp_elab.specs.declared.object.Kind.{Kind}
 use Rattle.vp_elab.specs.declared.object.Kind.TheVariants.{Module, Reg, Initial}
 use Rattle.vp_elab.specs.Tree.{Node, Tree}
@@ -17,13 +25,16 @@ use Rattle.vp_world.specs.declared.fault.WorldError.TheVariants as error
 use Rattle.vp_world.specs.declared.reply.Refusal.TheVariants as refusal
 use Rattle.vp_world.specs.declared.reply.Reply.{Reply}
 use Rattle.vp_world.specs.declared.reply.Reply.TheVariants as reply
-use Rattle.vp_world.specs.Worlds.{Opening, start}
-use Rattle.vp_world.specs.History.{Entry, IsLegal, answer, refusal_of, state_behind}
+use Rattle.vp_sim.specs.declared.change.Change.{Change}
+use Rattle.vp_sim.specs.declared.fault.SimError.TheVariants as sim
+use Rattle.vp_world.specs.declared.entry.Entry.{Entry}
+use Rattle.vp_world.specs.Worlds.{Opening, State, start}
+use Rattle.vp_world.specs.History.{IsLegal, after, answer, refusal_of}
 
 -- ---- one module with an envelope, one user, at most one session
 
-abbrev item : List ℕ → ℕ → ℕ → Kind → Node
-item name place envelope kind = record {
+abbrev object : List ℕ → ℕ → ℕ → Kind → Node
+object name place envelope kind = record {
   path =
       record { name = codes "top"; place = 1; envelope = 0; in_module = None }
       ∷ record { name = name; place = place; envelope = envelope; in_module = Some (codes "top") }
@@ -34,8 +45,8 @@ item name place envelope kind = record {
   definition = None;
 }
 
-abbrev design : Tree
-design = record {
+abbrev tree : Tree
+tree = record {
   nodes =
       record {
         path = record { name = codes "top"; place = 1; envelope = 0; in_module = None } ∷ [];
@@ -44,12 +55,27 @@ design = record {
         line = 1;
         definition = Some (codes "top");
       }
-      ∷ item (codes "a") 4 0 Reg
-      ∷ item (codes "k") 14 1 Reg
-      ∷ item (codes "initial@6:3") 19 0 Initial
+      ∷ object (codes "a") 4 0 Reg
+      ∷ object (codes "k") 14 1 Reg
+      ∷ object (codes "initial@6:3") 19 0 Initial
       ∷ [];
   viewports = [];
   authors = codes "acme" ∷ [];
+}
+
+abbrev word : ℕ → ℕ → Token
+word from to = record { kind = Name; start = from; end = to; line = 1; column = 1; directive = false }
+
+-- `initial begin a = 1 'b1; k = a; end`, of which these lists name the words alone
+abbrev source : Source
+source = record {
+  text = codes "a k 'b1";
+  tokens = word 0 1 ∷ word 2 3 ∷ word 4 7 ∷ [];
+  modules = [];
+  items = item.Reg 0 ∷ item.Reg 1 ∷ item.Initial 9 4 ∷ [];
+  statements =
+      statement.Empty ∷ statement.Assign 0 0 ∷ statement.Then 0 1 ∷ statement.Assign 1 1 ∷ statement.Then 2 3 ∷ [];
+  expressions = expression.Literal 9 1 2 ∷ expression.Name 0 ∷ [];
 }
 
 abbrev ann : Member
@@ -63,14 +89,9 @@ ann = record {
 
 abbrev opening : Opening
 opening = record {
-  tree = design;
+  design = record { source = source; tree = tree };
   users = ann ∷ [];
-  limits = record { log = 4194304; book = 65536; sessions = 1 };
-  run = record {
-    values = (Unknown ∷ []) ∷ (One ∷ []) ∷ (Unknown ∷ []) ∷ (Unknown ∷ []) ∷ [];
-    time = 0;
-    finished = false;
-  };
+  limits = record { log = 7; book = 65536; sessions = 1 };
 }
 
 abbrev first : SessionId
@@ -88,13 +109,23 @@ reads handle = event.Ask first (request.Value handle)
 abbrev hidden : Reply
 hidden = reply.Denied (record { by = by.Envelope; envelope = 1; right = right.List }) (codes "acme")
 
+abbrev runs : Event
+runs = event.Ask first (request.Run 0)
+
+abbrev steps : ℕ → Event
+steps k = event.Step k
+
+-- the state behind these events
+abbrev behind : List Event → State
+behind events = fold (after opening) (start opening) events
+
 -- what an event is answered behind others
 abbrev answered : List Event → Event → Reply
-answered events e = answer opening (state_behind opening events) e
+answered events e = answer opening (behind events) e
 
--- why an event is refused behind others
+-- why an event is refused behind others, whose log is not full
 abbrev refused : List Event → Event → Option error.the_data
-refused events e = refusal_of opening (state_behind opening events) e
+refused events e = refusal_of opening false (behind events) e
 
 opened : answered [] opens ≡ reply.Opened first
 opened = refl
@@ -105,8 +136,15 @@ first_handle = refl
 second_handle : answered (opens ∷ asks (codes "top.a") ∷ []) (asks (codes "top.a")) ≡ reply.Handle 2
 second_handle = refl
 
-value_read : answered (opens ∷ asks (codes "top.a") ∷ []) (reads 1) ≡ reply.Value (One ∷ [])
+value_read : answered (opens ∷ asks (codes "top.a") ∷ []) (reads 1) ≡ reply.Value (Unknown ∷ [])
 value_read = refl
+
+value_behind_a_step : answered (opens ∷ asks (codes "top.a") ∷ runs ∷ steps 0 ∷ []) (reads 1) ≡ reply.Value (One ∷ [])
+unfolding is_utf8 chars encode
+value_behind_a_step = refl
+
+time_read : answered (opens ∷ []) (event.Ask first request.Time) ≡ reply.Time 0 false
+time_read = refl
 
 hidden_name : answered (opens ∷ []) (asks (codes "top.k")) ≡ hidden
 hidden_name = refl
@@ -140,11 +178,40 @@ not_open = refl
 reopened : answered (opens ∷ event.Close first ∷ []) opens ≡ reply.Opened (record { user = record { 0 = 0 }; opens = 2 })
 reopened = refl
 
+-- without a run nothing moves; then there is one process, with two events
+before_a_run : refused (opens ∷ []) (steps 0) ≡ Some error.BeyondGoal
+before_a_run = refl
+
+advance_before_a_run : refused (opens ∷ []) event.Advance ≡ Some error.BeyondGoal
+advance_before_a_run = refl
+
+no_such_choice : refused (opens ∷ runs ∷ []) (steps 1) ≡ Some (error.Sim sim.NoSuchChoice)
+unfolding is_utf8 chars encode
+no_such_choice = refl
+
+idle : refused (opens ∷ runs ∷ steps 0 ∷ steps 0 ∷ []) (steps 0) ≡ Some (error.Sim sim.Idle)
+unfolding is_utf8 chars encode
+idle = refl
+
+no_future : refused (opens ∷ runs ∷ steps 0 ∷ steps 0 ∷ []) event.Advance ≡ Some (error.Sim sim.Idle)
+unfolding is_utf8 chars encode
+no_future = refl
+
+-- a full log is told before the goal, and behind a session that is not open
+log_full_first : refusal_of opening true (behind (opens ∷ [])) (steps 0) ≡ Some error.LogFull
+log_full_first = refl
+
+not_open_first : refusal_of opening true (behind []) (reads 1) ≡ Some error.NotOpen
+not_open_first = refl
+
 -- a log with the definition's replies is legal
-abbrev entry : Event → Reply → Entry
-entry e r = record { event = e; reply = r }
+abbrev entry : Event → Reply → Option Change → Entry
+entry e r change = record { event = e; reply = r; change = change; time = 0; finished = false }
 
 legal :
-    IsLegal opening (start opening)
-    (entry opens (reply.Opened first) ∷ entry (asks (codes "top.k")) hidden ∷ entry (event.Close first) reply.Done ∷ [])
-legal = (refl, refl, (refl, refl, (refl, refl, tt)))
+    IsLegal opening []
+    (entry opens (reply.Opened first) None ∷ entry (asks (codes "top.k")) hidden None ∷ entry runs reply.Done None
+    ∷ entry (steps 0) reply.Done (Some (record { object = record { 0 = 1 }; value = One ∷ [] }))
+    ∷ entry (event.Close first) reply.Done None ∷ [])
+unfolding is_utf8 chars encode
+legal = (refl, refl, (refl, refl, (refl, refl, (refl, refl, (refl, refl, tt)))))

@@ -9,3 +9,4 @@ pub mod Worlds
 pub mod Answers
 pub mod History
 pub mod Shown
+pub mod Done

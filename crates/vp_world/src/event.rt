@@ -8,7 +8,7 @@ pub struct SessionId {
     pub opens: u64,
 }
 
-/// What a line asks.
+/// What a line asks (docs/FORMATS.md, "Lines").
 #[derive(Drop)]
 pub enum Request {
     /// To open a session for a user, by his name and token.
@@ -19,9 +19,13 @@ pub enum Request {
     Handle { name: Text },
     /// The value of a handle's object, in binary digits.
     Value { handle: u32 },
+    /// To let the design run until a time, in time units.
+    Run { until: u64 },
+    /// The current time, and whether `$finish` was executed.
+    Time,
 }
 
-/// What can happen to a world.
+/// What can happen to a world (docs/FORMATS.md, "Lines" and "Simulation").
 #[derive(Drop)]
 pub enum Event {
     /// A user opens a session.
@@ -38,4 +42,8 @@ pub enum Event {
     Close {
         session: SessionId,
     },
+    /// The simulation takes the k-th of the events that a step can take.
+    Step(usize),
+    /// The simulation goes on to the time of the next event.
+    Advance,
 }

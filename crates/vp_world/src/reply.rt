@@ -16,6 +16,9 @@ pub enum Refusal {
     SessionsFull,
     BadToken,
     NotOpen,
+    LogFull,
+    BeyondGoal,
+    Simulation,
     NoMemory,
 }
 
@@ -34,6 +37,9 @@ impl Refusal {
             Refusal::SessionsFull => "sessions full",
             Refusal::BadToken => "bad token",
             Refusal::NotOpen => "not open",
+            Refusal::LogFull => "log full",
+            Refusal::BeyondGoal => "beyond the goal",
+            Refusal::Simulation => "simulation",
             Refusal::NoMemory => "no memory",
         }
     }
@@ -49,6 +55,9 @@ impl From<WorldError> for Refusal {
             WorldError::BadToken => Refusal::BadToken,
             WorldError::SessionsFull => Refusal::SessionsFull,
             WorldError::NotOpen => Refusal::NotOpen,
+            WorldError::LogFull => Refusal::LogFull,
+            WorldError::BeyondGoal => Refusal::BeyondGoal,
+            WorldError::Sim(_) => Refusal::Simulation,
             WorldError::NoMemory => Refusal::NoMemory,
         }
     }
@@ -67,6 +76,10 @@ pub enum Reply {
     Value(Bits),
     /// A right is lacking; the author is that of the envelope.
     Denied { denial: Denial, author: Text },
+    /// The user may not let the design run.
+    RunDenied,
+    /// The current time, in time units, and whether `$finish` was executed.
+    Time { time: u64, finished: bool },
     /// Another refusal.
     Error(Refusal),
 }

@@ -121,14 +121,19 @@ fn session_values(rt: HostRuntime) {
     }
 }
 
+/// A world of the design and the policy, with these limits.
+pub fn limited_world(alloc: Global, limits: Limits) -> Option<World> {
+    let checked = Arc::new(alloc, checked(alloc)?).ok()?;
+    World::new(alloc, checked, policy(alloc)?, limits).ok()
+}
+
 /// A world of the design and the policy.
 fn world(alloc: Global) -> Option<World> {
-    let checked = Arc::new(alloc, checked(alloc)?).ok()?;
-    World::new(alloc, checked, policy(alloc)?, Limits::GREATEST).ok()
+    limited_world(alloc, Limits::GREATEST)
 }
 
 /// What a world answers to the opening of a session.
-fn opened(
+pub fn opened(
     alloc: Global,
     world: &mut World,
     name: &str,
@@ -140,7 +145,7 @@ fn opened(
 }
 
 /// A world in which Ann has opened her first session.
-fn open_world(alloc: Global) -> Option<World> {
+pub fn open_world(alloc: Global) -> Option<World> {
     let mut world = world(alloc)?;
     match opened(alloc, &mut world, "ann", "t1")? {
         Ok(Reply::Opened(session)) if session == ANN => Some(world),
@@ -149,7 +154,11 @@ fn open_world(alloc: Global) -> Option<World> {
 }
 
 /// What a world answers to a name that is asked in Ann's session.
-fn handle_in(alloc: Global, world: &mut World, name: &str) -> Option<Result<Reply, WorldError>> {
+pub fn handle_in(
+    alloc: Global,
+    world: &mut World,
+    name: &str,
+) -> Option<Result<Reply, WorldError>> {
     let name = Text::copy(alloc, name).ok()?;
     let request = Request::Handle { name };
     Some(world.apply(Event::Ask {
@@ -222,7 +231,7 @@ fn value_in(alloc: Global, handle: u32) -> Option<Result<Reply, WorldError>> {
 }
 
 /// The digits of a reply's value.
-fn digits_of(alloc: Global, reply: &Reply) -> Option<String> {
+pub fn digits_of(alloc: Global, reply: &Reply) -> Option<String> {
     match reply {
         Reply::Value(value) => value.to_bin(alloc).ok(),
         _ => None,

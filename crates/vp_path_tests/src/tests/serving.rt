@@ -29,17 +29,46 @@ fn request_without_text(rt: HostRuntime) {
     assert!(rt; matches!(close, Ok(Request::Close)));
     let value = request(rt.alloc(), b"{\"op\":\"value\",\"h\":7}");
     assert!(rt; matches!(value, Ok(Request::Value { handle: 7 })));
+    let time = request(rt.alloc(), b"{\"op\":\"time\"}");
+    assert!(rt; matches!(time, Ok(Request::Time)));
+    let run = request(
+        rt.alloc(),
+        b"{\"op\":\"run\",\"until\":4611686018427387903}",
+    );
+    assert!(rt;
+        matches!(
+            run,
+            Ok(Request::Run {
+                until: 4_611_686_018_427_387_903
+            })
+        )
+    );
+    let late = request(
+        rt.alloc(),
+        b"{\"op\":\"run\",\"until\":4611686018427387904}",
+    );
+    assert!(rt; matches!(late, Err(WireError::BadRequest)));
     let unknown = request(rt.alloc(), b"{\"op\":\"tim\"}");
     assert!(rt; matches!(unknown, Err(WireError::BadRequest)));
 }
 
 #[test]
 fn reply_lines(rt: HostRuntime) {
-    let rows: [(Reply, &[u8]); 5] = [
+    let time = 7;
+    let finished = false;
+    let rows: [(Reply, &[u8]); 7] = [
         (Reply::Opened(ANN), b"{\"ok\":true}\n"),
         (Reply::Done, b"{\"ok\":true}\n"),
         (Reply::Handle(7), b"{\"h\":7}\n"),
         (Reply::Value(Bits::unknown(2)), b"{\"value\":\"xx\"}\n"),
+        (
+            Reply::Time { time, finished },
+            b"{\"finished\":false,\"time\":7}\n",
+        ),
+        (
+            Reply::RunDenied,
+            b"{\"denied\":{\"author\":\"\",\"by\":\"grant\",\"no\":0,\"right\":\"run\"}}\n",
+        ),
         (
             Reply::Error(Refusal::BadHandle),
             b"{\"error\":\"bad handle\"}\n",
@@ -78,7 +107,7 @@ impl Caller for Counter {
         match request {
             Request::Open { .. } => Reply::Opened(ANN),
             Request::Close => Reply::Done,
-            Request::Handle { .. } | Request::Value { .. } => Reply::Handle(self.calls),
+            _ => Reply::Handle(self.calls),
         }
     }
 }

@@ -1,4 +1,4 @@
-use Rattle.std.proofs.Common.{◌≡◌, List, ℕ, map, ◌∙◌, ap}
+use Rattle.std.proofs.Common.{map, ◌∙◌, ap}
 use Rattle.vp_elab.specs.declared.scope.Scope.{Scope}
 use Rattle.vp_elab.specs.declared.scope.Modules.{Modules}
 use Rattle.vp_elab.proofs.Twice.{names_of_scopes}

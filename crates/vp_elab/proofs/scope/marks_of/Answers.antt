@@ -1,4 +1,4 @@
-use Rattle.std.proofs.Common.{◌≡◌, ◌∙◌, ap, sym, true, false, get_or, arith}
+use Rattle.std.proofs.Common.{◌∙◌, ap, true, false, arith}
 use Rattle.std.proofs.lemmas.List.{get_or-replicate, length-replicate, length-set}
 use Rattle.vp_parse.specs.declared.source.Item.TheVariants.{Reg}
 use Rattle.vp_pragma.specs.Envelopes.{envelope_at}

@@ -1,4 +1,4 @@
-use Rattle.std.proofs.Common.{◌≡◌, List, ℕ, Bool, suc, ◌==◌, ◌∙◌, ap, subst, false, filter, get_or, length, map, arith}
+use Rattle.std.proofs.Common.{◌≡◌, List, ℕ, suc, ◌==◌, ◌∙◌, ap, subst, false, filter, get_or, map, arith}
 use Rattle.std.specs.Prelude.{IfOk}
 use Rattle.std.specs.List.{list_any}
 use Rattle.vp_parse.specs.declared.source.Module.{Module}

@@ -1,5 +1,5 @@
-use Rattle.std.proofs.Common.{rules, ◌≡◌, ◌∙◌, ap, Some, None, Option, List, ℕ}
-use Rattle.std.specs.Prelude.{IfSome, IsUtf8, option_map}
+use Rattle.std.proofs.Common.{rules, ◌∙◌, ap}
+use Rattle.std.specs.Prelude.{option_map}
 use Rattle.vp_list.specs.Texts.{behind_part}
 use Rattle.vp_pragma.proofs.RightBits.{access_last, access_next}
 use Rattle.vp_pragma.specs.Rights.{either, set_of}

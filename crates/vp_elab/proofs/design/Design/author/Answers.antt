@@ -1,4 +1,4 @@
-use Rattle.std.proofs.Common.{◌≡◌, ◌∙◌, ap}
+use Rattle.std.proofs.Common.{◌∙◌, ap}
 use Rattle.vp_elab.specs.Tree.{author_in}
 use Rattle.vp_elab.specs.Built.{Elaborated}
 use Rattle.vp_elab.proofs.Authors.{author_is}

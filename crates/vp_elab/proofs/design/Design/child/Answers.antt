@@ -1,4 +1,4 @@
-use Rattle.std.proofs.Common.{◌<◌, ◌+◌, arith}
+use Rattle.std.proofs.Common.{arith}
 use Rattle.vp_elab.proofs.BuiltTables.{child_some, child_small, child_none}
 use Rattle.vp_elab.proofs.design.Design.child.Goals as goal
 

@@ -1,4 +1,4 @@
-use Rattle.std.proofs.Common.{◌≡◌, ◌∙◌, ap, sym, ℕ, Option, None}
+use Rattle.std.proofs.Common.{◌∙◌, ap, sym, Option, None}
 use Rattle.std.specs.Prelude.{option_map}
 use Rattle.vp_elab.specs.declared.object.ObjectId.{ObjectId}
 use Rattle.vp_elab.specs.Tree.{declared_envelopes}

@@ -1,8 +1,7 @@
-use Rattle.std.proofs.Common.{◌≡◌, ◌∙◌, ap, List, map, replicate, arith}
+use Rattle.std.proofs.Common.{◌∙◌, ap, List, map, replicate, arith}
 use Rattle.std.proofs.lemmas.List.{take_all}
 use Rattle.vp_bits.specs.declared.bit.Bit.TheVariants.{Unknown}
 use Rattle.vp_elab.specs.declared.object.Object.{Object}
-use Rattle.vp_elab.specs.Tree.{Node}
 use Rattle.vp_elab.specs.Built.{Elaborated}
 use Rattle.vp_expr.specs.Start.{start_value}
 use Rattle.vp_expr.specs.Values.{start_of}

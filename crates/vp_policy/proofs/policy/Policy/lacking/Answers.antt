@@ -1,5 +1,5 @@
-use Rattle.std.proofs.Common.{◌≡◌, ◌∙◌, ap, sym, Option, Some, true, false}
-use Rattle.vp_pragma.specs.Rights.{RightSet, has}
+use Rattle.std.proofs.Common.{◌≡◌, ◌∙◌, ap, sym, Option, true, false}
+use Rattle.vp_pragma.specs.Rights.{has}
 use Rattle.vp_elab.specs.declared.object.ObjectId.{ObjectId}
 use Rattle.vp_policy.specs.Users.{Member, granted, member_at}
 use Rattle.vp_policy.proofs.Walks.{denial_left, first_denial, having_step, lacking_step}

@@ -1,4 +1,4 @@
-use Rattle.std.proofs.Common.{◌≡◌, ◌∙◌, ap, sym, true, false}
+use Rattle.std.proofs.Common.{◌∙◌, ap, sym, true, false}
 use Rattle.std.specs.Str.{bytes_eq}
 use Rattle.vp_policy.proofs.MemberLaws.{login_found, login_none}
 use Rattle.vp_policy.proofs.policy.Policy.login.Goals as goal

@@ -1,4 +1,4 @@
-use Rattle.std.proofs.Common.{rules, ◌≡◌, ◌∙◌, ◌++◌, ◌∷◌, [], ap, sym, Option, Some, List, ℕ}
+use Rattle.std.proofs.Common.{rules, ◌∙◌, ◌++◌, ◌∷◌, [], ap, Option, List, ℕ}
 use Rattle.std.specs.Prelude.{option_map}
 use Rattle.vp_list.specs.Texts.{behind_part}
 use Rattle.vp_elab.specs.declared.object.ObjectId.{ObjectId}

@@ -1,4 +1,4 @@
-use Rattle.std.proofs.Common.{◌∙◌, ap, sym}
+use Rattle.std.proofs.Common.{ap, sym}
 use Rattle.vp_policy.specs.Users.{Member}
 use Rattle.vp_policy.proofs.MemberLaws.{member_there}
 use Rattle.vp_policy.proofs.policy.Policy.open_rights.Goals as goal

@@ -1,9 +1,8 @@
-use Rattle.std.proofs.Common.{◌≡◌, ◌∙◌, ap, sym, subst, ◌+◌, List, [], ℕ, map}
+use Rattle.std.proofs.Common.{◌∙◌, ap, sym, subst, ◌+◌, List, [], ℕ, map}
 use Rattle.vp_list.specs.Texts.{parts}
 use Rattle.vp_policy.specs.Filter.{look_of}
 use Rattle.vp_policy.specs.Users.{member_at}
 use Rattle.vp_elab.specs.declared.object.ObjectId.{ObjectId}
-use Rattle.vp_policy.specs.declared.denial.Look.{Look}
 use Rattle.vp_vpi.specs.Bounds.{AtMost}
 use Rattle.vp_vpi.specs.Observers.{Seat, handle_of, with_handle}
 use Rattle.vp_vpi.proofs.HandleLaws.{at_most_next, insert_last, made_next, made_ok, shown}

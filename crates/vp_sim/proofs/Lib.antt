@@ -1,0 +1,4 @@
+pub mod Beginning
+pub mod Stacking
+pub mod Changes
+pub mod StepRows

@@ -1,0 +1,57 @@
+-- A log with one entry more.
+use Rattle.std.proofs.Common.{◌≡◌, ◌∙◌, Bool, List, [], ◌∷◌, ◌++◌, Option, Some, None, Result, Err, ℕ, refl, sym, ap, subst, append_assoc, append-nil}
+use Rattle.std.specs.Prelude.{IfErr, fold}
+use Rattle.vp_sim.specs.declared.change.Change.{Change}
+use Rattle.vp_world.specs.declared.fault.WorldError.{WorldError}
+use Rattle.vp_world.specs.declared.reply.Reply.{Reply}
+use Rattle.vp_world.specs.declared.entry.Entry.{Entry}
+use Rattle.vp_world.specs.History.{Explains, IsLegal, Keeps, after, answer, changed, entry_of, refusal_behind, state_behind}
+use Rattle.vp_world.specs.Worlds.{Opening, Standing, State, start}
+
+-- a left fold of one item more
+pub fold_more : {A B : Type 0} (f : B → A → B) (a : B) (xs : List A) (y : A) → fold f a (xs ++ y ∷ []) ≡ f (fold f a xs) y
+fold_more f a [] y = refl
+fold_more f a (x ∷ xs) y = fold_more f (f a x) xs y
+
+-- the state that it leads to
+pub state_more : (opening : Opening) (log : List Entry) (e : Entry) → state_behind opening (log ++ e ∷ []) ≡ after opening (state_behind opening log) e.event
+state_more opening log e = fold_more (λ s (x : Entry). after opening s x.event) (start opening) log e
+
+-- it is legal, if the entry is
+pub legal_more : (opening : Opening) (before log : List Entry) (e : Entry) → IsLegal opening before log → refusal_behind opening (before ++ log) e.event ≡ None → e ≡ entry_of opening (state_behind opening (before ++ log)) e.event → IsLegal opening before (log ++ e ∷ [])
+legal_more opening before [] e legal accepted is = (
+  subst (λ l. refusal_behind opening l e.event ≡ None) (append-nil before) accepted,
+  subst (λ l. e ≡ entry_of opening (state_behind opening l) e.event) (append-nil before) is,
+  tt,
+)
+legal_more opening before (x ∷ log) e (first_accepted, first_is, legal) accepted is =
+    let same : before ++ x ∷ log ≡ (before ++ x ∷ []) ++ log = sym (append_assoc before (x ∷ []) log) in (
+      first_accepted,
+      first_is,
+      legal_more opening (before ++ x ∷ []) log e legal
+          (subst (λ l. refusal_behind opening l e.event ≡ None) same accepted)
+          (subst (λ l. e ≡ entry_of opening (state_behind opening l) e.event) same is),
+    )
+
+-- an entry by its parts
+pub entry_is : (opening : Opening) (s behind : State) (e : Entry) → s ≡ behind → e.reply ≡ answer opening s e.event → e.change ≡ changed s e.event → e.time ≡ (after opening s e.event).run.time → e.finished ≡ (after opening s e.event).run.finished → e ≡ entry_of opening behind e.event
+entry_is opening s behind e is reply change time finished =
+    ap (λ (r : Reply). (let x : Entry = record { event = e.event; reply = r; change = e.change; time = e.time; finished = e.finished } in x)) reply
+    ∙ ap (λ (c : Option Change). (let x : Entry = record { event = e.event; reply = answer opening s e.event; change = c; time = e.time; finished = e.finished } in x)) change
+    ∙ ap (λ (t : ℕ). (let x : Entry = record { event = e.event; reply = answer opening s e.event; change = changed s e.event; time = t; finished = e.finished } in x)) time
+    ∙ ap (λ (f : Bool). (let x : Entry = record { event = e.event; reply = answer opening s e.event; change = changed s e.event; time = (after opening s e.event).run.time; finished = f } in x)) finished
+    ∙ ap (λ (b : State). entry_of opening b e.event) is
+
+-- a world keeps its log with one entry more
+pub keeps_more : (w next : Standing) (log more : List Entry) (e : Entry) → Keeps w log → next ≡ record { opening = w.opening; state = after w.opening w.state e.event } → more ≡ log ++ e ∷ [] → refusal_behind w.opening log e.event ≡ None → e ≡ entry_of w.opening (state_behind w.opening log) e.event → Keeps next more
+keeps_more w next log more e keeps is added accepted entry =
+    subst (λ n. Keeps n more) (sym is)
+    (subst (λ l. Keeps (record { opening = w.opening; state = after w.opening w.state e.event }) l) (sym added)
+    (record {
+      state = ap (λ s. after w.opening s e.event) keeps.state ∙ sym (state_more w.opening log e);
+      legal = legal_more w.opening [] log e keeps.legal accepted entry;
+    }))
+
+-- a refusal explains itself
+pub explained : {A : Type 0} (r : Result A WorldError) (e : WorldError) (refusal : Option WorldError) → r ≡ Err e → refusal ≡ Some e → IfErr r (λ x. Explains refusal x)
+explained r e refusal is told = subst (λ x. IfErr x (λ y. Explains refusal y)) (sym is) (subst (λ x. Explains x e) (sym told) refl)
