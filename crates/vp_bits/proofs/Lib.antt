@@ -2,3 +2,10 @@ pub mod Vectors
 pub mod Reading
 pub mod Writing
 pub mod Rows
+pub mod Formulas
+pub mod Operands
+pub mod Numbers
+pub mod Shapes
+pub mod Comparisons
+pub mod Laws
+pub mod OperationRows

@@ -1,8 +1,8 @@
 -- Laws of vectors: the lowest bits, one bit, other widths, ones, one more bit, and when two are one.
 use Rattle.std.proofs.Common.{◌≡◌, ℕ, zero, suc, ◌+◌, ◌-◌, ◌*◌, ◌/◌, ◌%◌, ◌^◌, ◌<◌, ◌≤◌, ◌∷◌, Some, length, replicate, slice_get, bit_and, ◌==◌, ◌&&◌, refl, ap, sym, ◌∙◌, arith, add-one, lit<}
 use Rattle.std.proofs.Math.Nat.{pow-suc}
-use Rattle.std.proofs.lemmas.Nat.{and_mask, mod-pow-add, pow_pos}
-use Rattle.std.proofs.lemmas.Nat.Bits.{ones_shr, shr_and_one, bit_at_lowest, bit_at-suc}
+use Rattle.std.proofs.lemmas.Nat.{mod-pow-add, pow_pos}
+use Rattle.std.proofs.lemmas.Nat.Bits.{shr_and_one, bit_at_lowest, bit_at-suc}
 use Rattle.std.proofs.lemmas.Bool.Decides.{Decides-and, Decides-eqb, Decides-like}
 use Rattle.std.specs.Bool.{Decides}
 use Rattle.vp_bits.specs.declared.bit.Bit.{Bit}
@@ -11,12 +11,6 @@ use Rattle.vp_bits.specs.Vector.{bits_of, bit_from, aval_bit, bval_bit, aval_of,
 use Rattle.vp_bits.specs.Words.{length-bits_of, aval_of-bits_of, bval_of-bits_of, half_below}
 
 -- ---- the lowest bits of a word
-
-pub low_by_mask : (word width rest : ℕ) → width + rest ≡ 64 → bit_and word ((2 ^ 64 - 1) / 2 ^ rest) ≡ word % 2 ^ width
-low_by_mask word width rest h =
-    let within : rest ≤ 64 = omega arith in
-    let left : 64 - rest ≡ width = omega arith in
-    rw (ones_shr 64 rest within, left) (and_mask word width)
 
 -- a word below the width is its rest and its first bit
 low_step : (n width : ℕ) → n % 2 ^ suc width ≡ n / 2 % 2 ^ width * 2 + n % 2
@@ -34,6 +28,11 @@ bits_of-low zero aval bval = refl
 bits_of-low (suc width) aval bval =
     rw (first_of_low aval width, first_of_low bval width, rest_of_low aval width, rest_of_low bval width, bits_of-low width (aval / 2) (bval / 2)) refl
 
+pub bits_of-low_known : (width aval : ℕ) → bits_of width (aval % 2 ^ width) 0 ≡ bits_of width aval 0
+bits_of-low_known width aval =
+    let none : 0 % 2 ^ width ≡ 0 = omega arith in
+    ap (bits_of width (aval % 2 ^ width)) (sym none) ∙ bits_of-low width aval 0
+
 -- ---- one bit
 
 pub slice_get-bits_of : (width aval bval k : ℕ) → k < width → slice_get (bits_of width aval bval) k ≡ Some (bit_from (bit_and (aval / 2 ^ k) 1) (bit_and (bval / 2 ^ k) 1))
@@ -46,7 +45,7 @@ slice_get-bits_of (suc width) aval bval (suc k) h =
 
 -- ---- other widths
 
-bits_of_zeros : (width : ℕ) → bits_of width 0 0 ≡ replicate width Zero
+pub bits_of_zeros : (width : ℕ) → bits_of width 0 0 ≡ replicate width Zero
 bits_of_zeros zero = refl
 bits_of_zeros (suc width) = ap (λ bits. Zero ∷ bits) (bits_of_zeros width)
 
@@ -64,10 +63,10 @@ bits_of-resized (suc other) (suc width) aval bval p q =
 
 -- ---- ones
 
-first_of_ones : (n : ℕ) → (2 ^ suc n - 1) % 2 ≡ 1
+pub first_of_ones : (n : ℕ) → (2 ^ suc n - 1) % 2 ≡ 1
 first_of_ones n = omega (arith, pow-suc 2 n, pow_pos n)
 
-rest_of_ones : (n : ℕ) → (2 ^ suc n - 1) / 2 ≡ 2 ^ n - 1
+pub rest_of_ones : (n : ℕ) → (2 ^ suc n - 1) / 2 ≡ 2 ^ n - 1
 rest_of_ones n = omega (arith, pow-suc 2 n, pow_pos n)
 
 pub bits_of_ones : (width n : ℕ) → width ≤ n → bits_of width (2 ^ n - 1) (2 ^ n - 1) ≡ replicate width Unknown
@@ -84,6 +83,14 @@ bits_of_zeros_ones (suc width) zero h = absurd (omega arith)
 bits_of_zeros_ones (suc width) (suc n) h =
     let rest : width ≤ n = omega arith in
     rw (first_of_ones n, rest_of_ones n, bits_of_zeros_ones width n rest) refl
+
+-- the bits of a word of ones and one of zeros
+pub bits_of_known_ones : (width n : ℕ) → width ≤ n → bits_of width (2 ^ n - 1) 0 ≡ replicate width One
+bits_of_known_ones zero n h = refl
+bits_of_known_ones (suc width) zero h = absurd (omega arith)
+bits_of_known_ones (suc width) (suc n) h =
+    let rest : width ≤ n = omega arith in
+    rw (first_of_ones n, rest_of_ones n, bits_of_known_ones width n rest) refl
 
 -- ---- one more bit, below the others
 

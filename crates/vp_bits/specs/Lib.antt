@@ -1,5 +1,9 @@
 pub mod Digits
 pub mod Vector
+pub mod Tables
+pub mod Arithmetic
+pub mod Comparing
+pub mod Shaping
 pub mod Codes
 pub mod Words
 pub mod Inverse

@@ -14,13 +14,13 @@ length-bits_of zero aval bval = refl
 length-bits_of (suc width) aval bval = ap suc (length-bits_of width (aval / 2) (bval / 2))
 
 -- a bit is put back into the words that it came from
-aval_bit-bit_from : (a b : ℕ) → a < 2 → aval_bit (bit_from a b) ≡ a
+pub aval_bit-bit_from : (a b : ℕ) → a < 2 → aval_bit (bit_from a b) ≡ a
 aval_bit-bit_from zero zero h = refl
 aval_bit-bit_from (suc a) zero h = omega arith
 aval_bit-bit_from zero (suc b) h = refl
 aval_bit-bit_from (suc a) (suc b) h = omega arith
 
-bval_bit-bit_from : (a b : ℕ) → b < 2 → bval_bit (bit_from a b) ≡ b
+pub bval_bit-bit_from : (a b : ℕ) → b < 2 → bval_bit (bit_from a b) ≡ b
 bval_bit-bit_from zero zero h = refl
 bval_bit-bit_from (suc a) zero h = refl
 bval_bit-bit_from zero (suc b) h = omega arith
@@ -44,7 +44,7 @@ bval_of-bits_of (suc width) aval bval h =
 
 -- ---- the same bits
 
-same_bit-same : (bit other : Bit) → same_bit bit other ≡ true → bit ≡ other
+pub same_bit-same : (bit other : Bit) → same_bit bit other ≡ true → bit ≡ other
 same_bit-same Zero Zero h = refl
 same_bit-same Zero One h = cc
 same_bit-same Zero Unknown h = cc

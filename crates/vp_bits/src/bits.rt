@@ -1,9 +1,16 @@
-ghost use Rattle.std.specs.Prelude.{◌≡◌, ◌<◌, ◌%◌, ◌^◌, ◌↔◌, ◌⊎◌, ℕ, List, Some, length, map, reverse, replicate, slice_get, string_bytes, IfOk, IsTrue, IsOk, IsSome, IsNone, IsErrOf, IsOkUnless};
+ghost use Rattle.std.specs.Prelude.{◌≡◌, ◌<◌, ◌-◌, ◌%◌, ◌^◌, ◌↔◌, ◌⊎◌, ℕ, List, [], ◌∷◌, Some, bit_and, bit_xor, length, map, reverse, replicate, slice_get, string_bytes, IfOk, IsTrue, IsOk, IsSome, IsNone, IsErrOf, IsOkUnless};
 ghost use Rattle.std.specs.Cmp.{partial_equiv_from_equiv};
-ghost use Rattle.vp_bits.specs.declared.bit.Bit.TheVariants.{HighImpedance, Unknown};
+ghost use Rattle.vp_bits.specs.declared.bit.Bit.TheVariants.{HighImpedance, Unknown, Zero};
+ghost use Rattle.vp_bits.specs.Arithmetic.{bits_of_number};
 ghost use Rattle.vp_bits.specs.Digits.{digits_bits, digit_of};
 ghost use Rattle.vp_bits.specs.Vector.{IsWidth, resized, same_bits};
 ghost use Rattle.vp_bits.specs.Words.{same_bits_equiv};
+
+mod arithmetic;
+mod bitwise;
+mod comparing;
+mod reducing;
+mod shaping;
 
 use crate::{Bit, BitsError};
 use std::alloc::Global;
@@ -96,8 +103,8 @@ impl Bits {
     {
         Bits {
             width,
-            aval: low(self.aval, width),
-            bval: low(self.bval, width),
+            aval: lowest(self.aval, width),
+            bval: lowest(self.bval, width),
         }
     }
 
@@ -114,11 +121,11 @@ impl Bits {
         requires { IsWidth width }
         ensures { result ≡ replicate width Unknown }
     {
-        let ones = low(u64::MAX, width);
+        let all = ones(width);
         Bits {
             width,
-            aval: ones,
-            bval: ones,
+            aval: all,
+            bval: all,
         }
     }
 
@@ -130,7 +137,42 @@ impl Bits {
         Bits {
             width,
             aval: 0,
-            bval: low(u64::MAX, width),
+            bval: ones(width),
+        }
+    }
+
+    // The vector whose every bit is 0.
+    fn zeros(width: u8) -> Bits
+        requires { IsWidth width }
+        ensures { result ≡ replicate width Zero }
+    {
+        Bits {
+            width,
+            aval: 0,
+            bval: 0,
+        }
+    }
+
+    // The vector of a number's lowest digits.
+    fn of_number(width: u8, number: u64) -> Bits
+        requires { IsWidth width }
+        ensures { result ≡ bits_of_number width number }
+    {
+        Bits {
+            width,
+            aval: lowest(number, width),
+            bval: 0,
+        }
+    }
+
+    // The vector of one bit.
+    fn of_bit(bit: Bit) -> Bits
+        ensures { result ≡ bit ∷ [] }
+    {
+        Bits {
+            width: 1,
+            aval: bit.aval(),
+            bval: bit.bval(),
         }
     }
 
@@ -160,10 +202,25 @@ impl Eq for Bits {
     ghost laws = { same_bits_equiv };
 }
 
+// The word whose lowest bits are 1, as many as the width says.
+fn ones(width: u8) -> u64
+    requires { IsWidth width }
+    ensures { result ≡ 2 ^ width - 1 }
+{
+    u64::MAX >> (64 - width)
+}
+
 // The lowest bits of a word, as many as the width says.
-fn low(word: u64, width: u8) -> u64
+fn lowest(word: u64, width: u8) -> u64
     requires { IsWidth width }
     ensures { result ≡ word % 2 ^ width }
 {
-    word & (u64::MAX >> (64 - width))
+    word & ones(width)
+}
+
+// The bits of a word that are not in the other.
+fn without(word: u64, other: u64) -> u64
+    ensures { result ≡ bit_xor word (bit_and word other) }
+{
+    word & !other
 }

@@ -1,123 +1,96 @@
 -- A cut is what is computed, and what is computed needs no more turns than bytes.
-use Rattle.std.proofs.Common.{◌≡◌, ℕ, zero, suc, ◌+◌, ◌≤◌, Bool, true, false, List, [], ◌∷◌, ◌++◌, length, take, drop, Option, Some, None, Result, Ok, Err, refl, sym, ◌∙◌, ap, subst, arith}
-use Rattle.std.specs.Prelude.{bytes_eq, codes, option_map}
-use Rattle.std.specs.List.{prefix_len, list_all, take_while}
-use Rattle.std.proofs.lemmas.Bool.{and_parts, eqb-true}
+use Rattle.std.proofs.Common.{◌≡◌, ℕ, zero, suc, ◌+◌, ◌≤◌, true, inl, inr, List, [], ◌∷◌, ◌++◌, length, drop, Option, Some, None, Result, Ok, Err, refl, sym, ◌∙◌, ap, subst, arith}
+use Rattle.std.proofs.lemmas.List.{length-append}
 use Rattle.vp_lex.specs.declared.piece.Fault.{Fault}
-use Rattle.vp_lex.specs.Bytes.{is_space, is_newline, begins_name, goes_on_name, goes_on_number, is_base_letter, is_binary_digit, goes_on_digits, is_quote, is_backslash}
-use Rattle.vp_lex.specs.Pieces.{PieceKind, WhiteSpace, Word, Number, BasePart, Quoted, Operator, Directive, Piece, is_read, IsRead, is_run, behind_space, ends_base_part, ends_string, is_word}
-use Rattle.vp_lex.specs.Cuts.{Longest, Cut, Refusal}
-use Rattle.vp_lex.specs.Cutting.{kind_begun, run_front, or_bad, behind_byte, digits_front, base_front, string_front, known_directive, front_of, piece_of, piece_begun, first_piece, on_piece, behind_piece, cut_from, cut_text}
-use Rattle.vp_lex.proofs.Fronts.{Reaches}
-use Rattle.vp_lex.proofs.FirstBytes.{begins, ends, begins-from, ends_decide}
-use Rattle.vp_lex.proofs.Reaching.{on_test, spaced_digits, behind_space-yes, behind_space-no, digits_yes, digits_no, reaches_run_front}
-use Rattle.vp_lex.proofs.CutLaws.{first_piece_found, one_longest, same_front, front_kind, piece_has_byte, no_piece_of_nothing, rest_is, rest_shorter, none_left}
-
--- ---- what ends as it should is found
-
--- it is found
-abbrev pub Gives : Result (List ℕ) Fault → Type 0
-Gives r = (found : List ℕ) × (r ≡ Ok found)
-
-pub run_found : (begins goes_on : ℕ → Bool) (tail rest : List ℕ) → is_run begins goes_on tail ≡ true → (found : List ℕ) × (run_front begins goes_on (tail ++ rest) ≡ Some found)
-run_found begins goes_on [] rest h = absurd cc
-run_found begins goes_on (b ∷ tail) rest h =
-    let e : begins b ≡ true = (and_parts (begins b) (list_all goes_on tail) h).0 in
-    (b ∷ take_while goes_on (tail ++ rest), rw e refl)
-
-map_more : (b : ℕ) (f : List ℕ → List ℕ) (o : Option (List ℕ)) (found : List ℕ) → option_map f o ≡ Some found → option_map (λ x. b ∷ f x) o ≡ Some (b ∷ found)
-map_more b f None found h = absurd cc
-map_more b f (Some x) found h = let e : f x ≡ found = cc in ap (λ (y : List ℕ). (let o : Option (List ℕ) = Some (b ∷ y) in o)) e
-
-digits_found : (tail rest : List ℕ) → spaced_digits tail ≡ true → (found : List ℕ) × (digits_front (tail ++ rest) ≡ Some found)
-digits_found [] rest h = absurd cc
-digits_found (b ∷ tail) rest h =
-    on_test ((found : List ℕ) × (digits_front (b ∷ (tail ++ rest)) ≡ Some found)) (is_space b)
-    (λ e.
-    let f = digits_found tail rest (ap (is_run is_binary_digit goes_on_digits) (sym (behind_space-yes b tail e)) ∙ h) in
-    let bytes : List ℕ = tail ++ rest in
-    (b ∷ f.0, digits_yes b bytes e ∙ map_more b (λ digits. take (prefix_len is_space bytes) bytes ++ digits) (run_front is_binary_digit goes_on_digits (behind_space bytes)) f.0 f.1))
-    (λ e.
-    let f = run_found is_binary_digit goes_on_digits (b ∷ tail) rest (ap (is_run is_binary_digit goes_on_digits) (sym (behind_space-no b tail e)) ∙ h) in
-    (f.0, digits_no b (tail ++ rest) e ∙ f.1))
-
-base_step : (b : ℕ) (bytes found : List ℕ) → is_base_letter b ≡ true → digits_front bytes ≡ Some found → base_front (b ∷ bytes) ≡ Ok (b ∷ found)
-base_step b bytes found e h = rw e (ap (λ (o : Option (List ℕ)). behind_byte b (or_bad o)) h)
-
-pub base_found : (tail rest : List ℕ) → ends_base_part tail ≡ true → Gives (base_front (tail ++ rest))
-base_found [] rest h = absurd cc
-base_found (b ∷ tail) rest h =
-    let parts = and_parts (is_base_letter b) (spaced_digits tail) h in
-    let e : is_base_letter b ≡ true = parts.0 in
-    let f = digits_found tail rest parts.1 in
-    (b ∷ f.0, base_step b (tail ++ rest) f.0 e f.1)
-
-string_step : (b : ℕ) (bytes found : List ℕ) → is_quote b ≡ false → is_newline b ≡ false → is_backslash b ≡ false → string_front bytes ≡ Ok found → string_front (b ∷ bytes) ≡ Ok (b ∷ found)
-string_step b bytes found q n s h = rw (q, n, s) (ap (behind_byte b) h)
-
-pub string_found : (tail rest : List ℕ) → ends_string tail ≡ true → Gives (string_front (tail ++ rest))
-string_found [] rest h = absurd cc
-string_found (b ∷ tail) rest h =
-    let bytes : List ℕ = tail ++ rest in
-    on_test (Gives (string_front (b ∷ bytes))) (is_quote b)
-    (λ q. (b ∷ [], rw q refl))
-    (λ q. on_test (Gives (string_front (b ∷ bytes))) (is_newline b)
-    (λ n. let h : false ≡ true = rw (q, n) at h in absurd cc)
-    (λ n. on_test (Gives (string_front (b ∷ bytes))) (is_backslash b)
-    (λ s. let h : false ≡ true = rw (q, n, s) at h in absurd cc)
-    (λ s.
-    let h : ends_string tail ≡ true = rw (q, n, s) at h in
-    let f = string_found tail rest h in
-    (b ∷ f.0, string_step b bytes f.0 q n s f.1))))
-
--- no longer front ends as it should
-abbrev pub NoLonger : (List ℕ → Bool) → List ℕ → List ℕ → Type 0
-NoLonger test bytes tail = (other behind : List ℕ) → bytes ≡ other ++ behind → test other ≡ true → length other ≤ length tail
-
-directive_found : (b : ℕ) (tail rest : List ℕ) → begins Directive b ≡ true → is_word tail ≡ true → is_read Directive (b ∷ tail) ≡ true → NoLonger is_word (tail ++ rest) tail → Gives (known_directive (run_front begins_name goes_on_name (tail ++ rest)))
-directive_found b tail rest begun h known longest =
-    let f = run_found begins_name goes_on_name tail rest h in
-    let r : Reaches is_word (tail ++ rest) f.0 = reaches_run_front begins_name goes_on_name (tail ++ rest) f.0 f.1 in
-    let up : length f.0 ≤ length tail = longest f.0 r.rest r.splits r.passes in
-    let down : length tail ≤ length f.0 = r.longest tail rest refl h in
-    let same : f.0 ≡ tail = same_front f.0 tail r.rest rest (sym r.splits) (omega arith) in
-    let accent : b ≡ 96 = eqb-true b 96 begun in
-    let name : bytes_eq tail (codes "pragma") ≡ true = rw accent at known in
-    let found : run_front begins_name goes_on_name (tail ++ rest) ≡ Some tail = f.1 ∙ ap (λ (x : List ℕ). (let o : Option (List ℕ) = Some x in o)) same in
-    (tail, ap known_directive found ∙ rw name refl)
-
-kind_found : (kind : PieceKind) (b : ℕ) (tail rest : List ℕ) → begins kind b ≡ true → ends kind tail ≡ true → is_read kind (b ∷ tail) ≡ true → NoLonger (ends kind) (tail ++ rest) tail → Gives (front_of kind (tail ++ rest))
-kind_found WhiteSpace b tail rest begun h known longest = (take_while is_space (tail ++ rest), refl)
-kind_found Word b tail rest begun h known longest = (take_while goes_on_name (tail ++ rest), refl)
-kind_found Number b tail rest begun h known longest = (take_while goes_on_number (tail ++ rest), refl)
-kind_found BasePart b tail rest begun h known longest = base_found tail rest h
-kind_found Quoted b tail rest begun h known longest = string_found tail rest h
-kind_found Operator b tail rest begun h known longest = ([], refl)
-kind_found Directive b tail rest begun h known longest = directive_found b tail rest begun h known longest
+use Rattle.vp_lex.specs.declared.piece.Fault.TheVariants.{BadCharacter, OpenComment, OpenString, UnknownDirective}
+use Rattle.vp_lex.specs.Pieces.{PieceKind, Comment, Piece, is_piece, IsRead, unread}
+use Rattle.vp_lex.specs.Cuts.{Longest, Cut, NoPiece, NotRead, Explains, Refusal}
+use Rattle.vp_lex.specs.Cutting.{kind_in_front, front_of, piece_of, piece_begun, first_piece, on_piece, behind_piece, cut_from, cut_text}
+use Rattle.vp_lex.proofs.FirstBytes.{begins-from, front_kind, no_empty_piece, ends_decide}
+use Rattle.vp_lex.proofs.Shows.{Shows, shows}
+use Rattle.vp_lex.proofs.CutLaws.{first_piece_found, longest_shown, two_bytes, one_longest, piece_has_byte, no_piece_of_nothing, rest_is, rest_shorter, none_left}
 
 -- ---- one piece
 
--- a longest piece that is read is found, by its bytes
-found_by : (kind : PieceKind) (bytes rest : List ℕ) → Longest (bytes ++ rest) (record { kind = kind; bytes = bytes }) rest → is_read kind bytes ≡ true → (found : Piece) × (first_piece (bytes ++ rest) ≡ Ok found)
-found_by kind [] rest h known = absurd (omega (arith, piece_has_byte kind [] h.is))
-found_by kind (b ∷ tail) rest h known =
-    let begun : kind_begun b ≡ Some kind = front_kind (b ∷ (tail ++ rest)) kind (b ∷ tail) rest h.is refl in
-    let e : begins kind b ≡ true = begins-from b kind begun in
-    let same = ends_decide kind b e in
-    let f = kind_found kind b tail rest e (sym (same tail) ∙ h.is) known
-    (λ other behind splits passes.
-    let le = h.none_longer (record { kind = kind; bytes = b ∷ other }) behind (same other ∙ passes) (ap (λ (x : List ℕ). b ∷ x) splits) in
-    omega arith) in
-    (record { kind = kind; bytes = b ∷ f.0 }, ap (λ (o : Option PieceKind). piece_begun o b (tail ++ rest)) begun ∙ ap (piece_of kind b) f.1)
+no_tail : (kind : PieceKind) (b : ℕ) (bytes : List ℕ) → kind_in_front b bytes ≡ Some kind → Shows kind b bytes (Err BadCharacter) → (its rest : List ℕ) → is_piece kind its ≡ true → b ∷ bytes ≡ its ++ rest → ⊥
+no_tail kind b bytes k s [] rest is splits = no_empty_piece kind is
+no_tail kind b bytes k s (c ∷ tail) rest is splits =
+    let byte : c ≡ b = cc in
+    let tails : bytes ≡ tail ++ rest = cc in
+    let is : is_piece kind (b ∷ tail) ≡ true = subst (λ (x : ℕ). is_piece kind (x ∷ tail) ≡ true) byte is in
+    s tail rest tails (sym (ends_decide kind b (begins-from b bytes kind k) tail) ∙ is)
+
+-- nothing may stand behind the first byte: there is no piece
+no_piece_shown : (kind : PieceKind) (b : ℕ) (bytes : List ℕ) → kind_in_front b bytes ≡ Some kind → Shows kind b bytes (Err BadCharacter) → NoPiece (b ∷ bytes)
+no_piece_shown kind b bytes k s piece rest is splits =
+    elim (front_kind (b ∷ bytes) piece.kind piece.bytes rest is splits) [
+      | inl its ↦
+          let both : ◌≡◌ {A = Option PieceKind} (Some piece.kind) (Some kind) = sym its ∙ k in
+          let same : piece.kind ≡ kind = cc in
+          no_tail kind b bytes k s piece.bytes rest (subst (λ (x : PieceKind). is_piece x piece.bytes ≡ true) same is) splits
+      | inr short ↦
+          let both : ◌≡◌ {A = Option PieceKind} (Some Comment) (Some kind) = sym short.0 ∙ k in
+          let same : Comment ≡ kind = cc in
+          let two = two_bytes (b ∷ bytes) short.0 in
+          no_tail kind b bytes k s two.0 two.1 (subst (λ (x : PieceKind). is_piece x two.0 ≡ true) same two.2) two.3
+    ]
+
+-- no kind begins there: there is no piece
+no_kind_begun : (b : ℕ) (bytes : List ℕ) → kind_in_front b bytes ≡ None → NoPiece (b ∷ bytes)
+no_kind_begun b bytes k piece rest is splits =
+    elim (front_kind (b ∷ bytes) piece.kind piece.bytes rest is splits) [
+      | inl its ↦ let both : ◌≡◌ {A = Option PieceKind} None (Some piece.kind) = sym k ∙ its in absurd cc
+      | inr short ↦ let both : ◌≡◌ {A = Option PieceKind} None (Some Comment) = sym k ∙ short.0 in absurd cc
+    ]
+
+-- the longest piece in front of a text is not read, by this fault, or there is none
+explains_shown : (kind : PieceKind) (b : ℕ) (bytes : List ℕ) (fault : Fault) → kind_in_front b bytes ≡ Some kind → Shows kind b bytes (Err fault) → Explains fault (b ∷ bytes)
+explains_shown kind b bytes BadCharacter k s = no_piece_shown kind b bytes k s
+explains_shown kind b bytes OpenComment k s = (record { kind = kind; bytes = b ∷ s.0 }, s.1.rest, longest_shown kind b bytes s.0 k s.1, s.2)
+explains_shown kind b bytes OpenString k s = (record { kind = kind; bytes = b ∷ s.0 }, s.1.rest, longest_shown kind b bytes s.0 k s.1, s.2)
+explains_shown kind b bytes UnknownDirective k s = (record { kind = kind; bytes = b ∷ s.0 }, s.1.rest, longest_shown kind b bytes s.0 k s.1, s.2)
+
+fault_of_piece : (kind : PieceKind) (b : ℕ) (r : Result (List ℕ) Fault) (fault : Fault) → piece_of kind b r ≡ Err fault → r ≡ Err fault
+fault_of_piece kind b (Err other) fault h = let same : other ≡ fault = cc in ap (λ (x : Fault). (let r : Result (List ℕ) Fault = Err x in r)) same
+fault_of_piece kind b (Ok bytes) fault h = absurd cc
+
+explains_begun : (o : Option PieceKind) (b : ℕ) (bytes : List ℕ) (fault : Fault) → kind_in_front b bytes ≡ o → piece_begun o b bytes ≡ Err fault → Explains fault (b ∷ bytes)
+explains_begun None b bytes fault k h =
+    let bad : BadCharacter ≡ fault = cc in
+    subst (λ (x : Fault). Explains x (b ∷ bytes)) bad (no_kind_begun b bytes k)
+explains_begun (Some kind) b bytes fault k h =
+    explains_shown kind b bytes fault k (subst (λ (r : Result (List ℕ) Fault). Shows kind b bytes r) (fault_of_piece kind b (front_of kind b bytes) fault h) (shows kind b bytes k))
+
+-- the fault that is computed is that of the text
+pub first_piece_explains : (b : ℕ) (bytes : List ℕ) (fault : Fault) → first_piece (b ∷ bytes) ≡ Err fault → Explains fault (b ∷ bytes)
+first_piece_explains b bytes fault h = explains_begun (kind_in_front b bytes) b bytes fault refl h
+
+read_and_not : (text : List ℕ) (piece : Piece) (rest : List ℕ) (fault : Fault) → Longest text piece rest → IsRead piece → NotRead fault text → ⊥
+read_and_not text piece rest fault h known k =
+    let same : k.0 ≡ piece = one_longest text k.0 piece k.1 rest k.2 h in
+    let not_known : unread piece.kind piece.bytes ≡ Some fault = subst (λ (x : Piece). unread x.kind x.bytes ≡ Some fault) same k.3 in
+    let both : None ≡ Some fault = sym known ∙ not_known in
+    absurd cc
+
+-- where the longest piece is read, there is no fault
+pub read_no_fault : (text : List ℕ) (piece : Piece) (rest : List ℕ) (fault : Fault) → Longest text piece rest → IsRead piece → Explains fault text → ⊥
+read_no_fault text piece rest BadCharacter h known k = k piece rest h.is h.splits
+read_no_fault text piece rest OpenComment h known k = read_and_not text piece rest OpenComment h known k
+read_no_fault text piece rest OpenString h known k = read_and_not text piece rest OpenString h known k
+read_no_fault text piece rest UnknownDirective h known k = read_and_not text piece rest UnknownDirective h known k
+
+first_piece_by : (text : List ℕ) (piece : Piece) (rest : List ℕ) (r : Result Piece Fault) → 1 ≤ length text → first_piece text ≡ r → Longest text piece rest → IsRead piece → r ≡ Ok piece
+first_piece_by text piece rest (Ok found) l e h known =
+    let its = first_piece_found text found e in
+    ap (λ (x : Piece). (let r : Result Piece Fault = Ok x in r)) (one_longest text found piece its.0 rest its.1 h)
+first_piece_by [] piece rest (Err fault) l e h known = absurd (omega arith)
+first_piece_by (b ∷ bytes) piece rest (Err fault) l e h known = absurd (read_no_fault (b ∷ bytes) piece rest fault h known (first_piece_explains b bytes fault e))
 
 -- the longest piece, if it is read, is computed
 pub first_piece_is : (text : List ℕ) (piece : Piece) (rest : List ℕ) → Longest text piece rest → IsRead piece → first_piece text ≡ Ok piece
 first_piece_is text piece rest h known =
-    let there : Longest (piece.bytes ++ rest) piece rest = subst (λ (x : List ℕ). Longest x piece rest) h.splits h in
-    let f = found_by piece.kind piece.bytes rest there known in
-    let e : first_piece text ≡ Ok f.0 = ap first_piece h.splits ∙ f.1 in
-    let found = first_piece_found text f.0 e in
-    e ∙ ap (λ (x : Piece). (let r : Result Piece Fault = Ok x in r)) (one_longest text f.0 piece found.0 rest found.1 h)
+    let some : 1 ≤ length text = omega (arith, ap length h.splits, length-append piece.bytes rest, piece_has_byte piece.kind piece.bytes h.is) in
+    first_piece_by text piece rest (first_piece text) some refl h known
 
 -- ---- the whole cut
 

@@ -1,73 +1,64 @@
 -- What is computed is the cut of a text, and a text has one cut.
-use Rattle.std.proofs.Common.{◌≡◌, ℕ, zero, suc, ◌+◌, ◌≤◌, ◌<◌, true, List, [], ◌∷◌, ◌++◌, length, take, drop, Option, Some, None, Result, Ok, Err, refl, sym, ◌∙◌, ap, subst, arith}
+use Rattle.std.proofs.Common.{◌≡◌, ℕ, zero, suc, ◌+◌, ◌≤◌, ◌<◌, Bool, true, false, cond, ◌&&◌, ◌||◌, inl, inr, List, [], ◌∷◌, ◌++◌, length, take, drop, Option, Some, None, Result, Ok, Err, refl, sym, ◌∙◌, ap, subst, arith}
 use Rattle.std.proofs.Math.Seq.{take-append_seam}
-use Rattle.std.proofs.lemmas.Bool.{eqb-true}
 use Rattle.std.proofs.lemmas.List.{length-append, append_cancel_left}
 use Rattle.std.proofs.lemmas.List.Prefix.{front_rest}
 use Rattle.vp_lex.specs.declared.piece.Fault.{Fault}
-use Rattle.vp_lex.specs.Pieces.{PieceKind, WhiteSpace, Word, Number, BasePart, Quoted, Operator, Directive, Piece, is_piece, is_read, IsRead}
+use Rattle.vp_lex.specs.Bytes.{is_solidus, is_asterisk}
+use Rattle.vp_lex.specs.Pieces.{PieceKind, Comment, Piece, is_piece, IsPiece, IsRead}
 use Rattle.vp_lex.specs.Cuts.{Longest, Cut, Refusal}
-use Rattle.vp_lex.specs.Cutting.{kind_begun, front_of, piece_of, piece_begun, first_piece, on_piece, behind_piece, cut_from, cut_text}
+use Rattle.vp_lex.specs.Cutting.{goes_on_comment, kind_in_front, front_of, piece_of, piece_begun, first_piece, on_piece, behind_piece, cut_from, cut_text}
 use Rattle.vp_lex.proofs.Fronts.{Reaches, reaches_more}
-use Rattle.vp_lex.proofs.FirstBytes.{begins, ends, begins-from, kind_at, kind_of_piece, ends_decide}
-use Rattle.vp_lex.proofs.Reaching.{reaches, reaches_directive}
+use Rattle.vp_lex.proofs.FirstBytes.{ends, begins-from, comment_goes_on, kind_at, no_empty_piece, front_kind, ends_decide}
+use Rattle.vp_lex.proofs.Shows.{Shows, shows}
 
 -- ---- one piece
 
 -- a piece has a byte
 pub piece_has_byte : (kind : PieceKind) (bytes : List ℕ) → is_piece kind bytes ≡ true → 0 < length bytes
-piece_has_byte kind [] h = let e : None ≡ Some kind = kind_of_piece kind [] h in absurd cc
+piece_has_byte kind [] h = absurd (no_empty_piece kind h)
 piece_has_byte kind (b ∷ bytes) h = omega arith
 
--- the kind of a piece in front of a text is that of the text's first byte
-pub front_kind : (text : List ℕ) (kind : PieceKind) (bytes behind : List ℕ) → is_piece kind bytes ≡ true → text ≡ bytes ++ behind → kind_at text ≡ Some kind
-front_kind text kind [] behind h e = let none : None ≡ Some kind = kind_of_piece kind [] h in absurd cc
-front_kind text kind (b ∷ bytes) behind h e = ap kind_at e ∙ kind_of_piece kind (b ∷ bytes) h
+-- the longest piece of the kind that begins there is the longest of any kind
+no_kind_longer : (kind : PieceKind) (b : ℕ) (bytes tail : List ℕ) → kind_in_front b bytes ≡ Some kind → Reaches (is_piece kind) (b ∷ bytes) (b ∷ tail) → (other : Piece) (behind : List ℕ) → IsPiece other → b ∷ bytes ≡ other.bytes ++ behind → length other.bytes ≤ length (b ∷ tail)
+no_kind_longer kind b bytes tail k h other behind is e =
+    elim (front_kind (b ∷ bytes) other.kind other.bytes behind is e) [
+      | inl its ↦
+          let both : ◌≡◌ {A = Option PieceKind} (Some other.kind) (Some kind) = sym its ∙ k in
+          let same : other.kind ≡ kind = cc in
+          h.longest other.bytes behind e (subst (λ (x : PieceKind). is_piece x other.bytes ≡ true) same is)
+      | inr short ↦ omega (arith, short.1)
+    ]
 
-read_of : (kind : PieceKind) (b : ℕ) (bytes tail : List ℕ) → begins kind b ≡ true → front_of kind bytes ≡ Ok tail → is_read kind (b ∷ tail) ≡ true
-read_of WhiteSpace b bytes tail h e = refl
-read_of Word b bytes tail h e = refl
-read_of Number b bytes tail h e = refl
-read_of BasePart b bytes tail h e = refl
-read_of Quoted b bytes tail h e = refl
-read_of Operator b bytes tail h e = refl
-read_of Directive b bytes tail h e = rw (eqb-true b 96 h) (reaches_directive bytes tail e).1
+-- and so is what is shown behind its first byte
+pub longest_shown : (kind : PieceKind) (b : ℕ) (bytes tail : List ℕ) → kind_in_front b bytes ≡ Some kind → (h : Reaches (ends kind b) bytes tail) → Longest (b ∷ bytes) (record { kind = kind; bytes = b ∷ tail }) h.rest
+longest_shown kind b bytes tail k h =
+    let whole : Reaches (is_piece kind) (b ∷ bytes) (b ∷ tail) = reaches_more (ends kind b) (is_piece kind) b bytes tail (ends_decide kind b (begins-from b bytes kind k)) h in
+    record {
+      splits = ap (λ (x : List ℕ). b ∷ x) h.splits;
+      is = whole.passes;
+      none_longer = no_kind_longer kind b bytes tail k whole;
+    }
 
 -- a piece with what is behind it, the longest, and read
 abbrev pub Found : List ℕ → Piece → Type 0
 Found text piece = (rest : List ℕ) × Longest text piece rest × IsRead piece
 
-found_at : (kind : PieceKind) (b : ℕ) (bytes tail : List ℕ) → kind_begun b ≡ Some kind → front_of kind bytes ≡ Ok tail → Found (b ∷ bytes) (record { kind = kind; bytes = b ∷ tail })
-found_at kind b bytes tail k e =
-    let begun = begins-from b kind k in
-    let h : Reaches (is_piece kind) (b ∷ bytes) (b ∷ tail) = reaches_more (ends kind) (is_piece kind) b bytes tail (ends_decide kind b begun) (reaches kind bytes tail e) in (
-      h.rest,
-      record {
-        splits = h.splits;
-        is = h.passes;
-        none_longer = λ other behind is e.
-            let its : kind_begun b ≡ Some other.kind = front_kind (b ∷ bytes) other.kind other.bytes behind is e in
-            let same : other.kind ≡ kind = cc in
-            h.longest other.bytes behind e (subst (λ (x : PieceKind). is_piece x other.bytes ≡ true) same is);
-      },
-      read_of kind b bytes tail begun e,
-    )
-
-found_of : (kind : PieceKind) (b : ℕ) (bytes : List ℕ) (r : Result (List ℕ) Fault) (piece : Piece) → kind_begun b ≡ Some kind → front_of kind bytes ≡ r → piece_of kind b r ≡ Ok piece → Found (b ∷ bytes) piece
-found_of kind b bytes (Err fault) piece k e h = absurd cc
-found_of kind b bytes (Ok tail) piece k e h =
+found_of : (kind : PieceKind) (b : ℕ) (bytes : List ℕ) (r : Result (List ℕ) Fault) (piece : Piece) → kind_in_front b bytes ≡ Some kind → Shows kind b bytes r → piece_of kind b r ≡ Ok piece → Found (b ∷ bytes) piece
+found_of kind b bytes (Err fault) piece k s h = absurd cc
+found_of kind b bytes (Ok tail) piece k s h =
     let whole : Piece = record { kind = kind; bytes = b ∷ tail } in
     let same : whole ≡ piece = cc in
-    subst (λ (x : Piece). Found (b ∷ bytes) x) same (found_at kind b bytes tail k e)
+    subst (λ (x : Piece). Found (b ∷ bytes) x) same (s.0.rest, longest_shown kind b bytes tail k s.0, s.1)
 
-found_begun : (o : Option PieceKind) (b : ℕ) (bytes : List ℕ) (piece : Piece) → kind_begun b ≡ o → piece_begun o b bytes ≡ Ok piece → Found (b ∷ bytes) piece
+found_begun : (o : Option PieceKind) (b : ℕ) (bytes : List ℕ) (piece : Piece) → kind_in_front b bytes ≡ o → piece_begun o b bytes ≡ Ok piece → Found (b ∷ bytes) piece
 found_begun None b bytes piece k h = absurd cc
-found_begun (Some kind) b bytes piece k h = found_of kind b bytes (front_of kind bytes) piece k refl h
+found_begun (Some kind) b bytes piece k h = found_of kind b bytes (front_of kind b bytes) piece k (shows kind b bytes k) h
 
 -- the piece that is computed is the longest, and is read
 pub first_piece_found : (text : List ℕ) (piece : Piece) → first_piece text ≡ Ok piece → Found text piece
 first_piece_found [] piece h = absurd cc
-first_piece_found (b ∷ bytes) piece h = found_begun (kind_begun b) b bytes piece refl h
+first_piece_found (b ∷ bytes) piece h = found_begun (kind_in_front b bytes) b bytes piece refl h
 
 -- ---- one longest piece
 
@@ -80,14 +71,38 @@ same_piece piece other e f =
     let make : PieceKind → List ℕ → Piece = λ k bytes. record { kind = k; bytes = bytes } in
     ap (λ (k : PieceKind). make k piece.bytes) e ∙ ap (λ (bytes : List ℕ). make other.kind bytes) f
 
+-- where a comment begins, two bytes are one
+pub two_bytes : (text : List ℕ) → kind_at text ≡ Some Comment → (its : List ℕ) × (behind : List ℕ) × (is_piece Comment its ≡ true) × (text ≡ its ++ behind) × (2 ≤ length its)
+two_bytes [] k = absurd cc
+two_bytes (b ∷ []) k = let none = comment_goes_on b [] k in absurd cc
+two_bytes (b ∷ c ∷ bytes) k =
+    let first : is_solidus b ≡ true = begins-from b (c ∷ bytes) Comment k in
+    let second : goes_on_comment (c ∷ bytes) ≡ true = comment_goes_on b (c ∷ bytes) k in
+    (b ∷ c ∷ [], bytes, rw first (short (is_solidus c) (is_asterisk c) second), refl, omega arith)
+  where
+    short : (solidus asterisk : Bool) → (solidus || asterisk) ≡ true → cond solidus true (asterisk && true) ≡ true
+    short true asterisk h = refl
+    short false true h = refl
+    short false false h = h
+
+-- the kind of the longest piece in front of a text begins there
+pub longest_kind : (text : List ℕ) (piece : Piece) (rest : List ℕ) → Longest text piece rest → kind_at text ≡ Some piece.kind
+longest_kind text piece rest h =
+    elim (front_kind text piece.kind piece.bytes rest h.is h.splits) [
+      | inl its ↦ its
+      | inr short ↦
+          let two = two_bytes text short.0 in
+          let longer = h.none_longer (record { kind = Comment; bytes = two.0 }) two.1 two.2 two.3 in
+          absurd (omega (arith, short.1, two.4))
+    ]
+
 -- the longest piece in front of a text is one
 pub one_longest : (text : List ℕ) (piece other : Piece) (rest behind : List ℕ) → Longest text piece rest → Longest text other behind → piece ≡ other
 one_longest text piece other rest behind h k =
     let up : length piece.bytes ≤ length other.bytes = k.none_longer piece rest h.is h.splits in
     let down : length other.bytes ≤ length piece.bytes = h.none_longer other behind k.is k.splits in
     let bytes : piece.bytes ≡ other.bytes = same_front piece.bytes other.bytes rest behind (sym h.splits ∙ k.splits) (omega arith) in
-    let first : kind_at text ≡ Some piece.kind = front_kind text piece.kind piece.bytes rest h.is h.splits in
-    let second : kind_at text ≡ Some other.kind = front_kind text other.kind other.bytes behind k.is k.splits in
+    let both : ◌≡◌ {A = Option PieceKind} (Some piece.kind) (Some other.kind) = sym (longest_kind text piece rest h) ∙ longest_kind text other behind k in
     same_piece piece other (cc) bytes
 
 -- and so is what is behind it

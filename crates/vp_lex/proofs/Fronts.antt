@@ -44,7 +44,8 @@ reaches_nothing bytes = record { rest = bytes; splits = refl; passes = refl; lon
 
 -- ---- runs
 
-all_taken : (p : ℕ → Bool) (bytes : List ℕ) → list_all p (take_while p bytes) ≡ true
+-- each byte of a run is of its class
+pub all_taken : (p : ℕ → Bool) (bytes : List ℕ) → list_all p (take_while p bytes) ≡ true
 all_taken p [] = refl
 all_taken p (b ∷ bytes) =
     let at : (c : Bool) → p b ≡ c → list_all p (cond c (b ∷ take_while p bytes) []) ≡ true =

@@ -2,6 +2,7 @@ pub mod TokenRows
 pub mod Fronts
 pub mod FirstBytes
 pub mod Reaching
+pub mod Shows
 pub mod CutLaws
 pub mod Complete
 pub mod FaultLaws
@@ -16,3 +17,6 @@ pub mod PieceEnds
 pub mod PieceSteps
 pub mod TokenTexts
 pub mod WordLaws
+pub mod StringLaws
+pub mod StringRows
+pub mod TimescaleLaws

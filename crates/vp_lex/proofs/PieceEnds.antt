@@ -1,16 +1,23 @@
--- A piece begins and ends with an ASCII byte, so a text may be cut before it and behind it.
-use Rattle.std.proofs.Common.{◌≡◌, ℕ, zero, suc, ◌+◌, ◌-◌, ◌<◌, ◌≤◌, Bool, true, false, cond, List, [], ◌∷◌, length, get_or, drop, refl, sym, ◌∙◌, subst, arith}
-use Rattle.std.specs.Prelude.{slice_range, IsUtf8}
+-- A token begins and ends with an ASCII byte, so a text may be cut before it and behind it.
+use Rattle.std.proofs.Common.{◌≡◌, Option, Some, None, inl, inr, eqb, ℕ, zero, suc, ◌+◌, ◌-◌, ◌<◌, ◌≤◌, Bool, true, false, cond, ◌&&◌, ◌||◌, ltb, List, [], ◌∷◌, length, get_or, drop, refl, sym, ◌∙◌, subst, arith}
+use Rattle.std.specs.Prelude.{not, slice_range, IsUtf8}
 use Rattle.std.specs.Str.{IsCharBoundary}
 use Rattle.std.specs.List.{prefix_len, list_all}
 use Rattle.std.proofs.Common.{add-zero}
 use Rattle.std.proofs.lemmas.List.{length-drop, length-take, get_or-take, get_or-drop}
-use Rattle.std.proofs.lemmas.Bool.{and_parts, eqb-true}
+use Rattle.std.proofs.lemmas.Bool.{and_parts, or_cases, eqb-true, ltb-true}
 use Rattle.std.proofs.lemmas.Bool.Decides.{nat_tests}
 use Rattle.std.proofs.lemmas.Str.{IsCharBoundary-before_ascii, IsCharBoundary-after_ascii, IsUtf8-between}
-use Rattle.vp_lex.specs.Bytes.{is_space, begins_name, goes_on_name, is_decimal, goes_on_number, is_base_letter, is_binary_digit, goes_on_digits, is_quote, is_newline, is_backslash, is_punctuator}
-use Rattle.vp_lex.specs.Pieces.{PieceKind, WhiteSpace, Word, Number, BasePart, Quoted, Operator, Directive, is_run, is_piece, is_empty, behind_space, are_binary_digits, ends_base_part, ends_string}
-use Rattle.vp_lex.proofs.FirstBytes.{begins, ends, is_piece-parts}
+use Rattle.vp_lex.specs.Bytes.{is_space, begins_name, goes_on_name, is_decimal, goes_on_number, base_of, is_sign, is_any_digit, is_digit, goes_on_digits, is_quote, is_newline}
+use Rattle.vp_lex.specs.Symbols.{is_symbol}
+use Rattle.std.specs.Char.{is_ascii_hexdigit}
+use Rattle.std.specs.Int.{is_in_range}
+use Rattle.vp_lex.specs.declared.piece.Base.{Base}
+use Rattle.vp_lex.specs.declared.piece.Base.TheVariants.{Binary, Octal, Decimal, Hexadecimal}
+use Rattle.vp_lex.specs.declared.piece.Fault.{Fault}
+use Rattle.vp_lex.specs.declared.piece.Fault.TheVariants.{OpenString}
+use Rattle.vp_lex.specs.Pieces.{PieceKind, WhiteSpace, Comment, Word, SystemWord, Number, BasePart, Quoted, Operator, Directive, is_run, is_piece, is_empty, behind_space, ends_digits, ends_based, ends_base_part, closes, escapes, ends_string, has_string_end, unless, unread}
+use Rattle.vp_lex.proofs.FirstBytes.{begins, ends, is_piece-parts, symbol_all}
 
 -- ---- classes of ASCII bytes
 
@@ -33,26 +40,35 @@ decimal_low b h = grind (arith, nat_tests)
 number_low : IsLow goes_on_number
 number_low b h = grind (arith, nat_tests)
 
-digit_low : IsLow is_binary_digit
-digit_low b h = grind (arith, nat_tests)
+any_digit_low : IsLow is_any_digit
+any_digit_low b h = grind (arith, nat_tests)
 
-digits_low : IsLow goes_on_digits
-digits_low b h = grind (arith, nat_tests)
+low_of_two : (x y : Bool) (b : ℕ) → (x ≡ true → b < 128) → (y ≡ true → b < 128) → (x || y) ≡ true → b < 128
+low_of_two x y b f g h = elim (or_cases x y h) [ inl e ↦ f e | inr e ↦ g e ]
 
-punctuator_low : IsLow is_punctuator
-punctuator_low b h = grind (arith, nat_tests)
+range_low : (low high : ℕ) → high < 128 → IsLow (is_in_range low high)
+range_low low high l b h = grind (arith, nat_tests)
+
+hexdigit_low : IsLow is_ascii_hexdigit
+hexdigit_low b h = grind (arith, nat_tests)
+
+digit_low : (base : Base) → IsLow (is_digit base)
+digit_low Binary b h = low_of_two (is_in_range 48 49 b) (is_any_digit b) b (range_low 48 49 (omega arith) b) (any_digit_low b) h
+digit_low Octal b h = low_of_two (is_in_range 48 55 b) (is_any_digit b) b (range_low 48 55 (omega arith) b) (any_digit_low b) h
+digit_low Decimal b h = low_of_two (is_decimal b) (is_any_digit b) b (decimal_low b) (any_digit_low b) h
+digit_low Hexadecimal b h = low_of_two (is_ascii_hexdigit b) (is_any_digit b) b (hexdigit_low b) (any_digit_low b) h
+
+underscore_low : (b : ℕ) → eqb b 95 ≡ true → b < 128
+underscore_low b h = omega (arith, eqb-true b 95 h)
+
+digits_low : (base : Base) → IsLow (goes_on_digits base)
+digits_low base b h = low_of_two (is_digit base b) (eqb b 95) b (digit_low base b) (underscore_low b) h
+
+low_low : IsLow (λ b. ltb b 128)
+low_low b h = ltb-true b 128 h
 
 byte_low : (byte : ℕ) → byte < 128 → (b : ℕ) → b ≡ byte → b < 128
 byte_low byte l b e = omega arith
-
-begins_low : (kind : PieceKind) → IsLow (begins kind)
-begins_low WhiteSpace b h = space_low b h
-begins_low Word b h = letter_low b h
-begins_low Number b h = decimal_low b h
-begins_low BasePart b h = byte_low 39 (omega arith) b (eqb-true b 39 h)
-begins_low Quoted b h = byte_low 34 (omega arith) b (eqb-true b 34 h)
-begins_low Operator b h = punctuator_low b h
-begins_low Directive b h = byte_low 96 (omega arith) b (eqb-true b 96 h)
 
 -- ---- the last byte
 
@@ -96,44 +112,64 @@ empty_long (b ∷ bytes) h = absurd cc
 empty_ends : (bytes : List ℕ) → is_empty bytes ≡ true → EndsLow bytes
 empty_ends bytes h j e = let none = empty_long bytes h in absurd (omega arith)
 
-string_cases : (b : ℕ) (bytes : List ℕ) (quote newline backslash : Bool) → is_quote b ≡ quote → (ends_string bytes ≡ true → EndsLow bytes × (1 ≤ length bytes)) → cond quote (is_empty bytes) (cond newline false (cond backslash false (ends_string bytes))) ≡ true → EndsLow (b ∷ bytes)
-string_cases b bytes true newline backslash q more h = any_ends b bytes (byte_low 34 (omega arith) b (eqb-true b 34 q)) (empty_ends bytes h)
-string_cases b bytes false true backslash q more h = absurd cc
-string_cases b bytes false false true q more h = absurd cc
-string_cases b bytes false false false q more h = let rest = more h in more_ends b bytes rest.1 rest.0
+string_at : (escaped : Bool) (b : ℕ) (bytes : List ℕ) (quote newline : Bool) → closes escaped b ≡ quote → (ends_string (escapes escaped b) bytes ≡ true → has_string_end (escapes escaped b) bytes ≡ true → EndsLow bytes × (1 ≤ length bytes)) → cond quote (is_empty bytes) (not newline && ends_string (escapes escaped b) bytes) ≡ true → (quote || has_string_end (escapes escaped b) bytes) ≡ true → EndsLow (b ∷ bytes)
+string_at escaped b bytes true newline q more h c = any_ends b bytes (byte_low 34 (omega arith) b (eqb-true b 34 (and_parts (not escaped) (is_quote b) q).1)) (empty_ends bytes h)
+string_at escaped b bytes false true q more h c = absurd cc
+string_at escaped b bytes false false q more h c = let rest = more h c in more_ends b bytes rest.1 rest.0
 
-string_ends : (bytes : List ℕ) → ends_string bytes ≡ true → EndsLow bytes × (1 ≤ length bytes)
-string_ends [] h = absurd cc
-string_ends (b ∷ bytes) h = (
-  string_cases b bytes (is_quote b) (is_newline b) (is_backslash b) refl (string_ends bytes) h,
+string_ends : (escaped : Bool) (bytes : List ℕ) → ends_string escaped bytes ≡ true → has_string_end escaped bytes ≡ true → EndsLow bytes × (1 ≤ length bytes)
+string_ends escaped [] h c = absurd cc
+string_ends escaped (b ∷ bytes) h c = (
+  string_at escaped b bytes (closes escaped b) (is_newline b) refl (string_ends (escapes escaped b) bytes) h c,
   omega arith,
 )
 
+digits_ends : (o : Option Base) (bytes : List ℕ) → ends_digits o bytes ≡ true → EndsLow bytes × (1 ≤ length bytes)
+digits_ends None bytes h = absurd cc
+digits_ends (Some base) bytes h =
+    let digits = run_ends (is_digit base) (goes_on_digits base) (behind_space bytes) (digit_low base) (digits_low base) h in
+    let some : 1 ≤ length bytes = omega (arith, digits.1, length-drop (prefix_len is_space bytes) bytes) in
+    (behind_ends (prefix_len is_space bytes) bytes digits.1 digits.0, some)
+
+based_ends : (bytes : List ℕ) → ends_based bytes ≡ true → EndsLow bytes × (1 ≤ length bytes)
+based_ends [] h = absurd cc
+based_ends (b ∷ bytes) h = let digits = digits_ends (base_of b) bytes h in (more_ends b bytes digits.1 digits.0, omega arith)
+
+base_at : (b : ℕ) (bytes : List ℕ) (test : Bool) → cond test (ends_based bytes) (ends_based (b ∷ bytes)) ≡ true → EndsLow (b ∷ bytes) × (1 ≤ length (b ∷ bytes))
+base_at b bytes true h = let based = based_ends bytes h in (more_ends b bytes based.1 based.0, omega arith)
+base_at b bytes false h = based_ends (b ∷ bytes) h
+
 base_ends : (bytes : List ℕ) → ends_base_part bytes ≡ true → EndsLow bytes × (1 ≤ length bytes)
 base_ends [] h = absurd cc
-base_ends (b ∷ bytes) h =
-    let parts = and_parts (is_base_letter b) (are_binary_digits (behind_space bytes)) h in
-    let digits = run_ends is_binary_digit goes_on_digits (behind_space bytes) digit_low digits_low parts.1 in
-    let some : 1 ≤ length bytes = omega (arith, digits.1, length-drop (prefix_len is_space bytes) bytes) in
-    (more_ends b bytes some (behind_ends (prefix_len is_space bytes) bytes digits.1 digits.0), omega arith)
+base_ends (b ∷ bytes) h = base_at b bytes (is_sign b) h
 
--- what stands behind the first byte of a piece ends so too
-rest_ends : (kind : PieceKind) (b : ℕ) (bytes : List ℕ) → b < 128 → ends kind bytes ≡ true → EndsLow (b ∷ bytes)
-rest_ends WhiteSpace b bytes l h = any_ends b bytes l (all_ends is_space bytes space_low h)
-rest_ends Word b bytes l h = any_ends b bytes l (all_ends goes_on_name bytes name_low h)
-rest_ends Number b bytes l h = any_ends b bytes l (all_ends goes_on_number bytes number_low h)
-rest_ends BasePart b bytes l h = any_ends b bytes l (base_ends bytes h).0
-rest_ends Quoted b bytes l h = any_ends b bytes l (string_ends bytes h).0
-rest_ends Operator b bytes l h = any_ends b bytes l (empty_ends bytes h)
-rest_ends Directive b bytes l h = any_ends b bytes l (run_ends begins_name goes_on_name bytes letter_low name_low h).0
+closed_of : (test : Bool) (fault : Fault) → unless test fault ≡ None → test ≡ true
+closed_of true fault h = refl
+closed_of false fault h = absurd cc
 
--- a piece begins and ends with an ASCII byte
-pub piece_ends : (kind : PieceKind) (bytes : List ℕ) → is_piece kind bytes ≡ true → (get_or bytes 0 0 < 128) × EndsLow bytes
-piece_ends kind [] h = (omega arith, λ j e. absurd (omega arith))
-piece_ends kind (b ∷ bytes) h =
-    let parts = and_parts (begins kind b) (ends kind bytes) (sym (is_piece-parts kind b bytes) ∙ h) in
-    let low = begins_low kind b parts.0 in
-    (low, rest_ends kind b bytes low parts.1)
+symbol_ends : (b : ℕ) (bytes : List ℕ) → is_symbol (b ∷ bytes) ≡ true → (b < 128) × EndsLow (b ∷ bytes)
+symbol_ends b bytes h =
+    let all : list_all (λ c. ltb c 128) (b ∷ bytes) ≡ true = symbol_all (list_all (λ c. ltb c 128)) (b ∷ bytes) refl h in
+    (ltb-true b 128 (and_parts (ltb b 128) (list_all (λ c. ltb c 128) bytes) all).0, all_ends (λ c. ltb c 128) (b ∷ bytes) low_low all)
+
+-- a token begins and ends with an ASCII byte
+token_ends : (kind : PieceKind) (b : ℕ) (bytes : List ℕ) → (kind ≡ Comment → ⊥) → begins kind b ≡ true → ends kind b bytes ≡ true → unread kind (b ∷ bytes) ≡ None → (b < 128) × EndsLow (b ∷ bytes)
+token_ends WhiteSpace b bytes other f h r = let l = space_low b f in (l, any_ends b bytes l (all_ends is_space bytes space_low h))
+token_ends Comment b bytes other f h r = absurd (other refl)
+token_ends Word b bytes other f h r = let l = letter_low b f in (l, any_ends b bytes l (all_ends goes_on_name bytes name_low h))
+token_ends SystemWord b bytes other f h r = let l = byte_low 36 (omega arith) b (eqb-true b 36 f) in (l, any_ends b bytes l (run_ends begins_name goes_on_name bytes letter_low name_low h).0)
+token_ends Number b bytes other f h r = let l = decimal_low b f in (l, any_ends b bytes l (all_ends goes_on_number bytes number_low h))
+token_ends BasePart b bytes other f h r = let l = byte_low 39 (omega arith) b (eqb-true b 39 f) in (l, any_ends b bytes l (base_ends bytes h).0)
+token_ends Quoted b bytes other f h r = let l = byte_low 34 (omega arith) b (eqb-true b 34 f) in (l, any_ends b bytes l (string_ends false bytes h (closed_of (has_string_end false bytes) OpenString r)).0)
+token_ends Operator b bytes other f h r = symbol_ends b bytes h
+token_ends Directive b bytes other f h r = let l = byte_low 96 (omega arith) b (eqb-true b 96 f) in (l, any_ends b bytes l (run_ends begins_name goes_on_name bytes letter_low name_low h).0)
+
+-- so does a piece that is no comment, and is read
+pub piece_ends : (kind : PieceKind) (bytes : List ℕ) → (kind ≡ Comment → ⊥) → is_piece kind bytes ≡ true → unread kind bytes ≡ None → (get_or bytes 0 0 < 128) × EndsLow bytes
+piece_ends kind [] other h r = (omega arith, λ j e. absurd (omega arith))
+piece_ends kind (b ∷ bytes) other h r =
+    let parts = and_parts (begins kind b) (ends kind b bytes) (sym (is_piece-parts kind b bytes) ∙ h) in
+    token_ends kind b bytes other parts.0 parts.1 r
 
 -- ---- where a text may be cut
 
@@ -143,11 +179,11 @@ pub record IsPart (text : List ℕ) (start end : ℕ) : Type 0 where
   pub behind : IsCharBoundary text end
   pub utf8 : IsUtf8 (slice_range text start end)
 
--- a piece of a text may be cut out of it
-pub piece_part : (text : List ℕ) (start end : ℕ) (kind : PieceKind) → IsUtf8 text → start < end → end ≤ length text → is_piece kind (slice_range text start end) ≡ true → IsPart text start end
-piece_part text start end kind utf8 l m h =
+-- a piece of a text that is no comment, and is read, may be cut out of it
+pub piece_part : (text : List ℕ) (start end : ℕ) (kind : PieceKind) → IsUtf8 text → start < end → end ≤ length text → (kind ≡ Comment → ⊥) → is_piece kind (slice_range text start end) ≡ true → unread kind (slice_range text start end) ≡ None → IsPart text start end
+piece_part text start end kind utf8 l m other h r =
     let bytes : List ℕ = slice_range text start end in
-    let low = piece_ends kind bytes h in
+    let low = piece_ends kind bytes other h r in
     let long : length bytes ≡ end - start = length_part text start end m in
     let at : (j : ℕ) → j < end - start → get_or bytes j 0 ≡ get_or text (start + j) 0 =
     λ j k. get_or-take (end - start) (drop start text) j 0 k ∙ get_or-drop start text j 0 in

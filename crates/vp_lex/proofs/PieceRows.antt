@@ -2,8 +2,9 @@
 use Rattle.std.proofs.Common.{◌≡◌, true, false, [], ◌∷◌, ◌++◌, Some, None, Ok, Err, refl}
 use Rattle.std.specs.Prelude.{codes}
 use Rattle.vp_lex.specs.declared.keyword.Keyword.TheVariants as keyword
-use Rattle.vp_lex.specs.declared.piece.Fault.TheVariants.{BadCharacter}
-use Rattle.vp_lex.specs.Pieces.{WhiteSpace, Word, Number, BasePart, Quoted, Operator, Directive, is_piece, is_read}
+use Rattle.vp_lex.specs.declared.piece.Fault.TheVariants.{BadCharacter, OpenComment, OpenString, UnknownDirective}
+use Rattle.vp_lex.specs.Symbols.{symbol_of}
+use Rattle.vp_lex.specs.Pieces.{WhiteSpace, Comment, Word, SystemWord, Number, BasePart, Quoted, Operator, Directive, is_piece, unread}
 use Rattle.vp_lex.specs.Cutting.{cut_text}
 use Rattle.vp_lex.specs.Words.{keyword_of}
 
@@ -28,9 +29,28 @@ row-base_part = refl
 pub row-base_part_empty : is_piece BasePart (codes "'b ") ≡ false
 row-base_part_empty = refl
 
--- and no other base
-pub row-base_part_hex : is_piece BasePart (codes "'h1") ≡ false
-row-base_part_hex = refl
+-- the digits of the octal, the decimal and the hexadecimal base, and s in front
+pub row-base_part_octal : is_piece BasePart (codes "'o 07xZ_") ≡ true
+row-base_part_octal = refl
+
+pub row-base_part_octal_eight : is_piece BasePart (codes "'o8") ≡ false
+row-base_part_octal_eight = refl
+
+pub row-base_part_decimal : is_piece BasePart (codes "'Sd09?") ≡ true
+row-base_part_decimal = refl
+
+pub row-base_part_decimal_letter : is_piece BasePart (codes "'da") ≡ false
+row-base_part_decimal_letter = refl
+
+pub row-base_part_hexadecimal : is_piece BasePart (codes "'sH0fF_z") ≡ true
+row-base_part_hexadecimal = refl
+
+pub row-base_part_hexadecimal_letter : is_piece BasePart (codes "'hg") ≡ false
+row-base_part_hexadecimal_letter = refl
+
+-- s alone names no base
+pub row-base_part_sign : is_piece BasePart (codes "'s1") ≡ false
+row-base_part_sign = refl
 
 -- a string ends at its next quotation mark (34)
 pub row-string : is_piece Quoted (34 ∷ codes "a b" ++ 34 ∷ []) ≡ true
@@ -47,18 +67,68 @@ row-white_space = refl
 pub row-vertical_tab : is_piece WhiteSpace (11 ∷ []) ≡ false
 row-vertical_tab = refl
 
-pub row-operators : is_piece Operator (codes "==") ≡ false
+-- the longest symbols, and none longer
+pub row-operators : is_piece Operator (codes "<<<") ≡ true
 row-operators = refl
+
+pub row-operators_longer : is_piece Operator (codes "<<<=") ≡ false
+row-operators_longer = refl
+
+pub row-operator_equivalence : symbol_of (codes "^~") ≡ symbol_of (codes "~^")
+row-operator_equivalence = refl
+
+-- a name with a dollar sign in front
+pub row-system_word : is_piece SystemWord (codes "$finish") ≡ true
+row-system_word = refl
+
+pub row-system_word_digit : is_piece SystemWord (codes "$1") ≡ false
+row-system_word_digit = refl
+
+-- a line comment has no newline (10), and always ends
+pub row-line : is_piece Comment (codes "// a") ≡ true
+row-line = refl
+
+pub row-line_newline : is_piece Comment (codes "// a" ++ 10 ∷ []) ≡ false
+row-line_newline = refl
+
+pub row-line_ends : unread Comment (codes "//") ≡ None
+row-line_ends = refl
+
+-- a block comment ends with its first asterisk and solidus, which are not its own asterisk and a solidus
+pub row-block : is_piece Comment (codes "/***/") ≡ true
+row-block = refl
+
+pub row-block_ends : unread Comment (codes "/**/") ≡ None
+row-block_ends = refl
+
+pub row-block_open : unread Comment (codes "/*/") ≡ Some OpenComment
+row-block_open = refl
+
+pub row-block_two : is_piece Comment (codes "/**/ */") ≡ false
+row-block_two = refl
+
+-- a quotation mark (34) behind a backslash (92) ends no string, but one behind two does
+pub row-escape : is_piece Quoted (34 ∷ 92 ∷ 34 ∷ 34 ∷ []) ≡ true
+row-escape = refl
+
+pub row-escape_open : unread Quoted (34 ∷ 92 ∷ 34 ∷ []) ≡ Some OpenString
+row-escape_open = refl
+
+pub row-escape_two : unread Quoted (34 ∷ 92 ∷ 92 ∷ 34 ∷ []) ≡ None
+row-escape_two = refl
 
 -- another directive is a piece, but is not read
 pub row-directive : is_piece Directive (codes "`define") ≡ true
 row-directive = refl
 
-pub row-directive_unread : is_read Directive (codes "`define") ≡ false
+pub row-directive_unread : unread Directive (codes "`define") ≡ Some UnknownDirective
 row-directive_unread = refl
 
-pub row-directive_read : is_read Directive (codes "`pragma") ≡ true
+pub row-directive_read : unread Directive (codes "`pragma") ≡ None
 row-directive_read = refl
+
+pub row-directive_timescale : unread Directive (codes "`timescale") ≡ None
+row-directive_timescale = refl
 
 -- a1 =2 is cut into a name, white space, an operator and a number
 pub row-cut : cut_text (codes "a1 =2") ≡ Ok (
@@ -70,7 +140,11 @@ pub row-cut : cut_text (codes "a1 =2") ≡ Ok (
 row-cut = refl
 
 -- the first fault, behind three bytes
-pub row-refusal : cut_text (codes "a1 # `x") ≡ Err (record { fault = BadCharacter; at = 3 })
+pub row-refusal : cut_text (codes "a1 $ `x") ≡ Err (record {
+  fault = BadCharacter;
+  at = 3;
+  pieces = record { kind = Word; bytes = codes "a1" } ∷ record { kind = WhiteSpace; bytes = codes " " } ∷ [];
+})
 row-refusal = refl
 
 pub row-keyword : keyword_of (codes "endmodule") ≡ Some keyword.Endmodule

@@ -1,16 +1,15 @@
 -- The piece that begins at a place, from the kind of its first byte and the end of what goes on.
-use Rattle.std.proofs.Common.{◌≡◌, ℕ, suc, ◌+◌, ◌-◌, ◌<◌, ◌≤◌, List, [], ◌∷◌, length, get_or, take, drop, Option, Some, Result, Ok, Err, sym, ◌∙◌, ap, arith}
+use Rattle.std.proofs.Common.{◌≡◌, ℕ, ◌+◌, ◌-◌, ◌<◌, ◌≤◌, List, ◌∷◌, length, get_or, take, drop, Option, Some, Result, Ok, Err, sym, ◌∙◌, ap, arith}
 use Rattle.std.specs.Prelude.{slice_range}
 use Rattle.std.proofs.Math.Seq.{take-append_seam}
 use Rattle.std.proofs.lemmas.List.{drop_more, length-append, length-drop}
 use Rattle.vp_lex.specs.declared.piece.Fault.{Fault}
 use Rattle.vp_lex.specs.Pieces.{PieceKind, Piece}
-use Rattle.vp_lex.specs.Cutting.{kind_begun, front_of, piece_of, piece_begun, first_piece}
+use Rattle.vp_lex.specs.Cutting.{kind_in_front, front_of, piece_of, piece_begun, first_piece}
 use Rattle.vp_lex.specs.Scanning.{end_of}
-use Rattle.vp_lex.specs.Tokens.{punctuator_of}
 use Rattle.vp_lex.proofs.CutLaws.{first_piece_found}
 
-by_kind : (text : List ℕ) (start : ℕ) (kind : PieceKind) → start < length text → kind_begun (get_or text start 0) ≡ Some kind → first_piece (drop start text) ≡ piece_of kind (get_or text start 0) (front_of kind (drop (start + 1) text))
+by_kind : (text : List ℕ) (start : ℕ) (kind : PieceKind) → start < length text → kind_in_front (get_or text start 0) (drop (start + 1) text) ≡ Some kind → first_piece (drop start text) ≡ piece_of kind (get_or text start 0) (front_of kind (get_or text start 0) (drop (start + 1) text))
 by_kind text start kind l k =
     ap first_piece (drop_more text start 0 l)
     ∙ ap (λ (o : Option PieceKind). piece_begun o (get_or text start 0) (drop (start + 1) text)) k
@@ -39,26 +38,15 @@ stands_of text start end kind (Ok tail) l p e =
     }
 
 -- where the first byte begins a kind and what goes on ends, a piece stands
-pub piece_stands : (text : List ℕ) (start end : ℕ) (kind : PieceKind) → start < length text → kind_begun (get_or text start 0) ≡ Some kind → Ok end ≡ end_of (start + 1) (front_of kind (drop (start + 1) text)) → Stands text start end kind
+pub piece_stands : (text : List ℕ) (start end : ℕ) (kind : PieceKind) → start < length text → kind_in_front (get_or text start 0) (drop (start + 1) text) ≡ Some kind → Ok end ≡ end_of (start + 1) (front_of kind (get_or text start 0) (drop (start + 1) text)) → Stands text start end kind
 piece_stands text start end kind l k e =
-    stands_of text start end kind (front_of kind (drop (start + 1) text)) l (by_kind text start kind l k) e
+    stands_of text start end kind (front_of kind (get_or text start 0) (drop (start + 1) text)) l (by_kind text start kind l k) e
 
 fault_of : (text : List ℕ) (start : ℕ) (kind : PieceKind) (fault : Fault) (r : Result (List ℕ) Fault) → first_piece (drop start text) ≡ piece_of kind (get_or text start 0) r → Err fault ≡ end_of (start + 1) r → first_piece (drop start text) ≡ Err fault
 fault_of text start kind fault (Ok tail) p e = absurd cc
 fault_of text start kind fault (Err other) p e = let same : fault ≡ other = cc in p ∙ ap (λ (x : Fault). (let r : Result Piece Fault = Err x in r)) (sym same)
 
 -- and where it does not, its fault is that of the place
-pub piece_faults : (text : List ℕ) (start : ℕ) (kind : PieceKind) (fault : Fault) → start < length text → kind_begun (get_or text start 0) ≡ Some kind → Err fault ≡ end_of (start + 1) (front_of kind (drop (start + 1) text)) → first_piece (drop start text) ≡ Err fault
+pub piece_faults : (text : List ℕ) (start : ℕ) (kind : PieceKind) (fault : Fault) → start < length text → kind_in_front (get_or text start 0) (drop (start + 1) text) ≡ Some kind → Err fault ≡ end_of (start + 1) (front_of kind (get_or text start 0) (drop (start + 1) text)) → first_piece (drop start text) ≡ Err fault
 piece_faults text start kind fault l k e =
-    fault_of text start kind fault (front_of kind (drop (start + 1) text)) (by_kind text start kind l k) e
-
--- the first byte of a part
-pub part_more : (text : List ℕ) (start end : ℕ) → start < end → end ≤ length text → slice_range text start end ≡ get_or text start 0 ∷ take (end - start - 1) (drop (start + 1) text)
-part_more text start end l m =
-    let one_less : end - start ≡ suc (end - start - 1) = omega arith in
-    ap (take (end - start)) (drop_more text start 0 (omega arith))
-    ∙ ap (λ (n : ℕ). take n (get_or text start 0 ∷ drop (start + 1) text)) one_less
-
--- a punctuator is its first byte
-pub punctuator_at : (text : List ℕ) (start end : ℕ) → start < end → end ≤ length text → punctuator_of (get_or text start 0 ∷ []) ≡ punctuator_of (slice_range text start end)
-punctuator_at text start end l m = sym (ap punctuator_of (part_more text start end l m))
+    fault_of text start kind fault (front_of kind (get_or text start 0) (drop (start + 1) text)) (by_kind text start kind l k) e

@@ -1,12 +1,13 @@
 -- The tokens of a text stand in it, in order, each with the bytes of its piece.
-use Rattle.std.proofs.Common.{◌≡◌, ℕ, ◌+◌, ◌-◌, ◌≤◌, ◌<◌, Bool, false, List, [], ◌∷◌, ◌++◌, length, take, drop, map, Option, Some, None, refl, sym, ◌∙◌, ap, subst, arith}
+use Rattle.std.proofs.Common.{◌≡◌, ℕ, ◌+◌, ◌-◌, ◌≤◌, ◌<◌, Bool, false, List, [], ◌∷◌, ◌++◌, length, take, drop, map, Option, Some, None, Ok, inl, inr, refl, sym, ◌∙◌, ap, subst, arith}
 use Rattle.std.proofs.Math.Seq.{take-append_seam, drop-append_seam}
 use Rattle.std.proofs.lemmas.List.{length-append, append_assoc, append-nil}
+use Rattle.vp_lex.specs.declared.fault.LexError.{LexError}
 use Rattle.vp_lex.specs.declared.token.Token.{Token}
 use Rattle.vp_lex.specs.declared.token.TokenKind.{TokenKind}
 use Rattle.vp_lex.specs.Pieces.{Piece}
 use Rattle.vp_lex.specs.Cuts.{CutTo, Cut, joined}
-use Rattle.vp_lex.specs.Tokens.{is_mark, marks, token_kind, token_at, with_token, with_bytes, tokens_behind, bytes_of, bytes_of_pieces, AreInOrder, AreTokens}
+use Rattle.vp_lex.specs.Tokens.{is_mark, marks, token_kind, token_at, with_token, with_bytes, tokens_behind, bytes_of, bytes_of_pieces, AreInOrder, Scan, error_at, told, told_fault, AreTokens}
 use Rattle.vp_lex.proofs.CutLaws.{piece_has_byte}
 
 -- a text is its pieces, one behind the other, and what is left
@@ -34,11 +35,31 @@ bytes_behind text before marked (piece ∷ pieces) e =
     bytes_with text before piece.bytes (joined pieces) marked piece (token_kind piece.kind piece.bytes) (tokens_behind (before ++ piece.bytes) (marks marked piece) pieces) (bytes_of_pieces pieces) e
     (bytes_behind text (before ++ piece.bytes) (marks marked piece) pieces (e ∙ sym (append_assoc before piece.bytes (joined pieces))))
 
+told_of : (o : Option ℕ) (scan : Scan) (tokens : List Token) → told o scan ≡ Ok tokens → (scan.fault ≡ None) × (scan.tokens ≡ tokens)
+told_of (Some line) scan tokens h = absurd cc
+told_of None scan tokens h = at scan.fault h
+  where
+    at : (fault : Option LexError) → told_fault fault scan.tokens ≡ Ok tokens → (fault ≡ None) × (scan.tokens ≡ tokens)
+    at (Some error) h = absurd cc
+    at None h = (refl, cc)
+
+-- the tokens of a text are those of the pieces of its cut
+pub of_pieces : (text : List ℕ) (tokens : List Token) → AreTokens text tokens → (pieces : List Piece) × Cut text pieces × (tokens ≡ tokens_behind [] false pieces)
+of_pieces text tokens h =
+    let its = told_of _ h.0 tokens h.2 in
+    elim h.1 [
+      | inl cut ↦ (cut.0, cut.1, sym its.1 ∙ ap (λ (s : Scan). s.tokens) cut.2)
+      | inr refused ↦
+          let both : ◌≡◌ {A = Option LexError} None (Some (error_at text refused.0)) = sym its.0 ∙ ap (λ (s : Scan). s.fault) refused.2 in
+          absurd cc
+    ]
+
 -- the bytes of the tokens are those of the pieces
-pub token_bytes : (text : List ℕ) (tokens : List Token) (h : AreTokens text tokens) → map (bytes_of text) tokens ≡ bytes_of_pieces h.0
+pub token_bytes : (text : List ℕ) (tokens : List Token) (h : AreTokens text tokens) → map (bytes_of text) tokens ≡ bytes_of_pieces (of_pieces text tokens h).0
 token_bytes text tokens h =
-    ap (map (bytes_of text)) h.2
-    ∙ bytes_behind text [] false h.0 (cut_joins text h.0 [] h.1 ∙ append-nil (joined h.0))
+    let cut = of_pieces text tokens h in
+    ap (map (bytes_of text)) cut.2
+    ∙ bytes_behind text [] false cut.0 (cut_joins text cut.0 [] cut.1 ∙ append-nil (joined cut.0))
 
 in_order_from : (start other end : ℕ) (tokens : List Token) → start ≤ other → AreInOrder other end tokens → AreInOrder start end tokens
 in_order_from start other end [] l h = omega arith
@@ -63,6 +84,7 @@ order_behind before marked text (piece ∷ pieces) h =
 -- the tokens stand in the text, one behind the other
 pub tokens_in_order : (text : List ℕ) (tokens : List Token) → AreTokens text tokens → AreInOrder 0 (length text) tokens
 tokens_in_order text tokens h =
+    let cut = of_pieces text tokens h in
     let e : 0 + length text ≡ length text = omega arith in
-    let ordered : AreInOrder 0 (length text) (tokens_behind [] false h.0) = subst (λ (n : ℕ). AreInOrder 0 n (tokens_behind [] false h.0)) e (order_behind [] false text h.0 h.1) in
-    subst (λ (x : List Token). AreInOrder 0 (length text) x) (sym h.2) ordered
+    let ordered : AreInOrder 0 (length text) (tokens_behind [] false cut.0) = subst (λ (n : ℕ). AreInOrder 0 n (tokens_behind [] false cut.0)) e (order_behind [] false text cut.0 cut.1) in
+    subst (λ (x : List Token). AreInOrder 0 (length text) x) (sym cut.2) ordered

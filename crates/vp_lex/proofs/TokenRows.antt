@@ -1,9 +1,11 @@
 -- The tokens of texts that are worked out by hand.
 use Rattle.std.proofs.Common.{◌≡◌, true, false, [], ◌∷◌, ◌++◌, Ok, Err, refl}
 use Rattle.std.specs.Prelude.{codes}
-use Rattle.vp_lex.specs.declared.fault.LexError.TheVariants.{BadCharacter, OpenString, UnknownDirective}
+use Rattle.std.specs.Str.{is_utf8, chars}
+use lib.Utf8.{encode}
+use Rattle.vp_lex.specs.declared.fault.LexError.TheVariants.{BadCharacter, OpenComment, OpenString, UnknownDirective, TimescaleDiffers}
 use Rattle.vp_lex.specs.declared.keyword.Keyword.TheVariants as keyword
-use Rattle.vp_lex.specs.declared.token.Punctuator.TheVariants.{Equals, Comma, Semicolon}
+use Rattle.vp_lex.specs.declared.token.Punctuator.TheVariants.{ArithmeticShiftLeft, LessOrEqual, Equals, Comma, Semicolon}
 use Rattle.vp_lex.specs.declared.token.TokenKind.TheVariants as token
 use Rattle.vp_lex.specs.Tokens.{tokens_of}
 
@@ -54,6 +56,7 @@ pub row-directive : tokens_of (codes "a `pragma p" ++ 10 ∷ codes "b") ≡ Ok (
     ∷ record { kind = token.Name; start = 10; end = 11; line = 1; column = 11; directive = true }
     ∷ record { kind = token.Name; start = 12; end = 13; line = 2; column = 1; directive = false }
     ∷ [])
+unfolding is_utf8 chars encode
 row-directive = refl
 
 -- a string between quotes (34) and a comma
@@ -79,9 +82,28 @@ row-open_string = refl
 pub row-string_line : tokens_of (34 ∷ codes "a" ++ 10 ∷ 34 ∷ []) ≡ Err (OpenString 1)
 row-string_line = refl
 
--- a backslash in a string
-pub row-escape : tokens_of (34 ∷ 92 ∷ codes "n" ++ 34 ∷ []) ≡ Err (BadCharacter 1)
+-- a string with a newline escaped (92) in it, and a quotation mark (34)
+pub row-escape : tokens_of (34 ∷ 92 ∷ 110 ∷ 92 ∷ 34 ∷ 34 ∷ codes ";") ≡ Ok (
+    record { kind = token.String; start = 0; end = 6; line = 1; column = 1; directive = false }
+    ∷ record { kind = token.Punctuator Semicolon; start = 6; end = 7; line = 1; column = 7; directive = false }
+    ∷ [])
 row-escape = refl
+
+-- a block comment over two lines, and a name behind it
+pub row-block : tokens_of (codes "/* " ++ 10 ∷ codes "**/a // b") ≡ Ok (record { kind = token.Name; start = 7; end = 8; line = 2; column = 4; directive = false } ∷ [])
+row-block = refl
+
+-- a block comment that does not end, on the line on which it begins
+pub row-open_comment : tokens_of (10 ∷ codes "/* a" ++ 10 ∷ []) ≡ Err (OpenComment 2)
+row-open_comment = refl
+
+-- the longest symbols come first
+pub row-symbols : tokens_of (codes "<<<<=$a") ≡ Ok (
+    record { kind = token.Punctuator ArithmeticShiftLeft; start = 0; end = 3; line = 1; column = 1; directive = false }
+    ∷ record { kind = token.Punctuator LessOrEqual; start = 3; end = 5; line = 1; column = 4; directive = false }
+    ∷ record { kind = token.SystemName; start = 5; end = 7; line = 1; column = 6; directive = false }
+    ∷ [])
+row-symbols = refl
 
 -- a directive other than `pragma
 pub row-define : tokens_of (codes "`define A") ≡ Err (UnknownDirective 1)
@@ -96,5 +118,55 @@ pub row-underscore : tokens_of (codes "4'b_1") ≡ Err (BadCharacter 1)
 row-underscore = refl
 
 -- a fault on line 2, behind a token
-pub row-fault_line : tokens_of (codes "a" ++ 10 ∷ codes "b #") ≡ Err (BadCharacter 2)
+pub row-fault_line : tokens_of (codes "a" ++ 10 ∷ codes "b $") ≡ Err (BadCharacter 2)
 row-fault_line = refl
+
+-- `timescale marks its line, and a `pragma on it is one more token of it
+pub row-timescale : tokens_of (codes "`timescale 1`pragma" ++ 10 ∷ codes "b") ≡ Ok (
+    record { kind = token.Directive; start = 0; end = 10; line = 1; column = 1; directive = true }
+    ∷ record { kind = token.Number; start = 11; end = 12; line = 1; column = 12; directive = true }
+    ∷ record { kind = token.Directive; start = 12; end = 19; line = 1; column = 13; directive = true }
+    ∷ record { kind = token.Name; start = 20; end = 21; line = 2; column = 1; directive = false }
+    ∷ [])
+unfolding is_utf8 chars encode
+row-timescale = refl
+
+-- the same tokens in other white space, and others
+pub row-timescales_same : tokens_of (codes "`timescale 1s" ++ 10 ∷ codes "`timescale  1 s") ≡ Ok (
+    record { kind = token.Directive; start = 0; end = 10; line = 1; column = 1; directive = true }
+    ∷ record { kind = token.Number; start = 11; end = 12; line = 1; column = 12; directive = true }
+    ∷ record { kind = token.Name; start = 12; end = 13; line = 1; column = 13; directive = true }
+    ∷ record { kind = token.Directive; start = 14; end = 24; line = 2; column = 1; directive = true }
+    ∷ record { kind = token.Number; start = 26; end = 27; line = 2; column = 13; directive = true }
+    ∷ record { kind = token.Name; start = 28; end = 29; line = 2; column = 15; directive = true }
+    ∷ [])
+unfolding is_utf8 chars encode
+row-timescales_same = refl
+
+pub row-timescale_differs : tokens_of (codes "`timescale 1s" ++ 10 ∷ codes "`timescale 1ms") ≡ Err (TimescaleDiffers 2)
+unfolding is_utf8 chars encode
+row-timescale_differs = refl
+
+-- one that is longer
+pub row-timescale_longer : tokens_of (codes "`timescale 1" ++ 10 ∷ codes "`timescale 1/1") ≡ Err (TimescaleDiffers 2)
+unfolding is_utf8 chars encode
+row-timescale_longer = refl
+
+-- a fault on the line of the timescale comes before it, and one on the next line behind it
+pub row-timescale_fault : tokens_of (codes "`timescale 1" ++ 10 ∷ codes "`timescale 2 $") ≡ Err (BadCharacter 2)
+unfolding is_utf8 chars encode
+row-timescale_fault = refl
+
+pub row-timescale_before : tokens_of (codes "`timescale 1" ++ 10 ∷ codes "`timescale 2" ++ 10 ∷ codes "$") ≡ Err (TimescaleDiffers 2)
+unfolding is_utf8 chars encode
+row-timescale_before = refl
+
+-- one behind a `pragma on its line says nothing
+pub row-timescale_pragma : tokens_of (codes "`timescale" ++ 10 ∷ codes "`pragma `timescale a") ≡ Ok (
+    record { kind = token.Directive; start = 0; end = 10; line = 1; column = 1; directive = true }
+    ∷ record { kind = token.Directive; start = 11; end = 18; line = 2; column = 1; directive = true }
+    ∷ record { kind = token.Directive; start = 19; end = 29; line = 2; column = 9; directive = true }
+    ∷ record { kind = token.Name; start = 30; end = 31; line = 2; column = 20; directive = true }
+    ∷ [])
+unfolding is_utf8 chars encode
+row-timescale_pragma = refl

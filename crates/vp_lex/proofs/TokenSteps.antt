@@ -3,95 +3,83 @@ use Rattle.std.proofs.Common.{◌≡◌, ℕ, ◌+◌, ◌-◌, ◌<◌, ◌≤�
 use Rattle.std.proofs.Math.Seq.{take-add, take-append_seam}
 use Rattle.std.specs.Prelude.{option_map, option_to_list, slice_range}
 use Rattle.std.proofs.lemmas.List.{drop-drop, append_assoc, append-nil, length-take, length-drop}
-use Rattle.vp_lex.specs.declared.fault.LexError.{LexError}
 use Rattle.vp_lex.specs.declared.piece.Fault.{Fault}
 use Rattle.vp_lex.specs.declared.token.Token.{Token}
 use Rattle.vp_lex.specs.declared.token.TokenKind.{TokenKind}
 use Rattle.vp_lex.specs.Pieces.{PieceKind, Piece, is_piece}
 use Rattle.vp_lex.specs.Cuts.{Refusal}
-use Rattle.vp_lex.specs.Cutting.{first_piece, on_piece, behind_piece, cut_from, cut_text}
-use Rattle.vp_lex.specs.Tokens.{error_of, error_at, line_behind, is_mark, marks, token_kind, token_at, with_token, tokens_behind, tokens_from, tokens_of}
+use Rattle.vp_lex.specs.Cutting.{first_piece, on_piece, behind_piece, cut_from}
+use Rattle.vp_lex.specs.Tokens.{error_of, line_behind, is_mark, marks, token_kind, token_at, with_token, Scan, scanned, scan_of}
 use Rattle.vp_lex.proofs.CutLaws.{first_piece_found}
 use Rattle.vp_lex.proofs.Complete.{cut_more}
 
--- the tokens of pieces behind these bytes of a text, or the error of its first fault
-abbrev pub tokens_after : List ℕ → List ℕ → Bool → Result (List Piece) Refusal → Result (List Token) LexError
-tokens_after text before marked (Ok pieces) = Ok (tokens_behind before marked pieces)
-tokens_after text before marked (Err refusal) = Err (error_at text refusal)
+-- what is read of what is left of a text behind so many bytes
+abbrev pub scan_left : List ℕ → ℕ → Bool → Scan
+scan_left text at marked = scanned text (take at text) marked (cut_from (length (drop at text)) at (drop at text))
 
--- the tokens of what is left of a text behind so many bytes
-abbrev pub tokens_left : List ℕ → ℕ → Bool → Result (List Token) LexError
-tokens_left text at marked = tokens_after text (take at text) marked (cut_from (length (drop at text)) at (drop at text))
+-- with more tokens
+abbrev pub on_tokens : (List Token → List Token) → Scan → Scan
+on_tokens more scan = record { tokens = more scan.tokens; fault = scan.fault }
 
--- with more tokens, if there are any
-abbrev pub on_tokens : (List Token → List Token) → Result (List Token) LexError → Result (List Token) LexError
-on_tokens more (Ok tokens) = Ok (more tokens)
-on_tokens more (Err error) = Err error
+-- at the beginning all is left
+pub all_left : (text : List ℕ) → scan_of text ≡ scan_left text 0 false
+all_left text = refl
 
-all_left_of : (text : List ℕ) (r : Result (List Piece) Refusal) → tokens_from text r ≡ tokens_after text [] false r
-all_left_of text (Ok pieces) = refl
-all_left_of text (Err refusal) = refl
+-- at the end nothing is left
+pub none_left : (text : List ℕ) (at : ℕ) (marked : Bool) → drop at text ≡ [] → scan_left text at marked ≡ record { tokens = []; fault = None }
+none_left text at marked e = ap (λ (x : List ℕ). scanned text (take at text) marked (cut_from (length x) at x)) e
 
--- at the beginning all tokens are left
-pub all_left : (text : List ℕ) → tokens_of text ≡ tokens_left text 0 false
-all_left text = all_left_of text (cut_text text)
-
--- at the end none is left
-pub none_left : (text : List ℕ) (at : ℕ) (marked : Bool) → drop at text ≡ [] → tokens_left text at marked ≡ Ok []
-none_left text at marked e = ap (λ (x : List ℕ). tokens_after text (take at text) marked (cut_from (length x) at x)) e
-
-on_fault : (text : List ℕ) (at : ℕ) (marked : Bool) (rest before : List ℕ) (fault : Fault) → 1 ≤ length rest → first_piece rest ≡ Err fault → tokens_after text before marked (cut_from (length rest) at rest) ≡ Err (error_of fault (line_behind (take at text)))
+on_fault : (text : List ℕ) (at : ℕ) (marked : Bool) (rest before : List ℕ) (fault : Fault) → 1 ≤ length rest → first_piece rest ≡ Err fault → scanned text before marked (cut_from (length rest) at rest) ≡ record { tokens = []; fault = Some (error_of fault (line_behind (take at text))) }
 on_fault text at marked [] before fault l e = absurd (omega arith)
 on_fault text at marked (b ∷ bytes) before fault l e =
     let next : Piece → Result (List Piece) Refusal = λ piece. behind_piece piece (cut_from (length bytes) (at + length piece.bytes) (drop (length piece.bytes) (b ∷ bytes))) in
-    ap (λ (r : Result Piece Fault). tokens_after text before marked (on_piece at r next)) e
+    ap (λ (r : Result Piece Fault). scanned text before marked (on_piece at r next)) e
 
 -- where no piece is read, its fault is told, by the line
-pub fault_left : (text : List ℕ) (at : ℕ) (marked : Bool) (fault : Fault) → 1 ≤ length (drop at text) → first_piece (drop at text) ≡ Err fault → tokens_left text at marked ≡ Err (error_of fault (line_behind (take at text)))
+pub fault_left : (text : List ℕ) (at : ℕ) (marked : Bool) (fault : Fault) → 1 ≤ length (drop at text) → first_piece (drop at text) ≡ Err fault → scan_left text at marked ≡ record { tokens = []; fault = Some (error_of fault (line_behind (take at text))) }
 fault_left text at marked fault l e = on_fault text at marked (drop at text) (take at text) fault l e
 
-after_piece : (text before : List ℕ) (marked : Bool) (piece : Piece) (r : Result (List Piece) Refusal) → tokens_after text before marked (behind_piece piece r) ≡ on_tokens (with_token before marked piece (token_kind piece.kind piece.bytes)) (tokens_after text (before ++ piece.bytes) (marks marked piece) r)
+after_piece : (text before : List ℕ) (marked : Bool) (piece : Piece) (r : Result (List Piece) Refusal) → scanned text before marked (behind_piece piece r) ≡ on_tokens (with_token before marked piece (token_kind piece.kind piece.bytes)) (scanned text (before ++ piece.bytes) (marks marked piece) r)
 after_piece text before marked piece (Ok pieces) = refl
 after_piece text before marked piece (Err refusal) = refl
 
 -- behind a piece that is read the tokens go on, and its own is before them
-pub piece_left : (text : List ℕ) (at : ℕ) (marked : Bool) (piece : Piece) → first_piece (drop at text) ≡ Ok piece → tokens_left text at marked ≡ on_tokens (with_token (take at text) marked piece (token_kind piece.kind piece.bytes)) (tokens_left text (at + length piece.bytes) (marks marked piece))
+pub piece_left : (text : List ℕ) (at : ℕ) (marked : Bool) (piece : Piece) → first_piece (drop at text) ≡ Ok piece → scan_left text at marked ≡ on_tokens (with_token (take at text) marked piece (token_kind piece.kind piece.bytes)) (scan_left text (at + length piece.bytes) (marks marked piece))
 piece_left text at marked piece e =
     let found = first_piece_found (drop at text) piece e in
     let bytes : take (length piece.bytes) (drop at text) ≡ piece.bytes = ap (take (length piece.bytes)) found.1.splits ∙ take-append_seam piece.bytes found.0 in
     let before : take at text ++ piece.bytes ≡ take (at + length piece.bytes) text = ap (λ (x : List ℕ). take at text ++ x) (sym bytes) ∙ sym (take-add at (length piece.bytes) text) in
     let behind : drop (length piece.bytes) (drop at text) ≡ drop (at + length piece.bytes) text = drop-drop (length piece.bytes) at text in
     let more : List Token → List Token = with_token (take at text) marked piece (token_kind piece.kind piece.bytes) in
-    ap (tokens_after text (take at text) marked) (cut_more at (drop at text) piece e)
+    ap (scanned text (take at text) marked) (cut_more at (drop at text) piece e)
     ∙ after_piece text (take at text) marked piece _
-    ∙ ap (λ (x : List ℕ). on_tokens more (tokens_after text x (marks marked piece) (cut_from (length (drop (length piece.bytes) (drop at text))) (at + length piece.bytes) (drop (length piece.bytes) (drop at text))))) before
-    ∙ ap (λ (x : List ℕ). on_tokens more (tokens_after text (take (at + length piece.bytes) text) (marks marked piece) (cut_from (length x) (at + length piece.bytes) x))) behind
+    ∙ ap (λ (x : List ℕ). on_tokens more (scanned text x (marks marked piece) (cut_from (length (drop (length piece.bytes) (drop at text))) (at + length piece.bytes) (drop (length piece.bytes) (drop at text))))) before
+    ∙ ap (λ (x : List ℕ). on_tokens more (scanned text (take (at + length piece.bytes) text) (marks marked piece) (cut_from (length x) (at + length piece.bytes) x))) behind
 
-more_tokens : (before : List ℕ) (marked : Bool) (piece : Piece) (o : Option TokenKind) (items : List Token) (r : Result (List Token) LexError) → on_tokens (λ more. items ++ more) (on_tokens (with_token before marked piece o) r) ≡ on_tokens (λ more. (items ++ option_to_list (option_map (λ its. token_at before marked piece.bytes its (is_mark piece.kind)) o)) ++ more) r
-more_tokens before marked piece None items (Ok tokens) = ap (λ (x : List Token). (let r : Result (List Token) LexError = Ok (x ++ tokens) in r)) (sym (append-nil items))
-more_tokens before marked piece (Some its) items (Ok tokens) = ap (λ (x : List Token). (let r : Result (List Token) LexError = Ok x in r)) (sym (append_assoc items (token_at before marked piece.bytes its (is_mark piece.kind) ∷ []) tokens))
-more_tokens before marked piece o items (Err error) = refl
+more_tokens : (before : List ℕ) (marked : Bool) (piece : Piece) (o : Option TokenKind) (items : List Token) (scan : Scan) → on_tokens (λ more. items ++ more) (on_tokens (with_token before marked piece o) scan) ≡ on_tokens (λ more. (items ++ option_to_list (option_map (λ its. token_at before marked piece.bytes its (is_mark piece.kind)) o)) ++ more) scan
+more_tokens before marked piece None items scan = ap (λ (x : List Token). (let s : Scan = record { tokens = x ++ scan.tokens; fault = scan.fault } in s)) (sym (append-nil items))
+more_tokens before marked piece (Some its) items scan = ap (λ (x : List Token). (let s : Scan = record { tokens = x; fault = scan.fault } in s)) (sym (append_assoc items (token_at before marked piece.bytes its (is_mark piece.kind) ∷ []) scan.tokens))
 
 -- what is left behind a piece, and its token behind those that there were
-pub left_next : (text : List ℕ) (at end : ℕ) (marked : Bool) (kind : PieceKind) (items : List Token) → at < end → end ≤ length text → first_piece (drop at text) ≡ Ok (record { kind = kind; bytes = slice_range text at end }) → tokens_of text ≡ on_tokens (λ more. items ++ more) (tokens_left text at marked) → tokens_of text ≡ on_tokens (λ more. (items ++ option_to_list (option_map (λ its. token_at (take at text) marked (slice_range text at end) its (is_mark kind)) (token_kind kind (slice_range text at end)))) ++ more) (tokens_left text end (marks marked (record { kind = kind; bytes = slice_range text at end })))
+pub left_next : (text : List ℕ) (at end : ℕ) (marked : Bool) (kind : PieceKind) (items : List Token) → at < end → end ≤ length text → first_piece (drop at text) ≡ Ok (record { kind = kind; bytes = slice_range text at end }) → scan_of text ≡ on_tokens (λ more. items ++ more) (scan_left text at marked) → scan_of text ≡ on_tokens (λ more. (items ++ option_to_list (option_map (λ its. token_at (take at text) marked (slice_range text at end) its (is_mark kind)) (token_kind kind (slice_range text at end)))) ++ more) (scan_left text end (marks marked (record { kind = kind; bytes = slice_range text at end })))
 left_next text at end marked kind items l m first left =
     let bytes : List ℕ = slice_range text at end in
     let piece : Piece = record { kind = kind; bytes = bytes } in
     let long : at + length bytes ≡ end = omega (arith, length-take (end - at) (drop at text), length-drop at text) in
     left ∙ ap (on_tokens (λ more. items ++ more)) (piece_left text at marked piece first)
-    ∙ more_tokens (take at text) marked piece (token_kind kind bytes) items (tokens_left text (at + length bytes) (marks marked piece))
-    ∙ ap (λ (n : ℕ). on_tokens (λ more. (items ++ option_to_list (option_map (λ its. token_at (take at text) marked bytes its (is_mark kind)) (token_kind kind bytes))) ++ more) (tokens_left text n (marks marked piece))) long
+    ∙ more_tokens (take at text) marked piece (token_kind kind bytes) items (scan_left text (at + length bytes) (marks marked piece))
+    ∙ ap (λ (n : ℕ). on_tokens (λ more. (items ++ option_to_list (option_map (λ its. token_at (take at text) marked bytes its (is_mark kind)) (token_kind kind bytes))) ++ more) (scan_left text n (marks marked piece))) long
 
 -- the first piece of what is left is one
 pub first_is_piece : (text : List ℕ) (piece : Piece) → first_piece text ≡ Ok piece → is_piece piece.kind piece.bytes ≡ true
 first_is_piece text piece e = (first_piece_found text piece e).1.is
 
 -- the same for what a loop has then: the token in a list, the place and the mark
-pub left_moved : (text : List ℕ) (at end : ℕ) (marked : Bool) (kind : PieceKind) (items : List Token) → at < end → end ≤ length text → first_piece (drop at text) ≡ Ok (record { kind = kind; bytes = slice_range text at end }) → tokens_of text ≡ on_tokens (λ more. items ++ more) (tokens_left text at marked) → (token : Option Token) (moved : List Token) (here : ℕ) (mark : Bool) → token ≡ option_map (λ its. token_at (take at text) marked (slice_range text at end) its (is_mark kind)) (token_kind kind (slice_range text at end)) → moved ≡ items ++ option_to_list token → here ≡ end → mark ≡ marks marked (record { kind = kind; bytes = slice_range text at end }) → tokens_of text ≡ on_tokens (λ more. moved ++ more) (tokens_left text here mark)
+pub left_moved : (text : List ℕ) (at end : ℕ) (marked : Bool) (kind : PieceKind) (items : List Token) → at < end → end ≤ length text → first_piece (drop at text) ≡ Ok (record { kind = kind; bytes = slice_range text at end }) → scan_of text ≡ on_tokens (λ more. items ++ more) (scan_left text at marked) → (token : Option Token) (moved : List Token) (here : ℕ) (mark : Bool) → token ≡ option_map (λ its. token_at (take at text) marked (slice_range text at end) its (is_mark kind)) (token_kind kind (slice_range text at end)) → moved ≡ items ++ option_to_list token → here ≡ end → mark ≡ marks marked (record { kind = kind; bytes = slice_range text at end }) → scan_of text ≡ on_tokens (λ more. moved ++ more) (scan_left text here mark)
 left_moved text at end marked kind items l m first left token moved here mark t i h k =
     let all : moved ≡ items ++ option_to_list (option_map (λ its. token_at (take at text) marked (slice_range text at end) its (is_mark kind)) (token_kind kind (slice_range text at end))) =
     i ∙ ap (λ (o : Option Token). items ++ option_to_list o) t in
     left_next text at end marked kind items l m first left
-    ∙ ap (λ (x : List Token). on_tokens (λ more. x ++ more) (tokens_left text end (marks marked (record { kind = kind; bytes = slice_range text at end })))) (sym all)
-    ∙ ap (λ (n : ℕ). on_tokens (λ more. moved ++ more) (tokens_left text n (marks marked (record { kind = kind; bytes = slice_range text at end })))) (sym h)
-    ∙ ap (λ (v : Bool). on_tokens (λ more. moved ++ more) (tokens_left text here v)) (sym k)
+    ∙ ap (λ (x : List Token). on_tokens (λ more. x ++ more) (scan_left text end (marks marked (record { kind = kind; bytes = slice_range text at end })))) (sym all)
+    ∙ ap (λ (n : ℕ). on_tokens (λ more. moved ++ more) (scan_left text n (marks marked (record { kind = kind; bytes = slice_range text at end })))) (sym h)
+    ∙ ap (λ (v : Bool). on_tokens (λ more. moved ++ more) (scan_left text here v)) (sym k)

@@ -1,10 +1,8 @@
 -- What the cut of a text into pieces is, and when a text has none.
-use Rattle.std.specs.Prelude.{◌≡◌, ℕ, ◌+◌, ◌≤◌, ◌&&◌, Bool, true, not, List, [], ◌∷◌, ◌++◌, length}
-use Rattle.std.specs.List.{list_all}
+use Rattle.std.specs.Prelude.{◌≡◌, ℕ, ◌+◌, ◌≤◌, List, [], ◌∷◌, ◌++◌, length, Some}
 use Rattle.vp_lex.specs.declared.piece.Fault.{Fault}
-use Rattle.vp_lex.specs.declared.piece.Fault.TheVariants.{BadCharacter, OpenString, UnknownDirective}
-use Rattle.vp_lex.specs.Bytes.{is_newline, is_quote, is_backslash}
-use Rattle.vp_lex.specs.Pieces.{Directive, Piece, IsPiece, IsRead}
+use Rattle.vp_lex.specs.declared.piece.Fault.TheVariants.{BadCharacter}
+use Rattle.vp_lex.specs.Pieces.{Piece, IsPiece, IsRead, unread}
 
 -- the piece is at the front of the text, with this rest behind it, and no longer piece of any kind is (IEEE Std 1364-2005, 3.1)
 pub record Longest (text : List ℕ) (piece : Piece) (rest : List ℕ) : Type 0 where
@@ -32,38 +30,25 @@ joined (piece ∷ pieces) = piece.bytes ++ joined pieces
 abbrev pub NoPiece : List ℕ → Type 0
 NoPiece text = (piece : Piece) (rest : List ℕ) → IsPiece piece → text ≡ piece.bytes ++ rest → ⊥
 
--- a byte within a string: no quotation mark, no newline and no backslash (IEEE Std 1364-2005, 3.6; profile)
-abbrev pub is_within : ℕ → Bool
-is_within byte = not (is_quote byte) && (not (is_newline byte) && not (is_backslash byte))
-
--- the line or the text ends here
-abbrev pub ends_line : List ℕ → Bool
-ends_line [] = true
-ends_line (byte ∷ bytes) = is_newline byte
-
--- a quotation mark, bytes within a string, and then the line or the text ends (IEEE Std 1364-2005, 3.6)
-abbrev pub IsOpen : List ℕ → Type 0
-IsOpen [] = ⊥
-IsOpen (byte ∷ bytes) =
-    (is_quote byte ≡ true)
-    × ((inner : List ℕ) × (behind : List ℕ) × (bytes ≡ inner ++ behind) × (list_all is_within inner ≡ true) × (ends_line behind ≡ true))
+-- the longest piece at the front of the text is not read, by this fault
+abbrev pub NotRead : Fault → List ℕ → Type 0
+NotRead fault text = (piece : Piece) × (rest : List ℕ) × Longest text piece rest × (unread piece.kind piece.bytes ≡ Some fault)
 
 -- the fault of what is left of a text: no piece is there, or one that is not read (profile)
 abbrev pub Explains : Fault → List ℕ → Type 0
-Explains BadCharacter left = NoPiece left × (IsOpen left → ⊥)
-Explains OpenString left = NoPiece left × IsOpen left
-Explains UnknownDirective left = (piece : Piece) × (rest : List ℕ) × Longest left piece rest × (piece.kind ≡ Directive) × (IsRead piece → ⊥)
+Explains BadCharacter left = NoPiece left
+Explains fault left = NotRead fault left
 
--- a fault, and how many bytes of the text stand before it
+-- a fault, how many bytes of the text stand before it, and which pieces
 pub record Refusal : Type 0 where
   pub fault : Fault
   pub at : ℕ
-
--- the text is pieces up to this place, and the fault is that of what is left, which is not empty
-pub record IsRefused (text : List ℕ) (refusal : Refusal) : Type 0 where
   pub pieces : List Piece
+
+-- the text is these pieces up to this place, and the fault is that of what is left, which is not empty
+pub record IsRefused (text : List ℕ) (refusal : Refusal) : Type 0 where
   pub left : List ℕ
-  pub cut : CutTo text pieces left
+  pub cut : CutTo text refusal.pieces left
   pub at : refusal.at + length left ≡ length text
   pub more : 1 ≤ length left
   pub why : Explains refusal.fault left

@@ -1,10 +1,14 @@
 pub mod Faults
 pub mod Positions
 pub mod Bytes
+pub mod Tables
+pub mod Symbols
 pub mod Pieces
 pub mod Cuts
 pub mod Cutting
 pub mod Words
 pub mod Tokens
+pub mod Strings
 pub mod Texts
 pub mod Scanning
+pub mod Timescales

@@ -1,20 +1,21 @@
 -- The tokens of a text.
-use Rattle.std.specs.Prelude.{◌≡◌, ℕ, ◌+◌, ◌-◌, ◌≤◌, ◌<◌, ◌==◌, ◌&&◌, ◌||◌, Bool, true, false, not, List, [], ◌∷◌, ◌++◌, length, take, drop, Option, Some, None, Result, Ok, Err, count_by, if◌then◌else◌}
+use Rattle.std.specs.Prelude.{◌≡◌, ℕ, ◌+◌, ◌-◌, ◌≤◌, ◌<◌, ◌&&◌, ◌||◌, ◌⊎◌, Bool, true, false, not, List, [], ◌∷◌, ◌++◌, length, take, drop, Option, Some, None, option_map, Result, Ok, Err, count_by}
 use Rattle.std.specs.List.{list_all, suffix_len}
 use Rattle.vp_lex.specs.declared.fault.LexError.{LexError}
 use Rattle.vp_lex.specs.declared.fault.LexError.TheVariants as error
 use Rattle.vp_lex.specs.declared.keyword.Keyword.{Keyword}
 use Rattle.vp_lex.specs.declared.piece.Fault.{Fault}
-use Rattle.vp_lex.specs.declared.piece.Fault.TheVariants.{BadCharacter, OpenString, UnknownDirective}
-use Rattle.vp_lex.specs.declared.token.Punctuator.{Punctuator}
-use Rattle.vp_lex.specs.declared.token.Punctuator.TheVariants.{Equals, Comma, Semicolon}
+use Rattle.vp_lex.specs.declared.piece.Fault.TheVariants.{BadCharacter, OpenComment, OpenString, UnknownDirective}
 use Rattle.vp_lex.specs.declared.token.Token.{Token}
 use Rattle.vp_lex.specs.declared.token.TokenKind.{TokenKind}
 use Rattle.vp_lex.specs.declared.token.TokenKind.TheVariants as token
 use Rattle.vp_lex.specs.Bytes.{is_newline}
-use Rattle.vp_lex.specs.Pieces.{PieceKind, WhiteSpace, Word, Number, BasePart, Quoted, Operator, Directive, Piece}
+use Rattle.vp_lex.specs.Pieces.{PieceKind, WhiteSpace, Comment, Word, SystemWord, Number, BasePart, Quoted, Operator, Directive, Piece}
 use Rattle.vp_lex.specs.Cuts.{Refusal, Cut, IsRefused}
 use Rattle.vp_lex.specs.Cutting.{cut_text}
+use Rattle.vp_lex.specs.Symbols.{symbol_of}
+use Rattle.vp_lex.specs.Faults.{line_of}
+use Rattle.vp_lex.specs.Timescales.{timescales, timescales_before, differing}
 use Rattle.vp_lex.specs.Words.{keyword_of}
 
 -- ---- what a token is
@@ -24,19 +25,16 @@ abbrev pub word_kind : Option Keyword → TokenKind
 word_kind None = token.Name
 word_kind (Some keyword) = token.Keyword keyword
 
--- the punctuator that a piece's first byte is (IEEE Std 1364-2005, 3.4 and annex A)
-abbrev pub punctuator_of : List ℕ → Punctuator
-punctuator_of [] = Semicolon
-punctuator_of (byte ∷ bytes) = (if byte == 61 then Equals else (if byte == 44 then Comma else Semicolon))
-
--- what a piece is as a token: white space is none (IEEE Std 1364-2005, 3.1)
+-- what a piece is as a token: white space and comments are none (IEEE Std 1364-2005, 3.1)
 abbrev pub token_kind : PieceKind → List ℕ → Option TokenKind
 token_kind WhiteSpace bytes = None
+token_kind Comment bytes = None
 token_kind Word bytes = Some (word_kind (keyword_of bytes))
+token_kind SystemWord bytes = Some token.SystemName
 token_kind Number bytes = Some token.Number
 token_kind BasePart bytes = Some token.Base
 token_kind Quoted bytes = Some token.String
-token_kind Operator bytes = Some (token.Punctuator (punctuator_of bytes))
+token_kind Operator bytes = option_map token.Punctuator (symbol_of bytes)
 token_kind Directive bytes = Some token.Directive
 
 -- ---- where a token stands
@@ -105,6 +103,7 @@ bytes_of_pieces (piece ∷ pieces) = with_bytes piece.bytes (token_kind piece.ki
 -- the error of a fault on a line (profile)
 abbrev pub error_of : Fault → ℕ → LexError
 error_of BadCharacter line = error.BadCharacter line
+error_of OpenComment line = error.OpenComment line
 error_of OpenString line = error.OpenString line
 error_of UnknownDirective line = error.UnknownDirective line
 
@@ -112,21 +111,50 @@ error_of UnknownDirective line = error.UnknownDirective line
 abbrev pub error_at : List ℕ → Refusal → LexError
 error_at text refusal = error_of refusal.fault (line_behind (take refusal.at text))
 
--- these are the tokens of the text: those of the pieces of its cut, in their order (IEEE Std 1364-2005, 3; profile)
-abbrev pub AreTokens : List ℕ → List Token → Type 0
-AreTokens text tokens = (pieces : List Piece) × Cut text pieces × (tokens ≡ tokens_behind [] false pieces)
+-- what is read of a text: the tokens before its first fault, and its error, if it has one
+pub record Scan : Type 0 where
+  pub tokens : List Token
+  pub fault : Option LexError
 
--- this is the error of the text: that of its first fault (profile)
+-- this is what is read of the text: the tokens of the pieces of its cut; or those before its first fault, and the error of that (IEEE Std 1364-2005, 3; profile)
+abbrev pub IsScan : List ℕ → Scan → Type 0
+IsScan text scan =
+    ((pieces : List Piece) × Cut text pieces × (scan ≡ record { tokens = tokens_behind [] false pieces; fault = None }))
+    ⊎ ((refusal : Refusal) × IsRefused text refusal × (scan ≡ record { tokens = tokens_behind [] false refusal.pieces; fault = Some (error_at text refusal) }))
+
+-- the fault, or else the tokens
+abbrev pub told_fault : Option LexError → List Token → Result (List Token) LexError
+told_fault (Some error) tokens = Err error
+told_fault None tokens = Ok tokens
+
+-- the error of the line of a timescale that says something else; or else the fault, or else the tokens
+abbrev pub told : Option ℕ → Scan → Result (List Token) LexError
+told (Some line) scan = Err (error.TimescaleDiffers line)
+told None scan = told_fault scan.fault scan.tokens
+
+-- the tokens, if each timescale on a line before that of the text's fault says the same, and there is no fault; else the error of what comes first (IEEE Std 1364-2005, 19.8; profile)
+abbrev pub judged : List ℕ → Scan → Result (List Token) LexError
+judged text scan = told (differing None (timescales_before (option_map line_of scan.fault) (timescales text scan.tokens))) scan
+
+-- these are the tokens of the text
+abbrev pub AreTokens : List ℕ → List Token → Type 0
+AreTokens text tokens = (scan : Scan) × IsScan text scan × (judged text scan ≡ Ok tokens)
+
+-- this is the error of the text
 abbrev pub IsError : List ℕ → LexError → Type 0
-IsError text error = (refusal : Refusal) × IsRefused text refusal × (error ≡ error_at text refusal)
+IsError text error = (scan : Scan) × IsScan text scan × (judged text scan ≡ Err error)
 
 -- ---- all of them, computed
 
--- the tokens of a text that is cut, or its error
-abbrev pub tokens_from : List ℕ → Result (List Piece) Refusal → Result (List Token) LexError
-tokens_from text (Ok pieces) = Ok (tokens_behind [] false pieces)
-tokens_from text (Err refusal) = Err (error_at text refusal)
+-- what is read of a text behind these bytes, on a line with a directive before it or not, where this is its cut
+abbrev pub scanned : List ℕ → List ℕ → Bool → Result (List Piece) Refusal → Scan
+scanned text before marked (Ok pieces) = record { tokens = tokens_behind before marked pieces; fault = None }
+scanned text before marked (Err refusal) = record { tokens = tokens_behind before marked refusal.pieces; fault = Some (error_at text refusal) }
+
+-- what is read of a text
+abbrev pub scan_of : List ℕ → Scan
+scan_of text = scanned text [] false (cut_text text)
 
 -- the tokens of a text, in its order, or the error of its first fault (IEEE Std 1364-2005, 3; profile)
 abbrev pub tokens_of : List ℕ → Result (List Token) LexError
-tokens_of text = tokens_from text (cut_text text)
+tokens_of text = judged text (scan_of text)

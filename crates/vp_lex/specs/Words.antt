@@ -3,6 +3,7 @@ use Rattle.std.specs.Prelude.{ℕ, List, [], ◌∷◌, Option, Some, None, map,
 use Rattle.std.specs.Borrow.{Bor}
 use Rattle.vp_lex.specs.declared.keyword.Keyword.{Keyword}
 use Rattle.vp_lex.specs.declared.keyword.Keyword.TheVariants as keyword
+use Rattle.vp_lex.specs.Tables.{looked_up}
 
 -- the keywords that the language uses, and casex, each with its word (IEEE Std 1364-2005, annex B; profile)
 abbrev pub used_words : List (List ℕ × Keyword)
@@ -31,11 +32,6 @@ left_out_words =
     ∷ codes "fork" ∷ codes "join" ∷ codes "repeat" ∷ codes "disable" ∷ codes "force" ∷ codes "release"
     ∷ codes "deassign" ∷ codes "and" ∷ codes "nand" ∷ codes "nor" ∷ codes "not" ∷ codes "xor" ∷ codes "xnor"
     ∷ codes "buf" ∷ []
-
--- the keyword beside a word in a table, or else what is given
-abbrev pub looked_up : List (List ℕ × Keyword) → List ℕ → Option Keyword → Option Keyword
-looked_up [] word other = other
-looked_up ((entry, keyword) ∷ entries) word other = if bytes_eq word entry then Some keyword else looked_up entries word other
 
 -- a keyword that is left out, if the word is in a list
 abbrev pub left_out : List (List ℕ) → List ℕ → Option Keyword

@@ -11,12 +11,18 @@ pub enum LexError {
     /// No token begins with what stands here (201).
     #[error("line {line}: no token begins here")]
     BadCharacter { line: u32 },
+    /// A block comment does not end (202), by the line on which it begins.
+    #[error("line {line}: the comment does not end")]
+    OpenComment { line: u32 },
     /// A string does not end on its line (203).
     #[error("line {line}: the string does not end")]
     OpenString { line: u32 },
     /// A compiler directive that is not read (204).
     #[error("line {line}: unknown directive")]
     UnknownDirective { line: u32 },
+    /// A `` `timescale`` that is followed by other texts than the first of the text (205), by its own line.
+    #[error("line {line}: the timescale is not the first one")]
+    TimescaleDiffers { line: u32 },
     /// Want of memory (206).
     #[error("no memory")]
     NoMemory,
@@ -32,6 +38,7 @@ impl LexError {
     {
         match fault {
             Fault::BadCharacter => LexError::BadCharacter { line },
+            Fault::OpenComment => LexError::OpenComment { line },
             Fault::OpenString => LexError::OpenString { line },
             Fault::UnknownDirective => LexError::UnknownDirective { line },
         }
@@ -43,8 +50,10 @@ impl LexError {
     {
         match self {
             LexError::BadCharacter { .. } => 201,
+            LexError::OpenComment { .. } => 202,
             LexError::OpenString { .. } => 203,
             LexError::UnknownDirective { .. } => 204,
+            LexError::TimescaleDiffers { .. } => 205,
             LexError::NoMemory => 206,
         }
     }
@@ -55,8 +64,10 @@ impl LexError {
     {
         match self {
             LexError::BadCharacter { line }
+            | LexError::OpenComment { line }
             | LexError::OpenString { line }
-            | LexError::UnknownDirective { line } => *line,
+            | LexError::UnknownDirective { line }
+            | LexError::TimescaleDiffers { line } => *line,
             LexError::NoMemory => 0,
         }
     }

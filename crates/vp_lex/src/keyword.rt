@@ -35,73 +35,113 @@ pub enum Keyword {
     LeftOut,
 }
 
-/// The keywords by their words.
-const KEYWORDS: [(&str, Keyword); 58] = [
-    ("module", Keyword::Module),
-    ("endmodule", Keyword::Endmodule),
-    ("input", Keyword::Input),
-    ("output", Keyword::Output),
-    ("wire", Keyword::Wire),
+/// The keywords of two letters and digits.
+const OF_TWO: [(&str, Keyword); 2] = [("if", Keyword::If), ("or", Keyword::Or)];
+
+/// The keywords of three letters and digits.
+const OF_THREE: [(&str, Keyword); 9] = [
     ("reg", Keyword::Reg),
-    ("localparam", Keyword::Localparam),
-    ("assign", Keyword::Assign),
-    ("initial", Keyword::Initial),
-    ("always", Keyword::Always),
-    ("begin", Keyword::Begin),
     ("end", Keyword::End),
-    ("if", Keyword::If),
-    ("else", Keyword::Else),
-    ("case", Keyword::Case),
-    ("casez", Keyword::Casez),
-    ("endcase", Keyword::Endcase),
-    ("default", Keyword::Default),
-    ("while", Keyword::While),
     ("for", Keyword::For),
-    ("forever", Keyword::Forever),
-    ("wait", Keyword::Wait),
-    ("posedge", Keyword::Posedge),
-    ("negedge", Keyword::Negedge),
-    ("or", Keyword::Or),
-    ("casex", Keyword::Casex),
-    ("inout", Keyword::LeftOut),
-    ("parameter", Keyword::LeftOut),
-    ("defparam", Keyword::LeftOut),
-    ("generate", Keyword::LeftOut),
-    ("genvar", Keyword::LeftOut),
-    ("task", Keyword::LeftOut),
-    ("function", Keyword::LeftOut),
-    ("specify", Keyword::LeftOut),
-    ("signed", Keyword::LeftOut),
-    ("integer", Keyword::LeftOut),
-    ("time", Keyword::LeftOut),
-    ("real", Keyword::LeftOut),
-    ("realtime", Keyword::LeftOut),
-    ("event", Keyword::LeftOut),
     ("tri", Keyword::LeftOut),
-    ("supply0", Keyword::LeftOut),
-    ("supply1", Keyword::LeftOut),
-    ("primitive", Keyword::LeftOut),
-    ("fork", Keyword::LeftOut),
-    ("join", Keyword::LeftOut),
-    ("repeat", Keyword::LeftOut),
-    ("disable", Keyword::LeftOut),
-    ("force", Keyword::LeftOut),
-    ("release", Keyword::LeftOut),
-    ("deassign", Keyword::LeftOut),
     ("and", Keyword::LeftOut),
-    ("nand", Keyword::LeftOut),
     ("nor", Keyword::LeftOut),
     ("not", Keyword::LeftOut),
     ("xor", Keyword::LeftOut),
-    ("xnor", Keyword::LeftOut),
     ("buf", Keyword::LeftOut),
 ];
 
-/// The keyword that a word is.
+/// The keywords of four letters and digits.
+const OF_FOUR: [(&str, Keyword); 11] = [
+    ("wire", Keyword::Wire),
+    ("else", Keyword::Else),
+    ("case", Keyword::Case),
+    ("wait", Keyword::Wait),
+    ("task", Keyword::LeftOut),
+    ("time", Keyword::LeftOut),
+    ("real", Keyword::LeftOut),
+    ("fork", Keyword::LeftOut),
+    ("join", Keyword::LeftOut),
+    ("nand", Keyword::LeftOut),
+    ("xnor", Keyword::LeftOut),
+];
+
+/// The keywords of five letters and digits.
+const OF_FIVE: [(&str, Keyword); 8] = [
+    ("input", Keyword::Input),
+    ("begin", Keyword::Begin),
+    ("casez", Keyword::Casez),
+    ("while", Keyword::While),
+    ("casex", Keyword::Casex),
+    ("inout", Keyword::LeftOut),
+    ("event", Keyword::LeftOut),
+    ("force", Keyword::LeftOut),
+];
+
+/// The keywords of six letters and digits.
+const OF_SIX: [(&str, Keyword); 7] = [
+    ("module", Keyword::Module),
+    ("output", Keyword::Output),
+    ("assign", Keyword::Assign),
+    ("always", Keyword::Always),
+    ("genvar", Keyword::LeftOut),
+    ("signed", Keyword::LeftOut),
+    ("repeat", Keyword::LeftOut),
+];
+
+/// The keywords of seven letters and digits.
+const OF_SEVEN: [(&str, Keyword); 12] = [
+    ("initial", Keyword::Initial),
+    ("endcase", Keyword::Endcase),
+    ("default", Keyword::Default),
+    ("forever", Keyword::Forever),
+    ("posedge", Keyword::Posedge),
+    ("negedge", Keyword::Negedge),
+    ("specify", Keyword::LeftOut),
+    ("integer", Keyword::LeftOut),
+    ("supply0", Keyword::LeftOut),
+    ("supply1", Keyword::LeftOut),
+    ("disable", Keyword::LeftOut),
+    ("release", Keyword::LeftOut),
+];
+
+/// The keywords of eight letters and digits.
+const OF_EIGHT: [(&str, Keyword); 5] = [
+    ("defparam", Keyword::LeftOut),
+    ("generate", Keyword::LeftOut),
+    ("function", Keyword::LeftOut),
+    ("realtime", Keyword::LeftOut),
+    ("deassign", Keyword::LeftOut),
+];
+
+/// The keywords of nine letters and digits.
+const OF_NINE: [(&str, Keyword); 3] = [
+    ("endmodule", Keyword::Endmodule),
+    ("parameter", Keyword::LeftOut),
+    ("primitive", Keyword::LeftOut),
+];
+
+/// The keywords of ten letters and digits.
+const OF_TEN: [(&str, Keyword); 1] = [("localparam", Keyword::Localparam)];
+
+/// The keyword that a word is. Its length tells the table in which it may stand.
 pub fn keyword_of(word: &str) -> Option<Keyword>
     ensures { result ≡ keyword_of word.now }
 {
-    beside(&KEYWORDS, word)
+    if word.len() < 2 || word.len() > 10 {
+        return None;
+    }
+    match word.len() {
+        2 => beside(&OF_TWO, word),
+        3 => beside(&OF_THREE, word),
+        4 => beside(&OF_FOUR, word),
+        5 => beside(&OF_FIVE, word),
+        6 => beside(&OF_SIX, word),
+        7 => beside(&OF_SEVEN, word),
+        8 => beside(&OF_EIGHT, word),
+        9 => beside(&OF_NINE, word),
+        _ => beside(&OF_TEN, word),
+    }
 }
 
 /// The keyword beside a word in a table.

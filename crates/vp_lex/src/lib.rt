@@ -1,11 +1,17 @@
-//! The tokens of a Verilog text: names, keywords, numbers, base parts, strings, punctuators and directives.
+//! The tokens of a Verilog text: names, system names, keywords, numbers, base parts, strings, punctuators and directives.
 #![tactic(auto)]
 
 mod fault;
 mod keyword;
 mod piece;
+mod string;
+mod symbol;
+#[cfg(test)]
+mod tests;
+mod timescale;
 mod token;
 
 pub use fault::LexError;
 pub use keyword::Keyword;
+pub use string::string_value;
 pub use token::{Punctuator, TEXT_LIMIT, Token, TokenKind, tokens};

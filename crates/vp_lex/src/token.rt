@@ -1,21 +1,65 @@
 ghost use Rattle.std.specs.Prelude.{◌≡◌, ◌⊎◌, ◌<◌, ◌≤◌, ◌+◌, true, length, IfOk, IfErr, vec_len};
 ghost use Rattle.vp_lex.specs.Texts.{part_of};
-ghost use Rattle.vp_lex.specs.Tokens.{tokens_of};
+ghost use Rattle.vp_lex.specs.Tokens.{scan_of, tokens_of};
 
 use crate::fault::LexError;
 use crate::keyword::Keyword;
 use crate::piece::{Kind, piece_at, token_kind};
-use std::alloc::Global;
+use crate::timescale::differing_line;
+use std::alloc::{AllocError, Global};
 
 /// The greatest length of a text, in bytes.
 pub const TEXT_LIMIT: usize = 16_777_216;
 
-/// A punctuator or an operator.
+/// A punctuator or an operator (clause 5.1 and annex A).
 #[derive(Clone, Copy, Debug, PartialEq, Eq)]
 pub enum Punctuator {
+    ArithmeticShiftLeft,
+    ArithmeticShiftRight,
+    CaseEquality,
+    CaseInequality,
+    Power,
+    ShiftLeft,
+    ShiftRight,
+    /// `<=`, also of a nonblocking assignment.
+    LessOrEqual,
+    GreaterOrEqual,
+    LogicalEquality,
+    LogicalInequality,
+    LogicalAnd,
+    LogicalOr,
+    ReductionNand,
+    ReductionNor,
+    /// `~^` or `^~`, also of two operands.
+    ReductionXnor,
+    EventTrigger,
+    Plus,
+    Minus,
+    /// `*`, also of an event.
+    Asterisk,
+    Divide,
+    Modulus,
+    And,
+    Or,
+    Xor,
+    Negation,
+    LogicalNegation,
+    Conditional,
+    LessThan,
+    GreaterThan,
     Equals,
+    LeftParenthesis,
+    RightParenthesis,
+    LeftBracket,
+    RightBracket,
+    LeftBrace,
+    RightBrace,
     Comma,
     Semicolon,
+    Colon,
+    Period,
+    Hash,
+    At,
 }
 
 /// What a token is.
@@ -25,6 +69,8 @@ pub enum TokenKind {
     Name,
     /// A keyword (clause 3.7.2).
     Keyword(Keyword),
+    /// A dollar sign and a name (clause 3.7.3).
+    SystemName,
     /// Decimal digits and `_` (clause 3.5.1).
     Number,
     /// An apostrophe, a base letter and digits (clause 3.5.1).
@@ -49,7 +95,7 @@ pub struct Token {
     pub line: u32,
     /// The column at which it begins, in bytes from 1.
     pub column: u32,
-    /// It stands on the line of a `` `pragma``, and the grammar does not see it.
+    /// It stands on the line of a `` `pragma`` or a `` `timescale``, and the grammar does not see it.
     pub directive: bool,
 }
 
@@ -155,14 +201,19 @@ impl Position {
     }
 }
 
-/// The tokens of a text, in order; or its first fault (201, 203, 204), or want of memory (206).
-///
-/// White space separates tokens. A token is the longest piece that begins where it does.
-pub fn tokens(alloc: Global, text: &str) -> Result<Vec<Token>, LexError>
+/// What is read of a text: its tokens before its first fault, and the error of that, if there is one.
+#[derive(Drop)]
+struct ScannedText {
+    tokens: Vec<Token>,
+    fault: Option<LexError>,
+}
+
+/// Reads a text up to its first fault.
+fn scan(alloc: Global, text: &str) -> Result<ScannedText, AllocError>
     requires { length text.now ≤ TEXT_LIMIT }
-    ensures count { IfOk result (λ tokens. vec_len tokens ≤ length text.now) }
-    ensures ok { IfOk result (λ tokens. tokens_of text.now ≡ Ok tokens.items) }
-    ensures fault { IfErr result (λ error. (error ≡ LexError.NoMemory) ⊎ (tokens_of text.now ≡ Err error)) }
+    ensures count { IfOk result (λ read. vec_len read.tokens ≤ length text.now) }
+    ensures tokens { IfOk result (λ read. read.tokens.items ≡ (scan_of text.now).tokens) }
+    ensures fault { IfOk result (λ read. read.fault ≡ (scan_of text.now).fault) }
 {
     let bytes = text.as_bytes();
     let mut tokens = Vec::new(alloc);
@@ -175,12 +226,37 @@ pub fn tokens(alloc: Global, text: &str) -> Result<Vec<Token>, LexError>
     while here.at < bytes.len() {
         let (kind, end) = match piece_at(bytes, here.at) {
             Ok(found) => found,
-            Err(fault) => return Err(LexError::at(fault, here.line as u32)),
+            Err(fault) => {
+                let fault = Some(LexError::at(fault, here.line as u32));
+                return Ok(ScannedText { tokens, fault });
+            }
         };
         if let Some(token) = here.token(text, end, kind) {
             tokens.push(token)?;
         }
         here = here.behind(bytes, end, kind);
     }
-    Ok(tokens)
+    let fault = None;
+    Ok(ScannedText { tokens, fault })
+}
+
+/// The tokens of a text, in order; or its first fault (201 to 205), or want of memory (206).
+///
+/// White space and comments separate tokens. A token is the longest piece that begins where it does. A timescale is at fault
+/// at the end of its line, so another fault on that line comes first.
+pub fn tokens(alloc: Global, text: &str) -> Result<Vec<Token>, LexError>
+    requires { length text.now ≤ TEXT_LIMIT }
+    ensures count { IfOk result (λ tokens. vec_len tokens ≤ length text.now) }
+    ensures ok { IfOk result (λ tokens. tokens_of text.now ≡ Ok tokens.items) }
+    ensures fault { IfErr result (λ error. (error ≡ LexError.NoMemory) ⊎ (tokens_of text.now ≡ Err error)) }
+{
+    let read = scan(alloc, text)?;
+    let limit = read.fault.as_ref().map(|fault| fault.line());
+    if let Some(line) = differing_line(text, &read.tokens, limit) {
+        return Err(LexError::TimescaleDiffers { line });
+    }
+    match read.fault {
+        Some(fault) => Err(fault),
+        None => Ok(read.tokens),
+    }
 }

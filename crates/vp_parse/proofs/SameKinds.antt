@@ -18,7 +18,7 @@ keyword_tag keyword.Module = refl
 keyword_tag _ = refl
 
 punctuator_tag : (p : Punctuator) → tag_of punctuator_type p ≡ punctuator_number p
-punctuator_tag punctuator.Equals = refl
+punctuator_tag punctuator.ArithmeticShiftLeft = refl
 punctuator_tag _ = refl
 
 -- `==` is the test of the definitions
@@ -27,6 +27,8 @@ same_is symbol.Name symbol.Name = refl
 same_is (symbol.Number m) (symbol.Number n) = refl
 same_is symbol.Base symbol.Base = refl
 same_is symbol.String symbol.String = refl
+same_is symbol.SystemName symbol.SystemName = refl
+same_is symbol.OtherBase symbol.OtherBase = refl
 same_is (symbol.Keyword j) (symbol.Keyword k) = rw (keyword_tag j, keyword_tag k) refl
 same_is (symbol.Punctuator p) (symbol.Punctuator q) = rw (punctuator_tag p, punctuator_tag q) refl
 same_is _ _ = refl

@@ -52,17 +52,26 @@ keyword_same k l e =
     let h : ◌≡◌ {A = Option Keyword} (Some k) (Some l) = sym (keyword_of_number-is k) ∙ ap keyword_of_number e ∙ keyword_of_number-is l in
     cc
 
+punctuator_of_number : ℕ → Option Punctuator
+punctuator_of_number n = slice_get (punctuator.ArithmeticShiftLeft ∷ punctuator.ArithmeticShiftRight ∷ punctuator.CaseEquality ∷ punctuator.CaseInequality ∷ punctuator.Power ∷ punctuator.ShiftLeft ∷ punctuator.ShiftRight ∷ punctuator.LessOrEqual ∷ punctuator.GreaterOrEqual ∷ punctuator.LogicalEquality ∷ punctuator.LogicalInequality ∷ punctuator.LogicalAnd ∷ punctuator.LogicalOr ∷ punctuator.ReductionNand ∷ punctuator.ReductionNor ∷ punctuator.ReductionXnor ∷ punctuator.EventTrigger ∷ punctuator.Plus ∷ punctuator.Minus ∷ punctuator.Asterisk ∷ punctuator.Divide ∷ punctuator.Modulus ∷ punctuator.And ∷ punctuator.Or ∷ punctuator.Xor ∷ punctuator.Negation ∷ punctuator.LogicalNegation ∷ punctuator.Conditional ∷ punctuator.LessThan ∷ punctuator.GreaterThan ∷ punctuator.Equals ∷ punctuator.LeftParenthesis ∷ punctuator.RightParenthesis ∷ punctuator.LeftBracket ∷ punctuator.RightBracket ∷ punctuator.LeftBrace ∷ punctuator.RightBrace ∷ punctuator.Comma ∷ punctuator.Semicolon ∷ punctuator.Colon ∷ punctuator.Period ∷ punctuator.Hash ∷ punctuator.At ∷ []) n
+
+punctuator_of_number-is : (p : Punctuator) → punctuator_of_number (punctuator_number p) ≡ Some p
+unfolding punctuator_of_number
+punctuator_of_number-is punctuator.Equals = refl
+punctuator_of_number-is _ = refl
+
 punctuator_same : (p q : Punctuator) → punctuator_number p ≡ punctuator_number q → p ≡ q
-punctuator_same punctuator.Equals punctuator.Equals e = refl
-punctuator_same punctuator.Comma punctuator.Comma e = refl
-punctuator_same punctuator.Semicolon punctuator.Semicolon e = refl
-punctuator_same _ _ e = absurd (omega arith)
+punctuator_same p q e =
+    let h : ◌≡◌ {A = Option Punctuator} (Some p) (Some q) = sym (punctuator_of_number-is p) ∙ ap punctuator_of_number e ∙ punctuator_of_number-is q in
+    cc
 
 by_numbers : (a b : SymbolKind) → sort_number a ≡ sort_number b → kind_value a ≡ kind_value b → a ≡ b
 by_numbers symbol.Name symbol.Name s v = refl
 by_numbers (symbol.Number m) (symbol.Number n) s v = ap (λ (n : ℕ). symbol.Number n) v
 by_numbers symbol.Base symbol.Base s v = refl
 by_numbers symbol.String symbol.String s v = refl
+by_numbers symbol.SystemName symbol.SystemName s v = refl
+by_numbers symbol.OtherBase symbol.OtherBase s v = refl
 by_numbers (symbol.Keyword k) (symbol.Keyword l) s v = ap (λ (k : Keyword). symbol.Keyword k) (keyword_same k l v)
 by_numbers (symbol.Punctuator p) (symbol.Punctuator q) s v = ap (λ (p : Punctuator). symbol.Punctuator p) (punctuator_same p q v)
 by_numbers _ _ s v = absurd (omega arith)

@@ -38,11 +38,51 @@ keyword_number keyword.Or = 24
 keyword_number keyword.Casex = 25
 keyword_number keyword.LeftOut = 26
 
--- a number for each punctuator (3.4)
+-- a number for each punctuator (5.1 and annex A)
 abbrev pub punctuator_number : Punctuator → ℕ
-punctuator_number punctuator.Equals = 0
-punctuator_number punctuator.Comma = 1
-punctuator_number punctuator.Semicolon = 2
+punctuator_number punctuator.ArithmeticShiftLeft = 0
+punctuator_number punctuator.ArithmeticShiftRight = 1
+punctuator_number punctuator.CaseEquality = 2
+punctuator_number punctuator.CaseInequality = 3
+punctuator_number punctuator.Power = 4
+punctuator_number punctuator.ShiftLeft = 5
+punctuator_number punctuator.ShiftRight = 6
+punctuator_number punctuator.LessOrEqual = 7
+punctuator_number punctuator.GreaterOrEqual = 8
+punctuator_number punctuator.LogicalEquality = 9
+punctuator_number punctuator.LogicalInequality = 10
+punctuator_number punctuator.LogicalAnd = 11
+punctuator_number punctuator.LogicalOr = 12
+punctuator_number punctuator.ReductionNand = 13
+punctuator_number punctuator.ReductionNor = 14
+punctuator_number punctuator.ReductionXnor = 15
+punctuator_number punctuator.EventTrigger = 16
+punctuator_number punctuator.Plus = 17
+punctuator_number punctuator.Minus = 18
+punctuator_number punctuator.Asterisk = 19
+punctuator_number punctuator.Divide = 20
+punctuator_number punctuator.Modulus = 21
+punctuator_number punctuator.And = 22
+punctuator_number punctuator.Or = 23
+punctuator_number punctuator.Xor = 24
+punctuator_number punctuator.Negation = 25
+punctuator_number punctuator.LogicalNegation = 26
+punctuator_number punctuator.Conditional = 27
+punctuator_number punctuator.LessThan = 28
+punctuator_number punctuator.GreaterThan = 29
+punctuator_number punctuator.Equals = 30
+punctuator_number punctuator.LeftParenthesis = 31
+punctuator_number punctuator.RightParenthesis = 32
+punctuator_number punctuator.LeftBracket = 33
+punctuator_number punctuator.RightBracket = 34
+punctuator_number punctuator.LeftBrace = 35
+punctuator_number punctuator.RightBrace = 36
+punctuator_number punctuator.Comma = 37
+punctuator_number punctuator.Semicolon = 38
+punctuator_number punctuator.Colon = 39
+punctuator_number punctuator.Period = 40
+punctuator_number punctuator.Hash = 41
+punctuator_number punctuator.At = 42
 
 -- a number for each sort of kind
 abbrev pub sort_number : SymbolKind → ℕ
@@ -52,6 +92,8 @@ sort_number symbol.Base = 2
 sort_number symbol.String = 3
 sort_number (symbol.Keyword k) = 4
 sort_number (symbol.Punctuator p) = 5
+sort_number symbol.SystemName = 6
+sort_number symbol.OtherBase = 7
 
 -- what a kind says beside its sort
 abbrev pub kind_value : SymbolKind → ℕ

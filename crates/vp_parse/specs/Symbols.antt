@@ -1,5 +1,5 @@
 -- What the grammar sees of a text's tokens.
-use Rattle.std.specs.Prelude.{ℕ, ◌+◌, ◌-◌, ◌*◌, min, if◌then◌else◌, List, fold, Option, Some, None, option_map}
+use Rattle.std.specs.Prelude.{ℕ, ◌+◌, ◌-◌, ◌*◌, ◌==◌, ◌||◌, Bool, slice_index_or, min, if◌then◌else◌, List, fold, Option, Some, None, option_map}
 use Rattle.std.specs.Char.{is_ascii_digit}
 use Rattle.std.specs.List.{enumerate_from, filter_map}
 use Rattle.vp_lex.specs.Texts.{text_of}
@@ -20,17 +20,26 @@ with_digit value byte = if is_ascii_digit byte then min (value * 10 + (byte - 48
 abbrev pub decimal_value : List ℕ → ℕ
 decimal_value digits = fold with_digit 0 digits
 
+-- an unsigned base part is of the binary base: b or B stands behind its apostrophe (3.5.1)
+abbrev pub is_binary : List ℕ → Bool
+is_binary part = (slice_index_or part 1 0 == 98) || (slice_index_or part 1 0 == 66)
+
+-- what the grammar sees of a base part (3.5.1)
+abbrev pub base_kind : List ℕ → SymbolKind
+base_kind part = if is_binary part then symbol.Base else symbol.OtherBase
+
 -- what the grammar sees of a token of a kind, by its text; nothing of a compiler directive (annex A)
 abbrev pub kind_seen : List ℕ → TokenKind → Option SymbolKind
 kind_seen word token.Name = Some symbol.Name
 kind_seen word (token.Keyword k) = Some (symbol.Keyword k)
 kind_seen word token.Number = Some (symbol.Number (decimal_value word))
-kind_seen word token.Base = Some symbol.Base
+kind_seen word token.Base = Some (base_kind word)
 kind_seen word token.String = Some symbol.String
 kind_seen word (token.Punctuator p) = Some (symbol.Punctuator p)
+kind_seen word token.SystemName = Some symbol.SystemName
 kind_seen word token.Directive = None
 
--- what the grammar sees of a token: nothing, if it stands on the line of a pragma (19.10)
+-- what the grammar sees of a token: nothing, if it stands on the line of a pragma or a timescale (19.8 and 19.10)
 abbrev pub symbol_kind : List ℕ → Token → Option SymbolKind
 symbol_kind text t = if t.directive then None else kind_seen (text_of text t) t.kind
 

@@ -53,14 +53,23 @@ impl<T: Drop> From<AllocFailed<T>> for Stop {
     }
 }
 
-/// Where the grammar does not go on: at a keyword that is left out, or at anything else.
+/// Where the grammar does not go on: at a keyword, an operator, a system name or a base that is left out, or at anything else.
 fn unexpected(symbols: &[Symbol]) -> Stop
     ensures { stop_told result ≡ Some (Unexpected (length symbols.now)) }
 {
     match symbols {
         [
             Symbol {
-                kind: SymbolKind::Keyword(Keyword::LeftOut | Keyword::Casex),
+                kind: SymbolKind::Keyword(Keyword::LeftOut | Keyword::Casex)
+                | SymbolKind::SystemName
+                | SymbolKind::Punctuator(
+                    Punctuator::Divide
+                    | Punctuator::Modulus
+                    | Punctuator::Power
+                    | Punctuator::ArithmeticShiftLeft
+                    | Punctuator::ArithmeticShiftRight
+                    | Punctuator::EventTrigger,
+                ),
                 ..
             },
             ..

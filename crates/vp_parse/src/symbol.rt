@@ -1,6 +1,6 @@
 ghost use Rattle.std.specs.Prelude.{◌≡◌, ◌≤◌, length, IfOk, vec_len};
 ghost use Rattle.vp_lex.specs.declared.token.TheConstants.{TEXT_LIMIT};
-ghost use Rattle.vp_parse.specs.Symbols.{with_digit as one_more, decimal_value, symbol_kind as kind_of, symbols_of};
+ghost use Rattle.vp_parse.specs.Symbols.{is_binary, base_kind, with_digit as one_more, decimal_value, symbol_kind as kind_of, symbols_of};
 
 use std::alloc::{AllocError, Global};
 use vp_lex::{Keyword, Punctuator, Token, TokenKind};
@@ -14,10 +14,14 @@ pub enum SymbolKind {
     Name,
     /// A decimal number, at most `NUMBER_LIMIT`.
     Number(u32),
+    /// An unsigned base part of the binary base.
     Base,
     String,
     Keyword(Keyword),
     Punctuator(Punctuator),
+    SystemName,
+    /// A base part of another base, or a signed one.
+    OtherBase,
 }
 
 /// A token that the grammar sees, with its place.
@@ -51,6 +55,24 @@ fn decimal(digits: &str) -> u32
     value
 }
 
+/// An unsigned base part is of the binary base.
+fn is_binary(part: &str) -> bool
+    ensures { result ≡ is_binary part.now }
+{
+    matches!(part.as_bytes().get(1), Some(b'b' | b'B'))
+}
+
+/// What the grammar sees of a base part.
+fn base_kind(part: &str) -> SymbolKind
+    ensures { result ≡ base_kind part.now }
+{
+    if is_binary(part) {
+        SymbolKind::Base
+    } else {
+        SymbolKind::OtherBase
+    }
+}
+
 /// What the grammar sees of a token; none of a directive.
 fn symbol_kind(text: &str, token: Token) -> Option<SymbolKind>
     ensures { result ≡ kind_of text.now token }
@@ -62,9 +84,10 @@ fn symbol_kind(text: &str, token: Token) -> Option<SymbolKind>
         TokenKind::Name => Some(SymbolKind::Name),
         TokenKind::Keyword(keyword) => Some(SymbolKind::Keyword(keyword)),
         TokenKind::Number => Some(SymbolKind::Number(decimal(token.text(text)))),
-        TokenKind::Base => Some(SymbolKind::Base),
+        TokenKind::Base => Some(base_kind(token.text(text))),
         TokenKind::String => Some(SymbolKind::String),
         TokenKind::Punctuator(punctuator) => Some(SymbolKind::Punctuator(punctuator)),
+        TokenKind::SystemName => Some(SymbolKind::SystemName),
         TokenKind::Directive => None,
     }
 }

@@ -1,5 +1,4 @@
 pub mod Holding
-pub mod Quotes
 pub mod Behind
 pub mod Refusals
 pub mod Turns

@@ -51,9 +51,20 @@ one_envelope :
 unfolding is_utf8 chars encode_utf8
 one_envelope = refl
 
+-- an author with a quotation mark in the name
+escaped_author :
+    envelopes_in (codes "`pragma protect author=\"a\\\"b\", begin\n`pragma protect end\n") ≡ Ok (envelope 6 9 (codes "a\"b") ∷ [])
+unfolding is_utf8 chars encode_utf8
+escaped_author = refl
+
 no_effect : envelopes_in (codes "`pragma protect\n`pragma other begin\n`pragma protect encoding=\"x\"") ≡ Ok []
 unfolding is_utf8 chars encode_utf8
 no_effect = refl
+
+-- a timescale is no pragma
+timescale : envelopes_in (codes "`timescale protect begin\n`pragma protect") ≡ Ok []
+unfolding is_utf8 chars encode_utf8
+timescale = refl
 
 nested : envelopes_in (codes "`pragma protect begin\n`pragma protect begin") ≡ Err (error.NestedBegin 2)
 unfolding is_utf8 chars encode_utf8

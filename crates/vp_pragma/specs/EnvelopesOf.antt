@@ -1,6 +1,7 @@
 -- The envelopes of a text: what its pragmas do, one after the other.
 use Rattle.std.specs.Prelude.{ℕ, ◌==◌, ◌&&◌, not, Bool, true, false, if◌then◌else◌, nat_le, List, [], ◌∷◌, ◌++◌, length, Option, Some, None, Result, Ok, Err}
 use Rattle.vp_lex.specs.declared.token.Token.{Token}
+use Rattle.vp_lex.specs.Strings.{string_value}
 use Rattle.vp_lex.specs.Texts.{text_of}
 use Rattle.vp_pragma.specs.declared.deed.Deed.{Deed}
 use Rattle.vp_pragma.specs.declared.deed.Deed.TheVariants.{Begins, Ends, Names, Bad}
@@ -8,7 +9,7 @@ use Rattle.vp_pragma.specs.declared.envelope.Envelope.{Envelope}
 use Rattle.vp_pragma.specs.declared.fault.PragmaError.{PragmaError}
 use Rattle.vp_pragma.specs.declared.fault.PragmaError.TheVariants as error
 use Rattle.vp_pragma.specs.Surroundings.{is_free, module_at}
-use Rattle.vp_pragma.specs.Pragmas.{Placed, unquoted, deeds_of_text}
+use Rattle.vp_pragma.specs.Pragmas.{Placed, deeds_of_text}
 
 -- an envelope that has begun: its place, its line, the module where it began, and its author
 pub record Begun : Type 0 where
@@ -65,7 +66,7 @@ end_at tokens r directive place (Some b) =
 abbrev pub after_deed : List ℕ → List Token → Progress → Placed → Deed → Result Progress PragmaError
 after_deed text tokens r directive (Begins place) = begin_at tokens r directive place r.begun
 after_deed text tokens r directive (Ends place) = end_at tokens r directive place r.begun
-after_deed text tokens r directive (Names string) = Ok (record r { author = unquoted (text_of text string) })
+after_deed text tokens r directive (Names string) = Ok (record r { author = string_value (text_of text string) })
 after_deed text tokens r directive Bad = Err (error.BadPragma directive.1.line)
 
 -- the same of deeds one after the other, up to the first refusal

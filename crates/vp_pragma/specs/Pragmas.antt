@@ -1,5 +1,5 @@
 -- The pragmas of a text, line by line: what each says of envelopes and authors (clause 19.10; profile).
-use Rattle.std.specs.Prelude.{ℕ, zero, suc, ◌+◌, ◌-◌, ◌==◌, ◌&&◌, ◌||◌, not, nat_le, Bool, true, false, if◌then◌else◌, List, [], ◌∷◌, ◌++◌, length, map, slice_range, slice_index, Option, Some, None, option_map, codes}
+use Rattle.std.specs.Prelude.{ℕ, zero, suc, ◌+◌, ◌==◌, ◌&&◌, ◌||◌, not, Bool, true, false, if◌then◌else◌, List, [], ◌∷◌, ◌++◌, length, map, Option, Some, None, option_map, codes}
 use Rattle.std.specs.List.{enumerate_from, list_any, take_while}
 use Rattle.std.specs.Str.{bytes_eq}
 use Rattle.vp_lex.specs.declared.token.Punctuator.TheVariants as punctuator
@@ -83,14 +83,6 @@ expression_at (p ∷ ps) =
 
 -- ---- deeds
 
--- a text begins and ends with a quote, each its own
-abbrev pub is_quoted : List ℕ → Bool
-is_quoted bytes = nat_le 2 (length bytes) && (slice_index bytes 0 == 34) && (slice_index bytes (length bytes - 1) == 34)
-
--- what stands between the quotes of a string; nothing where it has none
-abbrev pub unquoted : List ℕ → List ℕ
-unquoted bytes = if is_quoted bytes then slice_range bytes 1 (length bytes - 1) else []
-
 -- the protect keywords with an effect that is not read yet
 abbrev pub unread_words : List (List ℕ)
 unread_words =
@@ -162,6 +154,14 @@ line_deeds text [] = Bad ∷ []
 line_deeds text (name ∷ ps) =
     if is_word name.1.kind then named_deeds text (text_of text name.1) ps else Bad ∷ []
 
+-- the token is the pragma directive, and not the timescale directive (clauses 19.8 and 19.10)
+abbrev pub is_pragma : List ℕ → Token → Bool
+is_pragma text t = bytes_eq (text_of text t) (codes "`pragma")
+
+-- what a directive does, by the tokens behind it: nothing, if it is no pragma (clause 19.10)
+abbrev pub directive_deeds : List ℕ → Token → List Placed → List Deed
+directive_deeds text t ps = if is_pragma text t then line_deeds text ps else []
+
 -- ---- lines
 
 -- the line of a pragma on which a token stands, if it stands on one
@@ -183,7 +183,7 @@ on_line place d ts = enumerate_from (place + 1) (take_while (is_on d.line) ts)
 
 -- what a token does as the directive of a pragma, at a place and before these tokens; nothing where it is none
 abbrev pub deeds_at : List ℕ → Option ℕ → ℕ → Token → List Token → List Deed
-deeds_at text before place t ts = if begins_line before t then line_deeds text (on_line place t ts) else []
+deeds_at text before place t ts = if begins_line before t then directive_deeds text t (on_line place t ts) else []
 
 -- what the pragmas of these tokens do from a place on, where the token before them stands on this pragma's line or on none
 abbrev pub deeds_behind : List ℕ → Option ℕ → ℕ → List Token → List (Placed × Deed)

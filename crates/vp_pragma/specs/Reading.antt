@@ -3,6 +3,7 @@ use Rattle.std.specs.Prelude.{◌≡◌, ℕ, ◌+◌, ◌≤◌, if◌then◌el
 use Rattle.std.specs.List.{enumerate_from}
 use Rattle.vp_lex.specs.declared.token.TheConstants.{TEXT_LIMIT}
 use Rattle.vp_lex.specs.declared.token.Token.{Token}
+use Rattle.vp_lex.specs.Strings.{string_value}
 use Rattle.vp_lex.specs.Texts.{text_of}
 use Rattle.vp_pragma.specs.declared.deed.Deed.{Deed}
 use Rattle.vp_pragma.specs.declared.fault.PragmaError.{PragmaError}
@@ -12,7 +13,7 @@ use Rattle.vp_pragma.specs.declared.reading.Line.{Line}
 use Rattle.vp_pragma.specs.declared.reading.Open.{Open}
 use Rattle.vp_pragma.specs.declared.reading.Reading.{Reading}
 use Rattle.vp_pragma.specs.Surroundings.{CountsUpTo, around_of, is_before_else, is_free, kinds_before, module_at}
-use Rattle.vp_pragma.specs.Pragmas.{Placed, deeds_behind, unquoted}
+use Rattle.vp_pragma.specs.Pragmas.{Placed, deeds_behind}
 use Rattle.vp_pragma.specs.EnvelopesOf.{Begun, Progress, after_deed, after_deeds}
 
 -- the tokens of a line that are left, with their places
@@ -28,7 +29,7 @@ HasPlaces rest = rest.at + length rest.tokens.now ≤ TEXT_LIMIT
 -- the author that a string names, if there is one
 abbrev pub author_in : List ℕ → Option Token → List ℕ
 author_in text None = []
-author_in text (Some string) = unquoted (text_of text string)
+author_in text (Some string) = string_value (text_of text string)
 
 -- the envelope that has begun
 abbrev pub begun_of : Open → Begun

@@ -110,7 +110,7 @@ fn value_at(rest: Rest<'_>) -> Option<(Value, Rest<'_>)>
         TokenKind::String => Some((Value::Text(first), others)),
         TokenKind::Number => Some((Value::Other, behind_base(others))),
         TokenKind::Base | TokenKind::Name | TokenKind::Keyword(_) => Some((Value::Other, others)),
-        TokenKind::Punctuator(_) | TokenKind::Directive => None,
+        TokenKind::Punctuator(_) | TokenKind::SystemName | TokenKind::Directive => None,
     }
 }
 

@@ -1,9 +1,9 @@
-ghost use Rattle.std.specs.Prelude.{◌≡◌, ℕ, suc, ◌<◌, ◌≤◌, ◌+◌, ◌==◌, ◌&&◌, not, drop, length, List, slice_index_or, IfErr, IfNone, IfOk, IfSome, MatchResult, OnOk};
+ghost use Rattle.std.specs.Prelude.{◌≡◌, ℕ, suc, ◌<◌, ◌≤◌, ◌+◌, ◌==◌, ◌&&◌, not, drop, length, List, slice_index_or, string_bytes, IfErr, IfNone, IfOk, IfSome, MatchResult, OnOk};
 ghost use Rattle.vp_lex.specs.declared.token.TheConstants.{TEXT_LIMIT};
 ghost use Rattle.vp_lex.specs.declared.token.Token.{Token};
 ghost use Rattle.vp_pragma.specs.declared.deed.Deed.{Deed};
 ghost use Rattle.vp_pragma.specs.EnvelopesOf.{after_deeds, at_start, envelopes_behind, envelopes_of, same_module};
-ghost use Rattle.vp_pragma.specs.Pragmas.{before_deeds, begins_line, deeds_from, deeds_of_text, line_deeds, named_deeds, on_line, pragma_line, protect_deeds, unquoted};
+ghost use Rattle.vp_pragma.specs.Pragmas.{before_deeds, begins_line, deeds_from, deeds_of_text, directive_deeds, is_pragma, line_deeds, named_deeds, on_line, pragma_line, protect_deeds};
 ghost use Rattle.vp_pragma.specs.Faults.{Explains};
 ghost use Rattle.vp_pragma.specs.Reading.{HasPlaces, HasRoom, IsBefore, IsLine, after_all, after_left, after_one, author_in, placed, progress_of};
 ghost use Rattle.vp_pragma.specs.Surroundings.{is_before_else};
@@ -13,8 +13,8 @@ use crate::envelope::{Envelope, Envelopes};
 use crate::fault::PragmaError;
 use crate::line::{Rest, expression_at, is_comma, is_word, run_of, split};
 use crate::surroundings::{Surroundings, is_before_else};
-use std::alloc::Global;
-use vp_lex::Token;
+use std::alloc::{AllocError, Global};
+use vp_lex::{Token, string_value};
 use vp_list::Text;
 
 /// The greatest number of envelopes.
@@ -61,26 +61,13 @@ pub struct Before {
     before_else: bool,
 }
 
-/// What stands between the quotes of a string; nothing where it has none.
-fn unquoted(string: &str) -> &str
-    ensures { result.now ≡ unquoted string.now }
-{
-    let Some(rest) = string.strip_prefix('"') else {
-        return "";
-    };
-    match rest.strip_suffix('"') {
-        Some(inner) => inner,
-        None => "",
-    }
-}
-
 /// The author in force.
-fn author_in(text: &str, author: Option<Token>) -> &str
-    ensures { result.now ≡ author_in text.now author }
+fn author_in(alloc: Global, text: &str, author: Option<Token>) -> Result<String, AllocError>
+    ensures ok { IfOk result (λ value. string_bytes value ≡ author_in text.now author) }
 {
     match author {
-        Some(string) => unquoted(string.text(text)),
-        None => "",
+        Some(string) => string_value(alloc, string.text(text)),
+        None => Ok(String::new(alloc)),
     }
 }
 
@@ -117,7 +104,7 @@ fn begin(
     if reading.closed.len() >= ENVELOPE_LIMIT {
         return Err(PragmaError::TooMany { line: number });
     }
-    let author = Text::copy(alloc, author_in(line.text, reading.author))?;
+    let author = Text::from_string(author_in(alloc, line.text, reading.author)?);
     reading.open = Some(Open {
         begin: place,
         line: number,
@@ -295,6 +282,29 @@ fn read_line(alloc: Global, reading: &mut Reading, line: Line<'_>) -> Result<(),
     }
 }
 
+/// The token is the pragma directive, and not the timescale directive.
+fn is_pragma(text: &str, token: Token) -> bool
+    ensures { result ≡ is_pragma text.now token }
+{
+    token.text(text) == "`pragma"
+}
+
+/// Reads the line of a directive, if it is a pragma.
+fn read_directive(alloc: Global, reading: &mut Reading, line: Line<'_>) -> Result<(), PragmaError>
+    requires line { IsLine line }
+    requires place { line.place < length line.tokens.now }
+    requires few { length line.tokens.now ≤ TEXT_LIMIT }
+    requires room { HasRoom reading.old }
+    ensures room { OnOk result (HasRoom reading.new) }
+    ensures done { let after = after_all line.entry reading.old (directive_deeds line.entry.text.now line.entry.directive (on_line line.entry.place line.entry.directive (drop (line.entry.place + 1) line.entry.tokens.now))) in MatchResult result (λ _. after ≡ Ok (progress_of line.entry.text.now reading.new)) (λ e. Explains after e) }
+{
+    if is_pragma(line.text, line.directive) {
+        read_line(alloc, reading, line)
+    } else {
+        Ok(())
+    }
+}
+
 /// A token is the directive of a pragma, where the token before it stands on this pragma's line or on none.
 fn begins_line(before: Option<u32>, token: Token) -> bool
     ensures { result ≡ begins_line before token }
@@ -377,7 +387,7 @@ fn read_token(
         free: is_free(behind),
         module: behind.around.module(),
     };
-    read_line(alloc, reading, line)
+    read_directive(alloc, reading, line)
 }
 
 /// What the pragmas of a text come to.

@@ -1,2 +1,5 @@
 pub mod Cuts
 pub mod BundleRows
+pub mod Running
+pub mod Serving
+pub mod Results

@@ -1,2 +1,5 @@
 pub mod Faults
 pub mod Bundles
+pub mod Designs
+pub mod Scripts
+pub mod Keeping

@@ -1,6 +1,7 @@
-ghost use Rattle.std.specs.Prelude.{◌≡◌, codes, option_map};
+ghost use Rattle.std.specs.Prelude.{◌≡◌, IfOk, codes, option_map};
 ghost use Rattle.std.specs.Str.{bytes_eq};
 ghost use Rattle.vp_served.specs.Bundles.{cut_of};
+ghost use Rattle.vp_served.specs.Scripts.{IsBundle};
 
 use crate::fault::ServeFault;
 use crate::script::{Ran, run_script};
@@ -8,6 +9,7 @@ use crate::sources::{BUNDLE_LIMIT, text_of};
 use std::alloc::Global;
 use std::io::Write;
 use vp_list::first_piece;
+use vp_wire::Counted;
 
 /// A line is `%%`.
 fn is_mark(line: &[u8]) -> bool
@@ -37,14 +39,16 @@ fn cut(bytes: &[u8]) -> Option<(&[u8], &[u8])>
 pub fn run_bundle<W: Write>(
     alloc: Global,
     bundle: &[u8],
-    writer: &mut W,
-) -> Result<Ran, ServeFault> {
+    writer: &mut Counted<W>,
+) -> Result<Ran, ServeFault>
+    ensures { IfOk result (λ ran. IsBundle bundle.now (W.contents writer.old.inner) (W.contents writer.new.inner) ran.lines) }
+{
     if bundle.len() > BUNDLE_LIMIT {
         return Err(ServeFault::TooLong);
     }
     let (design, rest) = cut(bundle).ok_or(ServeFault::BadBundle)?;
     let (policy, script) = cut(rest).ok_or(ServeFault::BadBundle)?;
     let text = text_of(design, ServeFault::BadBundle)?;
-    let mut reader = script;
+    let mut reader = Counted::new(script);
     run_script(alloc, text, policy, &mut reader, writer)
 }

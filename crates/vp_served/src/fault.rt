@@ -1,5 +1,5 @@
 ghost use Rattle.std.specs.Prelude.{◌≡◌};
-ghost use Rattle.vp_served.specs.declared.fault.ServeFault.TheVariants.{NoMemory};
+ghost use Rattle.vp_served.specs.declared.fault.ServeFault.TheVariants.{Design, Envelopes, Expressions, NoMemory, Policy, Source, Tokens, World};
 
 use std::alloc::{AllocError, AllocFailed};
 use thiserror::Error;
@@ -80,6 +80,62 @@ impl ServeFault {
             ServeFault::Expressions(error) => error.line(),
             _ => 0,
         }
+    }
+}
+
+impl From<LexError> for ServeFault {
+    ghost from_gives = { λ error fault. fault ≡ Tokens error };
+
+    fn from(error: LexError) -> ServeFault {
+        ServeFault::Tokens(error)
+    }
+}
+
+impl From<PragmaError> for ServeFault {
+    ghost from_gives = { λ error fault. fault ≡ Envelopes error };
+
+    fn from(error: PragmaError) -> ServeFault {
+        ServeFault::Envelopes(error)
+    }
+}
+
+impl From<ParseError> for ServeFault {
+    ghost from_gives = { λ error fault. fault ≡ Source error };
+
+    fn from(error: ParseError) -> ServeFault {
+        ServeFault::Source(error)
+    }
+}
+
+impl From<ElabError> for ServeFault {
+    ghost from_gives = { λ error fault. fault ≡ Design error };
+
+    fn from(error: ElabError) -> ServeFault {
+        ServeFault::Design(error)
+    }
+}
+
+impl From<ExprError> for ServeFault {
+    ghost from_gives = { λ error fault. fault ≡ Expressions error };
+
+    fn from(error: ExprError) -> ServeFault {
+        ServeFault::Expressions(error)
+    }
+}
+
+impl From<PolicyError> for ServeFault {
+    ghost from_gives = { λ error fault. fault ≡ Policy error };
+
+    fn from(error: PolicyError) -> ServeFault {
+        ServeFault::Policy(error)
+    }
+}
+
+impl From<WorldError> for ServeFault {
+    ghost from_gives = { λ error fault. fault ≡ World error };
+
+    fn from(error: WorldError) -> ServeFault {
+        ServeFault::World(error)
     }
 }
 

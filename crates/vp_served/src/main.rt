@@ -21,6 +21,7 @@ use std::io::BufWriter;
 use std::process::ExitCode;
 use std::rt::Files;
 use std::{env, fs, io};
+use vp_wire::Counted;
 
 /// Runs the script of standard input over the files of a design and a policy.
 fn run_files<R: AllocGlobal + Files + Input + Print>(
@@ -34,8 +35,10 @@ fn run_files<R: AllocGlobal + Files + Input + Print>(
     let policy = fs::open(rt, policy).map_err(|_| ServeFault::ReadFailed)?;
     let policy = read_at_most(alloc, policy, TEXT_LIMIT)?;
     let text = text_of(&design, ServeFault::ReadFailed)?;
-    let mut reader = rt.reader();
-    let mut writer = BufWriter::new(alloc, io::writer(rt)).map_err(|_| ServeFault::NoMemory)?;
+    let mut reader = Counted::new(rt.reader());
+    let mut writer = Counted::new(BufWriter::new(alloc, io::writer(rt)).map_err(
+        |_| ServeFault::NoMemory,
+    )?);
     run_script(alloc, text, &policy, &mut reader, &mut writer)
 }
 
@@ -43,7 +46,9 @@ fn run_files<R: AllocGlobal + Files + Input + Print>(
 fn run_input<R: AllocGlobal + Input + Print>(rt: &R) -> Result<Ran, ServeFault> {
     let alloc = rt.alloc();
     let bundle = read_at_most(alloc, rt.reader(), BUNDLE_LIMIT)?;
-    let mut writer = BufWriter::new(alloc, io::writer(rt)).map_err(|_| ServeFault::NoMemory)?;
+    let mut writer = Counted::new(BufWriter::new(alloc, io::writer(rt)).map_err(
+        |_| ServeFault::NoMemory,
+    )?);
     run_bundle(alloc, &bundle, &mut writer)
 }
 

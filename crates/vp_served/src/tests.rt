@@ -9,6 +9,7 @@ use crate::sources::{BUNDLE_LIMIT, TEXT_LIMIT};
 use crate::words::{Command, Misuse};
 use std::alloc::{AllocError, Global};
 use std::fmt::Write;
+use vp_wire::Counted;
 
 const DESIGN: &str = "module top;
   reg a;
@@ -41,10 +42,10 @@ fn fault_line(alloc: Global, written: &[u8], code: u32, line: u32) -> Result<Str
 
 /// What a script prints.
 fn printed(alloc: Global, design: &str, policy: &str, script: &str) -> String {
-    let mut written = Vec::new(alloc);
-    let mut reader = script.as_bytes();
-    let ran = run_script(alloc, design, policy.as_bytes(), &mut reader, &mut written);
-    finished(alloc, ran, &written)
+    let mut reader = Counted::new(script.as_bytes());
+    let mut writer = Counted::new(Vec::new(alloc));
+    let ran = run_script(alloc, design, policy.as_bytes(), &mut reader, &mut writer);
+    finished(alloc, ran, &writer.inner)
 }
 
 /// What a script prints behind the answer to Ann's `open`.
@@ -69,9 +70,9 @@ fn error_line(alloc: Global, error: &str) -> String {
 
 /// What a bundle prints.
 fn printed_of_bundle(alloc: Global, bundle: &[u8]) -> String {
-    let mut written = Vec::new(alloc);
-    let ran = run_bundle(alloc, bundle, &mut written);
-    finished(alloc, ran, &written)
+    let mut writer = Counted::new(Vec::new(alloc));
+    let ran = run_bundle(alloc, bundle, &mut writer);
+    finished(alloc, ran, &writer.inner)
 }
 
 /// So many copies of a text; nothing for want of memory.
@@ -211,6 +212,12 @@ fn long_line(rt: HostRuntime) {
 }
 
 #[test]
+fn empty_text(rt: HostRuntime) {
+    let text = printed(rt.alloc(), "", POLICY, OPEN);
+    assert_eq!(rt; text.as_str(), "{\"ok\":true}\n");
+}
+
+#[test]
 fn denials_by_grant(rt: HostRuntime) {
     let script = "{\"op\":\"handle\",\"name\":\"top.a\"}
 {\"op\":\"value\",\"h\":1}
@@ -259,10 +266,10 @@ fn bad_policies(rt: HostRuntime) {
 fn bad_designs(rt: HostRuntime) {
     let rows = [
         ("\\a", "fault 201 line 1"),
-        ("/* a */", "fault 201 line 1"),
-        ("module m;\nreg [3:0] a; endmodule", "fault 201 line 2"),
+        ("/* a", "fault 202 line 1"),
         ("\"a", "fault 203 line 1"),
         ("`define A", "fault 204 line 1"),
+        ("`timescale 1ns/1ps\n`timescale 1ns/1ns", "fault 205 line 2"),
         (
             "`pragma protect begin\n`pragma protect begin",
             "fault 301 line 2",
@@ -277,7 +284,13 @@ fn bad_designs(rt: HostRuntime) {
         ("`pragma protect begin,", "fault 309 line 1"),
         ("module m", "fault 401 line 1"),
         ("module m;\n", "fault 401 line 1"),
+        ("module m;\nreg [3:0] a; endmodule", "fault 401 line 2"),
         ("module m; integer i; endmodule", "fault 402 line 1"),
+        ("module m; initial $display; endmodule", "fault 402 line 1"),
+        (
+            "module m; reg r; initial r = 1'h1; endmodule",
+            "fault 402 line 1",
+        ),
         ("module m; wire w; endmodule", "fault 402 line 1"),
         (
             "module m; endmodule\nmodule n; endmodule",

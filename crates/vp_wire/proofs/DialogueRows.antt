@@ -4,7 +4,8 @@ use Rattle.std.specs.Prelude.{codes}
 use Rattle.vp_world.specs.declared.event.Request.TheVariants as request
 use Rattle.vp_world.specs.declared.reply.Refusal.TheVariants as refusal
 use Rattle.vp_world.specs.declared.reply.Reply.TheVariants as reply
-use Rattle.vp_wire.specs.Dialogue.{Before, Calls, Closed, Open, Tells, lines_of, stage_behind, turn_of_request}
+use Rattle.vp_wire.specs.declared.dialogue.Stage.TheVariants.{Before, Closed, Open}
+use Rattle.vp_wire.specs.Dialogue.{Calls, Tells, lines_of, stage_behind, turn_of_request, whole_lines}
 
 two_lines : lines_of (codes "a\nb\n") ≡ codes "a" ∷ codes "b" ∷ []
 two_lines = refl
@@ -34,3 +35,10 @@ refused_open = refl
 
 done_close : stage_behind Open request.Close reply.Done ≡ Closed
 done_close = refl
+
+-- a line that was only begun is no whole line
+begun_line : whole_lines (codes "a\nb") ≡ codes "a" ∷ []
+begun_line = refl
+
+ended_line : whole_lines (codes "a\nb\n") ≡ codes "a" ∷ codes "b" ∷ []
+ended_line = refl

@@ -26,7 +26,7 @@ use vp_elab::Design;
 use vp_expr::Checked;
 use vp_list::Text;
 use vp_policy::{Denial, Policy, UserId};
-use vp_sim::{Change, Sim, SimError};
+use vp_sim::{Change, Sim};
 use vp_vpi::{Session, VpiError};
 
 /// A world without its log: a design with a policy, its simulation, and the sessions of its users. A contract sees how it began
@@ -63,13 +63,13 @@ pub struct Answer {
 }
 
 /// The reply to a request that a session refused; want of memory is the world's.
-fn refused(alloc: Global, design: &Design, error: VpiError) -> Result<Reply, WorldError>
+fn session_reply(alloc: Global, design: &Design, error: VpiError) -> Result<Reply, WorldError>
     ensures reply { IfOk result (λ told. told ≡ refused (author_in design.now.tree.authors) error) }
     ensures told { OnOk result (error ≢ vpi_error.NoMemory) }
     ensures refused { IsOkUnless result world_error.NoMemory }
 {
     Ok(match error {
-        VpiError::Denied(denial) => denied(alloc, design, denial)?,
+        VpiError::Denied(denial) => denial_reply(alloc, design, denial)?,
         VpiError::BadHandle => Reply::Error(Refusal::BadHandle),
         VpiError::WrongKind => Reply::Error(Refusal::WrongKind),
         VpiError::TooManyHandles => Reply::Error(Refusal::TooManyHandles),
@@ -79,7 +79,7 @@ fn refused(alloc: Global, design: &Design, error: VpiError) -> Result<Reply, Wor
 }
 
 /// The reply of a denial, which names the envelope's author.
-fn denied(alloc: Global, design: &Design, denial: Denial) -> Result<Reply, WorldError>
+fn denial_reply(alloc: Global, design: &Design, denial: Denial) -> Result<Reply, WorldError>
     ensures reply { IfOk result (λ told. told ≡ reply.Denied denial (author_in design.now.tree.authors denial.envelope)) }
     ensures refused { IsOkUnless result world_error.NoMemory }
 {
@@ -90,16 +90,8 @@ fn denied(alloc: Global, design: &Design, denial: Denial) -> Result<Reply, World
     })
 }
 
-/// The refusal of the simulation as one of the world; want of memory is the world's.
-fn refusal_of_sim(error: SimError) -> WorldError {
-    match error {
-        SimError::NoMemory => WorldError::NoMemory,
-        error => WorldError::Sim(error),
-    }
-}
-
 /// The answer to a request that a session refused; want of memory is the world's.
-fn refusal(alloc: Global, design: &Design, error: VpiError) -> Result<Answer, WorldError>
+fn session_answer(alloc: Global, design: &Design, error: VpiError) -> Result<Answer, WorldError>
     ensures told { IfOk result (λ a. a.told ≡ refused (author_in design.now.tree.authors) error) }
     ensures kept { IfOk result (λ a. a.kept ≡ refused (author_in design.now.tree.authors) error) }
     ensures change { IfOk result (λ a. a.change ≡ None) }
@@ -107,8 +99,8 @@ fn refusal(alloc: Global, design: &Design, error: VpiError) -> Result<Answer, Wo
     ensures refused { IsOkUnless result world_error.NoMemory }
 {
     Ok(Answer {
-        told: refused(alloc, design, error)?,
-        kept: refused(alloc, design, error)?,
+        told: session_reply(alloc, design, error)?,
+        kept: session_reply(alloc, design, error)?,
         change: None,
     })
 }
@@ -439,7 +431,7 @@ impl Present {
                 kept: Reply::Handle(handle),
                 change: None,
             }),
-            Err(error) => refusal(self.alloc, design, error),
+            Err(error) => session_answer(self.alloc, design, error),
         }
     }
 
@@ -459,7 +451,7 @@ impl Present {
                 kept: Reply::Value(value),
                 change: None,
             }),
-            Err(error) => refusal(self.alloc, design, error),
+            Err(error) => session_answer(self.alloc, design, error),
         }
     }
 

@@ -5,7 +5,7 @@ use vp_bits::Bits;
 use vp_list::Text;
 use vp_policy::{By, Denial};
 use vp_pragma::Right;
-use vp_wire::{Caller, WireError, reply_line, request, session};
+use vp_wire::{Caller, Counted, WireError, reply_line, request, session};
 use vp_world::{Refusal, Reply, Request};
 
 #[test]
@@ -102,6 +102,8 @@ struct Counter {
 }
 
 impl Caller for Counter {
+    ghost calls = { λ c request reply d. Unit {0} };
+
     fn call(&mut self, request: Request) -> Reply {
         self.calls = self.calls.saturating_add(1);
         match request {
@@ -114,15 +116,15 @@ impl Caller for Counter {
 
 #[test]
 fn session_of_lines(rt: HostRuntime) {
-    let mut reader = "{\"op\":\"close\"}
+    let script = "{\"op\":\"close\"}
 {\"op\":\"open\",\"user\":\"ann\",\"token\":\"t1\"}
 {\"op\":\"value\",\"h\":7}
 []
-{\"op\":\"handle\",\"name\":\"top.a\"}"
-        .as_bytes();
-    let mut written = Vec::new(rt.alloc());
+{\"op\":\"handle\",\"name\":\"top.a\"}";
+    let mut reader = Counted::new(script.as_bytes());
+    let mut writer = Counted::new(Vec::new(rt.alloc()));
     let mut counter = Counter { calls: 0 };
-    let ended = session(rt.alloc(), &mut reader, &mut written, &mut counter)
+    let ended = session(rt.alloc(), &mut reader, &mut writer, &mut counter)
         .ok()
         .expect(&rt, "an end");
     let lines = "{\"error\":\"not open\"}
@@ -132,7 +134,7 @@ fn session_of_lines(rt: HostRuntime) {
 {\"h\":3}
 ";
     assert_eq!(rt; ended.lines, 5);
-    assert_eq!(rt; written.as_slice(), lines.as_bytes());
+    assert_eq!(rt; writer.inner.as_slice(), lines.as_bytes());
     // At the end the open session is closed.
     assert_eq!(rt; counter.calls, 4);
 }

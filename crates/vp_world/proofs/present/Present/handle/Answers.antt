@@ -37,7 +37,7 @@ returns-clause-after c =
           ∙ ap (λ s. shown inside.sim inside.policy inside.limits s inside.opens.items inside.goal) (set_same inside.sessions.items c.args.place session new (w.in-Err.ensures {u = tt}).unchanged c.index_mut.ensures.value)
           ∙ c.self.view_is in
           subst (λ r. OnOk r (behind ≡ asked)) (sym w.result-is)
-          (on_ok w.refusal.result (e ≢ vpi.NoMemory) (behind ≡ asked)
+          (on_ok w.session_answer.result (e ≢ vpi.NoMemory) (behind ≡ asked)
           (λ other. kept ∙ unmade_shown inside.sim inside.policy inside.limits inside.sessions.items inside.opens.items inside.goal c.args.place session e name c.args.self.now c.self.view_is within c.index_mut.ensures.value why other)
-          w.refusal.ensures.reason))
+          w.session_answer.ensures.reason))
     ]

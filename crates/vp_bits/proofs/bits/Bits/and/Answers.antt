@@ -1,0 +1,19 @@
+use Rattle.std.proofs.Common.{refl}
+use Rattle.vp_bits.specs.Tables.{and_bit}
+use Rattle.vp_bits.proofs.Formulas.{Formula, Aval, Bval, OtherAval, OtherBval, And, Or}
+use Rattle.vp_bits.proofs.Operands.{same_width, stored_by_formulas, made_by_formulas}
+use Rattle.vp_bits.proofs.bits.Bits.and.Goals as goal
+
+abbrev aval : Formula
+aval = And (Or Aval Bval) (Or OtherAval OtherBval)
+
+abbrev bval : Formula
+bval = And aval (Or Bval OtherBval)
+
+pub invariant_of-result : goal.invariant_of-result
+invariant_of-result c =
+    stored_by_formulas aval bval c.self.inside c.other.inside c.self.invariant c.other.invariant
+    (same_width c.self.inside c.other.inside c.args.self c.args.other c.self.view_is c.other.view_is c.requires)
+
+pub returns : goal.returns
+returns c = made_by_formulas aval bval and_bit refl c.self.inside c.other.inside c.args.self c.args.other c.self.view_is c.other.view_is c.requires
