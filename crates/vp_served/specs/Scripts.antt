@@ -1,5 +1,5 @@
 -- A script: the lines of one session with a world, in which the simulation runs behind each request (profile).
-use Rattle.std.specs.Prelude.{◌≡◌, ◌⊎◌, ◌<◌, length, ℕ, zero, suc, List, [], ◌∷◌, ◌++◌, Option, Some, None, IsSome}
+use Rattle.std.specs.Prelude.{◌≡◌, ◌⊎◌, ◌<◌, IsUtf8, length, ℕ, zero, suc, List, [], ◌∷◌, ◌++◌, Option, Some, None, IsSome}
 use Rattle.vp_elab.specs.Built.{Elaborated}
 use Rattle.vp_policy.specs.declared.fault.PolicyError.TheVariants as policy_error
 use Rattle.vp_policy.specs.File.{file_of}
@@ -165,3 +165,29 @@ abbrev pub EndsBy : List ℕ → List ℕ → (unread still_unread held holds : 
 EndsBy text policy unread still_unread held holds (fault.Lines e) =
     (script : Script) × IsOpened text policy script × IsStopped e script unread still_unread held holds
 EndsBy text policy unread still_unread held holds f = IsUnopened text policy f ⊎ (f ≡ fault.NoMemory)
+
+-- the greatest length of a bundle, in bytes (profile)
+abbrev pub bundle_limit : ℕ
+bundle_limit = 16777216
+
+-- bytes are no bundle: they have no first line `%%`, or none behind that, or what stands before the first is no text
+abbrev pub IsNoBundle : List ℕ → Type 0
+IsNoBundle bundle =
+    (cut_of bundle ≡ None) ⊎ ((text : List ℕ) × (rest : List ℕ) × (cut_of bundle ≡ Some (text, rest)) × ((cut_of rest ≡ None) ⊎ (IsUtf8 text → ⊥)))
+
+-- the fault that ended a bundle by its script
+pub record IsBundleFault (bundle : List ℕ) (held holds : Option (List ℕ)) (f : ServeFault) : Type 0 where
+  pub text : List ℕ
+  pub rest : List ℕ
+  pub first_cut : cut_of bundle ≡ Some (text, rest)
+  pub policy : List ℕ
+  pub input : List ℕ
+  pub second_cut : cut_of rest ≡ Some (policy, input)
+  pub still_unread : Option (List ℕ)
+  pub ends : EndsBy text policy (Some input) still_unread held holds f
+
+-- the fault that ended a bundle: it is too long, or it is none, or its text is too long, or else by its script
+abbrev pub EndsBundleBy : List ℕ → (held holds : Option (List ℕ)) → ServeFault → Type 0
+EndsBundleBy bundle held holds fault.TooLong = (bundle_limit < length bundle) ⊎ ((text : List ℕ) × (rest : List ℕ) × (cut_of bundle ≡ Some (text, rest)) × (text_limit < length text)) ⊎ IsBundleFault bundle held holds fault.TooLong
+EndsBundleBy bundle held holds fault.BadBundle = IsNoBundle bundle
+EndsBundleBy bundle held holds f = IsBundleFault bundle held holds f

@@ -1,7 +1,7 @@
-ghost use Rattle.std.specs.Prelude.{◌≡◌, IfOk, codes, option_map};
+ghost use Rattle.std.specs.Prelude.{◌≡◌, IfErr, IfOk, codes, option_map};
 ghost use Rattle.std.specs.Str.{bytes_eq};
 ghost use Rattle.vp_served.specs.Bundles.{cut_of};
-ghost use Rattle.vp_served.specs.Scripts.{IsBundle};
+ghost use Rattle.vp_served.specs.Scripts.{EndsBundleBy, IsBundle};
 
 use crate::fault::ServeFault;
 use crate::script::{Ran, run_script};
@@ -41,7 +41,8 @@ pub fn run_bundle<W: Write>(
     bundle: &[u8],
     writer: &mut Counted<W>,
 ) -> Result<Ran, ServeFault>
-    ensures { IfOk result (λ ran. IsBundle bundle.now (W.contents writer.old.inner) (W.contents writer.new.inner) ran.lines) }
+    ensures script { IfOk result (λ ran. IsBundle bundle.now (W.contents writer.old.inner) (W.contents writer.new.inner) ran.lines) }
+    ensures fault { IfErr result (λ fault. EndsBundleBy bundle.now (W.contents writer.old.inner) (W.contents writer.new.inner) fault) }
 {
     if bundle.len() > BUNDLE_LIMIT {
         return Err(ServeFault::TooLong);

@@ -14,14 +14,15 @@ const WRITE_LIMIT: u32 = 16_777_216;
 pub struct Failed;
 
 /// A reader or a writer, with counts of what was asked of it. An interrupted call is no failure: it is tried again.
+// The counts are private, so that nothing but a call that fails can count a failure.
 #[derive(Drop)]
 pub struct Counted<T> {
     /// What is counted.
     pub inner: T,
     /// How often it was asked to read, modulo 2^64.
-    pub asked: u64,
+    asked: u64,
     /// How often it has failed, modulo 2^64.
-    pub failures: u64,
+    failures: u64,
 }
 
 impl<T> Counted<T> {
@@ -69,6 +70,7 @@ impl<W: Write> Counted<W> {
     /// Writes bytes, all of them; where the writer fails, a front of them went out.
     pub fn write(&mut self, bytes: &[u8]) -> Result<(), Failed>
         ensures ok { OnOk result (Appends (W.contents self.old.inner) (W.contents self.new.inner) bytes.now) }
+        ensures asked { self.new.asked ≡ self.old.asked }
         ensures failed { OnErr result ((front : List ℕ) × IsFront front bytes.now × Appends (W.contents self.old.inner) (W.contents self.new.inner) front) }
         ensures failures { self.new.failures ≡ failures_behind self.old.failures result }
     {
@@ -90,6 +92,7 @@ impl<W: Write> Counted<W> {
     /// Hands what was written on.
     pub fn flush(&mut self) -> Result<(), Failed>
         ensures bytes { Keeps (W.contents self.old.inner) (W.contents self.new.inner) }
+        ensures asked { self.new.asked ≡ self.old.asked }
         ensures failures { self.new.failures ≡ failures_behind self.old.failures result }
     {
         match self.inner.flush() {

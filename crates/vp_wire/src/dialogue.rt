@@ -255,6 +255,7 @@ impl Dialogue {
     /// Tells whether the input has ended.
     fn turn<R: Read, W: Write, C: Caller>(
         &mut self,
+        chunk: &mut [u8; CHUNK],
         reader: &mut Counted<R>,
         writer: &mut Counted<W>,
         caller: &mut C,
@@ -267,8 +268,7 @@ impl Dialogue {
         ensures reader_failures { reader.new.failures ≡ reader_failures reader.old.failures result }
         ensures writer_failures { writer.new.failures ≡ writer_failures writer.old.failures result }
     {
-        let mut chunk = [0u8; CHUNK];
-        match reader.read(&mut chunk) {
+        match reader.read(chunk) {
             Ok(Some(0)) => match self.finish(writer, caller) {
                 Ok(()) => Ok(true),
                 Err(_) => Err(WireError::WriteFault),
@@ -295,8 +295,9 @@ impl Dialogue {
         ensures reader_failures { reader.new.failures ≡ reader_failures reader.old.failures result }
         ensures writer_failures { writer.new.failures ≡ writer_failures writer.old.failures result }
     {
+        let mut chunk = [0u8; CHUNK];
         for _ in 0..TURN_LIMIT {
-            if self.turn(reader, writer, caller)? {
+            if self.turn(&mut chunk, reader, writer, caller)? {
                 return Ok(());
             }
         }

@@ -235,3 +235,30 @@ fn flush_fails(rt: HostRuntime) {
     assert_eq!(rt; held.written.as_slice(), b"".as_slice());
     assert_eq!(rt; held.asked.as_slice(), b"".as_slice());
 }
+
+/// A reader whose every call is interrupted.
+#[derive(Drop)]
+struct Interrupted;
+
+impl Read for Interrupted {
+    fn read(&mut self, buffer: &mut [u8]) -> io::Result<usize> {
+        let _room = buffer.len();
+        Err(ErrorKind::Interrupted.into())
+    }
+}
+
+#[test]
+fn too_many_reads(rt: HostRuntime) {
+    let mut reader = Counted::new(Interrupted);
+    let mut writer = Counted::new(Vec::new(rt.alloc()));
+    let mut caller = Recorder {
+        asked: Vec::new(rt.alloc()),
+    };
+    let code = match session(rt.alloc(), &mut reader, &mut writer, &mut caller) {
+        Ok(_) => 0,
+        Err(fault) => fault.code(),
+    };
+    assert_eq!(rt; code, 1506);
+    assert_eq!(rt; writer.inner.as_slice(), b"".as_slice());
+    assert_eq!(rt; caller.asked.as_slice(), b"".as_slice());
+}
