@@ -7,7 +7,7 @@ use Rattle.std.specs.Option.{unwrap_or}
 use Rattle.std.proofs.lemmas.Bool.{eqb-true}
 use Rattle.std.proofs.lemmas.List.{append_assoc, append-nil, length-append}
 use Rattle.std.proofs.Math.Seq.{take-append_seam}
-use Rattle.vp_list.specs.Texts.{begun, behind_part, parts}
+use Rattle.vp_list.specs.Texts.{begun, behind_part, parts, parts_some}
 use Rattle.vp_served.specs.Bundles.{cut_lines, cut_of, joined, prefixed}
 
 joined_begun : (byte : ℕ) (ps : List (List ℕ)) → joined (begun byte ps) ≡ byte ∷ joined ps
@@ -15,24 +15,12 @@ joined_begun byte [] = refl
 joined_begun byte (p ∷ []) = refl
 joined_begun byte (p ∷ q ∷ qs) = refl
 
-begun_some : (byte : ℕ) (ps : List (List ℕ)) → 1 ≤ length (begun byte ps)
-begun_some byte [] = omega arith
-begun_some byte (p ∷ ps) = omega arith
-
-parts_by : (byte : ℕ) (bytes : List ℕ) (b : Bool) → 1 ≤ length (cond b ([] ∷ parts 10 bytes) (begun byte (parts 10 bytes)))
-parts_by byte bytes true = omega arith
-parts_by byte bytes false = begun_some byte (parts 10 bytes)
-
-parts_some : (bytes : List ℕ) → 1 ≤ length (parts 10 bytes)
-parts_some [] = omega arith
-parts_some (byte ∷ bytes) = parts_by byte bytes (byte == 10)
-
 joined_front : (ps : List (List ℕ)) → 1 ≤ length ps → joined ([] ∷ ps) ≡ 10 ∷ joined ps
 joined_front [] h = absurd (omega arith)
 joined_front (p ∷ ps) h = refl
 
 joined_by : (byte : ℕ) (bytes : List ℕ) (b : Bool) → (byte == 10) ≡ b → joined (parts 10 bytes) ≡ bytes → joined (cond b ([] ∷ parts 10 bytes) (begun byte (parts 10 bytes))) ≡ byte ∷ bytes
-joined_by byte bytes true e h = joined_front (parts 10 bytes) (parts_some bytes) ∙ ap (λ (bs : List ℕ). 10 ∷ bs) h ∙ ap (λ (n : ℕ). n ∷ bytes) (sym (eqb-true byte 10 e))
+joined_by byte bytes true e h = joined_front (parts 10 bytes) (parts_some 10 bytes) ∙ ap (λ (bs : List ℕ). 10 ∷ bs) h ∙ ap (λ (n : ℕ). n ∷ bytes) (sym (eqb-true byte 10 e))
 joined_by byte bytes false e h = joined_begun byte (parts 10 bytes) ∙ ap (λ (bs : List ℕ). byte ∷ bs) h
 
 -- the parts of a text round newlines, joined by newlines, are the text

@@ -1,23 +1,10 @@
 -- The parts of bytes read one after another, and the lines of an input by its parts.
 use Rattle.std.proofs.Common.{◌≡◌, ◌∙◌, ℕ, ◌≤◌, ◌==◌, Bool, true, false, cond, List, [], ◌∷◌, ◌++◌, length, Option, Some, None, refl, ap, arith, subst, sym}
 use Rattle.std.proofs.lemmas.List.{append-nil}
-use Rattle.vp_list.specs.Texts.{begun, behind_part, parts}
+use Rattle.vp_list.specs.Texts.{begun, behind_part, parts, parts_some}
 use Rattle.vp_wire.specs.Dialogue.{lines_of, whole_lines, without_empty_end, without_last}
 
 -- ---- parts
-
-begun_some : (byte : ℕ) (ps : List (List ℕ)) → 1 ≤ length (begun byte ps)
-begun_some byte [] = omega arith
-begun_some byte (p ∷ ps) = omega arith
-
-some_by : (byte : ℕ) (bytes : List ℕ) (b : Bool) → 1 ≤ length (cond b ([] ∷ parts 10 bytes) (begun byte (parts 10 bytes)))
-some_by byte bytes true = omega arith
-some_by byte bytes false = begun_some byte (parts 10 bytes)
-
--- there is a part
-pub parts_some : (bytes : List ℕ) → 1 ≤ length (parts 10 bytes)
-parts_some [] = omega arith
-parts_some (byte ∷ bytes) = some_by byte bytes (byte == 10)
 
 -- a byte in front of a part
 begun_behind : (byte : ℕ) (part : List ℕ) (rest : Option (List ℕ)) → begun byte (behind_part 10 part rest) ≡ behind_part 10 (byte ∷ part) rest
@@ -30,7 +17,7 @@ begun_only byte bytes (p ∷ ps) h e = cc
 
 only_by : (byte : ℕ) (bytes : List ℕ) (b : Bool) → cond b ([] ∷ parts 10 bytes) (begun byte (parts 10 bytes)) ≡ (byte ∷ bytes) ∷ [] → (parts 10 bytes ≡ bytes ∷ []) × (b ≡ false)
 only_by byte bytes true e = cc
-only_by byte bytes false e = (begun_only byte bytes (parts 10 bytes) (parts_some bytes) e, refl)
+only_by byte bytes false e = (begun_only byte bytes (parts 10 bytes) (parts_some 10 bytes) e, refl)
 
 -- bytes without a newline stand in front of the first part of what follows
 pub joined_part : (front bytes part : List ℕ) (rest : Option (List ℕ)) → parts 10 front ≡ front ∷ [] → parts 10 bytes ≡ behind_part 10 part rest → parts 10 (front ++ bytes) ≡ behind_part 10 (front ++ part) rest
@@ -53,7 +40,7 @@ more_by : (byte : ℕ) (front bytes : List ℕ) (lines : List (List ℕ)) (last 
     → cond b ([] ∷ parts 10 front) (begun byte (parts 10 front)) ≡ lines ++ last ∷ [] → cond b ([] ∷ parts 10 (front ++ bytes)) (begun byte (parts 10 (front ++ bytes))) ≡ lines ++ parts 10 (last ++ bytes)
 more_by byte front bytes [] last true is more cut =
     let none = (one_part last [] (parts 10 front) cut).1 in
-    let some : 1 ≤ 0 = subst (λ (ps : List (List ℕ)). 1 ≤ length ps) none (parts_some front) in
+    let some : 1 ≤ 0 = subst (λ (ps : List (List ℕ)). 1 ≤ length ps) none (parts_some 10 front) in
     absurd (omega arith)
 more_by byte front bytes (line ∷ lines) last true is more cut =
     let split = first_part line last [] lines (parts 10 front) cut in
@@ -64,7 +51,7 @@ more_by byte front bytes lines last false is more cut = by_parts byte front byte
         → ((ls : List (List ℕ)) (l : List ℕ) → parts 10 front ≡ ls ++ l ∷ [] → parts 10 (front ++ bytes) ≡ ls ++ parts 10 (l ++ bytes))
         → begun byte ps ≡ lines ++ last ∷ [] → begun byte (parts 10 (front ++ bytes)) ≡ lines ++ parts 10 (last ++ bytes)
     by_parts byte front bytes lines last [] ps_is is more cut =
-        let some : 1 ≤ 0 = subst (λ (ps : List (List ℕ)). 1 ≤ length ps) ps_is (parts_some front) in
+        let some : 1 ≤ 0 = subst (λ (ps : List (List ℕ)). 1 ≤ length ps) ps_is (parts_some 10 front) in
         absurd (omega arith)
     by_parts byte front bytes [] last (p ∷ ps) ps_is is more cut =
         let split = one_part last (byte ∷ p) ps cut in

@@ -5,7 +5,7 @@ use Rattle.std.proofs.KnownBytes.{Appends-trans}
 use Rattle.std.specs.Io.KnownBytes.{Appends}
 use Rattle.std.specs.Result.{IsErr, MatchResult}
 use Rattle.std.specs.List.{concat}
-use Rattle.vp_list.specs.Texts.{behind_part, parts}
+use Rattle.vp_list.specs.Texts.{behind_part, parts, parts_some}
 use Rattle.vp_world.specs.declared.event.Request.{Request}
 use Rattle.vp_world.specs.declared.reply.Reply.{Reply}
 use Rattle.vp_wire.specs.declared.dialogue.Dialogue.{Dialogue}
@@ -14,7 +14,7 @@ use Rattle.vp_wire.specs.declared.line.Line.{Line}
 use Rattle.vp_wire.specs.Dialogue.{IsFront, Stops, turn_of, without_empty_end}
 use Rattle.vp_wire.specs.Reading.{IsBegun, Progress, Told, Writes}
 use Rattle.vp_wire.proofs.Answering.{answers_more, concat_more}
-use Rattle.vp_wire.proofs.Parting.{joined_part, lines_first, parts_some}
+use Rattle.vp_wire.proofs.Parting.{joined_part, lines_first}
 
 -- bytes without a newline are gathered
 pub gathered : {C : Type 0} {calls : C → Request → Reply → C → Type 0} {unread still_unread held holds : Option (List ℕ)} {first now : C} (d : Dialogue) (line : Line) (bytes piece : List ℕ)
@@ -89,7 +89,7 @@ failed {C} {calls = calls} {held = held} {mid = mid} {holds = holds} d e line by
       input = p.input;
       read = p.read;
       lines = p.lines ++ whole ∷ [];
-      are_its = (without_empty_end (parts 10 rest), lines_first p.input (p.lines ++ whole ∷ []) (parts 10 rest) cut (parts_some rest));
+      are_its = (without_empty_end (parts 10 rest), lines_first p.input (p.lines ++ whole ∷ []) (parts 10 rest) cut (parts_some 10 rest));
       told = p.told ++ t.told ∷ [];
       answers = answers_more calls p.lines whole _ _ _ p.told t.told p.answers t.answers;
       written = concat p.told ++ out.0;

@@ -1,0 +1,6 @@
+pub mod SameKinds
+pub mod Seen
+pub mod Loops
+pub mod GrammarRows
+pub mod LayoutRows
+pub mod Read

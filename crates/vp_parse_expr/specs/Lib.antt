@@ -1,0 +1,16 @@
+pub mod Kinds
+pub mod Symbols
+pub mod Operators
+pub mod Stopping
+pub mod Grammar
+pub mod Reading
+pub mod Layout
+pub mod Placing
+pub mod Binding
+pub mod Takes
+pub mod Again
+pub mod Raise
+pub mod Within
+pub mod Placed
+pub mod Meaning
+pub mod Laws

@@ -1,0 +1,61 @@
+-- What the code finds, and what it refuses, in the terms of derivations.
+use Rattle.std.specs.Prelude.{◌≡◌, ℕ, ◌≤◌, List}
+use Rattle.vp_lex.specs.declared.token.Punctuator.TheVariants as punctuator
+use Rattle.vp_parse_expr.specs.declared.node.Expression as node
+use Rattle.vp_parse_expr.specs.declared.node.Range as range
+use Rattle.vp_parse_expr.specs.declared.symbol.Symbol.{Symbol}
+use Rattle.vp_parse_expr.specs.declared.symbol.SymbolKind.TheVariants as symbol
+use Rattle.std.specs.Prelude.{false}
+use Rattle.vp_parse_expr.specs.Stopping.{is_next}
+use Rattle.vp_parse_expr.specs.Grammar.{Range, Expr, Selection, range_text, expr_text, selection_text, IsRange, IsExpr, IsSelection, expr_depth, selection_depth}
+use Rattle.vp_parse_expr.specs.Layout.{put_range, put_expr, put_selection}
+use Rattle.vp_parse_expr.specs.Placing.{Made, MadeSelection}
+use Rattle.vp_parse_expr.specs.Again.{Stops}
+
+-- these symbols begin with an expression, that nests at most so deep; its parts lie behind others in the list
+pub record IsExpressionOf (limit : ℕ) (nodes : List node.Expression) (ts : List Symbol) (x : Made) (e : Expr) : Type 0 where
+  pub spelled : ts ≡ expr_text e x.3
+  pub is : IsExpr e
+  pub depth : x.1 ≡ expr_depth e
+  pub fits : x.1 ≤ limit
+  pub placed : (x.0, x.2) ≡ put_expr e nodes
+
+-- these symbols begin with an expression, that nests at most so deep, and nothing follows with which it goes on
+pub record BeginsExpression (limit : ℕ) (ts : List Symbol) (e : Expr) (rest : List Symbol) : Type 0 where
+  pub spelled : ts ≡ expr_text e rest
+  pub is : IsExpr e
+  pub fits : expr_depth e ≤ limit
+  pub stops : Stops 0 rest
+
+-- these symbols begin with a selection, whose index nests at most so deep; its parts lie behind others in the list
+pub record IsSelectionOf (limit : ℕ) (nodes : List node.Expression) (ts : List Symbol) (x : MadeSelection) (s : Selection) : Type 0 where
+  pub spelled : ts ≡ selection_text s x.3
+  pub is : IsSelection s
+  pub depth : x.1 ≡ selection_depth s
+  pub fits : x.1 ≤ limit
+  pub placed : (x.0, x.2) ≡ put_selection s nodes
+
+-- these symbols begin with a selection, whose index nests at most so deep, and no bracket follows
+pub record BeginsSelection (limit : ℕ) (ts : List Symbol) (s : Selection) (rest : List Symbol) : Type 0 where
+  pub spelled : ts ≡ selection_text s rest
+  pub is : IsSelection s
+  pub fits : selection_depth s ≤ limit
+  pub stops : is_next (symbol.Punctuator punctuator.LeftBracket) rest ≡ false
+
+-- these symbols begin with a range of these bounds
+pub record IsRangeOf (ts : List Symbol) (x : range.Range × List Symbol) (r : Range) : Type 0 where
+  pub spelled : ts ≡ range_text r x.1
+  pub is : IsRange r
+  pub bounds : x.0 ≡ put_range r
+
+-- these symbols begin with no expression that nests at most so deep
+abbrev pub NoExpression : (limit : ℕ) → List Symbol → Type 0
+NoExpression limit ts = (e : Expr) (rest : List Symbol) → BeginsExpression limit ts e rest → ⊥
+
+-- these symbols begin with no selection whose index nests at most so deep
+abbrev pub NoSelection : (limit : ℕ) → List Symbol → Type 0
+NoSelection limit ts = (s : Selection) (rest : List Symbol) → BeginsSelection limit ts s rest → ⊥
+
+-- these symbols begin with no range
+abbrev pub NoRange : List Symbol → Type 0
+NoRange ts = (r : Range) (rest : List Symbol) → ts ≡ range_text r rest → IsRange r → ⊥

@@ -1,0 +1,19 @@
+//! What the grammar sees of a text's tokens, and the expressions among them, in a flat list.
+#![tactic(auto)]
+
+mod ahead;
+mod bounds;
+mod node;
+mod operator;
+mod parsing;
+mod reading;
+mod symbol;
+#[cfg(test)]
+mod tests;
+
+pub use bounds::range;
+pub use node::{Expression, Range, Selection};
+pub use operator::{BinaryOperator, UnaryOperator};
+pub use parsing::{Found, Selected, expression, selection};
+pub use reading::{Stop, is_kind, is_next, name, skip, terminal, unexpected};
+pub use symbol::{NUMBER_LIMIT, Symbol, SymbolKind, symbols};
