@@ -101,6 +101,10 @@ abbrev pub folded : (Bit → Bit → Bit) → Bit → List Bit → Bit
 folded table start [] = start
 folded table start (bit ∷ bits) = table bit (folded table start bits)
 
+-- the truth of a vector: 1 if some bit is 1, 0 if all are 0, else x (IEEE Std 1364-2005, 5.1.9; profile)
+abbrev pub truth : List Bit → Bit
+truth bits = folded or_bit Zero bits
+
 -- reduction and: from 1 (IEEE Std 1364-2005, 5.1.11)
 abbrev pub and_of_all : List Bit → List Bit
 and_of_all bits = folded and_bit One bits ∷ []

@@ -141,8 +141,8 @@ impl Bits {
         }
     }
 
-    // The vector whose every bit is 0.
-    fn zeros(width: u8) -> Bits
+    /// The vector of this width, in bits, whose every bit is 0 (IEEE Std 1364-2005, 4.1).
+    pub fn zeros(width: u8) -> Bits
         requires { IsWidth width }
         ensures { result ≡ replicate width Zero }
     {
@@ -153,8 +153,9 @@ impl Bits {
         }
     }
 
-    // The vector of a number's lowest digits.
-    fn of_number(width: u8, number: u64) -> Bits
+    /// The vector of a number's lowest binary digits, as many as the width says, in bits (IEEE Std
+    /// 1364-2005, 4.3.1).
+    pub fn of_number(width: u8, number: u64) -> Bits
         requires { IsWidth width }
         ensures { result ≡ bits_of_number width number }
     {

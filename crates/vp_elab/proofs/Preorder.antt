@@ -7,6 +7,7 @@ use Rattle.std.proofs.lemmas.Grind.{flat_map-append}
 use Rattle.std.specs.Option.{option_map_or}
 use Rattle.std.proofs.lemmas.Option.{slice_get-map}
 use Rattle.vp_elab.specs.declared.object.Kind.TheVariants as kind
+use Rattle.vp_parse_expr.specs.declared.node.Range.{Range}
 use Rattle.vp_parse.specs.Places.{line_at, word_at}
 use Rattle.vp_parse.specs.declared.source.Source.{Source}
 use Rattle.vp_parse.specs.declared.source.Item.{Item}
@@ -14,9 +15,14 @@ use Rattle.vp_parse.specs.declared.source.Module.{Module}
 use Rattle.vp_pragma.specs.declared.envelope.Envelope.{Envelope}
 use Rattle.vp_elab.specs.declared.object.Object.{Object}
 use Rattle.vp_elab.specs.Tree.{Step, Node, path_of}
-use Rattle.vp_elab.specs.Elaboration.{item_name, item_place, items_in, step_at, root_step, item_node, module_nodes}
+use Rattle.vp_elab.specs.Elaboration.{item_name, item_place, item_range, width_of, items_in, step_at, root_step, item_node, module_nodes}
 use Rattle.vp_elab.specs.Objects.{AreObjects, StandsFor, item_object, module_name_at, module_names, module_objects, objects_behind}
 use Rattle.vp_elab.proofs.Zip.{Zip, zip_append, zip_at, zip_all, zip_map, slice_get_behind}
+
+-- a range has a bit
+range_some : (range : Option Range) → 1 ≤ width_of range
+range_some None = omega arith
+range_some (Some range) = omega arith
 
 module _ (source : Source) (envelopes : List Envelope) where
   -- the nodes of these modules
@@ -37,7 +43,8 @@ module _ (source : Source) (envelopes : List Envelope) where
     pub step : Step
     pub kind : o.kind ≡ n.kind
     pub width : o.width ≡ n.width
-    pub one_bit : o.width ≡ 1
+    pub some : 1 ≤ o.width
+    pub lowest : o.lowest ≡ n.lowest
     pub path : n.path ≡ path_of all_nodes (option_map (λ p. p.0) o.parent) ++ step ∷ []
     pub place : step.place ≡ o.place
     pub envelope : step.envelope ≡ o.envelope
@@ -54,7 +61,8 @@ module _ (source : Source) (envelopes : List Envelope) where
           step = own;
           kind = refl;
           width = refl;
-          one_bit = refl;
+          some = range_some (item_range i);
+          lowest = refl;
           path = ap (λ (p : List Step). p ++ own ∷ []) (sym h);
           place = refl;
           envelope = refl;
@@ -69,7 +77,7 @@ module _ (source : Source) (envelopes : List Envelope) where
   module_fits : (m : Module) (before after : List Module) → source.modules ≡ before ++ m ∷ after → Zip Fits (length (nodes_in before)) (module_nodes source envelopes m) (module_objects source envelopes (length before) (length (nodes_in before)) m)
   module_fits m before after e =
       let base : ℕ = length (nodes_in before) in
-      let root : Node = record { path = root_step source envelopes m.name ∷ []; kind = kind.Module; width = 1; line = line_at source m.name; definition = Some (word_at source m.name) } in
+      let root : Node = record { path = root_step source envelopes m.name ∷ []; kind = kind.Module; width = 1; lowest = None; line = line_at source m.name; definition = Some (word_at source m.name) } in
       let behind : List Node = map (item_node source envelopes m.name) (items_in source m) ++ nodes_in after in
       let all : all_nodes ≡ nodes_in before ++ (root ∷ behind) = ap nodes_in e ∙ flat_map-append (module_nodes source envelopes) before (m ∷ after) in
       let there : slice_get all_nodes base ≡ Some root = ap (λ (ns : List Node). slice_get ns base) all ∙ slice_get_behind (nodes_in before) root behind in
@@ -81,7 +89,8 @@ module _ (source : Source) (envelopes : List Envelope) where
           step = root_step source envelopes m.name;
           kind = refl;
           width = refl;
-          one_bit = refl;
+          some = omega arith;
+          lowest = refl;
           path = refl;
           place = refl;
           envelope = refl;
@@ -123,6 +132,7 @@ module _ (source : Source) (envelopes : List Envelope) where
     there = h.1;
     kind = h.2.kind;
     width = h.2.width;
+    lowest = h.2.lowest;
     path = h.2.path;
     place = h.2.place;
     envelope = h.2.envelope;
@@ -157,9 +167,12 @@ module _ (source : Source) (envelopes : List Envelope) where
   pub scopes_same : map (λ o. module_name_at source o.scope) (objects_behind source envelopes 0 source.modules []) ≡ map (λ n. n.definition) all_nodes
   scopes_same = zip_map Fits (λ n. n.definition) (λ o. module_name_at source o.scope) (λ k o n h. h.definition) 0 all_nodes (objects_behind source envelopes 0 source.modules []) objects_fit
 
-  fits_word : (k : ℕ) (o : Object) (n : Node) → Fits k o n → (1 ≤ o.width) × (o.width ≤ 64)
-  fits_word k o n h = let one = h.one_bit in (omega arith, omega arith)
+  pub lowest_same : map (λ o. o.lowest) (objects_behind source envelopes 0 source.modules []) ≡ map (λ n. n.lowest) all_nodes
+  lowest_same = zip_map Fits (λ n. n.lowest) (λ o. o.lowest) (λ k o n h. h.lowest) 0 all_nodes (objects_behind source envelopes 0 source.modules []) objects_fit
 
-  -- each object has 1 to 64 bits
-  pub widths_fit : (i : ℕ) (d : Object) → i < length (objects_behind source envelopes 0 source.modules []) → (1 ≤ (slice_index_or (objects_behind source envelopes 0 source.modules []) i d).width) × ((slice_index_or (objects_behind source envelopes 0 source.modules []) i d).width ≤ 64)
-  widths_fit = zip_all Fits (λ (o : Object). (1 ≤ o.width) × (o.width ≤ 64)) fits_word 0 all_nodes (objects_behind source envelopes 0 source.modules []) objects_fit
+  fits_some : (k : ℕ) (o : Object) (n : Node) → Fits k o n → 1 ≤ o.width
+  fits_some k o n h = h.some
+
+  -- each object has a bit
+  pub widths_some : (i : ℕ) (d : Object) → i < length (objects_behind source envelopes 0 source.modules []) → 1 ≤ (slice_index_or (objects_behind source envelopes 0 source.modules []) i d).width
+  widths_some = zip_all Fits (λ (o : Object). 1 ≤ o.width) fits_some 0 all_nodes (objects_behind source envelopes 0 source.modules []) objects_fit

@@ -95,7 +95,7 @@ module _ (source : Source) (envelopes : List Envelope) (once : twice_in source [
       ∙ ap (option_and_then (λ k. option_map (λ r. r.0) (slice_get (roots_behind source 0 source.modules) k))) (sym (position_is (bytes_eq name) (module_names source source.modules)))
 
   within : (names : List (List ℕ)) (r : Option ℕ) (i : ℕ) → find_named nodes names ≡ r → r ≡ Some i → i < length nodes
-  within names r i e h = (position-Some (λ (n : Node). is_named names n.path) nodes i (record { path = []; kind = kind.Reg; width = 0; line = 0; definition = None }) (e ∙ h)).0
+  within names r i e h = (position-Some (λ (n : Node). is_named names n.path) nodes i (record { path = []; kind = kind.Reg; width = 0; lowest = None; line = 0; definition = None }) (e ∙ h)).0
 
   scoped : (names : Option (List (List ℕ))) (name : List ℕ) (i : ℕ) → option_and_then (λ ns. find_named nodes (ns ++ name ∷ [])) names ≡ Some i → i < length nodes
   scoped None name i h = absurd cc

@@ -34,7 +34,7 @@ source = record {
   text = text;
   tokens = tokens_in (tokens_of text);
   modules = record { name = 1; first = 0; end = 3 } ∷ [];
-  items = item.Reg 4 ∷ item.Reg 14 ∷ item.Initial 19 0 ∷ [];
+  items = item.Reg 4 None ∷ item.Reg 14 None ∷ item.Initial 19 0 ∷ [];
   statements = [];
   expressions = [];
 }
@@ -50,13 +50,14 @@ declared name place envelope kind line = record {
   path = root ∷ record { name = name; place = place; envelope = envelope; in_module = Some (codes "top") } ∷ [];
   kind = kind;
   width = 1;
+  lowest = None;
   line = line;
   definition = None;
 }
 
 nodes_of_text :
     tree.nodes
-    ≡ record { path = root ∷ []; kind = Module; width = 1; line = 1; definition = Some (codes "top") }
+    ≡ record { path = root ∷ []; kind = Module; width = 1; lowest = None; line = 1; definition = Some (codes "top") }
     ∷ declared (codes "a") 4 0 Reg 2
     ∷ declared (codes "k") 14 1 Reg 4
     ∷ declared (codes "initial@6:3") 19 0 Initial 6

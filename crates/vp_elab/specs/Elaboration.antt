@@ -1,7 +1,9 @@
 -- The tree of a source: what its modules declare, in preorder.
-use Rattle.std.specs.Prelude.{ℕ, List, [], ◌∷◌, ◌++◌, map, Option, Some, None, codes, decimal}
+use Rattle.std.specs.Prelude.{ℕ, ◌+◌, ◌-◌, List, [], ◌∷◌, ◌++◌, map, Option, Some, None, option_map, codes, decimal}
 use Rattle.std.specs.List.{flat_map}
+use Rattle.std.specs.Option.{option_map_or}
 use Rattle.vp_list.specs.Lists.{range_of}
+use Rattle.vp_parse_expr.specs.declared.node.Range.{Range}
 use Rattle.vp_parse.specs.Places.{column_at, line_at, word_at}
 use Rattle.vp_parse.specs.declared.source.Source.{Source}
 use Rattle.vp_parse.specs.declared.source.Module as declared
@@ -17,12 +19,29 @@ use Rattle.vp_elab.specs.Tree.{Step, Node, Tree}
 
 -- the place of a declaration: of its name, or of the keyword of a process (profile)
 abbrev pub item_place : Item → ℕ
-item_place (item.Reg name) = name
+item_place (item.Reg name declared) = name
 item_place (item.Initial keyword body) = keyword
+
+-- how many bits a range has (clause 4.3.1)
+abbrev pub range_width : Range → ℕ
+range_width range = range.msb - range.lsb + 1
+
+-- the range of what an item declares; a scalar has none (clause 4.3.1)
+abbrev pub item_range : Item → Option Range
+item_range (item.Reg name declared) = option_map (λ d. d.range) declared
+item_range (item.Initial keyword body) = None
+
+-- how many bits what has a range or none has: a scalar has one (clause 4.3.1)
+abbrev pub width_of : Option Range → ℕ
+width_of range = option_map_or range_width range 1
+
+-- the index of the least significant bit of what has a range; a scalar has none (clause 4.3.1)
+abbrev pub lowest_of : Option Range → Option ℕ
+lowest_of range = option_map (λ r. r.lsb) range
 
 -- the kind of what an item declares (clause 26.6)
 abbrev pub item_kind : Item → Kind
-item_kind (item.Reg name) = kind.Reg
+item_kind (item.Reg name declared) = kind.Reg
 item_kind (item.Initial keyword body) = kind.Initial
 
 -- the name of a process: its keyword, its line and its column (profile)
@@ -32,7 +51,7 @@ process_name keyword source place =
 
 -- the name of what an item declares
 abbrev pub item_name : Source → Item → List ℕ
-item_name source (item.Reg name) = word_at source name
+item_name source (item.Reg name declared) = word_at source name
 item_name source (item.Initial keyword body) = process_name (codes "initial") source keyword
 
 -- ---- nodes
@@ -62,7 +81,8 @@ item_node source envelopes module_name i = record {
       ∷ step_at envelopes (Some (word_at source module_name)) (item_name source i) (item_place i)
       ∷ [];
   kind = item_kind i;
-  width = 1;
+  width = width_of (item_range i);
+  lowest = lowest_of (item_range i);
   line = line_at source (item_place i);
   definition = None;
 }
@@ -74,6 +94,7 @@ module_nodes source envelopes m =
       path = root_step source envelopes m.name ∷ [];
       kind = kind.Module;
       width = 1;
+      lowest = None;
       line = line_at source m.name;
       definition = Some (word_at source m.name);
     }

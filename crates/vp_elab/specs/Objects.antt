@@ -14,7 +14,7 @@ use Rattle.vp_elab.specs.declared.scope.Scope.{Scope}
 use Rattle.vp_elab.specs.declared.scope.Modules.{Modules}
 use Rattle.vp_elab.specs.declared.design.Objects.{Objects}
 use Rattle.vp_elab.specs.Tree.{Step, Node, below, path_of}
-use Rattle.vp_elab.specs.Elaboration.{item_kind, item_name, item_place, items_in}
+use Rattle.vp_elab.specs.Elaboration.{item_kind, item_name, item_place, item_range, items_in, lowest_of, width_of}
 
 -- ---- what modules declare
 
@@ -56,6 +56,7 @@ root_object envelopes number m = record {
   place = m.name;
   envelope = envelope_at envelopes m.name;
   width = 1;
+  lowest = None;
 }
 
 -- the object of an item of the module whose object has this number
@@ -66,7 +67,8 @@ item_object envelopes root i = record {
   scope = None;
   place = item_place i;
   envelope = envelope_at envelopes (item_place i);
-  width = 1;
+  width = width_of (item_range i);
+  lowest = lowest_of (item_range i);
 }
 
 -- the objects of a top module behind so many others: its own, and those of its items
@@ -97,7 +99,7 @@ objects_in source envelopes = record {
 
 -- ---- objects and nodes
 
--- an object of a number stands for a node of the tree: its kind, its width, and the last step of its path; what stands
+-- an object of a number stands for a node of the tree: its kind, its width, its lowest index, and the last step of its path; what stands
 -- above that step is the path of its parent, which has a smaller number
 pub record StandsFor (nodes : List Node) (id : ℕ) (o : Object) : Type 0 where
   pub node : Node
@@ -105,6 +107,7 @@ pub record StandsFor (nodes : List Node) (id : ℕ) (o : Object) : Type 0 where
   pub there : slice_get nodes id ≡ Some node
   pub kind : o.kind ≡ node.kind
   pub width : o.width ≡ node.width
+  pub lowest : o.lowest ≡ node.lowest
   pub path : node.path ≡ path_of nodes (option_map (λ p. p.0) o.parent) ++ step ∷ []
   pub place : step.place ≡ o.place
   pub envelope : step.envelope ≡ o.envelope

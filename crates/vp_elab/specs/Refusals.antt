@@ -1,11 +1,11 @@
 -- Why a source has no design: the refusals, each tested over the whole text, in this order.
-use Rattle.std.specs.Prelude.{◌≡◌, ℕ, ◌+◌, nat_lt, Bool, if◌then◌else◌, List, [], ◌∷◌, ◌++◌, length, map, slice_get, sum_by, Option, Some, None}
+use Rattle.std.specs.Prelude.{◌≡◌, ℕ, ◌+◌, nat_lt, Bool, if◌then◌else◌, List, [], ◌∷◌, ◌++◌, length, map, sum_by, Option, Some, None}
 use Rattle.std.specs.List.{list_any}
 use Rattle.std.specs.Str.{bytes_eq}
-use Rattle.vp_parse.specs.Places.{line_at, word_at}
+use Rattle.vp_parse.specs.Places.{earlier, earliest, line_at, word_at}
 use Rattle.vp_parse.specs.declared.source.Source.{Source}
-use Rattle.vp_parse.specs.declared.source.Expression.{Expression}
-use Rattle.vp_parse.specs.declared.source.Expression.TheVariants as expression
+use Rattle.vp_parse_expr.specs.declared.node.Expression.{Expression}
+use Rattle.vp_parse_expr.specs.declared.node.Expression.TheVariants as expression
 use Rattle.vp_parse.specs.declared.source.Item.{Item}
 use Rattle.vp_parse.specs.declared.source.Module as declared
 use Rattle.vp_parse.specs.declared.source.Statement.{Statement}
@@ -49,33 +49,37 @@ twice_in source names (m ∷ ms) =
 
 -- ---- names that are not declared
 
--- a name of the text that is not among those declared (clause 4.2.2)
-abbrev pub undeclared_at : Source → List (List ℕ) → ℕ → Option ElabError
-undeclared_at source names place =
-    if is_among names (word_at source place) then None else Some (Undeclared (line_at source place))
+-- the place of a name that is not among those declared (clause 4.2.2)
+abbrev pub unknown : Source → List (List ℕ) → Option ℕ → Option ℕ
+unknown source names None = None
+unknown source names (Some place) = if is_among names (word_at source place) then None else Some place
 
--- a name in an expression
-abbrev pub undeclared_value : Source → List (List ℕ) → Option Expression → Option ElabError
-undeclared_value source names None = None
-undeclared_value source names (Some (expression.Name place)) = undeclared_at source names place
-undeclared_value source names (Some (expression.Literal place size digits)) = None
+-- the place of the name in an expression that is one, or is selected from one (clause 5.2)
+abbrev pub name_in : Expression → Option ℕ
+name_in (expression.Name name selection) = Some name
+name_in _ = None
 
--- the first in a statement: its target, then its value
-abbrev pub undeclared_by : Source → List (List ℕ) → Statement → Option ElabError
-undeclared_by source names statement.Empty = None
-undeclared_by source names (statement.Then chain last) = None
-undeclared_by source names (statement.Assign target value) =
-    first_of_two (undeclared_at source names target) (undeclared_value source names (slice_get source.expressions value))
+-- the place of the name to which a statement assigns (clause 9.2.1)
+abbrev pub target_of : Statement → Option ℕ
+target_of statement.Empty = None
+target_of (statement.Then chain last) = None
+target_of (statement.Assign target selection value) = Some target
 
--- the first in statements
-abbrev pub undeclared_among : Source → List (List ℕ) → List Statement → Option ElabError
-undeclared_among source names [] = None
-undeclared_among source names (s ∷ ss) = first_of_two (undeclared_by source names s) (undeclared_among source names ss)
+-- the first place in a source of a name that is not among those declared: in an expression, or before an assignment's `=`
+abbrev pub first_unknown : Source → List (List ℕ) → Option ℕ
+first_unknown source names =
+    earlier (earliest (λ s. unknown source names (target_of s)) source.statements)
+    (earliest (λ e. unknown source names (name_in e)) source.expressions)
 
--- the first in a text, which has at most one module so far: all its statements stand in the first
+-- a name at this place is not declared
+abbrev pub undeclared_at : Source → Option ℕ → Option ElabError
+undeclared_at source None = None
+undeclared_at source (Some place) = Some (Undeclared (line_at source place))
+
+-- the first in a text, which has at most one module so far: all its statements and expressions stand in the first
 abbrev pub undeclared_in : Source → List declared.Module → Option ElabError
 undeclared_in source [] = None
-undeclared_in source (m ∷ ms) = undeclared_among source (map (item_name source) (items_in source m)) source.statements
+undeclared_in source (m ∷ ms) = undeclared_at source (first_unknown source (map (item_name source) (items_in source m)))
 
 -- ---- too many objects
 

@@ -15,12 +15,13 @@ pub record Step : Type 0 where
   pub envelope : ℕ
   pub in_module : Option (List ℕ)
 
--- an object: the steps from its top module down to itself, its kind, its width in bits, its line, and of a module the
--- name of its definition (clause 26.6)
+-- an object: the steps from its top module down to itself, its kind, its width in bits, of a vector the index of its least
+-- significant bit, its line, and of a module the name of its definition (clauses 4.3.1 and 26.6)
 pub record Node : Type 0 where
   pub path : List Step
   pub kind : Kind
   pub width : ℕ
+  pub lowest : Option ℕ
   pub line : ℕ
   pub definition : Option (List ℕ)
 

@@ -112,7 +112,8 @@ impl Design {
         ensures kinds { map (λ o. o.kind) result.now ≡ map (λ n. n.kind) self.now.tree.nodes }
         ensures widths { map (λ o. o.width) result.now ≡ map (λ n. n.width) self.now.tree.nodes }
         ensures scopes { map (λ o. module_name_at self.now.source o.scope) result.now ≡ map (λ n. n.definition) self.now.tree.nodes }
-        ensures fit { All (λ o. (1 ≤ o.width) × (o.width ≤ 64)) result.now }
+        ensures some { All (λ o. 1 ≤ o.width) result.now }
+        ensures vectors { map (λ o. o.lowest) result.now ≡ map (λ n. n.lowest) self.now.tree.nodes }
     {
         self.objects.all.as_slice()
     }

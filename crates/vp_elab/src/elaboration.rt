@@ -1,8 +1,9 @@
 ghost use Rattle.std.specs.Prelude.{◌≡◌, ◌+◌, ◌≤◌, [], ◌∷◌, ◌++◌, IfErr, IfOk, MatchResult, OnOk, length, map};
-ghost use Rattle.vp_elab.specs.Elaboration.{item_kind, item_name, items_in};
+ghost use Rattle.vp_parse.specs.Places.{earliest};
+ghost use Rattle.vp_elab.specs.Elaboration.{item_kind, item_name, item_range, items_in, lowest_of, range_width, width_of};
 ghost use Rattle.vp_elab.specs.Built.{design_of};
 ghost use Rattle.vp_elab.specs.Objects.{item_object, module_objects, objects_in, root_object};
-ghost use Rattle.vp_elab.specs.Refusals.{Explains, object_count, refusal_of, too_many, undeclared_among, undeclared_at, undeclared_by, undeclared_in, undeclared_value};
+ghost use Rattle.vp_elab.specs.Refusals.{Explains, first_unknown, name_in, object_count, refusal_of, target_of, too_many, undeclared_at, undeclared_in, unknown};
 
 use crate::design::{Design, Objects};
 use crate::fault::ElabError;
@@ -11,70 +12,86 @@ use crate::object::{Kind, Object, ObjectId};
 use crate::scope::{Scope, items_of, modules_of, place_of, root_envelopes_of};
 use std::alloc::Global;
 use vp_list::Sequence;
-use vp_parse::{Expression, Item, Module, Source, Statement};
+use vp_parse::{Expression, Item, Module, Range, Source, Statement, earlier};
 use vp_pragma::Envelopes;
 
 /// The greatest number of objects of a design.
 pub const OBJECT_LIMIT: usize = 65_536;
 
-/// A name of the text is declared in a module; else its line.
-fn declared(source: &Source, names: &Names, place: u32) -> Result<(), ElabError>
-    ensures { MatchResult result (λ _. undeclared_at source.now names.now place ≡ None) (λ e. Explains (undeclared_at source.now names.now place) e) }
+/// The place of a name that is not declared in a module.
+fn unknown(source: &Source, names: &Names, place: Option<u32>) -> Option<u32>
+    ensures { result ≡ unknown source.now names.now place }
 {
+    let place = place?;
     if names.has(source.word(place)) {
-        Ok(())
+        None
     } else {
-        Err(ElabError::Undeclared {
-            line: source.line(place),
-        })
+        Some(place)
     }
 }
 
-/// The name in an expression, if it is one, is declared in its module.
-fn declared_value(
-    source: &Source,
-    names: &Names,
-    value: Option<Expression>,
-) -> Result<(), ElabError>
-    ensures { MatchResult result (λ _. undeclared_value source.now names.now value ≡ None) (λ e. Explains (undeclared_value source.now names.now value) e) }
+/// The place of the name in an expression that is one, or is selected from one.
+fn name_in(expression: Expression) -> Option<u32>
+    ensures { result ≡ name_in expression }
 {
-    match value {
-        Some(Expression::Name(place)) => declared(source, names, place),
-        _ => Ok(()),
+    match expression {
+        Expression::Name { name, .. } => Some(name),
+        _ => None,
     }
 }
 
-/// Every name of a statement is declared in its module.
-fn declared_by(source: &Source, names: &Names, statement: Statement) -> Result<(), ElabError>
-    ensures { MatchResult result (λ _. undeclared_by source.now names.now statement ≡ None) (λ e. Explains (undeclared_by source.now names.now statement) e) }
+/// The place of the name to which a statement assigns.
+fn target_of(statement: Statement) -> Option<u32>
+    ensures { result ≡ target_of statement }
 {
     match statement {
-        Statement::Assign { target, value } => {
-            declared(source, names, target)?;
-            let value = source.expressions.as_slice().get(value as usize).copied();
-            declared_value(source, names, value)
-        }
-        Statement::Empty | Statement::Then { .. } => Ok(()),
+        Statement::Assign { target, .. } => Some(target),
+        Statement::Empty | Statement::Then { .. } => None,
     }
 }
 
-/// Every name of the statements is declared in their module; else the first that is not.
-fn declared_among(source: &Source, names: &Names) -> Result<(), ElabError>
-    ensures { MatchResult result (λ _. undeclared_among source.now names.now source.now.statements ≡ None) (λ e. Explains (undeclared_among source.now names.now source.now.statements) e) }
+/// The first place of a target that is not declared in a module.
+fn unknown_target(source: &Source, names: &Names) -> Option<u32>
+    ensures { result ≡ earliest (λ s. unknown source.now names.now (target_of s)) source.now.statements }
 {
+    let mut first = None;
     for statement in source.statements.as_slice() {
-        declared_by(source, names, *statement)?;
+        first = earlier(first, unknown(source, names, target_of(*statement)));
     }
-    Ok(())
+    first
 }
 
-/// The same of a text, which has at most one module, so that all its statements are in the first.
+/// The first place of a name in an expression that is not declared in a module.
+fn unknown_operand(source: &Source, names: &Names) -> Option<u32>
+    ensures { result ≡ earliest (λ e. unknown source.now names.now (name_in e)) source.now.expressions }
+{
+    let mut first = None;
+    for expression in source.expressions.as_slice() {
+        first = earlier(first, unknown(source, names, name_in(*expression)));
+    }
+    first
+}
+
+/// The names of a source are declared in its module; else the line of the first that is not.
+fn declared(source: &Source, names: &Names) -> Result<(), ElabError>
+    ensures { MatchResult result (λ _. undeclared_at source.now (first_unknown source.now names.now) ≡ None) (λ e. Explains (undeclared_at source.now (first_unknown source.now names.now)) e) }
+{
+    let target = unknown_target(source, names);
+    match earlier(target, unknown_operand(source, names)) {
+        Some(place) => Err(ElabError::Undeclared {
+            line: source.line(place),
+        }),
+        None => Ok(()),
+    }
+}
+
+/// The same of a text, which has at most one module, so that all its names are in the first.
 fn check_names(source: &Source, scopes: &[Scope]) -> Result<(), ElabError>
     requires { map (λ s. s.names) scopes.now ≡ map (λ m. map (item_name source.now) (items_in source.now m)) source.now.modules }
     ensures { MatchResult result (λ _. undeclared_in source.now source.now.modules ≡ None) (λ e. Explains (undeclared_in source.now source.now.modules) e) }
 {
     match scopes.first() {
-        Some(scope) => declared_among(source, &scope.names),
+        Some(scope) => declared(source, &scope.names),
         None => Ok(()),
     }
 }
@@ -89,6 +106,43 @@ fn kind_of(item: Item) -> Kind
     }
 }
 
+/// The range of the bits of what an item declares.
+fn range_of(item: Item) -> Option<Range>
+    ensures { result ≡ item_range item }
+{
+    match item {
+        Item::Reg { range, .. } => Some(range?.range),
+        Item::Initial { .. } => None,
+    }
+}
+
+/// How many bits a range has, 1 to 65,536 (clause 4.3.1).
+pub fn range_width(range: Range) -> u32
+    ensures { result ≡ range_width range }
+{
+    u32::from(range.msb.saturating_sub(range.lsb)) + 1
+}
+
+/// How many bits what has a range or none has: a scalar has one.
+fn width_of(range: Option<Range>) -> u32
+    ensures { result ≡ width_of range }
+{
+    match range {
+        Some(range) => range_width(range),
+        None => 1,
+    }
+}
+
+/// The index of the least significant bit of a range; a scalar has none.
+fn lowest_of(range: Option<Range>) -> Option<u16>
+    ensures { result ≡ lowest_of range }
+{
+    match range {
+        Some(range) => Some(range.lsb),
+        None => None,
+    }
+}
+
 /// The object of a top module, by the number of its module.
 fn root_of(envelopes: &Envelopes, number: usize, module: Module) -> Object
     ensures { result ≡ root_object envelopes.now number «module» }
@@ -100,6 +154,7 @@ fn root_of(envelopes: &Envelopes, number: usize, module: Module) -> Object
         place: module.name,
         envelope: envelopes.of(module.name),
         width: 1,
+        lowest: None,
     }
 }
 
@@ -108,13 +163,15 @@ fn object_of(envelopes: &Envelopes, module: ObjectId, item: Item) -> Object
     ensures { result ≡ item_object envelopes.now «module».0 item }
 {
     let place = place_of(item);
+    let range = range_of(item);
     Object {
         kind: kind_of(item),
         parent: Some(module),
         scope: None,
         place,
         envelope: envelopes.of(place),
-        width: 1,
+        width: width_of(range),
+        lowest: lowest_of(range),
     }
 }
 

@@ -9,6 +9,6 @@ mod object;
 mod scope;
 
 pub use design::Design;
-pub use elaboration::{OBJECT_LIMIT, elaborate};
+pub use elaboration::{OBJECT_LIMIT, elaborate, range_width};
 pub use fault::ElabError;
 pub use object::{Kind, Object, ObjectId};

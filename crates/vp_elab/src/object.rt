@@ -42,6 +42,8 @@ pub struct Object {
     pub place: u32,
     /// The number of the envelope in which it is declared; 0 for the open text.
     pub envelope: u8,
-    /// How many bits its value has, 1 to 64; 1 where it has no value.
-    pub width: u8,
+    /// How many bits its value has, 1 to 65,536; 1 where it has no value.
+    pub width: u32,
+    /// Of a vector, the index of its least significant bit; a scalar has none.
+    pub lowest: Option<u16>,
 }

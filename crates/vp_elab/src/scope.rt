@@ -38,7 +38,7 @@ pub fn place_of(item: Item) -> u32
     ensures { result ≡ item_place item }
 {
     match item {
-        Item::Reg { name } => name,
+        Item::Reg { name, .. } => name,
         Item::Initial { keyword, .. } => keyword,
     }
 }
@@ -72,7 +72,7 @@ fn name_of(alloc: Global, source: &Source, item: Item) -> Result<String, AllocEr
     ensures { IfOk result (λ name. string_bytes name ≡ item_name source.now item) }
 {
     match item {
-        Item::Reg { name } => String::from_str(alloc, source.word(name)),
+        Item::Reg { name, .. } => String::from_str(alloc, source.word(name)),
         Item::Initial { keyword, .. } => process_name(alloc, "initial", source, keyword),
     }
 }

@@ -1,2 +1,13 @@
 pub mod Starts
+pub mod Arenas
+pub mod Digits
+mod ArenaRows
+mod LiteralRows
+mod TermRows
+mod DerivedRows
 pub mod Processes
+pub mod Fitting
+pub mod Named
+pub mod Sized
+pub mod Derivations
+pub mod Refused

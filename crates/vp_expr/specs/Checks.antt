@@ -1,29 +1,199 @@
--- Which expressions of a design are refused.
-use Rattle.std.specs.Prelude.{◌≡◌, nat_lt, if◌then◌else◌, List, [], ◌∷◌, Option, Some, None}
-use Rattle.vp_parse.specs.Places.{line_at}
+-- Which expressions of a design are refused: the refusals, each tested over the whole text, in this order.
+use Rattle.std.specs.Prelude.{◌≡◌, ℕ, ◌+◌, ◌==◌, ◌&&◌, min, nat_lt, nat_le, not, Bool, true, false, if◌then◌else◌, List, [], ◌∷◌, ◌++◌, length, slice_get, slice_index_or, Option, Some, None, option_and_then, option_map}
+use Rattle.std.specs.List.{fold, list_all}
+use Rattle.vp_parse_expr.specs.declared.node.Expression.{Expression}
+use Rattle.vp_parse_expr.specs.declared.node.Expression.TheVariants as expression
+use Rattle.vp_parse_expr.specs.declared.node.Selection.{Selection}
+use Rattle.vp_parse_expr.specs.declared.node.Selection.TheVariants as selection
+use Rattle.vp_parse_expr.specs.declared.operator.BinaryOperator.{BinaryOperator}
+use Rattle.vp_parse_expr.specs.declared.operator.BinaryOperator.TheVariants as binary
+use Rattle.vp_parse.specs.Places.{earlier, earliest, line_at}
 use Rattle.vp_parse.specs.declared.source.Source.{Source}
-use Rattle.vp_parse.specs.declared.source.Expression.{Expression}
-use Rattle.vp_parse.specs.declared.source.Expression.TheVariants as expression
+use Rattle.vp_parse.specs.declared.source.Item.{Item}
+use Rattle.vp_parse.specs.declared.source.Item.TheVariants as item
+use Rattle.vp_parse.specs.declared.source.Statement.{Statement}
+use Rattle.vp_parse.specs.declared.source.Statement.TheVariants as statement
+use Rattle.vp_elab.specs.Built.{Elaborated}
+use Rattle.vp_elab.specs.Elaboration.{range_width}
+use Rattle.vp_elab.specs.Tree.{below}
 use Rattle.vp_expr.specs.declared.fault.ExprError.{ExprError}
-use Rattle.vp_expr.specs.declared.fault.ExprError.TheVariants.{TooWide, NoMemory}
+use Rattle.vp_expr.specs.declared.fault.ExprError.TheVariants.{TooWide, SignedCompare, BadSelect, NoMemory}
+use Rattle.vp_expr.specs.declared.tables.Tables.{Tables}
+use Rattle.vp_expr.specs.Arena.{is_width, operand_size, signs_in}
+use Rattle.vp_expr.specs.Tables.{all_fit, node_named, operand_of, operands_of, tables_of}
 
--- a literal of over 64 bits (3.5.1, profile)
-abbrev pub wide_at : Source → Expression → Option ExprError
-wide_at source (expression.Name place) = None
-wide_at source (expression.Literal place size digits) = if nat_lt 64 size then Some (TooWide (line_at source place)) else None
+-- a place, where something is so
+abbrev pub place_if : Bool → ℕ → Option ℕ
+place_if so place = if so then Some place else None
 
--- the first of two refusals that holds
-abbrev pub first_of_two : Option ExprError → Option ExprError → Option ExprError
-first_of_two None other = other
-first_of_two (Some e) other = Some e
+-- ---- wider than 64 bits (profile)
 
--- the first of these expressions that is too wide
-abbrev pub too_wide : Source → List Expression → Option ExprError
-too_wide source [] = None
-too_wide source (e ∷ es) = first_of_two (wide_at source e) (too_wide source es)
+-- a size is greater than a vector may have
+abbrev pub is_wide : ℕ → Bool
+is_wide size = nat_lt 64 size
 
--- an error is the refusal; where there is none, it is want of memory
+-- a size as it is counted: one that is too great as 65
+abbrev pub counted : ℕ → ℕ
+counted size = min size 65
+
+-- the bits of the name at a place: how many, and the lowest index, if there is one (clause 4.3.1)
+abbrev pub bits_named : Elaborated → ℕ → Option (ℕ × Option ℕ)
+bits_named design name = option_map (λ n. (n.width, n.lowest)) (node_named design name)
+
+-- how many of so many bits are selected (clause 5.2.1)
+abbrev pub selected_width : Selection → ℕ → ℕ
+selected_width selection.Whole width = width
+selected_width (selection.Bit index) width = 1
+selected_width (selection.Part r) width = range_width r
+
+-- how many bits are selected of these; 1 where there is no such object
+abbrev pub size_of_bits : Selection → Option (ℕ × Option ℕ) → ℕ
+size_of_bits s None = 1
+size_of_bits s (Some bits) = selected_width s bits.0
+
+-- how many bits are selected of the name at a place; 1 where there is no such object
+abbrev pub node_size : Elaborated → ℕ → Selection → ℕ
+node_size design name s = size_of_bits s (bits_named design name)
+
+-- the size of an expression as it is counted, by the sizes of those before it (clause 5.4.1)
+abbrev pub counted_size : Elaborated → List ℕ → Expression → ℕ
+counted_size design sizes (expression.Name name s) = counted (node_size design name s)
+counted_size design sizes (expression.Literal place size digits) = counted size
+counted_size design sizes e = counted (operand_size [] sizes (operand_of design e))
+
+-- sizes, and behind them that of one more expression
+abbrev pub with_size : Elaborated → List ℕ → Expression → List ℕ
+with_size design sizes e = sizes ++ counted_size design sizes e ∷ []
+
+-- the sizes of the expressions of a design, as they are counted
+abbrev pub counted_sizes : Elaborated → List ℕ
+counted_sizes design = fold (with_size design) [] design.source.expressions
+
+-- a selection of a part is too wide (clause 5.2.1)
+abbrev pub is_wide_part : Selection → Bool
+is_wide_part (selection.Part r) = is_wide (range_width r)
+is_wide_part _ = false
+
+-- an expression that is too wide by itself, by its size: a literal, a part of a name, braces (clauses 3.5.1, 5.1.14, 5.2.1)
+abbrev pub wide_at : ℕ → Expression → Option ℕ
+wide_at size (expression.Name name s) = place_if (is_wide_part s) name
+wide_at size (expression.Literal place bits digits) = place_if (is_wide bits) place
+wide_at size (expression.Concatenation brace part) = place_if (is_wide size) brace
+wide_at size (expression.Appended brace list part) = place_if (is_wide size) brace
+wide_at size (expression.Replication brace count list) = place_if (is_wide size) brace
+wide_at size _ = None
+
+-- a declaration whose range is too wide, by its bracket (clause 4.3.1)
+abbrev pub wide_item : Item → Option ℕ
+wide_item (item.Reg name None) = None
+wide_item (item.Reg name (Some declared)) = place_if (is_wide (range_width declared.range)) declared.bracket
+wide_item (item.Initial keyword body) = None
+
+-- an assignment to a part that is too wide (clause 5.2.1)
+abbrev pub wide_target : Statement → Option ℕ
+wide_target (statement.Assign target s value) = place_if (is_wide_part s) target
+wide_target _ = None
+
+-- ---- relational operators on signed operands (profile)
+
+-- an operator compares sizes of numbers (clause 5.1.7)
+abbrev pub is_relational : BinaryOperator → Bool
+is_relational binary.Less = true
+is_relational binary.LessOrEqual = true
+is_relational binary.Greater = true
+is_relational binary.GreaterOrEqual = true
+is_relational _ = false
+
+-- a relational operator whose operands are both signed, by the signs of expressions
+abbrev pub signed_at : List Bool → Expression → Option ℕ
+signed_at signs (expression.Binary operator place left right) =
+    place_if (is_relational operator && (slice_index_or signs left false && slice_index_or signs right false)) place
+signed_at signs _ = None
+
+-- ---- selections that are none (clause 5.2.1, profile)
+
+-- a selection of a name that has these bits is bad: of a scalar, or of a part that is not inside the declared range
+abbrev pub is_bad : (lowest : Option ℕ) → (width : ℕ) → Selection → Bool
+is_bad lowest width selection.Whole = false
+is_bad None width s = true
+is_bad (Some low) width (selection.Bit index) = false
+is_bad (Some low) width (selection.Part r) = not (nat_le low r.lsb && (nat_le r.lsb r.msb && nat_lt r.msb (low + width)))
+
+-- the place of a name that has these bits, where the selection of them is bad
+abbrev pub bad_bits : ℕ → Selection → Option (ℕ × Option ℕ) → Option ℕ
+bad_bits name s None = None
+bad_bits name s (Some bits) = place_if (is_bad bits.1 bits.0 s) name
+
+-- the name at a place, where the selection of its bits is bad
+abbrev pub bad_name : Elaborated → ℕ → Selection → Option ℕ
+bad_name design name s = bad_bits name s (bits_named design name)
+
+-- a bad selection in an expression; a replication of 0
+abbrev pub bad_at : Elaborated → Expression → Option ℕ
+bad_at design (expression.Name name s) = bad_name design name s
+bad_at design (expression.Replication brace count list) = place_if (count == 0) brace
+bad_at design _ = None
+
+-- a bad selection before the equals sign of an assignment
+abbrev pub bad_target : Elaborated → Statement → Option ℕ
+bad_target design (statement.Assign target s value) = bad_name design target s
+bad_target design _ = None
+
+-- ---- all of them
+
+-- the expression at a place that is too wide by itself, by the sizes of all
+abbrev pub wide_among : List Expression → List ℕ → ℕ → Option ℕ
+wide_among es sizes place = option_and_then (wide_at (slice_index_or sizes place 1)) (slice_get es place)
+
+-- the first expression that is too wide by itself
+abbrev pub first_wide_of : List Expression → List ℕ → Option ℕ
+first_wide_of es sizes = earliest (wide_among es sizes) (below (length es))
+
+-- the first place that is too wide: in a declaration, in a statement's target, or in an expression
+unfoldable pub first_wide : Elaborated → Option ℕ
+first_wide design =
+    earlier (earlier (earliest wide_item design.source.items) (earliest wide_target design.source.statements))
+    (first_wide_of design.source.expressions (counted_sizes design))
+
+-- the first relational operator on two signed operands
+unfoldable pub first_signed : Elaborated → Option ℕ
+first_signed design = earliest (signed_at (signs_in (operands_of design))) design.source.expressions
+
+-- the first bad selection
+unfoldable pub first_bad : Elaborated → Option ℕ
+first_bad design = earlier (earliest (bad_target design) design.source.statements) (earliest (bad_at design) design.source.expressions)
+
+-- a refusal by the line of the place that is at fault, if one is; else another
+abbrev pub refused_at : Source → (ℕ → ExprError) → Option ℕ → Option ExprError → Option ExprError
+refused_at source refusal None other = other
+refused_at source refusal (Some place) other = Some (refusal (line_at source place))
+
+-- the first refusal of a place of a design
+unfoldable pub refused_by : Elaborated → Option ExprError
+refused_by design =
+    refused_at design.source (λ line. TooWide line) (first_wide design)
+    (refused_at design.source (λ line. SignedCompare line) (first_signed design)
+    (refused_at design.source (λ line. BadSelect line) (first_bad design) None))
+
+-- a refusal, or else another
+abbrev pub or_else : Option ExprError → Option ExprError → Option ExprError
+or_else None other = other
+or_else (Some refusal) other = Some refusal
+
+-- the first refusal of a design that holds. Behind the places each size is tested once more; that this never refuses is not
+-- proved
+unfoldable pub refusal_of : Elaborated → Option ExprError
+refusal_of design = or_else (refused_by design) (if all_fit design then None else Some (TooWide 0))
+
+-- the tables are those of the design, and the width of each object and the size of each expression is that of a vector (profile)
+pub record IsChecked (design : Elaborated) (tables : Tables) : Type 0 where
+  pub tables_are : tables ≡ tables_of design
+  pub wide : list_all is_width tables.widths ≡ true
+  pub fit : list_all is_width tables.sizes ≡ true
+
+-- an error is the refusal, or want of memory
 abbrev pub Explains : Option ExprError → ExprError → Type 0
-Explains (Some refusal) e = refusal ≡ e
-Explains None (TooWide line) = ⊥
-Explains None NoMemory = Unit {0}
+Explains refusal NoMemory = Unit {0}
+Explains refusal (TooWide line) = refusal ≡ Some (TooWide line)
+Explains refusal (SignedCompare line) = refusal ≡ Some (SignedCompare line)
+Explains refusal (BadSelect line) = refusal ≡ Some (BadSelect line)

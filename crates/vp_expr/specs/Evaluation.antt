@@ -1,15 +1,31 @@
--- The value of an expression, from the values of the objects.
-use Rattle.std.specs.Prelude.{ℕ, List, slice_index_or}
+-- The value of an expression of a design, from the values of the objects.
+use Rattle.std.specs.Prelude.{ℕ, List}
 use Rattle.vp_bits.specs.declared.bit.Bit.{Bit}
-use Rattle.vp_expr.specs.declared.tables.Operand.{Operand}
-use Rattle.vp_expr.specs.declared.tables.Operand.TheVariants.{Object, Constant}
-use Rattle.vp_expr.specs.Values.{no_value}
+use Rattle.vp_bits.specs.Arithmetic.{number_of}
+use Rattle.vp_expr.specs.declared.tables.Tables.{Tables}
+use Rattle.vp_expr.specs.declared.tables.Target.{Target}
+use Rattle.vp_expr.specs.declared.tables.Target.TheVariants as target
+use Rattle.vp_expr.specs.Arena.{term_at, value_at, value_in, width_in}
+use Rattle.vp_expr.specs.Terms.{own_value, with_bit_at, with_part_at}
+use Rattle.vp_expr.specs.Ids.{Sized}
 
--- the value of an operand (clause 5.2)
-abbrev pub operand_value : List (List Bit) → Operand → List Bit
-operand_value values (Object object) = slice_index_or values object.0 no_value
-operand_value values (Constant bits) = bits
+-- the value of an expression, by its place and the size of its context (clause 5.4); one unknown bit behind the end
+abbrev pub eval : Tables → List (List Bit) → Sized → List Bit
+eval tables values e = value_at tables.widths tables.operands values e.place e.size
 
--- the value of the expression at a place; one unknown bit behind the end
-abbrev pub eval : List Operand → List (List Bit) → ℕ → List Bit
-eval operands values place = operand_value values (slice_index_or operands place (Constant no_value))
+-- the value of an expression that sizes itself, by its place (clause 5.4)
+abbrev pub own_eval : Tables → List (List Bit) → ℕ → List Bit
+own_eval tables values place = own_value (width_in tables.widths) (value_in values) (term_at tables.operands place)
+
+-- the object of a target
+abbrev pub object_of : Target → ℕ
+object_of (target.Whole object) = object.0
+object_of (target.Bit object lowest index) = object.0
+object_of (target.Part object place width) = object.0
+
+-- what an assignment of a value gives the object of its target: all of it, or its value with a bit or a part set (clause 5.2.1)
+abbrev pub given_to : Tables → List (List Bit) → Target → List Bit → List Bit
+given_to tables values (target.Whole object) value = value
+given_to tables values (target.Bit object lowest index) value =
+    with_bit_at (value_in values object.0) lowest (number_of (own_eval tables values index)) value
+given_to tables values (target.Part object place width) value = with_part_at (value_in values object.0) place width value

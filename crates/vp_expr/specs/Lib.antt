@@ -1,7 +1,13 @@
 pub mod Faults
 pub mod Values
+pub mod Ids
+pub mod Terms
+pub mod Laws
+pub mod Arena
 pub mod Start
-pub mod Checks
 pub mod Literals
+pub mod LiteralSteps
 pub mod Tables
 pub mod Evaluation
+pub mod Derived
+pub mod Checks

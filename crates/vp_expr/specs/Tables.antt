@@ -1,52 +1,184 @@
 -- The tables that a simulator runs: the expressions and statements of a design, with objects in place of names.
-use Rattle.std.specs.Prelude.{ℕ, zero, suc, List, map, length, slice_get, Option, Some, None, option_map, option_and_then}
-use Rattle.std.specs.List.{filter_map}
+use Rattle.std.specs.Prelude.{ℕ, zero, suc, ◌-◌, ◌&&◌, max, Bool, false, true, if◌then◌else◌, List, map, length, slice_get, slice_index_or, Option, Some, None, option_map, option_and_then}
+use Rattle.std.specs.List.{filter_map, list_all}
+use Rattle.std.specs.Option.{unwrap_or}
+use Rattle.vp_parse_expr.specs.declared.node.Expression.{Expression}
+use Rattle.vp_parse_expr.specs.declared.node.Expression.TheVariants as expression
+use Rattle.vp_parse_expr.specs.declared.node.Selection.{Selection}
+use Rattle.vp_parse_expr.specs.declared.node.Selection.TheVariants as selection
+use Rattle.vp_parse_expr.specs.declared.operator.BinaryOperator.{BinaryOperator}
+use Rattle.vp_parse_expr.specs.declared.operator.BinaryOperator.TheVariants as between
+use Rattle.vp_parse_expr.specs.declared.operator.UnaryOperator.{UnaryOperator}
+use Rattle.vp_parse_expr.specs.declared.operator.UnaryOperator.TheVariants as before
 use Rattle.vp_parse.specs.Places.{word_at}
-use Rattle.vp_parse.specs.declared.source.Expression.{Expression}
-use Rattle.vp_parse.specs.declared.source.Expression.TheVariants as expression
 use Rattle.vp_parse.specs.declared.source.Statement.{Statement}
 use Rattle.vp_parse.specs.declared.source.Statement.TheVariants as statement
 use Rattle.vp_parse.specs.declared.source.Item.{Item}
 use Rattle.vp_parse.specs.declared.source.Item.TheVariants as item
 use Rattle.vp_elab.specs.Built.{Elaborated}
-use Rattle.vp_elab.specs.Tree.{below, find_in}
-use Rattle.vp_expr.specs.declared.tables.Operand.{Operand}
-use Rattle.vp_expr.specs.declared.tables.Operand.TheVariants as operand
+use Rattle.vp_elab.specs.Elaboration.{range_width}
+use Rattle.vp_elab.specs.Tree.{Node, below, find_in}
+use Rattle.vp_expr.specs.declared.operand.Operand.{Operand}
+use Rattle.vp_expr.specs.declared.operand.Operand.TheVariants as operand
+use Rattle.vp_expr.specs.declared.operand.Infix.{Infix}
+use Rattle.vp_expr.specs.declared.operand.Infix.TheVariants as pair
+use Rattle.vp_expr.specs.declared.operand.Unary.TheVariants as unary
+use Rattle.vp_expr.specs.declared.operand.Reduction.TheVariants as reduction
+use Rattle.vp_expr.specs.declared.operand.Binary.TheVariants as binary
+use Rattle.vp_expr.specs.declared.operand.Shift.TheVariants as shift
+use Rattle.vp_expr.specs.declared.operand.Comparison.TheVariants as comparison
+use Rattle.vp_expr.specs.declared.operand.Logical.TheVariants as logical
 use Rattle.vp_expr.specs.declared.tables.Action.{Action}
 use Rattle.vp_expr.specs.declared.tables.Action.TheVariants as action
+use Rattle.vp_expr.specs.declared.tables.Target.{Target}
+use Rattle.vp_expr.specs.declared.tables.Target.TheVariants as target
+use Rattle.vp_expr.specs.Ids.{Sized}
 use Rattle.vp_expr.specs.declared.tables.Process.{Process}
 use Rattle.vp_expr.specs.declared.tables.Tables.{Tables}
-use Rattle.vp_expr.specs.Literals.{literal_bits}
+use Rattle.vp_expr.specs.Arena.{is_width, sizes_in, width_in}
+use Rattle.vp_expr.specs.Literals.{based_bits, literal_bits, number_bits}
 use Rattle.vp_expr.specs.Values.{no_value}
+
+-- ---- names
 
 -- the object of the name at a place; a text has at most one module, whose object is the first (clause 12.5)
 abbrev pub object_named : Elaborated → ℕ → Option ℕ
 object_named design place = find_in design.tree.nodes (Some 0) (word_at design.source place)
 
--- an object as an operand; one unknown bit where there is none
-abbrev pub operand_named : Option ℕ → Operand
-operand_named None = operand.Constant no_value
-operand_named (Some object) = operand.Object (record { 0 = object })
+-- the node of the name at a place
+abbrev pub node_named : Elaborated → ℕ → Option Node
+node_named design place = option_and_then (slice_get design.tree.nodes) (object_named design place)
 
--- an expression with an object in place of its name, and the value of its literal (clause 5.1)
+-- the index of the least significant bit of an object; 0 where it has none
+abbrev pub lowest_in : Elaborated → ℕ → ℕ
+lowest_in design object = unwrap_or (option_and_then (λ (n : Node). n.lowest) (slice_get design.tree.nodes object)) 0
+
+-- ---- expressions
+
+-- what is selected of an object as an operand; one unknown bit in place of a part that no vector can be (clause 5.2.1)
+abbrev pub selected_operand : Elaborated → ℕ → Selection → Operand
+selected_operand design object selection.Whole = operand.Object (record { 0 = object })
+selected_operand design object (selection.Bit index) = operand.BitSelect (record { 0 = object }) (lowest_in design object) index
+selected_operand design object (selection.Part r) =
+    if is_width (range_width r)
+    then operand.PartSelect (record { 0 = object }) (r.lsb - lowest_in design object) (range_width r)
+    else operand.Constant no_value false
+
+-- what is selected of a name as an operand; one unknown bit where there is no such object
+abbrev pub named_operand : Elaborated → Option ℕ → Selection → Operand
+named_operand design None s = operand.Constant no_value false
+named_operand design (Some object) s = selected_operand design object s
+
+-- an operator of one operand (table 5-1)
+abbrev pub unary_operand : UnaryOperator → ℕ → Operand
+unary_operand before.Plus a = operand.Applied unary.Plus a
+unary_operand before.Minus a = operand.Applied unary.Minus a
+unary_operand before.Negation a = operand.Applied unary.Negation a
+unary_operand before.LogicalNegation a = operand.Reduced reduction.LogicalNegation a
+unary_operand before.ReductionAnd a = operand.Reduced reduction.And a
+unary_operand before.ReductionNand a = operand.Reduced reduction.Nand a
+unary_operand before.ReductionOr a = operand.Reduced reduction.Or a
+unary_operand before.ReductionNor a = operand.Reduced reduction.Nor a
+unary_operand before.ReductionXor a = operand.Reduced reduction.Xor a
+unary_operand before.ReductionXnor a = operand.Reduced reduction.Xnor a
+
+-- an operator between operands (table 5-1)
+abbrev pub infix_of : BinaryOperator → Infix
+infix_of between.Multiply = pair.Combined binary.Multiply
+infix_of between.Add = pair.Combined binary.Add
+infix_of between.Subtract = pair.Combined binary.Subtract
+infix_of between.And = pair.Combined binary.And
+infix_of between.Or = pair.Combined binary.Or
+infix_of between.Xor = pair.Combined binary.Xor
+infix_of between.Xnor = pair.Combined binary.Xnor
+infix_of between.ShiftLeft = pair.Shifted shift.Left
+infix_of between.ShiftRight = pair.Shifted shift.Right
+infix_of between.Less = pair.Compared comparison.Less
+infix_of between.LessOrEqual = pair.Compared comparison.LessOrEqual
+infix_of between.Greater = pair.Compared comparison.Greater
+infix_of between.GreaterOrEqual = pair.Compared comparison.GreaterOrEqual
+infix_of between.Equal = pair.Compared comparison.Equal
+infix_of between.Unequal = pair.Compared comparison.Unequal
+infix_of between.CaseEqual = pair.Compared comparison.CaseEqual
+infix_of between.CaseUnequal = pair.Compared comparison.CaseUnequal
+infix_of between.LogicalAnd = pair.Joined logical.And
+infix_of between.LogicalOr = pair.Joined logical.Or
+
+-- an expression with an object in place of its name, and the value of its literal (clause 5)
 abbrev pub operand_of : Elaborated → Expression → Operand
-operand_of design (expression.Name place) = operand_named (object_named design place)
-operand_of design (expression.Literal place size digits) = operand.Constant (literal_bits size (word_at design.source digits))
+operand_of design (expression.Name name s) = named_operand design (object_named design name) s
+operand_of design (expression.Literal place size digits) = operand.Constant (literal_bits size (word_at design.source digits)) false
+operand_of design (expression.Based digits) = operand.Constant (based_bits (word_at design.source digits)) false
+operand_of design (expression.Number place number) = operand.Constant (number_bits number) true
+operand_of design (expression.Unary operator place a) = unary_operand operator a
+operand_of design (expression.Binary operator place a b) = operand.Paired (infix_of operator) a b
+operand_of design (expression.Conditional c a b) = operand.Conditional c a b
+operand_of design (expression.Concatenation brace part) = operand.Concatenated part
+operand_of design (expression.Appended brace list part) = operand.Appended list part
+operand_of design (expression.Replication brace count list) = operand.Replicated count list
 
--- an assignment to an object; nothing where there is none
-abbrev pub assign_to : ℕ → Option ℕ → Action
-assign_to value None = action.Nothing
-assign_to value (Some object) = action.Assign (record { 0 = object }) value
+-- the expressions of a design as operands
+abbrev pub operands_of : Elaborated → List Operand
+operands_of design = map (operand_of design) design.source.expressions
+
+-- the widths of the objects of a design
+abbrev pub widths_of : Elaborated → List ℕ
+widths_of design = map (λ n. n.width) design.tree.nodes
+
+-- the sizes of the expressions of a design (clause 5.4.1)
+abbrev pub sizes_of : Elaborated → List ℕ
+sizes_of design = sizes_in (widths_of design) (operands_of design)
+
+-- ---- statements
+
+-- an expression in a context of a size, where a vector can have that (clause 5.4.1)
+abbrev pub sized_at : (place size : ℕ) → Option Sized
+sized_at place size = if is_width size then Some (record { place = place; size = size }) else None
+
+-- what is selected of an object as a target; none where it is a part that no vector can be (clause 5.2.1)
+abbrev pub selected_target : Elaborated → ℕ → Selection → Option Target
+selected_target design object selection.Whole = Some (target.Whole (record { 0 = object }))
+selected_target design object (selection.Bit index) = Some (target.Bit (record { 0 = object }) (lowest_in design object) index)
+selected_target design object (selection.Part r) =
+    if is_width (range_width r)
+    then Some (target.Part (record { 0 = object }) (r.lsb - lowest_in design object) (range_width r))
+    else None
+
+-- how many bits a target has, by the widths of objects
+abbrev pub target_width : (widths : List ℕ) → Target → ℕ
+target_width widths (target.Whole object) = width_in widths object.0
+target_width widths (target.Bit object lowest index) = 1
+target_width widths (target.Part object place width) = width
+
+-- an assignment of a value to a target; nothing where there is none
+abbrev pub assign_value : Target → Option Sized → Action
+assign_value t None = action.Nothing
+assign_value t (Some value) = action.Assign t value
+
+-- an assignment to a target: the value has the greater of its size and the target's width as its context (clause 5.4.1)
+abbrev pub assign_target : (widths sizes : List ℕ) → (value : ℕ) → Target → Action
+assign_target widths sizes value t = assign_value t (sized_at value (max (target_width widths t) (slice_index_or sizes value 1)))
+
+-- an assignment to a target, if there is one
+abbrev pub assign_to : (widths sizes : List ℕ) → (value : ℕ) → Option Target → Action
+assign_to widths sizes value None = action.Nothing
+assign_to widths sizes value (Some t) = assign_target widths sizes value t
+
+-- what is selected of an object, if there is one, as a target
+abbrev pub named_target : Elaborated → Option ℕ → Selection → Option Target
+named_target design None s = None
+named_target design (Some object) s = selected_target design object s
 
 -- a statement with an object in place of its name (clauses 9.2.1 and 9.8.1)
-abbrev pub action_of : Elaborated → Statement → Action
-action_of design statement.Empty = action.Nothing
-action_of design (statement.Then list last) = action.Then list last
-action_of design (statement.Assign target value) = assign_to value (object_named design target)
+abbrev pub action_of : Elaborated → (widths sizes : List ℕ) → Statement → Action
+action_of design widths sizes statement.Empty = action.Nothing
+action_of design widths sizes (statement.Then list last) = action.Then list last
+action_of design widths sizes (statement.Assign name s value) =
+    assign_to widths sizes value (named_target design (object_named design name) s)
 
 -- the statement of an item that is a process (clause 9.9)
 abbrev pub body_of : Item → Option ℕ
-body_of (item.Reg name) = None
+body_of (item.Reg name declared) = None
 body_of (item.Initial keyword body) = Some body
 
 -- the statement of an object that is a process; the objects of a module stand behind it in the order of its items
@@ -63,9 +195,15 @@ abbrev pub processes_of : Elaborated → List Process
 processes_of design = filter_map (process_at design.source.items) (below (length design.tree.nodes))
 
 -- the tables of a design
-abbrev pub tables_of : Elaborated → Tables
+unfoldable pub tables_of : Elaborated → Tables
 tables_of design = record {
-  operands = map (operand_of design) design.source.expressions;
-  actions = map (action_of design) design.source.statements;
+  operands = operands_of design;
+  widths = widths_of design;
+  sizes = sizes_of design;
+  actions = map (action_of design (widths_of design) (sizes_of design)) design.source.statements;
   processes = processes_of design;
 }
+
+-- each width and each size is that of a vector
+abbrev pub all_fit : Elaborated → Bool
+all_fit design = list_all is_width (widths_of design) && list_all is_width (sizes_of design)

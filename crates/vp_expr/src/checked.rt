@@ -1,16 +1,15 @@
-ghost use Rattle.std.specs.Prelude.{◌≡◌, None, Some, IfErr, IfOk, MatchResult, OnOk};
+ghost use Rattle.std.specs.Prelude.{◌≡◌, ◌≤◌, true, map, All, None, IfErr, IfOk, OnOk};
+ghost use Rattle.std.specs.List.{list_all};
+ghost use Rattle.vp_expr.specs.Arena.{is_width};
+ghost use Rattle.vp_expr.specs.Checks.{Explains, IsChecked, refusal_of};
 ghost use Rattle.vp_expr.specs.Tables.{tables_of};
-ghost use Rattle.vp_expr.specs.Checks.{Explains, too_wide, wide_at};
 
 use crate::fault::ExprError;
-use crate::tables::{Tables, tables_of};
+use crate::refusing::checked_tables;
+use crate::tables::Tables;
 use std::alloc::Global;
 use std::marker::Model;
-use vp_elab::Design;
-use vp_parse::{Expression, Source};
-
-/// The greatest width of a vector, in bits.
-const WIDTH_LIMIT: u32 = 64;
+use vp_elab::{Design, Object};
 
 /// A design whose expressions are at most 64 bits wide, with the tables that a simulator runs. A contract sees the design,
 /// of which the tables are a function.
@@ -27,10 +26,9 @@ impl Model for Checked {
 
     ghost view = { λ c. c.design };
 
-    ghost use Rattle.std.specs.Prelude.{◌≡◌};
-    ghost use Rattle.vp_expr.specs.Tables.{tables_of};
+    ghost use Rattle.vp_expr.specs.Checks.{IsChecked};
 
-    ghost invariant = { λ c. c.tables ≡ tables_of c.design };
+    ghost invariant = { λ c. IsChecked c.design c.tables };
 }
 
 impl Checked {
@@ -41,44 +39,31 @@ impl Checked {
         &self.design
     }
 
+    /// The objects of the design.
+    pub fn objects(&self) -> &[Object]
+        ensures kinds { map (λ o. o.kind) result.now ≡ map (λ n. n.kind) self.now.tree.nodes }
+        ensures widths { map (λ o. o.width) result.now ≡ map (λ n. n.width) self.now.tree.nodes }
+        ensures fit { All (λ o. (1 ≤ o.width) × (o.width ≤ 64)) result.now }
+    {
+        self.design.objects()
+    }
+
     /// What a simulator runs.
     pub fn tables(&self) -> &Tables
-        ensures { result.now ≡ tables_of self.now }
+        ensures tables { result.now ≡ tables_of self.now }
+        ensures fit { list_all is_width result.now.sizes ≡ true }
     {
         &self.tables
     }
 }
 
-/// An expression is at most 64 bits wide; else the refusal, by its line.
-fn check_width(source: &Source, expression: Expression) -> Result<(), ExprError>
-    ensures { MatchResult result (λ _. wide_at source.now expression ≡ None) (λ e. wide_at source.now expression ≡ Some e) }
-{
-    match expression {
-        Expression::Literal { place, size, .. } if size > WIDTH_LIMIT => Err(ExprError::TooWide {
-            line: source.line(place),
-        }),
-        _ => Ok(()),
-    }
-}
-
-/// The expressions of a source are at most 64 bits wide; else the refusal of the first that is not.
-fn check_widths(source: &Source) -> Result<(), ExprError>
-    ensures { MatchResult result (λ _. too_wide source.now source.now.expressions ≡ None) (λ e. too_wide source.now source.now.expressions ≡ Some e) }
-{
-    for expression in source.expressions.as_slice() {
-        check_width(source, *expression)?;
-    }
-    Ok(())
-}
-
-/// A design's expressions, checked; or the first that is too wide (601), by its line, or want of memory (604). On a
-/// refusal the design is dropped.
+/// A design's expressions, checked; or the first refusal that holds, by its line: `TooWide` (601), `SignedCompare` (602), `BadSelect`
+/// (603), each tested over the whole text; or want of memory (604). On a refusal the design is dropped.
 pub fn check(alloc: Global, design: Design) -> Result<Checked, ExprError>
     ensures design { IfOk result (λ checked. checked ≡ design) }
-    ensures accepted { OnOk result (too_wide design.source design.source.expressions ≡ None) }
-    ensures refused { IfErr result (λ e. Explains (too_wide design.source design.source.expressions) e) }
+    ensures accepted { OnOk result (refusal_of design ≡ None) }
+    ensures refused { IfErr result (λ e. Explains (refusal_of design) e) }
 {
-    check_widths(design.source())?;
-    let tables = tables_of(alloc, &design)?;
+    let tables = checked_tables(alloc, &design)?;
     Ok(Checked { design, tables })
 }

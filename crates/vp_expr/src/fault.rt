@@ -7,9 +7,15 @@ use thiserror::Error;
 /// Why a design's expressions are refused.
 #[derive(Debug, Drop, Error)]
 pub enum ExprError {
-    /// Something is wider than 64 bits (601).
+    /// Something is wider than 64 bits (601): a range, a literal, a part-select, a concatenation or a replication.
     #[error("line {line}: wider than 64 bits")]
     TooWide { line: u32 },
+    /// A relational operator on two signed operands (602).
+    #[error("line {line}: comparison of signed operands")]
+    SignedCompare { line: u32 },
+    /// A select of a scalar, a part-select that is not inside the declared range, or a replication of 0 (603).
+    #[error("line {line}: bad select")]
+    BadSelect { line: u32 },
     /// Want of memory (604).
     #[error("no memory")]
     NoMemory,
@@ -18,12 +24,14 @@ pub enum ExprError {
 impl ExprError {
     ghost use Rattle.vp_expr.specs.Faults.{code_of, line_of};
 
-    /// The number of the refusal, 601 or 604.
+    /// The number of the refusal, 601 to 604.
     pub fn code(&self) -> u32
         ensures { result ≡ code_of self.now }
     {
         match self {
             ExprError::TooWide { .. } => 601,
+            ExprError::SignedCompare { .. } => 602,
+            ExprError::BadSelect { .. } => 603,
             ExprError::NoMemory => 604,
         }
     }
@@ -33,7 +41,9 @@ impl ExprError {
         ensures { result ≡ line_of self.now }
     {
         match self {
-            ExprError::TooWide { line } => *line,
+            ExprError::TooWide { line }
+            | ExprError::SignedCompare { line }
+            | ExprError::BadSelect { line } => *line,
             ExprError::NoMemory => 0,
         }
     }

@@ -2,12 +2,26 @@
 #![tactic(auto)]
 
 mod checked;
+mod checks;
+mod evaluation;
 mod fault;
+mod id;
 mod literal;
+mod operand;
+mod operators;
+mod refusing;
+mod resolving;
+mod sizes;
 mod tables;
 mod values;
 
 pub use checked::{Checked, check};
+pub use evaluation::{eval, given_to};
 pub use fault::ExprError;
-pub use tables::{Action, Operand, Process, Tables, eval};
+pub use id::ExprId;
+pub use literal::{based_bits, literal_bits, number_bits};
+pub use operand::{Binary, Comparison, Infix, Logical, Operand, Reduction, Shift, Unary};
+pub use operators::{with_bit_at, with_part_at};
+pub use sizes::signs_of;
+pub use tables::{Action, Process, Tables, Target};
 pub use values::Values;

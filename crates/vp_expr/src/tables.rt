@@ -1,24 +1,49 @@
-ghost use Rattle.std.specs.Prelude.{◌≡◌, length, option_map, IfOk};
+ghost use Rattle.std.specs.Prelude.{◌≡◌, true, false, map, IfOk, IfSome, MatchOption};
 ghost use Rattle.std.specs.List.{filter_map};
 ghost use Rattle.vp_elab.specs.Tree.{below};
-ghost use Rattle.vp_expr.specs.Evaluation.{eval};
-ghost use Rattle.vp_expr.specs.Tables.{action_of, body_at, object_named, operand_of, processes_of, tables_of};
+ghost use Rattle.vp_expr.specs.Arena.{fitting};
+ghost use Rattle.vp_expr.specs.Checks.{IsChecked};
+ghost use Rattle.vp_expr.specs.Tables.{action_of, all_fit, assign_target, assign_value, body_at, named_target, object_named, operands_of, processes_of, selected_target, sized_at, target_width, widths_of};
 
-use crate::literal::literal_bits;
-use crate::values::Values;
+use crate::id::ExprId;
+use crate::operand::Operand;
+use crate::resolving::{lowest_in, object_named, operand_of, part_place};
+use crate::sizes::{fitted, size_at, sizes_of, width_of};
 use std::alloc::{AllocError, Global};
-use vp_bits::Bits;
-use vp_elab::{Design, ObjectId};
+use vp_elab::{Design, ObjectId, range_width};
 use vp_list::Sequence;
-use vp_parse::{Expression, Item, Statement};
+use vp_parse::{Item, Selection, Statement};
 
-/// An expression (clause 5), with an object in place of a name.
-#[derive(Clone, Copy)]
-pub enum Operand {
-    /// The value of an object.
-    Object(ObjectId),
-    /// The value of a literal.
-    Constant(Bits),
+/// What of an object an assignment sets (clause 5.2.1).
+#[derive(Clone, Copy, Debug)]
+pub enum Target {
+    Whole(ObjectId),
+    /// The bit at an index, by the place of that, which sizes itself; `lowest` is the index of the least significant bit.
+    Bit {
+        object: ObjectId,
+        lowest: u32,
+        index: u32,
+    },
+    /// So many bits from a place on; the least significant bit has place 0.
+    Part {
+        object: ObjectId,
+        place: u32,
+        width: u8,
+    },
+}
+
+impl Target {
+    ghost use Rattle.vp_expr.specs.Evaluation.{object_of};
+
+    /// The object of which something is set.
+    pub fn object(self) -> ObjectId
+        ensures { result.0 ≡ object_of self }
+    {
+        match self {
+            Target::Whole(object) | Target::Bit { object, .. } | Target::Part { object, .. } =>
+                object,
+        }
+    }
 }
 
 /// A statement (clause 9), with an object in place of a name. It names its parts by their places in the list of
@@ -29,8 +54,8 @@ pub enum Action {
     Nothing,
     /// The statements of a block, and one more after them.
     Then { list: u32, last: u32 },
-    /// A blocking assignment.
-    Assign { target: ObjectId, value: u32 },
+    /// A blocking assignment of a value, at the greater of its size and the target's width.
+    Assign { target: Target, value: ExprId },
 }
 
 /// A process: its object, and its statement by its place in the list of actions.
@@ -45,41 +70,92 @@ pub struct Process {
 #[derive(Drop)]
 pub struct Tables {
     pub operands: Sequence<Operand>,
+    /// The width of each object, in bits.
+    pub widths: Sequence<u8>,
+    /// The size of each operand, in bits.
+    pub sizes: Sequence<u8>,
     pub actions: Sequence<Action>,
     pub processes: Sequence<Process>,
 }
 
-/// The object of the name at a place.
-fn object_named(design: &Design, place: u32) -> Option<ObjectId>
-    ensures { option_map (λ o. o.0) result ≡ object_named design.now place }
+/// The expression at a place in a context of a size, in bits; none where no vector has that.
+fn sized_at(place: u32, size: u8) -> Option<ExprId>
+    ensures { result ≡ sized_at place size }
 {
-    design.find(Some(ObjectId(0)), design.source().word(place))
+    Some(ExprId::new(place, fitted(u64::from(size))?))
 }
 
-/// An expression as an operand.
-fn operand_of(alloc: Global, design: &Design, expression: Expression) -> Result<Operand, AllocError>
-    ensures { IfOk result (λ operand. operand ≡ operand_of design.now expression) }
+/// What is selected of an object as a target; none where it is a part that no vector can be.
+fn selected_target(design: &Design, object: ObjectId, selection: Selection) -> Option<Target>
+    ensures { result ≡ selected_target design.now object.0 selection }
 {
-    Ok(match expression {
-        Expression::Name(place) => match object_named(design, place) {
-            Some(object) => Operand::Object(object),
-            None => Operand::Constant(Bits::unknown(1)),
-        },
-        Expression::Literal { size, digits, .. } => {
-            Operand::Constant(literal_bits(alloc, size, design.source().word(digits))?)
-        }
-    })
+    match selection {
+        Selection::Whole => Some(Target::Whole(object)),
+        Selection::Bit { index } => Some(Target::Bit {
+            object,
+            lowest: lowest_in(design, object),
+            index,
+        }),
+        Selection::Part(range) => Some(Target::Part {
+            object,
+            place: part_place(design, object, range),
+            width: fitted(u64::from(range_width(range)))?,
+        }),
+    }
+}
+
+/// What is selected of a name as a target; none where there is no such object.
+fn named_target(design: &Design, name: u32, selection: Selection) -> Option<Target>
+    ensures { result ≡ named_target design.now (object_named design.now name) selection }
+{
+    match object_named(design, name) {
+        Some(object) => selected_target(design, object, selection),
+        None => None,
+    }
+}
+
+/// How many bits a target has, by the widths of objects.
+fn target_width(widths: &[u8], target: Target) -> u8
+    ensures { result ≡ target_width widths.now target }
+{
+    match target {
+        Target::Whole(object) => width_of(widths, object),
+        Target::Bit { .. } => 1,
+        Target::Part { width, .. } => width,
+    }
+}
+
+/// An assignment of a value to a target; nothing where there is none.
+fn assign_value(target: Target, value: Option<ExprId>) -> Action
+    ensures { result ≡ assign_value target value }
+{
+    match value {
+        Some(value) => Action::Assign { target, value },
+        None => Action::Nothing,
+    }
+}
+
+/// An assignment of the value at a place to a target, at the greater of the target's width and its own size.
+fn assign_target(widths: &[u8], sizes: &[u8], value: u32, target: Target) -> Action
+    ensures { result ≡ assign_target widths.now sizes.now value target }
+{
+    let size = target_width(widths, target).max(size_at(sizes, value));
+    assign_value(target, sized_at(value, size))
 }
 
 /// A statement as an action.
-fn action_of(design: &Design, statement: Statement) -> Action
-    ensures { result ≡ action_of design.now statement }
+fn action_of(design: &Design, widths: &[u8], sizes: &[u8], statement: Statement) -> Action
+    ensures { result ≡ action_of design.now widths.now sizes.now statement }
 {
     match statement {
         Statement::Empty => Action::Nothing,
         Statement::Then { list, last } => Action::Then { list, last },
-        Statement::Assign { target, value } => match object_named(design, target) {
-            Some(target) => Action::Assign { target, value },
+        Statement::Assign {
+            target,
+            selection,
+            value,
+        } => match named_target(design, target, selection) {
+            Some(target) => assign_target(widths, sizes, value, target),
             None => Action::Nothing,
         },
     }
@@ -95,22 +171,28 @@ fn body_at(items: &[Item], object: u32) -> Option<u32>
     }
 }
 
-fn operands_of(alloc: Global, design: &Design) -> Result<Sequence<Operand>, AllocError>
-    ensures { IfOk result (λ operands. operands ≡ (tables_of design.now).operands) }
+/// The expressions of a design as operands.
+pub fn operands_of(alloc: Global, design: &Design) -> Result<Sequence<Operand>, AllocError>
+    ensures { IfOk result (λ operands. operands ≡ operands_of design.now) }
 {
     let mut operands = Vec::new(alloc);
     for expression in design.source().expressions.as_slice() {
-        operands.push(operand_of(alloc, design, *expression)?)?;
+        operands.push(operand_of(design, *expression))?;
     }
     Ok(Sequence::from_vec(operands))
 }
 
-fn actions_of(alloc: Global, design: &Design) -> Result<Sequence<Action>, AllocError>
-    ensures { IfOk result (λ actions. actions ≡ (tables_of design.now).actions) }
+fn actions_of(
+    alloc: Global,
+    design: &Design,
+    widths: &[u8],
+    sizes: &[u8],
+) -> Result<Sequence<Action>, AllocError>
+    ensures { IfOk result (λ actions. actions ≡ map (action_of design.now widths.now sizes.now) design.now.source.statements) }
 {
     let mut actions = Vec::new(alloc);
     for statement in design.source().statements.as_slice() {
-        actions.push(action_of(design, *statement))?;
+        actions.push(action_of(design, widths, sizes, *statement))?;
     }
     Ok(Sequence::from_vec(actions))
 }
@@ -129,25 +211,43 @@ fn processes_of(alloc: Global, design: &Design) -> Result<Sequence<Process>, All
     Ok(Sequence::from_vec(processes))
 }
 
-/// The tables of a design.
-pub fn tables_of(alloc: Global, design: &Design) -> Result<Tables, AllocError>
-    ensures { IfOk result (λ tables. tables ≡ tables_of design.now) }
+/// The widths of the objects of a design, in bits; none where one is not 1 to 64.
+fn widths_of(alloc: Global, design: &Design) -> Result<Option<Sequence<u8>>, AllocError>
+    ensures { IfOk result (λ widths. widths ≡ fitting (widths_of design.now)) }
 {
-    Ok(Tables {
-        operands: operands_of(alloc, design)?,
-        actions: actions_of(alloc, design)?,
-        processes: processes_of(alloc, design)?,
-    })
+    let mut widths = Vec::new(alloc);
+    for object in design.objects() {
+        let Some(width) = fitted(u64::from(object.width)) else {
+            return Ok(None);
+        };
+        widths.push(width)?;
+    }
+    Ok(Some(Sequence::from_vec(widths)))
 }
 
-/// The value of the expression at a place, from the values of the objects (IEEE Std 1364-2005, 5.2); one unknown bit
-/// behind the end.
-pub fn eval(tables: &Tables, values: &Values, place: u32) -> Bits
-    ensures { result ≡ eval tables.now.operands values.now place }
+/// The tables of a design, with its expressions as operands; none where a width or a size is not 1 to 64.
+#[tactic(auto, unfolding(crate::specs::Tables::tables_of))]
+pub fn tables_of(
+    alloc: Global,
+    design: &Design,
+    operands: Sequence<Operand>,
+) -> Result<Option<Tables>, AllocError>
+    requires { operands ≡ operands_of design.now }
+    ensures tables { IfOk result (λ tables. IfSome tables (λ t. IsChecked design.now t)) }
+    ensures fit { IfOk result (λ tables. MatchOption tables (all_fit design.now ≡ false) (λ t. all_fit design.now ≡ true)) }
 {
-    match tables.operands.as_slice().get(place as usize) {
-        Some(Operand::Object(object)) => values.get(*object),
-        Some(Operand::Constant(bits)) => *bits,
-        None => Bits::unknown(1),
-    }
+    let Some(widths) = widths_of(alloc, design)? else {
+        return Ok(None);
+    };
+    let Some(sizes) = sizes_of(alloc, widths.as_slice(), operands.as_slice())? else {
+        return Ok(None);
+    };
+    let actions = actions_of(alloc, design, widths.as_slice(), sizes.as_slice())?;
+    Ok(Some(Tables {
+        operands,
+        widths,
+        sizes,
+        actions,
+        processes: processes_of(alloc, design)?,
+    }))
 }

@@ -31,8 +31,8 @@ fn start(object: Object) -> Bits
     ensures { result ≡ start_value object.kind object.width (replicate object.width Unknown) }
 {
     match object.kind {
-        Kind::Reg | Kind::Parameter => Bits::unknown(object.width),
-        Kind::Net => Bits::high_impedance(object.width),
+        Kind::Reg | Kind::Parameter => Bits::unknown(object.width as u8),
+        Kind::Net => Bits::high_impedance(object.width as u8),
         Kind::Module | Kind::Always | Kind::Initial | Kind::Assign => Bits::unknown(1),
     }
 }
@@ -44,7 +44,7 @@ impl Values {
         ensures err { IsOkUnless result ExprError.NoMemory }
     {
         let mut values = Vec::new(alloc);
-        for object in checked.design().objects() {
+        for object in checked.objects() {
             values.push(start(*object))?;
         }
         Ok(Values { values })

@@ -4,19 +4,21 @@ use Rattle.std.specs.Prelude.{IfOk}
 use Rattle.vp_lex.specs.declared.token.Token.{Token}
 use Rattle.vp_parse.specs.declared.fault.ParseError.{ParseError}
 use Rattle.vp_parse.specs.declared.fault.ParseError.TheVariants as error
-use Rattle.vp_parse.specs.declared.parsing.Stop as stop
-use Rattle.vp_parse.specs.declared.parsing.Stop.TheVariants as stop_of
+use Rattle.vp_parse_expr.specs.declared.reading.Stop as stop
+use Rattle.vp_parse_expr.specs.declared.reading.Stop.TheVariants as stop_of
 use Rattle.vp_parse.specs.declared.parsing.TheConstants.{DEPTH_LIMIT}
 use Rattle.vp_parse.specs.declared.source.Module as module_of
 use Rattle.vp_parse.specs.declared.source.Source.{Source}
-use Rattle.vp_parse.specs.declared.symbol.Symbol.{Symbol}
+use Rattle.vp_parse_expr.specs.declared.symbol.Symbol.{Symbol}
 use Rattle.vp_parse.specs.Grammar.{Derivation, IsDerivation}
 use Rattle.vp_parse.specs.Layout.{Lists, no_parts, put_source, lists_of, IsSourceOf}
-use Rattle.vp_parse.specs.Reading.{Stop, Unexpected, TooDeep, read}
-use Rattle.vp_parse.specs.Placing.{Fails, modules_into}
+use Rattle.vp_parse_expr.specs.Stopping.{Stop, Unexpected, TooDeep, Fails}
+use Rattle.vp_parse_expr.specs.Placed.{seen}
+use Rattle.vp_parse.specs.Reading.{read}
+use Rattle.vp_parse.specs.Placing.{modules_into}
 use Rattle.vp_parse.specs.Told.{Tells}
 use Rattle.vp_parse.proofs.Laws.{read_derives, refused_has_none}
-use Rattle.vp_parse.proofs.Placed.{seen, source_seen}
+use Rattle.vp_parse.proofs.Placed.{source_seen}
 
 -- a stop of reading derivations
 abbrev stopped : Stop → Result Derivation Stop

@@ -2,12 +2,15 @@
 use Rattle.std.proofs.Common.{◌≡◌, ℕ, zero, suc, ◌+◌, ◌-◌, List, [], ◌∷◌, ◌++◌, Some, None, Result, Ok, Err, refl}
 use Rattle.vp_lex.specs.declared.keyword.Keyword.TheVariants as keyword
 use Rattle.vp_lex.specs.declared.token.Punctuator.TheVariants as punctuator
-use Rattle.vp_parse.specs.declared.symbol.Symbol.{Symbol}
-use Rattle.vp_parse.specs.declared.symbol.SymbolKind.{SymbolKind}
-use Rattle.vp_parse.specs.declared.symbol.SymbolKind.TheVariants as symbol
-use Rattle.vp_parse.specs.Kinds.{symbol_at}
-use Rattle.vp_parse.specs.Grammar.{Name, Literal, Stmt, Assign, Block, Empty, Then, Reg, Initial, Derivation}
-use Rattle.vp_parse.specs.Reading.{Stop, Unexpected, TooDeep, terminal, literal_at, expr_by, expr_at, stmts_at, assign_at, block_at, stmt_by, form_at, stmt_at, further_at, regs_at, initial_at, item_by, item_at, items_at, module_at, only, source_at, read}
+use Rattle.vp_parse_expr.specs.declared.symbol.Symbol.{Symbol}
+use Rattle.vp_parse_expr.specs.declared.symbol.SymbolKind.{SymbolKind}
+use Rattle.vp_parse_expr.specs.declared.symbol.SymbolKind.TheVariants as symbol
+use Rattle.vp_parse_expr.specs.Kinds.{symbol_at}
+use Rattle.vp_parse_expr.specs.Grammar.{Name, Sized, Whole, Part}
+use Rattle.vp_parse_expr.specs.Stopping.{Stop, Unexpected, TooDeep, terminal}
+use Rattle.vp_parse_expr.specs.Reading.{bound_by, bound_at, range_at, sized_at, number_at, bit_at, part_select_at, select_at, name_at, group_at, unary_at, part_at, further_part_at, further_parts_at, parts_at, concatenation_at, replication_at, braces_at, operand_by, operand_at, binary_at, more_at, conditional_at, choice_at, chain_at, expr_at}
+use Rattle.vp_parse.specs.Grammar.{Stmt, Assign, Block, Empty, Then, Reg, Initial, Derivation}
+use Rattle.vp_parse.specs.Reading.{stmts_at, assign_at, block_at, stmt_by, form_at, stmt_at, width_at, further_at, regs_at, initial_at, item_by, item_at, items_at, module_at, only, source_at, read}
 
 -- ---- symbols
 
@@ -41,12 +44,21 @@ equals = symbol.Punctuator punctuator.Equals
 abbrev comma : SymbolKind
 comma = symbol.Punctuator punctuator.Comma
 
+abbrev left : SymbolKind
+left = symbol.Punctuator punctuator.LeftBracket
+
+abbrev right : SymbolKind
+right = symbol.Punctuator punctuator.RightBracket
+
+abbrev colon : SymbolKind
+colon = symbol.Punctuator punctuator.Colon
+
 abbrev semicolon : SymbolKind
 semicolon = symbol.Punctuator punctuator.Semicolon
 
 -- what is read from symbols of these kinds, placed from 0 on
 unfoldable read_kinds : List SymbolKind → Result Derivation Stop
-unfolding terminal literal_at expr_by expr_at stmts_at assign_at block_at stmt_by form_at stmt_at further_at regs_at initial_at item_by item_at items_at module_at only source_at
+unfolding terminal bound_by bound_at range_at sized_at number_at bit_at part_select_at select_at name_at group_at unary_at part_at further_part_at further_parts_at parts_at concatenation_at replication_at braces_at operand_by operand_at binary_at more_at conditional_at choice_at chain_at expr_at width_at stmts_at assign_at block_at stmt_by form_at stmt_at further_at regs_at initial_at item_by item_at items_at module_at only source_at
 read_kinds kinds = read (placed 0 kinds)
 
 -- so many kinds of one sort
@@ -76,7 +88,7 @@ row_items : read_kinds (head ++ reg ∷ symbol.Name ∷ comma ∷ symbol.Name �
       keyword = 0;
       name = 1;
       semicolon = 2;
-      items = Reg 3 4 (record { comma = 5; name = 6 } ∷ []) 7 ∷ Initial 8 (Block 9 (Then (Assign 10 11 (Literal 12 1 13) 14) Empty) 15) ∷ [];
+      items = Reg 3 None 4 (record { comma = 5; name = 6 } ∷ []) 7 ∷ Initial 8 (Block 9 (Then (Assign 10 Whole 11 (Sized 12 1 symbol.Base 13) 14) Empty) 15) ∷ [];
       endmodule = 16;
     }))
 unfolding read_kinds
@@ -84,13 +96,13 @@ row_items = refl
 
 -- module m; initial a = b; endmodule
 row_name : read_kinds (head ++ initial ∷ symbol.Name ∷ equals ∷ symbol.Name ∷ semicolon ∷ endmodule ∷ [])
-    ≡ Ok (Some (record { keyword = 0; name = 1; semicolon = 2; items = Initial 3 (Assign 4 5 (Name 6) 7) ∷ []; endmodule = 8 }))
+    ≡ Ok (Some (record { keyword = 0; name = 1; semicolon = 2; items = Initial 3 (Assign 4 Whole 5 (Name 6 Whole) 7) ∷ []; endmodule = 8 }))
 unfolding read_kinds
 row_name = refl
 
 -- so many blocks within each other, from the place of the outermost begin to that of its end
 abbrev blocks : (n first last : ℕ) → Stmt
-blocks zero first last = Assign first (first + 1) (Name (first + 2)) (first + 3)
+blocks zero first last = Assign first Whole (first + 1) (Name (first + 2) Whole) (first + 3)
 blocks (suc n) first last = Block first (Then (blocks n (first + 1) (last - 1)) Empty) last
 
 -- 63 blocks: the statement within them has depth 64
@@ -98,12 +110,22 @@ row_deep : read_kinds (nested 63) ≡ Ok (Some (record { keyword = 0; name = 1; 
 unfolding read_kinds
 row_deep = refl
 
--- ---- what is refused, with the number of symbols left
-
--- module m; initial a = 1; endmodule
-row_unsized : read_kinds (head ++ initial ∷ symbol.Name ∷ equals ∷ symbol.Number 1 ∷ semicolon ∷ endmodule ∷ []) ≡ Err (Unexpected 3)
+-- module m; reg [7:0] a; initial a[3:0] = b; endmodule
+row_range : read_kinds (head ++ reg ∷ left ∷ symbol.Number 7 ∷ colon ∷ symbol.Number 0 ∷ right ∷ symbol.Name ∷ semicolon ∷ initial ∷ symbol.Name ∷ left ∷ symbol.Number 3 ∷ colon ∷ symbol.Number 0 ∷ right ∷ equals ∷ symbol.Name ∷ semicolon ∷ endmodule ∷ [])
+    ≡ Ok (Some (record {
+      keyword = 0;
+      name = 1;
+      semicolon = 2;
+      items =
+          Reg 3 (Some (record { opening = 4; msb_place = 5; msb = 7; colon = 6; lsb_place = 7; lsb = 0; closing = 8 })) 9 [] 10
+          ∷ Initial 11 (Assign 12 (Part (record { opening = 13; msb_place = 14; msb = 3; colon = 15; lsb_place = 16; lsb = 0; closing = 17 })) 18 (Name 19 Whole) 20)
+          ∷ [];
+      endmodule = 21;
+    }))
 unfolding read_kinds
-row_unsized = refl
+row_range = refl
+
+-- ---- what is refused, with the number of symbols left
 
 -- module m; initial a = 'b1; endmodule
 row_no_size : read_kinds (head ++ initial ∷ symbol.Name ∷ equals ∷ symbol.Base ∷ semicolon ∷ endmodule ∷ []) ≡ Err (Unexpected 3)

@@ -1,15 +1,15 @@
 -- What the grammar sees of tokens, the lists of a source, and where an error is told, computed on examples.
-use Rattle.std.proofs.Common.{◌≡◌, List, [], ◌∷◌, Some, refl}
-use Rattle.vp_parse.specs.declared.source.Expression.TheVariants as expression_of
+use Rattle.std.proofs.Common.{◌≡◌, List, [], ◌∷◌, Some, None, refl}
+use Rattle.vp_parse_expr.specs.declared.node.Expression.TheVariants as expression_of
+use Rattle.vp_parse_expr.specs.declared.node.Selection.TheVariants as selection_of
 use Rattle.vp_parse.specs.declared.source.Statement.TheVariants as statement_of
 use Rattle.vp_parse.specs.declared.source.Item.TheVariants as item_of
-use Rattle.std.specs.Prelude.{codes}
-use Rattle.vp_parse.specs.Grammar.{Name, Literal, Assign, Block, Empty, Then, Reg, Initial, Derivation}
-use Rattle.vp_parse.specs.Symbols.{decimal_value}
+use Rattle.vp_parse_expr.specs.Grammar.{Name, Sized, Whole}
+use Rattle.vp_parse.specs.Grammar.{Assign, Block, Empty, Then, Reg, Initial, Derivation}
 use Rattle.vp_parse.specs.Layout.{put_source}
-use Rattle.vp_parse.specs.declared.symbol.Symbol.{Symbol}
-use Rattle.vp_parse.specs.declared.symbol.SymbolKind.TheVariants as symbol
-use Rattle.vp_parse.specs.Kinds.{symbol_at}
+use Rattle.vp_parse_expr.specs.declared.symbol.Symbol.{Symbol}
+use Rattle.vp_parse_expr.specs.declared.symbol.SymbolKind.TheVariants as symbol
+use Rattle.vp_parse_expr.specs.Kinds.{symbol_at}
 use Rattle.vp_parse.specs.Told.{place_told}
 
 -- the derivation of `module t ; reg a , b ; initial begin a = 1 'b1 ; begin end b = a ; end endmodule`
@@ -20,9 +20,9 @@ example = Some (
       name = 1;
       semicolon = 2;
       items =
-          Reg 3 4 (record { comma = 5; name = 6 } ∷ []) 7
-          ∷ Initial 8 (Block 9 (Then (Assign 10 11 (Literal 12 1 13) 14)
-          (Then (Block 15 Empty 16) (Then (Assign 17 18 (Name 19) 20) Empty))) 21)
+          Reg 3 None 4 (record { comma = 5; name = 6 } ∷ []) 7
+          ∷ Initial 8 (Block 9 (Then (Assign 10 Whole 11 (Sized 12 1 symbol.Base 13) 14)
+          (Then (Block 15 Empty 16) (Then (Assign 17 Whole 18 (Name 19 Whole) 20) Empty))) 21)
           ∷ [];
       endmodule = 22;
     }
@@ -32,22 +32,15 @@ example = Some (
 lists_of_example : put_source example ≡ (
   record { name = 1; first = 0; end = 3 } ∷ [],
   record {
-    items = item_of.Reg 4 ∷ item_of.Reg 6 ∷ item_of.Initial 8 6 ∷ [];
+    items = item_of.Reg 4 None ∷ item_of.Reg 6 None ∷ item_of.Initial 8 6 ∷ [];
     statements =
-        statement_of.Empty ∷ statement_of.Assign 10 0 ∷ statement_of.Then 0 1
+        statement_of.Empty ∷ statement_of.Assign 10 selection_of.Whole 0 ∷ statement_of.Then 0 1
         ∷ statement_of.Empty ∷ statement_of.Then 2 3
-        ∷ statement_of.Assign 17 1 ∷ statement_of.Then 4 5 ∷ [];
-    expressions = expression_of.Literal 12 1 13 ∷ expression_of.Name 19 ∷ [];
+        ∷ statement_of.Assign 17 selection_of.Whole 1 ∷ statement_of.Then 4 5 ∷ [];
+    expressions = expression_of.Literal 12 1 13 ∷ expression_of.Name 19 selection_of.Whole ∷ [];
   },
 )
 lists_of_example = refl
-
--- an underscore counts for nothing, and no number is told above the limit
-digits : decimal_value (codes "6_5_535") ≡ 65535
-digits = refl
-
-great_digits : decimal_value (codes "9999999999") ≡ 2147483648
-great_digits = refl
 
 -- ---- where an error is told
 

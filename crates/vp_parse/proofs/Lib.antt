@@ -7,6 +7,4 @@ pub mod Within
 pub mod LayoutRows
 pub mod Loops
 pub mod Placed
-pub mod Seen
 pub mod Found
-pub mod SameKinds

@@ -1,16 +1,18 @@
 -- The loops of the reading into lists, one turn at a time, and one more level of depth.
-use Rattle.std.proofs.Common.{◌≡◌, ℕ, zero, suc, ◌-◌, ◌≤◌, ◌<◌, List, [], ◌∷◌, ◌++◌, length, Bool, true, false, Result, Ok, Err, refl, sym, ap, ◌∙◌, arith}
+use Rattle.std.proofs.Common.{◌≡◌, ℕ, zero, suc, ◌-◌, ◌≤◌, ◌<◌, List, [], ◌∷◌, ◌++◌, length, Bool, true, false, Option, Result, Ok, Err, refl, sym, ap, ◌∙◌, arith}
 use Rattle.vp_lex.specs.declared.keyword.Keyword.TheVariants as keyword
 use Rattle.vp_lex.specs.declared.token.Punctuator.TheVariants as punctuator
-use Rattle.vp_parse.specs.declared.parsing.Stop as stop
-use Rattle.vp_parse.specs.declared.parsing.Stop.TheVariants as stop_of
+use Rattle.vp_parse_expr.specs.declared.reading.Stop as stop
+use Rattle.vp_parse_expr.specs.declared.reading.Stop.TheVariants as stop_of
 use Rattle.vp_parse.specs.declared.source.Statement.TheVariants as statement_of
-use Rattle.vp_parse.specs.declared.symbol.Symbol.{Symbol}
-use Rattle.vp_parse.specs.declared.symbol.SymbolKind.{SymbolKind}
-use Rattle.vp_parse.specs.declared.symbol.SymbolKind.TheVariants as symbol
+use Rattle.vp_parse_expr.specs.declared.symbol.Symbol.{Symbol}
+use Rattle.vp_parse_expr.specs.declared.symbol.SymbolKind.{SymbolKind}
+use Rattle.vp_parse_expr.specs.declared.symbol.SymbolKind.TheVariants as symbol
 use Rattle.vp_parse.specs.Layout.{Lists}
-use Rattle.vp_parse.specs.Reading.{Stop, TooDeep, is_next, goes_on}
-use Rattle.vp_parse.specs.Placing.{Fails, Made, Placer, Kept, behind, chain_into, stmts_into, form_into, stmt_into, reg_into, further_into, item_into, items_into}
+use Rattle.vp_parse.specs.declared.source.DeclaredRange.{DeclaredRange}
+use Rattle.vp_parse_expr.specs.Stopping.{Stop, TooDeep, is_next, behind, Fails}
+use Rattle.vp_parse.specs.Reading.{goes_on}
+use Rattle.vp_parse.specs.Placing.{Made, Placer, Kept, chain_into, stmts_into, form_into, stmt_into, reg_into, further_into, item_into, items_into}
 
 -- ---- the statements of a block
 
@@ -65,23 +67,23 @@ unfolding stmts_into
 chain_starts next lists ts = record { turns = length ts; enough = omega arith; same_end = refl }
 
 -- a statement within one more level of depth
-pub stmt_step : (d : ℕ) (lists : Lists) (ts : List Symbol) → (d ≡ 0 → ⊥) → stmt_into d lists ts ≡ form_into (stmt_into (d - 1)) lists ts
+pub stmt_step : (limit d : ℕ) (lists : Lists) (ts : List Symbol) → (d ≡ 0 → ⊥) → stmt_into limit d lists ts ≡ form_into limit (stmt_into limit (d - 1)) lists ts
 unfolding stmt_into
-stmt_step zero lists ts h = absurd (h refl)
-stmt_step (suc d) lists ts h = let e : d ≡ suc d - 1 = omega arith in ap (λ k. form_into (stmt_into k) lists ts) e
+stmt_step limit zero lists ts h = absurd (h refl)
+stmt_step limit (suc d) lists ts h = let e : d ≡ suc d - 1 = omega arith in ap (λ k. form_into limit (stmt_into limit k) lists ts) e
 
-pub stmt_none : (d : ℕ) (lists : Lists) (ts : List Symbol) → d ≡ 0 → stmt_into d lists ts ≡ Err (TooDeep (length ts))
+pub stmt_none : (limit d : ℕ) (lists : Lists) (ts : List Symbol) → d ≡ 0 → stmt_into limit d lists ts ≡ Err (TooDeep (length ts))
 unfolding stmt_into
-stmt_none zero lists ts h = refl
-stmt_none (suc d) lists ts h = absurd (omega arith)
+stmt_none limit zero lists ts h = refl
+stmt_none limit (suc d) lists ts h = absurd (omega arith)
 
 -- ---- the further names of a declaration
 
 -- what is left of a declaration, with enough turns, gives the whole
-pub record FurtherGoesOn (lists : Lists) (rest : List Symbol) (whole : Result Kept Stop) : Type 0 where
+pub record FurtherGoesOn (range : Option DeclaredRange) (lists : Lists) (rest : List Symbol) (whole : Result Kept Stop) : Type 0 where
   pub turns : ℕ
   pub enough : length rest ≤ turns
-  pub same_end : further_into turns lists rest ≡ whole
+  pub same_end : further_into range turns lists rest ≡ whole
 
 -- a comma is next
 abbrev comma : List Symbol → Bool
@@ -95,47 +97,47 @@ is_next_longer : (kind : SymbolKind) (rest : List Symbol) → is_next kind rest 
 is_next_longer kind [] h = absurd cc
 is_next_longer kind (s ∷ ts) h = omega arith
 
-module _ (lists : Lists) (rest : List Symbol) (whole : Result Kept Stop) where
-  further_turn_by : (after : List Symbol) (e : Kept) (m : ℕ) → comma rest ≡ true → behind_comma rest ≡ Ok after → reg_into lists after ≡ Ok e → length e.1 < length rest → length rest ≤ m → further_into m lists rest ≡ whole → FurtherGoesOn e.0 e.1 whole
+module _ (range : Option DeclaredRange) (lists : Lists) (rest : List Symbol) (whole : Result Kept Stop) where
+  further_turn_by : (after : List Symbol) (e : Kept) (m : ℕ) → comma rest ≡ true → behind_comma rest ≡ Ok after → reg_into range lists after ≡ Ok e → length e.1 < length rest → length rest ≤ m → further_into range m lists rest ≡ whole → FurtherGoesOn range e.0 e.1 whole
   unfolding further_into
   further_turn_by after e zero b h k lt le p = absurd (omega arith)
   further_turn_by after e (suc m) b h k lt le p = record { turns = m; enough = omega arith; same_end = sym (rw (b, h) (rw k refl)) ∙ p }
 
   -- one more name
-  pub further_turn : (after : List Symbol) (e : Kept) → comma rest ≡ true → behind_comma rest ≡ Ok after → reg_into lists after ≡ Ok e → length e.1 < length rest → FurtherGoesOn lists rest whole → FurtherGoesOn e.0 e.1 whole
+  pub further_turn : (after : List Symbol) (e : Kept) → comma rest ≡ true → behind_comma rest ≡ Ok after → reg_into range lists after ≡ Ok e → length e.1 < length rest → FurtherGoesOn range lists rest whole → FurtherGoesOn range e.0 e.1 whole
   further_turn after e b h k lt g = further_turn_by after e g.turns b h k lt g.enough g.same_end
 
-  no_comma_by : (s : Stop) (m : ℕ) → comma rest ≡ true → behind_comma rest ≡ Err s → length rest ≤ m → further_into m lists rest ≡ whole → whole ≡ Err s
+  no_comma_by : (s : Stop) (m : ℕ) → comma rest ≡ true → behind_comma rest ≡ Err s → length rest ≤ m → further_into range m lists rest ≡ whole → whole ≡ Err s
   unfolding further_into
   no_comma_by s zero b h le p = let lt = is_next_longer (symbol.Punctuator punctuator.Comma) rest b in absurd (omega arith)
   no_comma_by s (suc m) b h le p = sym p ∙ rw (b, h) refl
 
   -- no comma follows
-  pub no_comma : (e : stop.Stop) → comma rest ≡ true → Fails e (behind_comma rest) → FurtherGoesOn lists rest whole → Fails e whole
+  pub no_comma : (e : stop.Stop) → comma rest ≡ true → Fails e (behind_comma rest) → FurtherGoesOn range lists rest whole → Fails e whole
   no_comma (stop_of.Syntax n) b h g = no_comma_by _ g.turns b h g.enough g.same_end
   no_comma (stop_of.LeftOut n) b h g = no_comma_by _ g.turns b h g.enough g.same_end
   no_comma (stop_of.TooDeep n) b h g = no_comma_by _ g.turns b h g.enough g.same_end
   no_comma stop_of.NoMemory b h g = tt
 
-  no_name_by : (after : List Symbol) (s : Stop) (m : ℕ) → comma rest ≡ true → behind_comma rest ≡ Ok after → reg_into lists after ≡ Err s → length rest ≤ m → further_into m lists rest ≡ whole → whole ≡ Err s
+  no_name_by : (after : List Symbol) (s : Stop) (m : ℕ) → comma rest ≡ true → behind_comma rest ≡ Ok after → reg_into range lists after ≡ Err s → length rest ≤ m → further_into range m lists rest ≡ whole → whole ≡ Err s
   unfolding further_into
   no_name_by after s zero b h k le p = let lt = is_next_longer (symbol.Punctuator punctuator.Comma) rest b in absurd (omega arith)
   no_name_by after s (suc m) b h k le p = sym p ∙ rw (b, h) (rw k refl)
 
   -- no name follows the comma
-  pub no_name : (after : List Symbol) (e : stop.Stop) → comma rest ≡ true → behind_comma rest ≡ Ok after → Fails e (reg_into lists after) → FurtherGoesOn lists rest whole → Fails e whole
+  pub no_name : (after : List Symbol) (e : stop.Stop) → comma rest ≡ true → behind_comma rest ≡ Ok after → Fails e (reg_into range lists after) → FurtherGoesOn range lists rest whole → Fails e whole
   no_name after (stop_of.Syntax n) b h k g = no_name_by after _ g.turns b h k g.enough g.same_end
   no_name after (stop_of.LeftOut n) b h k g = no_name_by after _ g.turns b h k g.enough g.same_end
   no_name after (stop_of.TooDeep n) b h k g = no_name_by after _ g.turns b h k g.enough g.same_end
   no_name after stop_of.NoMemory b h k g = tt
 
-  further_done_by : (m : ℕ) → comma rest ≡ false → further_into m lists rest ≡ whole → whole ≡ Ok (lists, rest)
+  further_done_by : (m : ℕ) → comma rest ≡ false → further_into range m lists rest ≡ whole → whole ≡ Ok (lists, rest)
   unfolding further_into
   further_done_by zero b p = sym p
   further_done_by (suc m) b p = sym p ∙ rw b refl
 
   -- no more names
-  pub further_done : comma rest ≡ false → FurtherGoesOn lists rest whole → whole ≡ Ok (lists, rest)
+  pub further_done : comma rest ≡ false → FurtherGoesOn range lists rest whole → whole ≡ Ok (lists, rest)
   further_done b g = further_done_by g.turns b g.same_end
 
 -- ---- the items of a module

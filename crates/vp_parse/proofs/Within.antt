@@ -1,58 +1,24 @@
 -- Reading leaves no more symbols than there are, also where it stops.
-use Rattle.std.proofs.Common.{ℕ, zero, suc, ◌≤◌, List, [], ◌∷◌, length, Bool, true, false, cond, eqb, Some, Result, Ok, Err, arith}
+use Rattle.std.proofs.Common.{ℕ, zero, suc, ◌-◌, ◌≤◌, List, [], ◌∷◌, length, Bool, true, false, cond, eqb, Some, Result, Ok, Err, arith}
 use Rattle.vp_lex.specs.declared.keyword.Keyword.TheVariants as keyword
 use Rattle.vp_lex.specs.declared.token.Punctuator.TheVariants as punctuator
-use Rattle.vp_parse.specs.declared.symbol.Symbol.{Symbol}
-use Rattle.vp_parse.specs.declared.symbol.SymbolKind.{SymbolKind}
-use Rattle.vp_parse.specs.declared.symbol.SymbolKind.TheVariants as symbol
-use Rattle.vp_parse.specs.Kinds.{same_kind}
+use Rattle.vp_parse_expr.specs.declared.symbol.Symbol.{Symbol}
+use Rattle.vp_parse_expr.specs.declared.symbol.SymbolKind.{SymbolKind}
+use Rattle.vp_parse_expr.specs.declared.symbol.SymbolKind.TheVariants as symbol
+use Rattle.vp_parse_expr.specs.Stopping.{Stop, Unexpected, ◌>>=◌, Reader, left_of, is_next, terminal}
+use Rattle.vp_parse_expr.specs.Reading.{expr_at, selection_at, range_at}
+use Rattle.vp_parse_expr.specs.Within.{Within, IsWithin, Within-bind, Within-if, Within-terminal, terminal_within, expr_behind, selection_within, range_within}
 use Rattle.vp_parse.specs.Grammar.{Stmt, Module, Derivation}
-use Rattle.vp_parse.specs.Reading.{Stop, Unexpected, ◌>>=◌, Reader, left_of, is_next, terminal, is_sized, literal_at, expr_by, expr_at, goes_on, stmts_at, assign_at, block_at, stmt_by, form_at, stmt_at, further_at, regs_at, initial_at, item_by, item_at, items_at, module_at, only, source_at}
+use Rattle.vp_parse.specs.Reading.{goes_on, stmts_at, assign_at, block_at, stmt_by, form_at, stmt_at, width_at, further_at, regs_at, initial_at, item_by, item_at, items_at, module_at, only, source_at}
 
--- at most so many symbols are left
-abbrev pub Within : {A : Type 0} → ℕ → Result (A × List Symbol) Stop → Type 0
-Within n (Ok x) = length x.1 ≤ n
-Within n (Err s) = left_of s ≤ n
-
-abbrev pub IsWithin : {A : Type 0} → Reader A → Type 0
-IsWithin r = (n : ℕ) (ts : List Symbol) → length ts ≤ n → Within n (r ts)
-
-Within-bind : {A B : Type 0} (n : ℕ) (r : Result (A × List Symbol) Stop) (f : A × List Symbol → Result (B × List Symbol) Stop) → Within n r → ((x : A × List Symbol) → length x.1 ≤ n → Within n (f x)) → Within n (r >>= f)
-Within-bind n (Ok x) f h k = k x h
-Within-bind n (Err s) f h k = h
-
-Within-if : {A : Type 0} (n : ℕ) (b : Bool) (x y : Result (A × List Symbol) Stop) → Within n x → Within n y → Within n (cond b x y)
-Within-if n true x y h k = h
-Within-if n false x y h k = k
-
-terminal_within : (kind : SymbolKind) → IsWithin (terminal kind)
-unfolding terminal
-terminal_within kind n [] le = le
-terminal_within kind n (s ∷ ts) le = Within-if {A = ℕ} n (same_kind kind s.kind) (Ok (s.place, ts)) (Err (Unexpected (suc (length ts)))) (omega arith) le
-
-literal_within : (size place n : ℕ) (ts : List Symbol) → suc (length ts) ≤ n → Within n (literal_at size place ts)
-unfolding literal_at
-literal_within size place n [] le = omega arith
-literal_within size place n (s ∷ ts) le = Within-if n (is_sized size s.kind) _ _ (omega arith) (omega arith)
-
-expr_by_within : (kind : SymbolKind) (place n : ℕ) (ts : List Symbol) → suc (length ts) ≤ n → Within n (expr_by kind place ts)
-unfolding expr_by
-expr_by_within symbol.Name place n ts le = omega arith
-expr_by_within (symbol.Number size) place n ts le = literal_within size place n ts le
-expr_by_within _ place n ts le = omega arith
-
-expr_within : IsWithin expr_at
-unfolding expr_at
-expr_within n [] le = le
-expr_within n (s ∷ ts) le = expr_by_within s.kind s.place n ts le
-
-assign_within : (target : ℕ) → IsWithin (assign_at target)
+assign_within : (limit target : ℕ) → IsWithin (assign_at limit target)
 unfolding assign_at
-assign_within target n ts le =
-    Within-bind n (terminal (symbol.Punctuator punctuator.Equals) ts) _ (terminal_within (symbol.Punctuator punctuator.Equals) n ts le)
-    (λ q le. Within-bind n (expr_at q.1) _ (expr_within n q.1 le)
+assign_within limit target n ts le =
+    Within-bind n (selection_at (limit - 1) ts) _ (selection_within (limit - 1) n ts le)
+    (λ b le. Within-terminal n (symbol.Punctuator punctuator.Equals) b.1 _ le
+    (λ q le. Within-bind n (expr_at limit 0 q.1) _ (expr_behind limit 0 n q.1 le)
     (λ v le. Within-bind n (terminal (symbol.Punctuator punctuator.Semicolon) v.1) _ (terminal_within (symbol.Punctuator punctuator.Semicolon) n v.1 le)
-    (λ s le. le)))
+    (λ s le. le))))
 
 further_within : (m : ℕ) → IsWithin (further_at m)
 unfolding further_at
@@ -65,13 +31,21 @@ further_within (suc m) n ts le =
     (λ l le. le))))
     le
 
+width_within : IsWithin width_at
+unfolding width_at
+width_within n ts le =
+    Within-if n (is_next (symbol.Punctuator punctuator.LeftBracket) ts) _ _
+    (Within-bind n (range_at ts) _ (range_within n ts le) (λ r le. le))
+    le
+
 regs_within : (place : ℕ) → IsWithin (regs_at place)
 unfolding regs_at
 regs_within place n ts le =
-    Within-bind n (terminal symbol.Name ts) _ (terminal_within symbol.Name n ts le)
+    Within-bind n (width_at ts) _ (width_within n ts le)
+    (λ w le. Within-bind n (terminal symbol.Name w.1) _ (terminal_within symbol.Name n w.1 le)
     (λ f le. Within-bind n (further_at (length f.1) f.1) _ (further_within (length f.1) n f.1 le)
     (λ l le. Within-bind n (terminal (symbol.Punctuator punctuator.Semicolon) l.1) _ (terminal_within (symbol.Punctuator punctuator.Semicolon) n l.1 le)
-    (λ s le. le)))
+    (λ s le. le))))
 
 module _ (next : Reader Stmt) (within : IsWithin next) where
   stmts_within : (m : ℕ) → IsWithin (stmts_at next m)
@@ -89,16 +63,16 @@ module _ (next : Reader Stmt) (within : IsWithin next) where
       (λ l le. Within-bind n (terminal (symbol.Keyword keyword.End) l.1) _ (terminal_within (symbol.Keyword keyword.End) n l.1 le)
       (λ s le. le))
 
-  stmt_by_within : (kind : SymbolKind) (place n : ℕ) (ts : List Symbol) → suc (length ts) ≤ n → Within n (stmt_by next kind place ts)
+  stmt_by_within : (limit : ℕ) (kind : SymbolKind) (place n : ℕ) (ts : List Symbol) → suc (length ts) ≤ n → Within n (stmt_by limit next kind place ts)
   unfolding stmt_by
-  stmt_by_within symbol.Name place n ts le = assign_within place n ts (omega arith)
-  stmt_by_within (symbol.Keyword keyword.Begin) place n ts le = block_within place n ts (omega arith)
-  stmt_by_within _ place n ts le = omega arith
+  stmt_by_within limit symbol.Name place n ts le = assign_within limit place n ts (omega arith)
+  stmt_by_within limit (symbol.Keyword keyword.Begin) place n ts le = block_within place n ts (omega arith)
+  stmt_by_within limit _ place n ts le = omega arith
 
-  form_within : IsWithin (form_at next)
+  form_within : (limit : ℕ) → IsWithin (form_at limit next)
   unfolding form_at
-  form_within n [] le = le
-  form_within n (s ∷ ts) le = stmt_by_within s.kind s.place n ts le
+  form_within limit n [] le = le
+  form_within limit n (s ∷ ts) le = stmt_by_within limit s.kind s.place n ts le
 
   initial_within : (place : ℕ) → IsWithin (initial_at next place)
   unfolding initial_at
@@ -122,10 +96,10 @@ module _ (next : Reader Stmt) (within : IsWithin next) where
       Within-if n (is_next (symbol.Keyword keyword.Endmodule) ts) _ _ le
       (Within-bind n (item_at next ts) _ (item_within n ts le) (λ i le. Within-bind n (items_at next m i.1) _ (items_within m n i.1 le) (λ l le. le)))
 
-stmt_within : (d : ℕ) → IsWithin (stmt_at d)
+stmt_within : (limit d : ℕ) → IsWithin (stmt_at limit d)
 unfolding stmt_at
-stmt_within zero n ts le = le
-stmt_within (suc d) n ts le = form_within (stmt_at d) (stmt_within d) n ts le
+stmt_within limit zero n ts le = le
+stmt_within limit (suc d) n ts le = form_within (stmt_at limit d) (stmt_within limit d) limit n ts le
 
 module_within : (limit : ℕ) → IsWithin (module_at limit)
 unfolding module_at
@@ -133,7 +107,7 @@ module_within limit n ts le =
     Within-bind n (terminal (symbol.Keyword keyword.Module) ts) _ (terminal_within (symbol.Keyword keyword.Module) n ts le)
     (λ k le. Within-bind n (terminal symbol.Name k.1) _ (terminal_within symbol.Name n k.1 le)
     (λ m le. Within-bind n (terminal (symbol.Punctuator punctuator.Semicolon) m.1) _ (terminal_within (symbol.Punctuator punctuator.Semicolon) n m.1 le)
-    (λ s le. Within-bind n (items_at (stmt_at limit) (length s.1) s.1) _ (items_within (stmt_at limit) (stmt_within limit) (length s.1) n s.1 le)
+    (λ s le. Within-bind n (items_at (stmt_at limit limit) (length s.1) s.1) _ (items_within (stmt_at limit limit) (stmt_within limit limit) (length s.1) n s.1 le)
     (λ l le. Within-bind n (terminal (symbol.Keyword keyword.Endmodule) l.1) _ (terminal_within (symbol.Keyword keyword.Endmodule) n l.1 le)
     (λ z le. le)))))
 

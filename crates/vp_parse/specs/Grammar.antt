@@ -1,35 +1,19 @@
 -- The grammar: derivations, and the symbols that each spells. A derivation holds the places of its terminals.
-use Rattle.std.specs.Prelude.{◌≡◌, ℕ, ◌+◌, ◌≤◌, max, List, [], ◌∷◌, Option, Some, None}
+use Rattle.std.specs.Prelude.{◌≡◌, ℕ, ◌+◌, ◌≤◌, max, List, [], ◌∷◌, Option, Some, None, IfSome}
 use Rattle.vp_lex.specs.declared.keyword.Keyword.TheVariants as keyword
 use Rattle.vp_lex.specs.declared.token.Punctuator.TheVariants as punctuator
 use Rattle.vp_parse.specs.declared.parsing.TheConstants.{DEPTH_LIMIT}
-use Rattle.vp_parse.specs.declared.symbol.Symbol.{Symbol}
-use Rattle.vp_parse.specs.declared.symbol.SymbolKind.TheVariants as symbol
-use Rattle.vp_parse.specs.Kinds.{symbol_at}
-
--- ---- expressions
-
--- an expression: a name, or a sized number by its size, the place of its size and that of its base and digits (3.5.1)
-pub data Expr : Type 0 where
-  Name : (place : ℕ) → Expr
-  Literal : (place size digits : ℕ) → Expr
-
--- an expression's symbols, and then these (3.5.1)
-abbrev pub expr_text : Expr → List Symbol → List Symbol
-expr_text (Name place) rest = symbol_at symbol.Name place ∷ rest
-expr_text (Literal place size digits) rest = symbol_at (symbol.Number size) place ∷ symbol_at symbol.Base digits ∷ rest
-
--- a size is at least 1 bit (3.5.1), and at most 65,535 bits (profile)
-abbrev pub IsExpr : Expr → Type 0
-IsExpr (Name place) = Unit {0}
-IsExpr (Literal place size digits) = (1 ≤ size) × (size ≤ 65535)
+use Rattle.vp_parse_expr.specs.declared.symbol.Symbol.{Symbol}
+use Rattle.vp_parse_expr.specs.declared.symbol.SymbolKind.TheVariants as symbol
+use Rattle.vp_parse_expr.specs.Kinds.{symbol_at}
+use Rattle.vp_parse_expr.specs.Grammar.{Expr, Selection, Range, expr_text, selection_text, range_text, expr_depth, selection_depth, IsExpr, IsSelection, IsRange}
 
 -- ---- statements
 
 mutual
-  -- a statement: a blocking assignment to a name (9.2.1), or a sequential block (9.8.1)
+  -- a statement: a blocking assignment to a name, or to a bit or a part of it (9.2.1), or a sequential block (9.8.1)
   pub data Stmt : Type 0 where
-    Assign : (target equals : ℕ) → Expr → (semicolon : ℕ) → Stmt
+    Assign : (target : ℕ) → Selection → (equals : ℕ) → Expr → (semicolon : ℕ) → Stmt
     Block : (begin : ℕ) → Stmts → (end : ℕ) → Stmt
 
   -- the statements of a block, in order (9.8.1)
@@ -40,9 +24,10 @@ mutual
 abbrev mutual
   -- a statement's symbols, and then these (9.2.1, 9.8.1)
   pub stmt_text : Stmt → List Symbol → List Symbol
-  stmt_text (Assign target equals value semicolon) rest =
-      symbol_at symbol.Name target ∷ symbol_at (symbol.Punctuator punctuator.Equals) equals
-      ∷ expr_text value (symbol_at (symbol.Punctuator punctuator.Semicolon) semicolon ∷ rest)
+  stmt_text (Assign target selection equals value semicolon) rest =
+      symbol_at symbol.Name target
+      ∷ selection_text selection (symbol_at (symbol.Punctuator punctuator.Equals) equals
+      ∷ expr_text value (symbol_at (symbol.Punctuator punctuator.Semicolon) semicolon ∷ rest))
   stmt_text (Block begin body end) rest =
       symbol_at (symbol.Keyword keyword.Begin) begin ∷ stmts_text body (symbol_at (symbol.Keyword keyword.End) end ∷ rest)
 
@@ -52,12 +37,12 @@ abbrev mutual
   stmts_text (Then s l) rest = stmt_text s (stmts_text l rest)
 
 abbrev mutual
-  -- each size in a statement has 1 to 65,535 bits (3.5.1, profile)
+  -- each expression in a statement is one (5)
   pub IsStmt : Stmt → Type 0
-  IsStmt (Assign target equals value semicolon) = IsExpr value
+  IsStmt (Assign target selection equals value semicolon) = IsSelection selection × IsExpr value
   IsStmt (Block begin body end) = AreStmts body
 
-  -- each size in a block's statements has 1 to 65,535 bits (3.5.1, profile)
+  -- each expression in a block's statements is one (5)
   pub AreStmts : Stmts → Type 0
   AreStmts Empty = Unit {0}
   AreStmts (Then s l) = IsStmt s × AreStmts l
@@ -65,13 +50,24 @@ abbrev mutual
 abbrev mutual
   -- how deep a statement nests, 1 without a block (profile)
   pub stmt_depth : Stmt → ℕ
-  stmt_depth (Assign target equals value semicolon) = 1
+  stmt_depth (Assign target selection equals value semicolon) = 1
   stmt_depth (Block begin body end) = stmts_depth body + 1
 
   -- how deep the deepest statement of a block nests (profile)
   pub stmts_depth : Stmts → ℕ
   stmts_depth Empty = 0
   stmts_depth (Then s l) = max (stmt_depth s) (stmts_depth l)
+
+abbrev mutual
+  -- how deep the deepest expression of a statement nests; an index is within the target that it selects from (profile)
+  pub stmt_height : Stmt → ℕ
+  stmt_height (Assign target selection equals value semicolon) = max (selection_depth selection + 1) (expr_depth value)
+  stmt_height (Block begin body end) = stmts_height body
+
+  -- how deep the deepest expression of a block's statements nests (profile)
+  pub stmts_height : Stmts → ℕ
+  stmts_height Empty = 0
+  stmts_height (Then s l) = max (stmt_height s) (stmts_height l)
 
 -- ---- items
 
@@ -80,10 +76,15 @@ pub record Further : Type 0 where
   pub comma : ℕ
   pub name : ℕ
 
--- an item of a module: a declaration of regs (4.2.2), or an initial construct (9.9.1)
+-- an item of a module: a declaration of regs, with a range or without (4.2.2), or an initial construct (9.9.1)
 pub data Item : Type 0 where
-  Reg : (place first : ℕ) → List Further → (semicolon : ℕ) → Item
+  Reg : (place : ℕ) → Option Range → (first : ℕ) → List Further → (semicolon : ℕ) → Item
   Initial : (place : ℕ) → Stmt → Item
+
+-- the symbols of a range, if there is one, and then these (4.3.1)
+abbrev pub width_text : Option Range → List Symbol → List Symbol
+width_text None rest = rest
+width_text (Some range) rest = range_text range rest
 
 -- the symbols of further names, and then these (4.2.2)
 abbrev pub further_text : List Further → List Symbol → List Symbol
@@ -93,9 +94,10 @@ further_text (f ∷ fs) rest =
 
 -- an item's symbols, and then these (4.2.2, 9.9.1)
 abbrev pub item_text : Item → List Symbol → List Symbol
-item_text (Reg place first further semicolon) rest =
-    symbol_at (symbol.Keyword keyword.Reg) place ∷ symbol_at symbol.Name first
-    ∷ further_text further (symbol_at (symbol.Punctuator punctuator.Semicolon) semicolon ∷ rest)
+item_text (Reg place range first further semicolon) rest =
+    symbol_at (symbol.Keyword keyword.Reg) place
+    ∷ width_text range (symbol_at symbol.Name first
+    ∷ further_text further (symbol_at (symbol.Punctuator punctuator.Semicolon) semicolon ∷ rest))
 item_text (Initial place body) rest = symbol_at (symbol.Keyword keyword.Initial) place ∷ stmt_text body rest
 
 -- the symbols of a module's items, and then these (12.1)
@@ -103,25 +105,35 @@ abbrev pub items_text : List Item → List Symbol → List Symbol
 items_text [] rest = rest
 items_text (i ∷ is) rest = item_text i (items_text is rest)
 
--- each size in an item has 1 to 65,535 bits (3.5.1, profile)
+-- the range of an item and each expression in it is one (4.3.1, 5)
 abbrev pub IsItem : Item → Type 0
-IsItem (Reg place first further semicolon) = Unit {0}
+IsItem (Reg place range first further semicolon) = IfSome range IsRange
 IsItem (Initial place body) = IsStmt body
 
--- each size in a module's items has 1 to 65,535 bits (3.5.1, profile)
+-- each range and each expression in a module's items is one (4.3.1, 5)
 abbrev pub AreItems : List Item → Type 0
 AreItems [] = Unit {0}
 AreItems (i ∷ is) = IsItem i × AreItems is
 
 -- how deep the statement of an item nests, 0 without one (profile)
 abbrev pub item_depth : Item → ℕ
-item_depth (Reg place first further semicolon) = 0
+item_depth (Reg place range first further semicolon) = 0
 item_depth (Initial place body) = stmt_depth body
 
 -- how deep the deepest statement of a module nests (profile)
 abbrev pub items_depth : List Item → ℕ
 items_depth [] = 0
 items_depth (i ∷ is) = max (item_depth i) (items_depth is)
+
+-- how deep the deepest expression of an item nests, 0 without one (profile)
+abbrev pub item_height : Item → ℕ
+item_height (Reg place range first further semicolon) = 0
+item_height (Initial place body) = stmt_height body
+
+-- how deep the deepest expression of a module nests (profile)
+abbrev pub items_height : List Item → ℕ
+items_height [] = 0
+items_height (i ∷ is) = max (item_height i) (items_height is)
 
 -- ---- modules
 
@@ -149,7 +161,7 @@ abbrev pub source_text : Derivation → List Symbol
 source_text None = []
 source_text (Some m) = module_text m []
 
--- each size in a source has 1 to 65,535 bits (3.5.1, profile)
+-- each range and each expression in a source is one (4.3.1, 5)
 abbrev pub IsSource : Derivation → Type 0
 IsSource None = Unit {0}
 IsSource (Some m) = AreItems m.items
@@ -159,11 +171,17 @@ abbrev pub source_depth : Derivation → ℕ
 source_depth None = 0
 source_depth (Some m) = items_depth m.items
 
--- the symbols are those of this derivation, whose statements nest at most so deep (profile)
+-- how deep the deepest expression of a source nests (profile)
+abbrev pub source_height : Derivation → ℕ
+source_height None = 0
+source_height (Some m) = items_height m.items
+
+-- the symbols are those of this derivation, whose statements, and whose expressions, nest at most so deep (profile)
 pub record Derives (limit : ℕ) (d : Derivation) (symbols : List Symbol) : Type 0 where
   pub spelled : symbols ≡ source_text d
   pub is : IsSource d
   pub fits : source_depth d ≤ limit
+  pub shallow : source_height d ≤ limit
 
 -- the symbols are those of this derivation (annex A), within the limit of 64 (profile)
 abbrev pub IsDerivation : Derivation → List Symbol → Type 0

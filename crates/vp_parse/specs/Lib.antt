@@ -1,10 +1,8 @@
 pub mod Faults
 pub mod Grammar
-pub mod Kinds
 pub mod Reading
 pub mod Weight
 pub mod Places
-pub mod Symbols
 pub mod Layout
 pub mod Placing
 pub mod Told

@@ -1,5 +1,6 @@
 -- The tokens of a source by their places.
-use Rattle.std.specs.Prelude.{ℕ, List, [], slice_get, Option}
+use Rattle.std.proofs.Common.{◌≡◌, ◌∙◌, ◌++◌, refl, sym, ap, arith}
+use Rattle.std.specs.Prelude.{ℕ, min, List, [], ◌∷◌, slice_get, Option, Some, None}
 use Rattle.std.specs.Option.{option_map_or}
 use Rattle.vp_lex.specs.Texts.{text_of}
 use Rattle.vp_lex.specs.declared.token.Token.{Token}
@@ -20,3 +21,33 @@ line_at source place = option_map_or (λ (t : Token). t.line) (token_at source p
 -- the column of the token at a place; 0 behind the end
 abbrev pub column_at : Source → ℕ → ℕ
 column_at source place = option_map_or (λ (t : Token). t.column) (token_at source place) 0
+
+-- ---- the first of places
+
+-- the first of two places, of which each may be missing
+abbrev pub earlier : Option ℕ → Option ℕ → Option ℕ
+earlier None b = b
+earlier (Some a) None = Some a
+earlier (Some a) (Some b) = Some (min a b)
+
+-- the first of the places that f gives
+abbrev pub earliest : {X : Type 0} → (X → Option ℕ) → List X → Option ℕ
+earliest f [] = None
+earliest f (x ∷ xs) = earlier (f x) (earliest f xs)
+
+-- the first of three, from either side
+pub earlier-assoc : (a b c : Option ℕ) → earlier (earlier a b) c ≡ earlier a (earlier b c)
+earlier-assoc None b c = refl
+earlier-assoc (Some a) None c = refl
+earlier-assoc (Some a) (Some b) None = refl
+earlier-assoc (Some a) (Some b) (Some c) = let h : min (min a b) c ≡ min a (min b c) = grind arith in ap (λ (n : ℕ). Some n) h
+
+-- nothing comes before what is there
+pub earlier-none : (a : Option ℕ) → earlier a None ≡ a
+earlier-none None = refl
+earlier-none (Some a) = refl
+
+-- one more at the end
+pub earliest-more : {X : Type 0} (f : X → Option ℕ) (xs : List X) (x : X) → earliest f (xs ++ x ∷ []) ≡ earlier (earliest f xs) (f x)
+earliest-more f [] x = earlier-none (f x)
+earliest-more f (y ∷ ys) x = ap (earlier (f y)) (earliest-more f ys x) ∙ sym (earlier-assoc (f y) (earliest f ys) (f x))

@@ -4,8 +4,8 @@
 mod fault;
 mod parsing;
 mod source;
-mod symbol;
 
 pub use fault::ParseError;
 pub use parsing::{DEPTH_LIMIT, parse};
-pub use source::{Expression, Item, Module, Source, Statement};
+pub use source::{DeclaredRange, Item, Module, Source, Statement, earlier};
+pub use vp_parse_expr::{BinaryOperator, Expression, Range, Selection, UnaryOperator};

@@ -1,210 +1,69 @@
 // The grammar, read from left to right (docs/FORMATS.md, "Grammar").
 ghost use Rattle.std.specs.Prelude.{◌≡◌, ◌<◌, ◌≤◌, ◌+◌, ◌^◌, ◌⊎◌, length, Some, Result, IfOk, IfErr};
+ghost use Rattle.vp_lex.specs.declared.token.Punctuator.TheVariants as punctuator;
 ghost use Rattle.vp_lex.specs.declared.token.TheConstants.{TEXT_LIMIT};
+ghost use Rattle.vp_parse_expr.specs.declared.symbol.SymbolKind.TheVariants as symbol;
+ghost use Rattle.vp_parse_expr.specs.Stopping.{Gives, Fails, stop_told, Stop as Reason, Unexpected, behind};
+ghost use Rattle.vp_parse_expr.specs.Symbols.{symbols_of};
 ghost use Rattle.vp_parse.specs.declared.fault.ParseError.TheVariants as error;
-ghost use Rattle.vp_parse.specs.declared.parsing.Stop.TheVariants.{NoMemory};
-ghost use Rattle.vp_parse.specs.declared.symbol.SymbolKind.TheVariants.{Name};
 ghost use Rattle.vp_parse.specs.Grammar.{Derivation, IsDerivation};
-ghost use Rattle.vp_parse.specs.Kinds.{same_kind};
 ghost use Rattle.vp_parse.specs.Layout.{IsSourceOf, lists_of};
-ghost use Rattle.vp_parse.specs.Placing.{Gives, Fails, stop_told, lists_in, behind, literal_into, expr_into, assign_into, stmts_into, block_into, form_into, stmt_into, reg_into, further_into, regs_into, initial_into, item_into, items_into, module_into, modules_into};
-ghost use Rattle.vp_parse.specs.Reading.{Stop as Reason, read, Unexpected, terminal, is_sized as sized, is_next as next_is, goes_on as more};
-ghost use Rattle.vp_parse.specs.Symbols.{symbols_of};
+ghost use Rattle.vp_parse.specs.Placing.{lists_in, value_into, width_into, assign_into, stmts_into, block_into, form_into, stmt_into, reg_into, further_into, regs_into, initial_into, item_into, items_into, module_into, modules_into};
+ghost use Rattle.vp_parse.specs.Reading.{read, goes_on as more};
 ghost use Rattle.vp_parse.specs.Told.{Tells, stopped_at as stop_at, place_told, line_told};
 ghost use Rattle.vp_parse.specs.Weight.{weight};
 
 use crate::fault::ParseError;
-use crate::source::{
-    Arena, Expression, Item, Module, Source, Statement, add_expression, add_statement,
-};
-use crate::symbol::{Symbol, SymbolKind, symbols};
-use std::alloc::{AllocError, AllocFailed, Global};
+use crate::source::{Arena, DeclaredRange, Item, Module, Source, Statement, add_statement};
+use std::alloc::Global;
 use vp_lex::{Keyword, Punctuator, Token};
 use vp_list::{Sequence, Text};
+use vp_parse_expr::{
+    Stop, Symbol, SymbolKind, expression, is_kind, is_next, name, range, selection, skip, symbols,
+    unexpected,
+};
 
-/// How deep statements may nest.
+/// How deep statements may nest, and expressions.
 pub const DEPTH_LIMIT: u32 = 64;
 
-/// The greatest size of a literal, in bits.
-const SIZE_LIMIT: u32 = 65_535;
-
-/// Where reading stops, by how many symbols are left.
-#[derive(Clone, Copy)]
-enum Stop {
-    Syntax(usize),
-    LeftOut(usize),
-    TooDeep(usize),
-    NoMemory,
-}
-
-impl From<AllocError> for Stop {
-    ghost from_gives = { λ _ e. e ≡ NoMemory };
-
-    fn from(_e: AllocError) -> Stop {
-        Stop::NoMemory
-    }
-}
-
-impl<T: Drop> From<AllocFailed<T>> for Stop {
-    ghost from_gives = { λ _ e. e ≡ NoMemory };
-
-    fn from(_e: AllocFailed<T>) -> Stop {
-        Stop::NoMemory
-    }
-}
-
-/// Where the grammar does not go on: at a keyword, an operator, a system name or a base that is left out, or at anything else.
-fn unexpected(symbols: &[Symbol]) -> Stop
-    ensures { stop_told result ≡ Some (Unexpected (length symbols.now)) }
-{
-    match symbols {
-        [
-            Symbol {
-                kind: SymbolKind::Keyword(Keyword::LeftOut | Keyword::Casex)
-                | SymbolKind::SystemName
-                | SymbolKind::Punctuator(
-                    Punctuator::Divide
-                    | Punctuator::Modulus
-                    | Punctuator::Power
-                    | Punctuator::ArithmeticShiftLeft
-                    | Punctuator::ArithmeticShiftRight
-                    | Punctuator::EventTrigger,
-                ),
-                ..
-            },
-            ..
-        ] => Stop::LeftOut(symbols.len()),
-        _ => Stop::Syntax(symbols.len()),
-    }
-}
-
-/// A symbol is of the kind that is expected.
-fn is_kind(expected: SymbolKind, kind: SymbolKind) -> bool
-    ensures { result ≡ same_kind expected kind }
-{
-    expected == kind
-}
-
-/// The next symbol is of the kind that is expected.
-fn is_next(expected: SymbolKind, symbols: &[Symbol]) -> bool
-    ensures { result ≡ next_is expected symbols.now }
-{
-    match symbols {
-        [first, ..] => is_kind(expected, first.kind),
-        [] => false,
-    }
-}
-
-/// What follows the symbol that is expected.
-#[tactic(auto, unfolding(crate::specs::Placing::behind))]
-fn skip(expected: SymbolKind, symbols: &[Symbol]) -> Result<&[Symbol], Stop>
-    ensures read { Gives (λ rest. rest.now) result (behind expected symbols.now) }
-    ensures shorter { IfOk result (λ rest. length rest.now + 1 ≡ length symbols.now) }
-{
-    match symbols {
-        [first, rest @ ..] if is_kind(expected, first.kind) => Ok(rest),
-        _ => Err(unexpected(symbols)),
-    }
-}
-
-/// The place of the name that is expected, and what follows.
-#[tactic(auto, unfolding(crate::specs::Reading::terminal))]
-fn name(symbols: &[Symbol]) -> Result<(u32, &[Symbol]), Stop>
-    ensures read { Gives (λ found. (found.0, found.1.now)) result (terminal Name symbols.now) }
-    ensures shorter { IfOk result (λ found. length found.1.now + 1 ≡ length symbols.now) }
-{
-    match symbols {
-        [
-            Symbol {
-                kind: SymbolKind::Name,
-                place,
-            },
-            rest @ ..,
-        ] => Ok((*place, rest)),
-        _ => Err(unexpected(symbols)),
-    }
-}
-
-/// A number of such a size is that of a literal whose digits are a symbol of this kind.
-fn is_sized(size: u32, kind: SymbolKind) -> bool
-    ensures { result ≡ sized size kind }
-{
-    is_kind(SymbolKind::Base, kind) && 0 < size && size <= SIZE_LIMIT
-}
-
-/// A sized literal, from behind its size.
-#[tactic(auto, unfolding(crate::specs::Placing::literal_into))]
-fn literal<'a>(
+/// An expression that nests at most so deep.
+#[tactic(auto, unfolding(crate::specs::Placing::value_into))]
+fn value<'a>(
     arena: &mut Arena,
-    size: u32,
-    place: u32,
+    limit: u32,
     symbols: &'a [Symbol],
 ) -> Result<(u32, &'a [Symbol]), Stop>
     requires { weight arena.old symbols.now < 2 ^ 32 }
-    ensures read { Gives (λ found. (found.0, lists_in arena.new, found.1.now)) result (literal_into size place (lists_in arena.old) symbols.now) }
+    ensures read { Gives (λ found. (found.0, lists_in arena.new, found.1.now)) result (value_into limit (lists_in arena.old) symbols.now) }
     ensures lighter { IfOk result (λ found. weight arena.new found.1.now < weight arena.old symbols.now) }
     ensures shorter { IfOk result (λ found. length found.1.now < length symbols.now) }
 {
-    match symbols {
-        [digits, rest @ ..] if is_sized(size, digits.kind) => {
-            let literal = Expression::Literal {
-                place,
-                size,
-                digits: digits.place,
-            };
-            Ok((add_expression(&mut arena.expressions, literal)?, rest))
-        }
-        _ => Err(Stop::LeftOut(symbols.len() + 1)),
-    }
+    let found = expression(&mut arena.expressions, limit, symbols)?;
+    Ok((found.place, found.rest))
 }
 
-/// Where no expression begins that is read.
-fn no_expression(symbols: &[Symbol]) -> Stop
-    ensures { stop_told result ≡ Some (Unexpected (length symbols.now)) }
-{
-    match symbols {
-        [first, ..] if is_kind(SymbolKind::Base, first.kind) => Stop::LeftOut(symbols.len()),
-        _ => unexpected(symbols),
-    }
-}
-
-/// An expression: a name or a sized literal.
-#[tactic(auto, unfolding(crate::specs::Placing::expr_into, crate::specs::Placing::expr_by_into))]
-fn expression<'a>(arena: &mut Arena, symbols: &'a [Symbol]) -> Result<(u32, &'a [Symbol]), Stop>
-    requires { weight arena.old symbols.now < 2 ^ 32 }
-    ensures read { Gives (λ found. (found.0, lists_in arena.new, found.1.now)) result (expr_into (lists_in arena.old) symbols.now) }
-    ensures lighter { IfOk result (λ found. weight arena.new found.1.now < weight arena.old symbols.now) }
-    ensures shorter { IfOk result (λ found. length found.1.now < length symbols.now) }
-{
-    let [first, rest @ ..] = symbols else {
-        return Err(unexpected(symbols));
-    };
-    match first.kind {
-        SymbolKind::Name => {
-            let name = Expression::Name(first.place);
-            Ok((add_expression(&mut arena.expressions, name)?, rest))
-        }
-        SymbolKind::Number(size) => literal(arena, size, first.place, rest),
-        _ => Err(no_expression(symbols)),
-    }
-}
-
-/// A blocking assignment, from behind its target.
+/// A blocking assignment, from behind the name of its target, with expressions that nest at most so deep.
 #[tactic(auto, unfolding(crate::specs::Placing::assign_into))]
 fn assignment<'a>(
     arena: &mut Arena,
+    limit: u32,
     target: u32,
     symbols: &'a [Symbol],
 ) -> Result<(u32, &'a [Symbol]), Stop>
     requires { weight arena.old symbols.now < 2 ^ 32 }
-    ensures read { Gives (λ found. (found.0, lists_in arena.new, found.1.now)) result (assign_into target (lists_in arena.old) symbols.now) }
+    ensures read { Gives (λ found. (found.0, lists_in arena.new, found.1.now)) result (assign_into limit target (lists_in arena.old) symbols.now) }
     ensures lighter { IfOk result (λ found. weight arena.new found.1.now < weight arena.old symbols.now) }
     ensures shorter { IfOk result (λ found. length found.1.now < length symbols.now) }
 {
-    let rest = skip(SymbolKind::Punctuator(Punctuator::Equals), symbols)?;
-    let (value, rest) = expression(arena, rest)?;
+    let selected = selection(&mut arena.expressions, limit.saturating_sub(1), symbols)?;
+    let rest = skip(SymbolKind::Punctuator(Punctuator::Equals), selected.rest)?;
+    let (value, rest) = value(arena, limit, rest)?;
     let rest = skip(SymbolKind::Punctuator(Punctuator::Semicolon), rest)?;
-    let assign = Statement::Assign { target, value };
+    let assign = Statement::Assign {
+        target,
+        selection: selected.selection,
+        value,
+    };
     Ok((add_statement(&mut arena.statements, assign)?, rest))
 }
 
@@ -222,18 +81,19 @@ fn goes_on(symbols: &[Symbol]) -> bool
 #[cycle(statement)]
 fn list<'a>(
     arena: &mut Arena,
+    limit: u32,
     depth: u32,
     symbols: &'a [Symbol],
 ) -> Result<(u32, &'a [Symbol]), Stop>
     requires { weight arena.old symbols.now + 1 < 2 ^ 32 }
-    ensures read { Gives (λ found. (found.0, lists_in arena.new, found.1.now)) result (stmts_into (stmt_into depth) (lists_in arena.old) symbols.now) }
+    ensures read { Gives (λ found. (found.0, lists_in arena.new, found.1.now)) result (stmts_into (stmt_into limit depth) (lists_in arena.old) symbols.now) }
     ensures lighter { IfOk result (λ found. weight arena.new found.1.now ≤ weight arena.old symbols.now + 1) }
     ensures no_longer { IfOk result (λ found. length found.1.now ≤ length symbols.now) }
 {
     let mut so_far = add_statement(&mut arena.statements, Statement::Empty)?;
     let mut rest = symbols;
     while goes_on(rest) {
-        let (last, after) = statement(arena, depth, rest)?;
+        let (last, after) = statement(arena, limit, depth, rest)?;
         let then = Statement::Then { list: so_far, last };
         so_far = add_statement(&mut arena.statements, then)?;
         rest = after;
@@ -246,15 +106,16 @@ fn list<'a>(
 #[tactic(auto, unfolding(crate::specs::Placing::block_into))]
 fn block<'a>(
     arena: &mut Arena,
+    limit: u32,
     depth: u32,
     symbols: &'a [Symbol],
 ) -> Result<(u32, &'a [Symbol]), Stop>
     requires { weight arena.old symbols.now + 1 < 2 ^ 32 }
-    ensures read { Gives (λ found. (found.0, lists_in arena.new, found.1.now)) result (block_into (stmt_into depth) (lists_in arena.old) symbols.now) }
+    ensures read { Gives (λ found. (found.0, lists_in arena.new, found.1.now)) result (block_into (stmt_into limit depth) (lists_in arena.old) symbols.now) }
     ensures lighter { IfOk result (λ found. weight arena.new found.1.now < weight arena.old symbols.now) }
     ensures shorter { IfOk result (λ found. length found.1.now < length symbols.now) }
 {
-    let (body, rest) = list(arena, depth, symbols)?;
+    let (body, rest) = list(arena, limit, depth, symbols)?;
     let rest = skip(SymbolKind::Keyword(Keyword::End), rest)?;
     Ok((body, rest))
 }
@@ -291,11 +152,12 @@ fn no_statement(symbols: &[Symbol]) -> Stop
 #[tactic(auto, unfolding(crate::specs::Placing::form_into, crate::specs::Placing::stmt_by_into))]
 fn form<'a>(
     arena: &mut Arena,
+    limit: u32,
     depth: u32,
     symbols: &'a [Symbol],
 ) -> Result<(u32, &'a [Symbol]), Stop>
     requires { weight arena.old symbols.now < 2 ^ 32 }
-    ensures read { Gives (λ found. (found.0, lists_in arena.new, found.1.now)) result (form_into (stmt_into depth) (lists_in arena.old) symbols.now) }
+    ensures read { Gives (λ found. (found.0, lists_in arena.new, found.1.now)) result (form_into limit (stmt_into limit depth) (lists_in arena.old) symbols.now) }
     ensures lighter { IfOk result (λ found. weight arena.new found.1.now < weight arena.old symbols.now) }
     ensures shorter { IfOk result (λ found. length found.1.now < length symbols.now) }
 {
@@ -303,8 +165,8 @@ fn form<'a>(
         return Err(unexpected(symbols));
     };
     match first.kind {
-        SymbolKind::Name => assignment(arena, first.place, rest),
-        SymbolKind::Keyword(Keyword::Begin) => block(arena, depth, rest),
+        SymbolKind::Name => assignment(arena, limit, first.place, rest),
+        SymbolKind::Keyword(Keyword::Begin) => block(arena, limit, depth, rest),
         _ => Err(no_statement(symbols)),
     }
 }
@@ -313,49 +175,92 @@ fn form<'a>(
 #[cycle(statement)]
 fn statement<'a>(
     arena: &mut Arena,
+    limit: u32,
     depth: u32,
     symbols: &'a [Symbol],
 ) -> Result<(u32, &'a [Symbol]), Stop>
     requires { weight arena.old symbols.now < 2 ^ 32 }
-    ensures read { Gives (λ found. (found.0, lists_in arena.new, found.1.now)) result (stmt_into depth (lists_in arena.old) symbols.now) }
+    ensures read { Gives (λ found. (found.0, lists_in arena.new, found.1.now)) result (stmt_into limit depth (lists_in arena.old) symbols.now) }
     ensures lighter { IfOk result (λ found. weight arena.new found.1.now < weight arena.old symbols.now) }
     ensures shorter { IfOk result (λ found. length found.1.now < length symbols.now) }
 {
     if depth == 0 {
         return Err(Stop::TooDeep(symbols.len()));
     }
-    form(arena, depth - 1, symbols)
+    form(arena, limit, depth - 1, symbols)
 }
 
-/// A reg, by its name.
+/// The range of a declaration, if one is next.
+#[tactic(auto, unfolding(crate::specs::Placing::width_into))]
+fn declared_range(symbols: &[Symbol]) -> Result<(Option<DeclaredRange>, &[Symbol]), Stop>
+    ensures read { Gives (λ found. (found.0, found.1.now)) result (width_into symbols.now) }
+    ensures no_longer { IfOk result (λ found. length found.1.now ≤ length symbols.now) }
+{
+    match symbols {
+        [first, ..] if is_kind(SymbolKind::Punctuator(Punctuator::LeftBracket), first.kind) => {
+            let bracket = first.place;
+            let (range, rest) = range(symbols)?;
+            Ok((Some(DeclaredRange { bracket, range }), rest))
+        }
+        _ => Ok((None, symbols)),
+    }
+}
+
+/// A reg with a range or without, by its name.
 #[tactic(auto, unfolding(crate::specs::Placing::reg_into))]
-fn reg<'a>(arena: &mut Arena, symbols: &'a [Symbol]) -> Result<&'a [Symbol], Stop>
+fn reg<'a>(
+    arena: &mut Arena,
+    range: Option<DeclaredRange>,
+    symbols: &'a [Symbol],
+) -> Result<&'a [Symbol], Stop>
     requires { weight arena.old symbols.now < 2 ^ 32 }
-    ensures read { Gives (λ rest. (lists_in arena.new, rest.now)) result (reg_into (lists_in arena.old) symbols.now) }
+    ensures read { Gives (λ rest. (lists_in arena.new, rest.now)) result (reg_into range (lists_in arena.old) symbols.now) }
     ensures lighter { IfOk result (λ rest. weight arena.new rest.now < weight arena.old symbols.now) }
     ensures shorter { IfOk result (λ rest. length rest.now < length symbols.now) }
 {
     let (name, rest) = name(symbols)?;
-    arena.items.push(Item::Reg { name })?;
+    arena.items.push(Item::Reg { name, range })?;
     Ok(rest)
 }
 
 /// The further names of a declaration, each behind a comma.
-fn further<'a>(arena: &mut Arena, symbols: &'a [Symbol]) -> Result<&'a [Symbol], Stop>
+fn further<'a>(
+    arena: &mut Arena,
+    range: Option<DeclaredRange>,
+    symbols: &'a [Symbol],
+) -> Result<&'a [Symbol], Stop>
     requires { weight arena.old symbols.now < 2 ^ 32 }
-    ensures read { Gives (λ rest. (lists_in arena.new, rest.now)) result (further_into (length symbols.now) (lists_in arena.old) symbols.now) }
+    ensures read { Gives (λ rest. (lists_in arena.new, rest.now)) result (further_into range (length symbols.now) (lists_in arena.old) symbols.now) }
     ensures lighter { IfOk result (λ rest. weight arena.new rest.now ≤ weight arena.old symbols.now) }
     ensures no_longer { IfOk result (λ rest. length rest.now ≤ length symbols.now) }
 {
     let mut rest = symbols;
     while is_next(SymbolKind::Punctuator(Punctuator::Comma), rest) {
         let after = skip(SymbolKind::Punctuator(Punctuator::Comma), rest)?;
-        rest = reg(arena, after)?;
+        rest = reg(arena, range, after)?;
     }
     Ok(rest)
 }
 
-/// The names of a declaration of regs, from behind its keyword.
+/// What follows a declaration's semicolon. An initial value is left out.
+#[tactic(auto, unfolding(vp_parse_expr::specs::Stopping::behind))]
+fn declaration_end(symbols: &[Symbol]) -> Result<&[Symbol], Stop>
+    ensures read { Gives (λ rest. rest.now) result (behind (symbol.Punctuator punctuator.Semicolon) symbols.now) }
+    ensures shorter { IfOk result (λ rest. length rest.now + 1 ≡ length symbols.now) }
+{
+    match symbols {
+        [
+            Symbol {
+                kind: SymbolKind::Punctuator(Punctuator::Equals),
+                ..
+            },
+            ..
+        ] => Err(Stop::LeftOut(symbols.len())),
+        _ => skip(SymbolKind::Punctuator(Punctuator::Semicolon), symbols),
+    }
+}
+
+/// The range and the names of a declaration of regs, from behind its keyword.
 #[tactic(auto, unfolding(crate::specs::Placing::regs_into))]
 fn regs<'a>(arena: &mut Arena, symbols: &'a [Symbol]) -> Result<&'a [Symbol], Stop>
     requires { weight arena.old symbols.now < 2 ^ 32 }
@@ -363,25 +268,26 @@ fn regs<'a>(arena: &mut Arena, symbols: &'a [Symbol]) -> Result<&'a [Symbol], St
     ensures lighter { IfOk result (λ rest. weight arena.new rest.now < weight arena.old symbols.now) }
     ensures shorter { IfOk result (λ rest. length rest.now < length symbols.now) }
 {
-    let rest = reg(arena, symbols)?;
-    let rest = further(arena, rest)?;
-    skip(SymbolKind::Punctuator(Punctuator::Semicolon), rest)
+    let (range, rest) = declared_range(symbols)?;
+    let rest = reg(arena, range, rest)?;
+    let rest = further(arena, range, rest)?;
+    declaration_end(rest)
 }
 
-/// An `initial`, from behind its keyword, whose statements nest at most so deep.
+/// An `initial`, from behind its keyword, whose statements and expressions nest at most so deep.
 #[tactic(auto, unfolding(crate::specs::Placing::initial_into))]
 fn initial<'a>(
     arena: &mut Arena,
-    depth: u32,
+    limit: u32,
     keyword: u32,
     symbols: &'a [Symbol],
 ) -> Result<&'a [Symbol], Stop>
     requires { weight arena.old symbols.now < 2 ^ 32 }
-    ensures read { Gives (λ rest. (lists_in arena.new, rest.now)) result (initial_into (stmt_into depth) keyword (lists_in arena.old) symbols.now) }
+    ensures read { Gives (λ rest. (lists_in arena.new, rest.now)) result (initial_into (stmt_into limit limit) keyword (lists_in arena.old) symbols.now) }
     ensures lighter { IfOk result (λ rest. weight arena.new rest.now ≤ weight arena.old symbols.now) }
     ensures shorter { IfOk result (λ rest. length rest.now < length symbols.now) }
 {
-    let (body, rest) = statement(arena, depth, symbols)?;
+    let (body, rest) = statement(arena, limit, limit, symbols)?;
     arena.items.push(Item::Initial { keyword, body })?;
     Ok(rest)
 }
@@ -406,9 +312,9 @@ fn no_item(symbols: &[Symbol]) -> Stop
 
 /// An item of a module: regs, or an `initial`.
 #[tactic(auto, unfolding(crate::specs::Placing::item_into, crate::specs::Placing::item_by_into))]
-fn item<'a>(arena: &mut Arena, depth: u32, symbols: &'a [Symbol]) -> Result<&'a [Symbol], Stop>
+fn item<'a>(arena: &mut Arena, limit: u32, symbols: &'a [Symbol]) -> Result<&'a [Symbol], Stop>
     requires { weight arena.old symbols.now < 2 ^ 32 }
-    ensures read { Gives (λ rest. (lists_in arena.new, rest.now)) result (item_into (stmt_into depth) (lists_in arena.old) symbols.now) }
+    ensures read { Gives (λ rest. (lists_in arena.new, rest.now)) result (item_into (stmt_into limit limit) (lists_in arena.old) symbols.now) }
     ensures lighter { IfOk result (λ rest. weight arena.new rest.now < weight arena.old symbols.now) }
     ensures shorter { IfOk result (λ rest. length rest.now < length symbols.now) }
 {
@@ -417,39 +323,39 @@ fn item<'a>(arena: &mut Arena, depth: u32, symbols: &'a [Symbol]) -> Result<&'a 
     };
     match first.kind {
         SymbolKind::Keyword(Keyword::Reg) => regs(arena, rest),
-        SymbolKind::Keyword(Keyword::Initial) => initial(arena, depth, first.place, rest),
+        SymbolKind::Keyword(Keyword::Initial) => initial(arena, limit, first.place, rest),
         _ => Err(no_item(symbols)),
     }
 }
 
 /// The items of a module, up to its `endmodule`.
-fn items<'a>(arena: &mut Arena, depth: u32, symbols: &'a [Symbol]) -> Result<&'a [Symbol], Stop>
+fn items<'a>(arena: &mut Arena, limit: u32, symbols: &'a [Symbol]) -> Result<&'a [Symbol], Stop>
     requires { weight arena.old symbols.now < 2 ^ 32 }
-    ensures read { Gives (λ rest. (lists_in arena.new, rest.now)) result (items_into (stmt_into depth) (length symbols.now) (lists_in arena.old) symbols.now) }
+    ensures read { Gives (λ rest. (lists_in arena.new, rest.now)) result (items_into (stmt_into limit limit) (length symbols.now) (lists_in arena.old) symbols.now) }
     ensures lighter { IfOk result (λ rest. weight arena.new rest.now ≤ weight arena.old symbols.now) }
 {
     let mut rest = symbols;
     while !is_next(SymbolKind::Keyword(Keyword::Endmodule), rest) {
-        rest = item(arena, depth, rest)?;
+        rest = item(arena, limit, rest)?;
     }
     Ok(rest)
 }
 
-/// A module, whose statements nest at most so deep.
+/// A module, whose statements and expressions nest at most so deep.
 #[tactic(auto, unfolding(crate::specs::Placing::module_into))]
 fn module<'a>(
     arena: &mut Arena,
-    depth: u32,
+    limit: u32,
     symbols: &'a [Symbol],
 ) -> Result<(Module, &'a [Symbol]), Stop>
     requires { weight arena.old symbols.now < 2 ^ 32 }
-    ensures { Gives (λ found. (found.0, lists_in arena.new, found.1.now)) result (module_into depth (lists_in arena.old) symbols.now) }
+    ensures { Gives (λ found. (found.0, lists_in arena.new, found.1.now)) result (module_into limit (lists_in arena.old) symbols.now) }
 {
     let first = arena.items.len() as u32;
     let rest = skip(SymbolKind::Keyword(Keyword::Module), symbols)?;
     let (name, rest) = name(rest)?;
     let rest = skip(SymbolKind::Punctuator(Punctuator::Semicolon), rest)?;
-    let rest = items(arena, depth, rest)?;
+    let rest = items(arena, limit, rest)?;
     let rest = skip(SymbolKind::Keyword(Keyword::Endmodule), rest)?;
     let end = arena.items.len() as u32;
     Ok((Module { name, first, end }, rest))
@@ -466,22 +372,22 @@ fn no_end(symbols: &[Symbol]) -> Stop
     }
 }
 
-/// All symbols of a text: no module, or one, whose statements nest at most so deep.
+/// All symbols of a text: no module, or one, whose statements and expressions nest at most so deep.
 #[tactic(auto, unfolding(crate::specs::Placing::modules_into))]
 fn modules(
     alloc: Global,
     arena: &mut Arena,
-    depth: u32,
+    limit: u32,
     symbols: &[Symbol],
 ) -> Result<Vec<Module>, Stop>
     requires { weight arena.old symbols.now < 2 ^ 32 }
-    ensures { Gives (λ found. (found.items, lists_in arena.new)) result (modules_into depth (lists_in arena.old) symbols.now) }
+    ensures { Gives (λ found. (found.items, lists_in arena.new)) result (modules_into limit (lists_in arena.old) symbols.now) }
 {
     let mut modules = Vec::new(alloc);
     if symbols.is_empty() {
         return Ok(modules);
     }
-    let (only, rest) = module(arena, depth, symbols)?;
+    let (only, rest) = module(arena, limit, symbols)?;
     if !rest.is_empty() {
         return Err(no_end(rest));
     }

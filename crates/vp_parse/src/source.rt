@@ -1,37 +1,49 @@
 ghost use Rattle.std.specs.Prelude.{◌≡◌, [], ◌∷◌, ◌++◌, length, ◌+◌, ◌<◌, ◌^◌, IfOk, OnOk, vec_len};
+ghost use Rattle.vp_parse.specs.Places.{earlier};
 
 use std::alloc::{AllocError, Global};
 use vp_lex::Token;
 use vp_list::{Sequence, Text};
-
-/// A part of an expression (clause 5). It names its parts by their places in the list of expressions,
-/// and tokens by their places in the text.
-#[derive(Clone, Copy, Debug, PartialEq, Eq)]
-pub enum Expression {
-    /// A name, by its token.
-    Name(u32),
-    /// A sized literal: its first token, its size in bits (1 to 65,535), and the token of its digits.
-    Literal { place: u32, size: u32, digits: u32 },
-}
+use vp_parse_expr::{Expression, Range, Selection};
 
 /// A statement (clause 9). It names its parts by their places in the list of statements or of expressions.
-#[derive(Clone, Copy, Debug, PartialEq, Eq)]
+#[derive(Clone, Copy, Debug)]
 pub enum Statement {
     /// A block without statements.
     Empty,
     /// The statements of a block, and one more after them.
-    Then { list: u32, last: u32 },
-    /// A blocking assignment to a name, by its token.
-    Assign { target: u32, value: u32 },
+    Then {
+        list: u32,
+        last: u32,
+    },
+    /// A blocking assignment to what is selected of a name, by its token.
+    Assign {
+        target: u32,
+        selection: Selection,
+        value: u32,
+    },
+}
+
+/// The range of a declaration, and the token of its bracket (clause 4.3.1).
+#[derive(Clone, Copy, Debug)]
+pub struct DeclaredRange {
+    pub bracket: u32,
+    pub range: Range,
 }
 
 /// An item of a module, by the place of its declaration.
-#[derive(Clone, Copy, Debug, PartialEq, Eq)]
+#[derive(Clone, Copy, Debug)]
 pub enum Item {
-    /// A reg of one bit, by its name.
-    Reg { name: u32 },
+    /// A reg, by its name, with the range of its bits; a scalar has none.
+    Reg {
+        name: u32,
+        range: Option<DeclaredRange>,
+    },
     /// An `initial`, by its keyword, and its statement.
-    Initial { keyword: u32, body: u32 },
+    Initial {
+        keyword: u32,
+        body: u32,
+    },
 }
 
 /// A module: the token of its name, and its items from `first` up to `end`.
@@ -85,6 +97,16 @@ impl Source {
     }
 }
 
+/// The first of two places, of which each may be missing.
+pub fn earlier(one: Option<u32>, other: Option<u32>) -> Option<u32>
+    ensures { result ≡ earlier one other }
+{
+    match (one, other) {
+        (Some(a), Some(b)) => Some(a.min(b)),
+        (None, place) | (place, None) => place,
+    }
+}
+
 /// The lists of a source while it is read.
 #[derive(Drop)]
 pub struct Arena {
@@ -109,21 +131,6 @@ impl Arena {
             expressions: Vec::new(alloc),
         }
     }
-}
-
-/// One more expression, and its place.
-pub fn add_expression(
-    expressions: &mut Vec<Expression>,
-    expression: Expression,
-) -> Result<u32, AllocError>
-    requires { vec_len expressions.old < 2 ^ 32 }
-    ensures place { IfOk result (λ place. place ≡ length expressions.old.items) }
-    ensures added { OnOk result (expressions.new.items ≡ expressions.old.items ++ expression ∷ []) }
-    ensures len { OnOk result (vec_len expressions.new ≡ vec_len expressions.old + 1) }
-{
-    let place = expressions.len() as u32;
-    expressions.push(expression)?;
-    Ok(place)
 }
 
 /// One more statement, and its place.

@@ -1,5 +1,6 @@
 pub mod SameKinds
 pub mod Seen
+pub mod Told
 pub mod Loops
 pub mod GrammarRows
 pub mod LayoutRows

@@ -1,5 +1,5 @@
 -- The public contracts, from the laws of reading and from what reading into a list gives.
-use Rattle.std.proofs.Common.{◌≡◌, ℕ, List, ◌⊎◌, inl, inr, Result, Ok, Err, refl, sym, ap, subst, ◌∙◌, arith}
+use Rattle.std.proofs.Common.{◌≡◌, ◌≢◌, ℕ, List, ◌⊎◌, inl, inr, Result, Ok, Err, refl, sym, ap, subst, ◌∙◌, arith}
 use Rattle.std.specs.Prelude.{IfOk, IfErr}
 use Rattle.vp_parse_expr.specs.declared.node.Expression as node
 use Rattle.vp_parse_expr.specs.declared.node.Range as range
@@ -92,9 +92,11 @@ range_found ts view (Ok x) h =
     let t = holds_at (IsRangeTaken ts) (range_at ts) y.0 y.1 (range_takes ts) in
     (y.0.0, subst (λ (z : range.Range × List Symbol). IsRangeOf ts z y.0.0) y.2 (record { spelled = t.0; is = t.1; bounds = refl }))
 
--- what is refused begins with no range
-pub range_none : {X : Type 0} (ts : List Symbol) (view : X → range.Range × List Symbol) (r : Result X stop.Stop) → Gives view r (range_into ts) → IfErr r (λ s. (s ≡ stop_of.NoMemory) ⊎ NoRange ts)
-range_none ts view (Ok x) h = tt
-range_none ts view (Err s) h =
-    unless_none (none_at (range_at ts) s (fails_alike made_range (range_at ts) (range_into ts) s (range_seen ts) h))
-    (λ never e rest spelled is. never (e, rest) (ap range_at spelled ∙ range_again e rest is))
+-- what is refused begins with no range, since want of memory is no such refusal
+pub range_none : {X : Type 0} (ts : List Symbol) (view : X → range.Range × List Symbol) (r : Result X stop.Stop) → Gives view r (range_into ts) → IfErr r (λ s. s ≢ stop_of.NoMemory) → IfErr r (λ _. NoRange ts)
+range_none ts view (Ok x) h told = tt
+range_none ts view (Err s) h told =
+    elim (none_at (range_at ts) s (fails_alike made_range (range_at ts) (range_into ts) s (range_seen ts) h)) [
+      | inl e ↦ absurd (told e)
+      | inr never ↦ λ e rest spelled is. never (e, rest) (ap range_at spelled ∙ range_again e rest is)
+    ]

@@ -18,7 +18,7 @@ use Rattle.vp_parse_expr.specs.Binding.{level_above, level_below, binds-sign, bi
 use Rattle.vp_parse_expr.specs.Stopping.{Stop, ◌>>=◌, Reader, is_next, terminal}
 use Rattle.vp_parse_expr.specs.Grammar.{Range, Expr, Name, Sized, Based, Number, Group, Unary, Binary, Conditional, Concatenation, Replication, Selection, Whole, Bit, Part, Parts, First, More, range_text, expr_text, selection_text, parts_text, tightness, is_unsized, is_sized_base, IsRange, IsExpr, IsSelection, AreParts, expr_depth, selection_depth, parts_depth}
 use Rattle.vp_parse_expr.specs.Reading.{is_alone, is_base_next, is_number_before, is_bare, bound_by, bound_at, range_at, sized_at, number_at, bit_at, part_select_at, select_at, name_at, group_at, unary_at, part_at, further_part_at, further_parts_at, parts_at, concatenation_at, replication_at, braces_at, operand_by, operand_at, binary_at, more_at, conditional_at, is_choice, choice_at, chain_at, expr_at}
-use Rattle.vp_parse_expr.specs.Takes.{expr_longer}
+use Rattle.vp_parse_expr.specs.Takes.{before, expr_longer}
 
 -- ---- what follows an expression
 
@@ -28,10 +28,6 @@ pub record Stops (least : ℕ) (ts : List Symbol) : Type 0 where
   pub no_choice : is_choice least ts ≡ false
   pub no_bracket : is_next (symbol.Punctuator punctuator.LeftBracket) ts ≡ false
   pub no_base : is_base_next ts ≡ false
-
--- a symbol in front of others
-abbrev before : SymbolKind → ℕ → List Symbol → List Symbol
-before kind place ts = symbol_at kind place ∷ ts
 
 nat_le-of : (m n : ℕ) → m ≤ n → nat_le m n ≡ true
 nat_le-of m n h = grind arith

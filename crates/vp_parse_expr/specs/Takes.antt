@@ -106,7 +106,7 @@ terminal_takes kind (s ∷ ts) =
     Holds-if (IsTerminal kind (s ∷ ts)) (same_kind kind s.kind) _ _ (λ e. ap (λ (k : SymbolKind). symbol_at k s.place ∷ ts) (sym (same_kind_is kind s.kind e))) (λ e. tt)
 
 -- a symbol in front of others
-abbrev before : SymbolKind → ℕ → List Symbol → List Symbol
+abbrev pub before : SymbolKind → ℕ → List Symbol → List Symbol
 before kind place ts = symbol_at kind place ∷ ts
 
 -- ---- ranges
@@ -417,12 +417,12 @@ pub record IsChain (d least : ℕ) (ts : List Symbol) (x : Expr × List Symbol) 
   pub no_choice : 0 < tightness x.0
   pub ends : binds (tightness x.0 + 1) x.1 ≡ None
 
--- a chain that is not longer than these many symbols
-abbrev IsLonger : ℕ → Expr × List Symbol → Type 0
-IsLonger n x = length x.1 < n
+-- fewer than so many symbols are left
+abbrev IsShorter : ℕ → Expr × List Symbol → Type 0
+IsShorter n x = length x.1 < n
 
 module _ (d : ℕ) (next : ℕ → Reader Expr) (sound : Sound d next) where
-  binary_takes : (least : ℕ) (all ts : List Symbol) (left : Expr) (o : BinaryOperator) → IsChain d least all (left, ts) → binds least ts ≡ Some o → Holds (λ x. IsChain d least all x × IsLonger (length ts) x) (binary_at next d o left ts)
+  binary_takes : (least : ℕ) (all ts : List Symbol) (left : Expr) (o : BinaryOperator) → IsChain d least all (left, ts) → binds least ts ≡ Some o → Holds (λ x. IsChain d least all x × IsShorter (length ts) x) (binary_at next d o left ts)
   unfolding binary_at
   binary_takes least all [] left o h b = tt
   binary_takes least all (s ∷ ts) left o h b =
@@ -431,7 +431,7 @@ module _ (d : ℕ) (next : ℕ → Reader Expr) (sound : Sound d next) where
       let above = level_above o in
       let under = level_below o in
       let sign_kind = symbol.Punctuator (binary_sign o) in
-      let all_of : Expr × List Symbol → Type 0 = λ x. IsChain d least all x × IsLonger (length (s ∷ ts)) x in
+      let all_of : Expr × List Symbol → Type 0 = λ x. IsChain d least all x × IsShorter (length (s ∷ ts)) x in
       Holds-if all_of (nat_le (expr_depth left) d) _ _
       (λ e. Holds-bind (IsTaken d (level o + 1) ts) all_of (next (level o + 1) ts) _ (sound (level o + 1) ts (omega arith))
       (λ v t. (
@@ -454,7 +454,7 @@ module _ (d : ℕ) (next : ℕ → Reader Expr) (sound : Sound d next) where
   more_takes least (suc m) all ts left le h =
       let all_of : Expr × List Symbol → Type 0 = λ x. IsChain d least all x × (binds least x.1 ≡ None) in
       Holds-on all_of (binds least ts) _ _
-      (λ o b. Holds-bind (λ x. IsChain d least all x × IsLonger (length ts) x) all_of (binary_at next d o left ts) _ (binary_takes least all ts left o h b)
+      (λ o b. Holds-bind (λ x. IsChain d least all x × IsShorter (length ts) x) all_of (binary_at next d o left ts) _ (binary_takes least all ts left o h b)
       (λ x t. more_takes least m all x.1 x.0 (omega (arith, t.1)) t.0))
       (λ b. (h, b))
 

@@ -8,8 +8,6 @@ mod operator;
 mod parsing;
 mod reading;
 mod symbol;
-#[cfg(test)]
-mod tests;
 
 pub use bounds::range;
 pub use node::{Expression, Range, Selection};

@@ -6,8 +6,8 @@ use std::alloc::AllocError;
 /// The bounds of a range: `lsb` is at most `msb`, and `msb` at most 65,535 (5.2.1).
 #[derive(Clone, Copy, Debug)]
 pub struct Range {
-    pub msb: u32,
-    pub lsb: u32,
+    pub msb: u16,
+    pub lsb: u16,
 }
 
 /// What of a named object is meant (5.2.1).

@@ -1,4 +1,4 @@
-ghost use Rattle.std.specs.Prelude.{◌≡◌, ◌+◌, length, Some, IfOk};
+ghost use Rattle.std.specs.Prelude.{◌≡◌, ◌≢◌, ◌+◌, length, Some, IfOk, IfErr};
 ghost use Rattle.vp_parse_expr.specs.declared.reading.Stop.TheVariants.{NoMemory};
 ghost use Rattle.vp_parse_expr.specs.declared.symbol.SymbolKind.TheVariants.{Name};
 ghost use Rattle.vp_parse_expr.specs.Kinds.{same_kind};
@@ -76,9 +76,10 @@ pub fn is_next(expected: SymbolKind, symbols: &[Symbol]) -> bool
 }
 
 /// What follows the symbol that is expected.
-#[tactic(auto, unfolding(crate::specs::Stopping::behind))]
+#[tactic(auto, using(crate::proofs::Told::told_stop), unfolding(crate::specs::Stopping::behind))]
 pub fn skip(expected: SymbolKind, symbols: &[Symbol]) -> Result<&[Symbol], Stop>
     ensures read { Gives (λ rest. rest.now) result (behind expected symbols.now) }
+    ensures told { IfErr result (λ stop. stop ≢ NoMemory) }
     ensures shorter { IfOk result (λ rest. length rest.now + 1 ≡ length symbols.now) }
 {
     match symbols {
@@ -88,9 +89,10 @@ pub fn skip(expected: SymbolKind, symbols: &[Symbol]) -> Result<&[Symbol], Stop>
 }
 
 /// The place of the name that is expected, and what follows.
-#[tactic(auto, unfolding(crate::specs::Stopping::terminal))]
+#[tactic(auto, using(crate::proofs::Told::told_stop), unfolding(crate::specs::Stopping::terminal))]
 pub fn name(symbols: &[Symbol]) -> Result<(u32, &[Symbol]), Stop>
     ensures read { Gives (λ found. (found.0, found.1.now)) result (terminal_at Name symbols.now) }
+    ensures told { IfErr result (λ stop. stop ≢ NoMemory) }
     ensures shorter { IfOk result (λ found. length found.1.now + 1 ≡ length symbols.now) }
 {
     match symbols {
@@ -106,9 +108,10 @@ pub fn name(symbols: &[Symbol]) -> Result<(u32, &[Symbol]), Stop>
 }
 
 /// The place of the symbol that is expected, and what follows.
-#[tactic(auto, unfolding(crate::specs::Stopping::terminal))]
+#[tactic(auto, using(crate::proofs::Told::told_stop), unfolding(crate::specs::Stopping::terminal))]
 pub fn terminal(expected: SymbolKind, symbols: &[Symbol]) -> Result<(u32, &[Symbol]), Stop>
     ensures read { Gives (λ found. (found.0, found.1.now)) result (terminal_at expected symbols.now) }
+    ensures told { IfErr result (λ stop. stop ≢ NoMemory) }
     ensures shorter { IfOk result (λ found. length found.1.now + 1 ≡ length symbols.now) }
 {
     match symbols {

@@ -65,10 +65,10 @@ abbrev step : List ℕ → ℕ → ℕ → Option (List ℕ) → Step
 step name place envelope in_module = record { name = name; place = place; envelope = envelope; in_module = in_module }
 
 abbrev item : List Step → Kind → ℕ → Node
-item path kind line = record { path = path; kind = kind; width = 1; line = line; definition = None }
+item path kind line = record { path = path; kind = kind; width = 1; lowest = None; line = line; definition = None }
 
 abbrev instance : List Step → ℕ → List ℕ → Node
-instance path line definition = record { path = path; kind = Module; width = 1; line = line; definition = Some definition }
+instance path line definition = record { path = path; kind = Module; width = 1; lowest = None; line = line; definition = Some definition }
 
 -- ---- a design with an instance whose module hides a reg, and opens another by a viewport
 

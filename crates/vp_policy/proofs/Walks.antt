@@ -188,7 +188,7 @@ slice_get_some (x ∷ xs) (suc i) d l = slice_get_some xs i d (omega arith)
 -- the names of the scope that is found are those that were asked
 pub names_found : (nodes : List Node) (names : List (List ℕ)) (o : ℕ) → find_named nodes names ≡ Some o → scope_names nodes (Some o) ≡ Some names
 names_found nodes names o h =
-    let blank : Node = record { path = []; kind = kind.Reg; width = 0; line = 0; definition = None } in
+    let blank : Node = record { path = []; kind = kind.Reg; width = 0; lowest = None; line = 0; definition = None } in
     let at = position-Some (λ (n : Node). is_named names n.path) nodes o blank h in
     let there = slice_get_some nodes o blank at.0 in
     ap (option_map (λ (n : Node). names_of n.path)) there

@@ -10,12 +10,11 @@ use Rattle.vp_parse.specs.declared.source.Source.{Source}
 use Rattle.vp_parse.specs.Grammar.{Derivation, IsDerivation}
 use Rattle.vp_parse.specs.Layout.{IsSourceOf}
 use Rattle.vp_parse.specs.Reading.{read}
-use Rattle.vp_parse.specs.Symbols.{symbols_of}
+use Rattle.vp_parse_expr.specs.Symbols.{symbols_of}
 use Rattle.vp_parse.specs.Told.{Tells}
 use Rattle.vp_elab.specs.Built.{Elaborated, design_of}
 use Rattle.vp_elab.specs.Refusals.{refusal_of}
 use Rattle.vp_elab.specs.Refusals as elab
-use Rattle.vp_expr.specs.Checks.{too_wide}
 use Rattle.vp_expr.specs.Checks as expr
 use Rattle.vp_served.specs.declared.fault.ServeFault.{ServeFault}
 use Rattle.vp_served.specs.declared.fault.ServeFault.TheVariants as fault
@@ -34,7 +33,7 @@ HasSource text tokens source =
     (derivation : Derivation) × IsDerivation derivation (symbols_of text tokens) × IsSourceOf text tokens derivation source
 
 -- a text has this design: its tokens have these envelopes and this derivation, whose source is elaborated to the design, and no
--- name and no width is refused
+-- name and no expression is refused
 pub record IsDesignOf (text : List ℕ) (design : Elaborated) : Type 0 where
   pub tokens : List Token
   pub are_tokens : tokens_of text ≡ Ok tokens
@@ -44,10 +43,10 @@ pub record IsDesignOf (text : List ℕ) (design : Elaborated) : Type 0 where
   pub is_source : HasSource text tokens source
   pub names : refusal_of source ≡ None
   pub is_design : design ≡ design_of source envelopes
-  pub widths : too_wide design.source design.source.expressions ≡ None
+  pub expressions : expr.refusal_of design ≡ None
 
 -- a text is refused by a fault: it is too long, or it is the first fault of its tokens, its envelopes, its grammar, its names and
--- its widths, in this order; or memory is lacking
+-- its expressions, in this order; or memory is lacking
 abbrev pub IsRefusedBy : List ℕ → ServeFault → Type 0
 IsRefusedBy text fault.TooLong = text_limit < length text
 IsRefusedBy text (fault.Tokens e) = (e ≡ lex.NoMemory) ⊎ (tokens_of text ≡ Err e)
@@ -61,7 +60,7 @@ IsRefusedBy text (fault.Design e) =
 IsRefusedBy text (fault.Expressions e) =
     (tokens : List Token) × (tokens_of text ≡ Ok tokens) × (envelopes : List Envelope) × (envelopes_of text tokens ≡ Ok envelopes)
     × (source : Source) × HasSource text tokens source × (refusal_of source ≡ None)
-    × expr.Explains (too_wide (design_of source envelopes).source (design_of source envelopes).source.expressions) e
+    × expr.Explains (expr.refusal_of (design_of source envelopes)) e
 IsRefusedBy text fault.NoMemory = Unit {0}
 IsRefusedBy text (fault.Policy e) = ⊥
 IsRefusedBy text (fault.World e) = ⊥

@@ -25,6 +25,13 @@ const POLICY: &str =
 
 const OPEN: &str = "{\"op\":\"open\",\"user\":\"ann\",\"token\":\"t1\"}\n";
 
+/// A script that lets the design run, and reads the first reg behind it.
+const READ: &str = "{\"op\":\"open\",\"user\":\"ann\",\"token\":\"t1\"}
+{\"op\":\"handle\",\"name\":\"top.a\"}
+{\"op\":\"run\",\"until\":0}
+{\"op\":\"value\",\"h\":1}
+";
+
 /// What a run wrote, and the line of the fault that ended it, if one did; nothing for want of memory.
 fn finished(alloc: Global, ran: Result<Ran, ServeFault>, written: &[u8]) -> String {
     let text = match ran {
@@ -284,11 +291,11 @@ fn bad_designs(rt: HostRuntime) {
         ("`pragma protect begin,", "fault 309 line 1"),
         ("module m", "fault 401 line 1"),
         ("module m;\n", "fault 401 line 1"),
-        ("module m;\nreg [3:0] a; endmodule", "fault 401 line 2"),
+        ("module m;\nreg [3:0 a; endmodule", "fault 401 line 2"),
         ("module m; integer i; endmodule", "fault 402 line 1"),
         ("module m; initial $display; endmodule", "fault 402 line 1"),
         (
-            "module m; reg r; initial r = 1'h1; endmodule",
+            "module m; reg r; initial r = 1'sb1; endmodule",
             "fault 402 line 1",
         ),
         ("module m; wire w; endmodule", "fault 402 line 1"),
@@ -297,7 +304,7 @@ fn bad_designs(rt: HostRuntime) {
             "fault 402 line 2",
         ),
         (
-            "module m; reg r; initial r = 0; endmodule",
+            "module m; reg r; initial r = 2147483648; endmodule",
             "fault 402 line 1",
         ),
         (
@@ -312,6 +319,15 @@ fn bad_designs(rt: HostRuntime) {
         (
             "module m; reg r; initial r = 65'b0; endmodule",
             "fault 601 line 1",
+        ),
+        ("module top; reg [64:0] a; endmodule", "fault 601 line 1"),
+        (
+            "module m; reg r; initial r = 3 < 4; endmodule",
+            "fault 602 line 1",
+        ),
+        (
+            "module m; reg [3:0] a; initial a = a[4:1]; endmodule",
+            "fault 603 line 1",
         ),
     ];
     for (design, fault) in rows {
@@ -334,6 +350,123 @@ fn depth(rt: HostRuntime) {
     for (blocks, lines) in [(63, "{\"ok\":true}\n"), (64, "fault 403 line 1")] {
         let text = printed(rt.alloc(), &nested(rt.alloc(), blocks), POLICY, OPEN);
         assert_eq!(rt; text.as_str(), lines);
+    }
+}
+
+/// What a reg of so many bits has behind an assignment of an expression, which the second line assigns.
+fn assigned(alloc: Global, width: u32, expression: &str) -> String {
+    let msb = width.saturating_sub(1);
+    let design = format!(in alloc;
+        "module top; reg [{msb}:0] a; initial\na = {expression}; endmodule"
+    ).unwrap_or(String::new(alloc));
+    printed(alloc, &design, POLICY, READ)
+}
+
+/// The lines behind which a value is read.
+fn value_lines(alloc: Global, digits: &str) -> String {
+    format!(in alloc;
+        "{{\"ok\":true}}\n{{\"h\":1}}\n{{\"ok\":true}}\n{{\"value\":\"{digits}\"}}\n"
+    ).unwrap_or(String::new(alloc))
+}
+
+#[test]
+fn expressions(rt: HostRuntime) {
+    let rows = [
+        (4, "4'b1100 + 4'b0101", "0001"),
+        (5, "4'b1100 + 4'b0101", "10001"),
+        (4, "(4'b1000 + 4'b1000) >> 1", "0000"),
+        (5, "(4'b1000 + 4'b1000) >> 1", "01000"),
+        (8, "8'hx5", "xxxx0101"),
+        (8, "8'bz1", "zzzzzzz1"),
+        (4, "4'd17", "0001"),
+        (4, "1'bx ? 4'b0011 : 4'b0101", "0xx1"),
+        (4, "4'b1001 << 1'bx", "xxxx"),
+        (4, "4'b1001 >> 2'd1", "0100"),
+        (4, "-4'd1", "1111"),
+        (4, "{2{2'b10}}", "1010"),
+        (3, "{2'b1x, 1'bz}", "1xz"),
+        (1, "&3'b0x1", "0"),
+        (1, "|3'b0x1", "1"),
+        (1, "^3'b1x0", "x"),
+        (1, "~&4'b1111", "0"),
+        (1, "4'b0011 < 4'b010x", "x"),
+        (1, "4'b1x00 == 4'b0x00", "0"),
+        (1, "4'b1x00 == 4'b1x00", "x"),
+        (1, "4'b1x00 === 4'b1x00", "1"),
+    ];
+    for (width, expression, digits) in rows {
+        let text = assigned(rt.alloc(), width, expression);
+        let lines = value_lines(rt.alloc(), digits);
+        assert_eq!(rt; text.as_str(), lines.as_str(), "at {expression}");
+    }
+}
+
+#[test]
+fn wide_values(rt: HostRuntime) {
+    let design =
+        "module top; reg [63:0] a, b; initial begin a = 64'hFFFF_FFFF_FFFF_FFFF; a = a + 1; b = a; b[3] = 1'bx; b = b + 1; end endmodule";
+    let second = "{\"op\":\"handle\",\"name\":\"top.b\"}\n{\"op\":\"value\",\"h\":2}\n";
+    let script = joined(rt.alloc(), READ, second);
+    let text = printed(rt.alloc(), design, POLICY, &script);
+    let zeros = copies(rt.alloc(), "0", 64);
+    let unknown = copies(rt.alloc(), "x", 64);
+    let lines = value_lines(rt.alloc(), &zeros);
+    let all = format!(in rt.alloc(); "{lines}{{\"h\":2}}\n{{\"value\":\"{unknown}\"}}\n").unwrap_or(
+        String::new(rt.alloc()),
+    );
+    assert_eq!(rt; text.as_str(), all.as_str());
+}
+
+#[test]
+fn bad_expressions(rt: HostRuntime) {
+    let rows = [
+        ("", "401"),
+        ("a +", "401"),
+        ("(a", "401"),
+        ("a[1", "401"),
+        ("a ? a", "401"),
+        ("{}", "401"),
+        ("a[1 +: 2]", "402"),
+        ("a[1 -: 2]", "402"),
+        ("a / 2", "402"),
+        ("a + $time", "402"),
+        ("4'sb1", "402"),
+        ("4'dx", "402"),
+        ("'b1x", "402"),
+        ("'h1_0000_0000", "402"),
+        ("65536'b1", "402"),
+        ("a[4:7]", "402"),
+        ("a[65536:0]", "402"),
+        ("{a, 1}", "402"),
+        ("{'b1}", "402"),
+        ("{2147483648{a}}", "402"),
+        ("{60'b0, 5'b0}", "601"),
+        ("a[70:3]", "601"),
+        ("1 >= 0", "602"),
+        ("a[5:4]", "603"),
+        ("{0{a}}", "603"),
+    ];
+    for (expression, code) in rows {
+        let text = assigned(rt.alloc(), 5, expression);
+        let fault = format!(in rt.alloc(); "fault {code} line 2").unwrap_or(String::new(
+            rt.alloc(),
+        ));
+        assert_eq!(rt; text.as_str(), fault.as_str(), "at {expression}");
+    }
+}
+
+#[test]
+fn terms(rt: HostRuntime) {
+    for (operators, code) in [(63, ""), (64, "fault 403 line 2")] {
+        let terms = copies(rt.alloc(), "1 + ", operators);
+        let expression = joined(rt.alloc(), &terms, "1");
+        let text = assigned(rt.alloc(), 7, &expression);
+        let lines = if code.is_empty() {
+            value_lines(rt.alloc(), "1000000")
+        } else {
+            copies(rt.alloc(), code, 1)
+        };
+        assert_eq!(rt; text.as_str(), lines.as_str());
     }
 }
 

@@ -6,13 +6,16 @@ use Rattle.std.proofs.Math.Utf8.{encode}
 use Rattle.vp_bits.specs.declared.bit.Bit.TheVariants.{One}
 use Rattle.vp_lex.specs.declared.token.Token.{Token}
 use Rattle.vp_lex.specs.declared.token.TokenKind.TheVariants.{Name}
-use Rattle.vp_parse.specs.declared.source.Expression.TheVariants as expression
+use Rattle.vp_parse_expr.specs.declared.node.Expression.TheVariants as expression
+use Rattle.vp_parse_expr.specs.declared.node.Selection.TheVariants as selection
 use Rattle.vp_parse.specs.declared.source.Statement.TheVariants as statement
 use Rattle.vp_parse.specs.declared.source.Item.TheVariants as item
 use Rattle.vp_elab.specs.declared.object.Kind.{Kind}
 use Rattle.vp_elab.specs.declared.object.Kind.TheVariants.{Module, Reg, Initial}
 use Rattle.vp_elab.specs.Built.{Elaborated}
 use Rattle.vp_elab.specs.Tree.{Node}
+use Rattle.vp_expr.specs.Arena.{sizes_in}
+use Rattle.vp_expr.specs.Tables.{tables_of}
 use Rattle.vp_sim.specs.declared.change.Change.{Change}
 use Rattle.vp_sim.specs.declared.fault.SimError.{SimError}
 use Rattle.vp_sim.specs.declared.fault.SimError.TheVariants.{Idle, SlotNotDone, NoSuchChoice}
@@ -31,6 +34,7 @@ object name kind = record {
       ∷ [];
   kind = kind;
   width = 1;
+  lowest = None;
   line = 1;
   definition = None;
 }
@@ -41,12 +45,12 @@ design = record {
     text = codes "a b 'b1";
     tokens = word 0 1 ∷ word 2 3 ∷ word 4 7 ∷ [];
     modules = [];
-    items = item.Reg 0 ∷ item.Reg 1 ∷ item.Initial 9 6 ∷ [];
+    items = item.Reg 0 None ∷ item.Reg 1 None ∷ item.Initial 9 6 ∷ [];
     statements =
-        statement.Empty ∷ statement.Assign 0 0 ∷ statement.Then 0 1
+        statement.Empty ∷ statement.Assign 0 selection.Whole 0 ∷ statement.Then 0 1
         ∷ statement.Empty ∷ statement.Then 2 3
-        ∷ statement.Assign 1 1 ∷ statement.Then 4 5 ∷ [];
-    expressions = expression.Literal 9 1 2 ∷ expression.Name 0 ∷ [];
+        ∷ statement.Assign 1 selection.Whole 1 ∷ statement.Then 4 5 ∷ [];
+    expressions = expression.Literal 9 1 2 ∷ expression.Name 0 selection.Whole ∷ [];
   };
   tree = record {
     nodes =
@@ -54,6 +58,7 @@ design = record {
           path = record { name = codes "top"; place = 0; envelope = 0; in_module = None } ∷ [];
           kind = Module;
           width = 1;
+          lowest = None;
           line = 1;
           definition = Some (codes "top");
         }
@@ -84,37 +89,37 @@ advanced (Goes s change) = advance s
 
 -- the first assignment, by the process that is object 3
 first_step : told (behind (0 ∷ [])) ≡ Ok (Some (record { object = record { 0 = 1 }; value = One ∷ [] }))
-unfolding is_utf8 chars encode
+unfolding is_utf8 chars encode sizes_in tables_of
 first_step = refl
 
 first_source : source_of (start design) 0 ≡ record { 0 = 3 }
-unfolding is_utf8 chars encode
+unfolding is_utf8 chars encode sizes_in tables_of
 first_source = refl
 
 -- the empty block is an event that changes nothing
 second_step : told (behind (0 ∷ 0 ∷ [])) ≡ Ok None
-unfolding is_utf8 chars encode
+unfolding is_utf8 chars encode sizes_in tables_of
 second_step = refl
 
 -- the second assignment reads what the first one wrote
 third_step : told (behind (0 ∷ 0 ∷ 0 ∷ [])) ≡ Ok (Some (record { object = record { 0 = 2 }; value = One ∷ [] }))
-unfolding is_utf8 chars encode
+unfolding is_utf8 chars encode sizes_in tables_of
 third_step = refl
 
 -- then nothing is left, and there is no future event
 fourth_step : told (behind (0 ∷ 0 ∷ 0 ∷ 0 ∷ [])) ≡ Err Idle
-unfolding is_utf8 chars encode
+unfolding is_utf8 chars encode sizes_in tables_of
 fourth_step = refl
 
 advance_at_the_end : told (advanced (behind (0 ∷ 0 ∷ 0 ∷ []))) ≡ Err Idle
-unfolding is_utf8 chars encode
+unfolding is_utf8 chars encode sizes_in tables_of
 advance_at_the_end = refl
 
 -- one process has one event
 no_such_choice : told (behind (1 ∷ [])) ≡ Err NoSuchChoice
-unfolding is_utf8 chars encode
+unfolding is_utf8 chars encode sizes_in tables_of
 no_such_choice = refl
 
 advance_too_early : told (advanced (behind (0 ∷ []))) ≡ Err SlotNotDone
-unfolding is_utf8 chars encode
+unfolding is_utf8 chars encode sizes_in tables_of
 advance_too_early = refl

@@ -9,7 +9,7 @@ use Rattle.vp_elab.specs.Built.{Elaborated}
 use Rattle.vp_elab.specs.Tree.{below}
 use Rattle.vp_expr.specs.declared.tables.Action.{Action}
 use Rattle.vp_expr.specs.declared.tables.Action.TheVariants.{Nothing, Then, Assign}
-use Rattle.vp_expr.specs.Evaluation.{eval}
+use Rattle.vp_expr.specs.Evaluation.{eval, given_to, object_of}
 use Rattle.vp_expr.specs.Tables.{tables_of}
 use Rattle.vp_expr.specs.Values.{start_of}
 use Rattle.vp_sim.specs.declared.change.Change.{Change}
@@ -56,8 +56,9 @@ values_behind values (Some change) = slice_set values change.object.0 change.val
 abbrev pub changed_by : State → Action → Option Change
 changed_by s Nothing = None
 changed_by s (Then list last) = None
-changed_by s (Assign target value) =
-    change_of target.0 (slice_get s.values target.0) (eval (tables_of s.design).operands s.values value)
+changed_by s (Assign t value) =
+    change_of (object_of t) (slice_get s.values (object_of t))
+    (given_to (tables_of s.design) s.values t (eval (tables_of s.design) s.values value))
 
 -- ---- steps
 

@@ -16,7 +16,7 @@ use std::marker::Model;
 use std::sync::Arc;
 use vp_bits::Bits;
 use vp_elab::{Design, ObjectId};
-use vp_expr::{Action, Checked, Values, eval};
+use vp_expr::{Action, Checked, Values, eval, given_to};
 
 /// A simulation of a design (IEEE Std 1364-2005, 11.3; docs/FORMATS.md, "Simulation"). A contract sees its state.
 #[derive(Drop)]
@@ -263,8 +263,10 @@ impl Sim {
         let Action::Assign { target, value } = action else {
             return None;
         };
-        let value = eval(self.checked.tables(), &self.values, value);
-        change_of(target, self.values.find(target), value)
+        let value = eval(&self.checked, &self.values, value);
+        let value = given_to(&self.checked, &self.values, target, value);
+        let object = target.object();
+        change_of(object, self.values.find(object), value)
     }
 
     /// What the first event of a statement changes.

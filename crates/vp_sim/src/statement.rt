@@ -68,11 +68,10 @@ pub fn push_left_behind(
 {
     let mut here = place;
     'begin: for _turn in 0..actions.len() {
-        let action = action_at(actions, here);
-        let Some(part) = first_part(actions, action) else {
+        let Some(part) = first_part(actions, action_at(actions, here)) else {
             return Ok(());
         };
-        if let Some(other) = other_part(actions, action) {
+        if let Some(other) = other_part(actions, action_at(actions, here)) {
             stack.push(other)?;
         }
         here = part;

@@ -9,12 +9,15 @@ use Rattle.vp_pragma.specs.Rights.{nothing, with_right}
 use Rattle.vp_lex.specs.declared.token.Token.{Token}
 use Rattle.vp_lex.specs.declared.token.TokenKind.TheVariants.{Name}
 use Rattle.vp_parse.specs.declared.source.Source.{Source}
-use Rattle.vp_parse.specs.declared.source.Expression.TheVariants as expression
+use Rattle.vp_parse_expr.specs.declared.node.Expression.TheVariants as expression
+use Rattle.vp_parse_expr.specs.declared.node.Selection.TheVariants as selection
 use Rattle.vp_parse.specs.declared.source.Statement.TheVariants as statement
 use Rattle.vp_parse.specs.declared.source.Item.TheVariants as item
 use Rattle.vp_elab.specs.declared.object.Kind.{Kind}
 use Rattle.vp_elab.specs.declared.object.Kind.TheVariants.{Module, Reg, Initial}
 use Rattle.vp_elab.specs.Tree.{Node, Tree}
+use Rattle.vp_expr.specs.Arena.{sizes_in}
+use Rattle.vp_expr.specs.Tables.{tables_of}
 use Rattle.vp_policy.specs.declared.denial.By.TheVariants as by
 use Rattle.vp_policy.specs.Users.{Member}
 use Rattle.vp_world.specs.declared.event.SessionId.{SessionId}
@@ -41,6 +44,7 @@ object name place envelope kind = record {
       ∷ [];
   kind = kind;
   width = 1;
+  lowest = None;
   line = 2;
   definition = None;
 }
@@ -52,6 +56,7 @@ tree = record {
         path = record { name = codes "top"; place = 1; envelope = 0; in_module = None } ∷ [];
         kind = Module;
         width = 1;
+        lowest = None;
         line = 1;
         definition = Some (codes "top");
       }
@@ -72,10 +77,10 @@ source = record {
   text = codes "a k 'b1";
   tokens = word 0 1 ∷ word 2 3 ∷ word 4 7 ∷ [];
   modules = [];
-  items = item.Reg 0 ∷ item.Reg 1 ∷ item.Initial 9 4 ∷ [];
+  items = item.Reg 0 None ∷ item.Reg 1 None ∷ item.Initial 9 4 ∷ [];
   statements =
-      statement.Empty ∷ statement.Assign 0 0 ∷ statement.Then 0 1 ∷ statement.Assign 1 1 ∷ statement.Then 2 3 ∷ [];
-  expressions = expression.Literal 9 1 2 ∷ expression.Name 0 ∷ [];
+      statement.Empty ∷ statement.Assign 0 selection.Whole 0 ∷ statement.Then 0 1 ∷ statement.Assign 1 selection.Whole 1 ∷ statement.Then 2 3 ∷ [];
+  expressions = expression.Literal 9 1 2 ∷ expression.Name 0 selection.Whole ∷ [];
 }
 
 abbrev ann : Member
@@ -140,7 +145,7 @@ value_read : answered (opens ∷ asks (codes "top.a") ∷ []) (reads 1) ≡ repl
 value_read = refl
 
 value_behind_a_step : answered (opens ∷ asks (codes "top.a") ∷ runs ∷ steps 0 ∷ []) (reads 1) ≡ reply.Value (One ∷ [])
-unfolding is_utf8 chars encode
+unfolding is_utf8 chars encode sizes_in tables_of
 value_behind_a_step = refl
 
 time_read : answered (opens ∷ []) (event.Ask first request.Time) ≡ reply.Time 0 false
@@ -186,15 +191,15 @@ advance_before_a_run : refused (opens ∷ []) event.Advance ≡ Some error.Beyon
 advance_before_a_run = refl
 
 no_such_choice : refused (opens ∷ runs ∷ []) (steps 1) ≡ Some (error.Sim sim.NoSuchChoice)
-unfolding is_utf8 chars encode
+unfolding is_utf8 chars encode sizes_in tables_of
 no_such_choice = refl
 
 idle : refused (opens ∷ runs ∷ steps 0 ∷ steps 0 ∷ []) (steps 0) ≡ Some (error.Sim sim.Idle)
-unfolding is_utf8 chars encode
+unfolding is_utf8 chars encode sizes_in tables_of
 idle = refl
 
 no_future : refused (opens ∷ runs ∷ steps 0 ∷ steps 0 ∷ []) event.Advance ≡ Some (error.Sim sim.Idle)
-unfolding is_utf8 chars encode
+unfolding is_utf8 chars encode sizes_in tables_of
 no_future = refl
 
 -- a full log is told before the goal, and behind a session that is not open
@@ -213,5 +218,5 @@ legal :
     (entry opens (reply.Opened first) None ∷ entry (asks (codes "top.k")) hidden None ∷ entry runs reply.Done None
     ∷ entry (steps 0) reply.Done (Some (record { object = record { 0 = 1 }; value = One ∷ [] }))
     ∷ entry (event.Close first) reply.Done None ∷ [])
-unfolding is_utf8 chars encode
+unfolding is_utf8 chars encode sizes_in tables_of
 legal = (refl, refl, (refl, refl, (refl, refl, (refl, refl, (refl, refl, tt)))))

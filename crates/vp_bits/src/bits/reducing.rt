@@ -1,5 +1,5 @@
 ghost use Rattle.std.specs.Prelude.{◌≡◌};
-ghost use Rattle.vp_bits.specs.Tables.{and_of_all, or_of_all, xor_of_all};
+ghost use Rattle.vp_bits.specs.Tables.{and_of_all, or_of_all, truth, xor_of_all};
 
 use super::{ones, without};
 use crate::{Bit, Bits};
@@ -31,6 +31,14 @@ impl Bits {
             return Bits::of_bit(Bit::Unknown);
         }
         Bits::of_bit(Bit::Zero)
+    }
+
+    /// The truth of a vector: 1 where a bit is 1, 0 where all bits are 0, and else x (IEEE Std 1364-2005,
+    /// 5.1.9, with a bit that is 1 first).
+    pub fn truth(self) -> Bit
+        ensures { result ≡ truth self }
+    {
+        self.reduce_or().bit(0)
     }
 
     /// The reduction `^`, as a vector of one bit: the exclusive or of 0 and all bits (IEEE Std

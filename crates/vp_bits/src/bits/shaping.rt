@@ -43,8 +43,8 @@ impl Bits {
         }
     }
 
-    // The number of a vector whose bits are all known.
-    fn number(self) -> Option<u64>
+    /// The number of a vector, as an unsigned one; none where a bit is x or z (IEEE Std 1364-2005, 4.3.1).
+    pub fn number(self) -> Option<u64>
         ensures { result ≡ number_of self }
     {
         if self.bval != 0 {

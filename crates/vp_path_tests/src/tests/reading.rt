@@ -7,7 +7,7 @@ use vp_elab::{Design, Kind, Object, ObjectId};
 use vp_json::{number, read};
 use vp_lex::{Keyword, Punctuator, Token, TokenKind, tokens};
 use vp_list::Text;
-use vp_parse::{Expression, Item};
+use vp_parse::{Expression, Item, Selection};
 use vp_policy::UserId;
 
 #[test]
@@ -63,34 +63,72 @@ fn pragma_envelopes(rt: HostRuntime) {
     assert_eq!(rt; envelopes.of(19), 0);
 }
 
+/// The name of an item that is a scalar reg.
+fn scalar(item: Item) -> Option<u32> {
+    match item {
+        Item::Reg { name, range: None } => Some(name),
+        _ => None,
+    }
+}
+
+/// The statement of an item that is an `initial`.
+fn body(item: Item) -> Option<u32> {
+    match item {
+        Item::Initial { body, .. } => Some(body),
+        Item::Reg { .. } => None,
+    }
+}
+
 #[test]
 fn parse_items(rt: HostRuntime) {
     let source = source(rt.alloc()).expect(&rt, "a source");
-    let items = [
-        Item::Reg { name: 4 },
-        Item::Reg { name: 14 },
-        Item::Initial {
-            keyword: 19,
-            body: 4,
-        },
-    ];
     assert_eq!(rt; source.modules.len(), 1);
-    assert_eq!(rt; source.items.as_slice(), items.as_slice());
+    assert_eq!(rt;
+        source.items.as_slice().get(0).copied().and_then(scalar),
+        Some(4)
+    );
+    assert_eq!(rt;
+        source.items.as_slice().get(1).copied().and_then(scalar),
+        Some(14)
+    );
+    assert_eq!(rt;
+        source.items.as_slice().get(2).copied().and_then(body),
+        Some(4)
+    );
+    assert_eq!(rt; source.items.len(), 3);
     assert_eq!(rt; source.statements.len(), 5);
+}
+
+/// The token of the digits of an expression that is a literal of one bit.
+fn digits(expression: Expression) -> Option<u32> {
+    match expression {
+        Expression::Literal {
+            size: 1,
+            digits,
+            ..
+        } => Some(digits),
+        _ => None,
+    }
+}
+
+/// The token of an expression that is a whole name.
+fn whole(expression: Expression) -> Option<u32> {
+    match expression {
+        Expression::Name {
+            name,
+            selection: Selection::Whole,
+        } => Some(name),
+        _ => None,
+    }
 }
 
 #[test]
 fn parse_expressions(rt: HostRuntime) {
     let source = source(rt.alloc()).expect(&rt, "a source");
-    let expressions = [
-        Expression::Literal {
-            place: 23,
-            size: 1,
-            digits: 24,
-        },
-        Expression::Name(28),
-    ];
-    assert_eq!(rt; source.expressions.as_slice(), expressions.as_slice());
+    let expressions = source.expressions.as_slice();
+    assert_eq!(rt; expressions.get(0).copied().and_then(digits), Some(24));
+    assert_eq!(rt; expressions.get(1).copied().and_then(whole), Some(28));
+    assert_eq!(rt; expressions.len(), 2);
     assert_eq!(rt; source.word(14), "k");
     assert_eq!(rt; source.line(14), 4);
 }

@@ -20,7 +20,7 @@ abbrev pub invariant-list-loop-arena : goal.invariant-list-loop-arena
 invariant-list-loop-arena l = record {
   lighter : weight l.arena l.rest ≤ weight l.initial.arena l.initial.rest;
   no_longer : length l.rest ≤ length l.symbols;
-  goes_on : ChainGoesOn (stmt_into l.depth) l.so_far (lists_in l.arena) l.rest (stmts_into (stmt_into l.depth) (lists_in l.fn.arena) l.symbols);
+  goes_on : ChainGoesOn (stmt_into l.limit l.depth) l.so_far (lists_in l.arena) l.rest (stmts_into (stmt_into l.limit l.depth) (lists_in l.fn.arena) l.symbols);
 }
 
 abbrev pub decreases-list-loop-arena : goal.decreases-list-loop-arena

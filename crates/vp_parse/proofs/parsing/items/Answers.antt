@@ -7,15 +7,15 @@ use Rattle.vp_parse.proofs.parsing.items.Goals as goal
 pub returns-in_err-rest-clause-read : goal.returns-in_err-rest-clause-read
 returns-in_err-rest-clause-read c =
     let p = err_from_is_err_and c.from_residual.result c.from_residual.ensures.1 in
-    rw (p.1, p.2) (item_fails (stmt_into c.args.depth) (lists_in c.loop-arena.arena) c.loop-arena.rest.now _ c.in_err-rest.field-0.0 (sym c.is_next.ensures ∙ c.loop-arena-test.true) c.in_err-rest.ensures.read c.loop-arena.invariant.goes_on)
+    rw (p.1, p.2) (item_fails (stmt_into c.args.limit c.args.limit) (lists_in c.loop-arena.arena) c.loop-arena.rest.now _ c.in_err-rest.field-0.0 (sym c.is_next.ensures ∙ c.loop-arena-test.true) c.in_err-rest.ensures.read c.loop-arena.invariant.goes_on)
 
 pub loop-arena-preserved : goal.loop-arena-preserved
 loop-arena-preserved c =
     let e : Kept = (lists_in c.item.new.arena, c.in_ok-rest.rest.now) in
     record {
       lighter = omega (arith, c.in_ok-rest.ensures.lighter);
-      goes_on = item_turn (stmt_into c.args.depth) (lists_in c.loop-arena.arena) c.loop-arena.rest.now _ e (sym c.is_next.ensures ∙ c.loop-arena-test.true) c.in_ok-rest.ensures.read c.in_ok-rest.ensures.shorter c.loop-arena.invariant.goes_on;
+      goes_on = item_turn (stmt_into c.args.limit c.args.limit) (lists_in c.loop-arena.arena) c.loop-arena.rest.now _ e (sym c.is_next.ensures ∙ c.loop-arena-test.true) c.in_ok-rest.ensures.read c.in_ok-rest.ensures.shorter c.loop-arena.invariant.goes_on;
     }
 
 pub returns-clause-read : goal.returns-clause-read
-returns-clause-read c = items_done (stmt_into c.args.depth) (lists_in c.loop-arena.arena) c.loop-arena.rest.now _ (sym c.is_next.ensures ∙ c.loop-arena-test.false) c.loop-arena.invariant.goes_on
+returns-clause-read c = items_done (stmt_into c.args.limit c.args.limit) (lists_in c.loop-arena.arena) c.loop-arena.rest.now _ (sym c.is_next.ensures ∙ c.loop-arena-test.false) c.loop-arena.invariant.goes_on

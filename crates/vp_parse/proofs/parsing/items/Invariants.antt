@@ -7,7 +7,7 @@ use Rattle.vp_parse.proofs.parsing.items.Given as goal
 abbrev pub invariant-loop-arena : goal.invariant-loop-arena
 invariant-loop-arena l = record {
   lighter : weight l.arena l.rest ≤ weight l.initial.arena l.symbols;
-  goes_on : ItemsGoOn (stmt_into l.depth) (lists_in l.arena) l.rest (items_into (stmt_into l.depth) (length l.symbols) (lists_in l.initial.arena) l.symbols);
+  goes_on : ItemsGoOn (stmt_into l.limit l.limit) (lists_in l.arena) l.rest (items_into (stmt_into l.limit l.limit) (length l.symbols) (lists_in l.initial.arena) l.symbols);
 }
 
 abbrev pub decreases-loop-arena : goal.decreases-loop-arena

@@ -1,4 +1,4 @@
-use Rattle.vp_parse.specs.Symbols.{symbols_of}
+use Rattle.vp_parse_expr.specs.Symbols.{symbols_of}
 use Rattle.vp_parse.specs.Reading.{read}
 use Rattle.vp_parse.specs.Placing.{lists_in}
 use Rattle.vp_parse.proofs.Found.{stops_alike, tells_none, found_by}

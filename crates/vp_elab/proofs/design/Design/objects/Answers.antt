@@ -5,7 +5,7 @@ use Rattle.vp_elab.specs.declared.design.Objects.{Objects}
 use Rattle.vp_elab.specs.Tree.{Node}
 use Rattle.vp_elab.specs.Built.{Elaborated}
 use Rattle.vp_elab.specs.Objects.{AreObjects, module_name_at}
-use Rattle.vp_elab.proofs.Preorder.{all_nodes, kinds_same, objects_stand, scopes_same, widths_fit, widths_same}
+use Rattle.vp_elab.proofs.Preorder.{all_nodes, kinds_same, lowest_same, objects_stand, scopes_same, widths_same, widths_some}
 use Rattle.vp_elab.proofs.design.Design.objects.Goals as goal
 
 pub returns-clause-nodes : goal.returns-clause-nodes
@@ -31,7 +31,12 @@ returns-clause-scopes c =
     ∙ ap (map (λ (o : Object). module_name_at c.self.inside.source o.scope)) (c.as_slice.ensures ∙ ap (λ (o : Objects). o.all) c.self.invariant.flat)
     ∙ scopes_same c.self.inside.source c.self.inside.envelopes ∙ ap (λ (d : Elaborated). map (λ (n : Node). n.definition) d.tree.nodes) c.self.view_is
 
-pub returns-clause-fit : goal.returns-clause-fit
-returns-clause-fit c =
-    subst (All (λ (o : Object). (1 ≤ o.width) × (o.width ≤ 64))) (sym (c.as_slice.ensures ∙ ap (λ (o : Objects). o.all) c.self.invariant.flat))
-    (widths_fit c.self.inside.source c.self.inside.envelopes)
+pub returns-clause-vectors : goal.returns-clause-vectors
+returns-clause-vectors c =
+    ap (map (λ (o : Object). o.lowest)) (c.as_slice.ensures ∙ ap (λ (o : Objects). o.all) c.self.invariant.flat)
+    ∙ lowest_same c.self.inside.source c.self.inside.envelopes ∙ ap (λ (d : Elaborated). map (λ (n : Node). n.lowest) d.tree.nodes) c.self.view_is
+
+pub returns-clause-some : goal.returns-clause-some
+returns-clause-some c =
+    subst (All (λ (o : Object). 1 ≤ o.width)) (sym (c.as_slice.ensures ∙ ap (λ (o : Objects). o.all) c.self.invariant.flat))
+    (widths_some c.self.inside.source c.self.inside.envelopes)

@@ -2,9 +2,7 @@ use Rattle.std.proofs.Common.{◌∙◌, ap, List, map, replicate, arith}
 use Rattle.std.proofs.lemmas.List.{take_all}
 use Rattle.vp_bits.specs.declared.bit.Bit.TheVariants.{Unknown}
 use Rattle.vp_elab.specs.declared.object.Object.{Object}
-use Rattle.vp_elab.specs.Built.{Elaborated}
 use Rattle.vp_expr.specs.Start.{start_value}
-use Rattle.vp_expr.specs.Values.{start_of}
 use Rattle.vp_expr.proofs.Starts.{starts_same}
 use Rattle.vp_expr.proofs.values.Values.new.Goals as goal
 
@@ -13,5 +11,4 @@ returns-clause-values c =
     let os : List Object = c.objects-object-items.result.now in
     let start = λ (o : Object). start_value o.kind o.width (replicate o.width Unknown) in
     c.loop-object.invariant ∙ ap (map start) (take_all c.loop-object.object-index os (omega arith))
-    ∙ starts_same os c.design.result.now.tree.nodes c.objects-object-items.ensures.kinds c.objects-object-items.ensures.widths
-    ∙ ap (λ (d : Elaborated). map start_of d.tree.nodes) c.design.ensures
+    ∙ starts_same os c.args.checked.now.tree.nodes c.objects-object-items.ensures.kinds c.objects-object-items.ensures.widths

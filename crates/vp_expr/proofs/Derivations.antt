@@ -1,0 +1,222 @@
+-- The terms of the parts of a derivation that is laid out in a list are those of the derivation.
+use Rattle.std.proofs.Common.{◌≡◌, ◌∙◌, ℕ, ◌<◌, Bool, true, false, cond, List, [], ◌∷◌, ◌++◌, length, map, Option, Some, None, refl, sym, ap, append_assoc, arith}
+use Rattle.std.proofs.lemmas.List.{get_or_append_left, get_or_push, length-map, length_push, map-append, append-nil}
+use Rattle.std.proofs.lemmas.List.Sums.{fold-append}
+use Rattle.vp_bits.specs.declared.bit.Bit as bits
+use Rattle.vp_parse_expr.specs.declared.node.Expression as node
+use Rattle.vp_parse_expr.specs.declared.node.Expression.TheVariants as node_of
+use Rattle.vp_parse_expr.specs.declared.node.Selection as selection
+use Rattle.vp_parse_expr.specs.declared.node.Selection.TheVariants as selected_as
+use Rattle.vp_parse_expr.specs.declared.operator.UnaryOperator.{UnaryOperator}
+use Rattle.vp_parse_expr.specs.declared.operator.UnaryOperator.TheVariants as before
+use Rattle.vp_parse_expr.specs.Grammar.{Range, Expr, Name, Sized, Based, Number, Group, Unary, Binary, Conditional, Concatenation, Replication, Selection, Whole, Bit, Part, Parts, First, More}
+use Rattle.vp_parse_expr.specs.Layout.{put_expr, put_parts, put_range, put_selection, with_node}
+use Rattle.vp_elab.specs.Built.{Elaborated}
+use Rattle.vp_elab.specs.Elaboration.{range_width}
+use Rattle.vp_expr.specs.declared.operand.Infix.{Infix}
+use Rattle.vp_expr.specs.declared.operand.Infix.TheVariants as pair
+use Rattle.vp_expr.specs.declared.operand.Reduction.TheVariants as reduction
+use Rattle.vp_expr.specs.declared.operand.Unary.TheVariants as unary
+use Rattle.vp_expr.specs.declared.operand.Operand.{Operand}
+use Rattle.vp_expr.specs.declared.operand.Operand.TheVariants as operand
+use Rattle.vp_expr.specs.Arena.{blank, is_width, part_in, term_at, term_from, terms_of, value_in, width_in, with_term}
+use Rattle.vp_expr.specs.Derived.{StandsAt, derived_value, expr_term, named_term, parts_term}
+use Rattle.vp_expr.specs.Tables.{infix_of, lowest_in, named_operand, object_named, operand_of, operands_of, tables_of, unary_operand, widths_of}
+use Rattle.vp_expr.specs.Terms as term
+use Rattle.vp_expr.specs.Terms.{Term, value}
+use Rattle.vp_expr.specs.Evaluation.{eval}
+use Rattle.vp_expr.specs.Ids as ids
+use Rattle.vp_expr.proofs.Arenas.{grows_at, length-terms}
+
+-- the terms of expressions in a list
+abbrev terms_in : Elaborated → List node.Expression → List Term
+terms_in d nodes = terms_of (map (operand_of d) nodes)
+
+terms_more : (d : Elaborated) (nodes : List node.Expression) (n : node.Expression) → terms_in d (nodes ++ n ∷ []) ≡ terms_in d nodes ++ term_from (terms_in d nodes) (operand_of d n) ∷ []
+terms_more d nodes n =
+    ap terms_of (map-append (operand_of d) nodes (n ∷ []))
+    ∙ fold-append with_term [] (map (operand_of d) nodes) (operand_of d n ∷ [])
+
+count : (d : Elaborated) (nodes : List node.Expression) → length (terms_in d nodes) ≡ length nodes
+count d nodes = omega (arith, length-terms [] (map (operand_of d) nodes), length-map nodes (operand_of d))
+
+-- a term stands at a place of a list that grew from another
+record Stands (d : Elaborated) (first : List node.Expression) (x : ℕ × List node.Expression) (t : Term) : Type 0 where
+  more : List Term
+  grown : terms_in d x.1 ≡ terms_in d first ++ more
+  inside : x.0 < length (terms_in d x.1)
+  is : part_in (terms_in d x.1) x.0 ≡ t
+
+-- and still stands there when the list has grown
+later : (ts more all : List Term) (place : ℕ) (t : Term) → all ≡ ts ++ more → place < length ts → part_in ts place ≡ t → part_in all place ≡ t
+later ts more all place t grown inside is =
+    ap (λ (l : List Term). part_in l place) grown ∙ get_or_append_left ts more blank place inside ∙ is
+
+grown_twice : (a b c x y : List Term) → b ≡ a ++ x → c ≡ b ++ y → c ≡ a ++ (x ++ y)
+grown_twice a b c x y h k = k ∙ ap (λ (l : List Term). l ++ y) h ∙ append_assoc a x y
+
+-- one more part, made of those before it
+placed : (d : Elaborated) (first nodes : List node.Expression) (more : List Term) (n : node.Expression) (t : Term) → terms_in d nodes ≡ terms_in d first ++ more → term_from (terms_in d nodes) (operand_of d n) ≡ t → Stands d first (with_node n nodes) t
+placed d first nodes more n t grown is =
+    let u = term_from (terms_in d nodes) (operand_of d n) in
+    let one = terms_more d nodes n in
+    record {
+      more = more ++ u ∷ [];
+      grown = grown_twice (terms_in d first) (terms_in d nodes) (terms_in d (nodes ++ n ∷ [])) more (u ∷ []) grown one;
+      inside = omega (arith, count d (nodes ++ n ∷ []), length_push nodes n);
+      is =
+          ap (λ (l : List Term). part_in l (length nodes)) one
+          ∙ get_or_push (terms_in d nodes) u blank (length nodes) (count d nodes)
+          ∙ is;
+    }
+
+-- a leaf
+leaf : (d : Elaborated) (nodes : List node.Expression) (n : node.Expression) (t : Term) → term_from (terms_in d nodes) (operand_of d n) ≡ t → Stands d nodes (with_node n nodes) t
+leaf d nodes n t is = placed d nodes nodes [] n t (sym (append-nil (terms_in d nodes))) is
+
+-- ---- operators
+
+unary_made : (o : UnaryOperator) (ts : List Term) (place : ℕ) (t : Term) → part_in ts place ≡ t → term_from ts (unary_operand o place) ≡ term_from (t ∷ []) (unary_operand o 0)
+unary_made before.Plus ts place t h = ap (term.Applied unary.Plus) h
+unary_made before.Minus ts place t h = ap (term.Applied unary.Minus) h
+unary_made before.Negation ts place t h = ap (term.Applied unary.Negation) h
+unary_made before.LogicalNegation ts place t h = ap (term.Reduced reduction.LogicalNegation) h
+unary_made before.ReductionAnd ts place t h = ap (term.Reduced reduction.And) h
+unary_made before.ReductionNand ts place t h = ap (term.Reduced reduction.Nand) h
+unary_made before.ReductionOr ts place t h = ap (term.Reduced reduction.Or) h
+unary_made before.ReductionNor ts place t h = ap (term.Reduced reduction.Nor) h
+unary_made before.ReductionXor ts place t h = ap (term.Reduced reduction.Xor) h
+unary_made before.ReductionXnor ts place t h = ap (term.Reduced reduction.Xnor) h
+
+pair_made : (i : Infix) (ts : List Term) (p q : ℕ) (a b : Term) → part_in ts p ≡ a → part_in ts q ≡ b → term_from ts (operand.Paired i p q) ≡ term_from (a ∷ b ∷ []) (operand.Paired i 0 1)
+pair_made (pair.Combined o) ts p q a b h k = ap (λ (x : Term). term.Combined o x (part_in ts q)) h ∙ ap (term.Combined o a) k
+pair_made (pair.Shifted o) ts p q a b h k = ap (λ (x : Term). term.Shifted o x (part_in ts q)) h ∙ ap (term.Shifted o a) k
+pair_made (pair.Compared o) ts p q a b h k = ap (λ (x : Term). term.Compared o x (part_in ts q)) h ∙ ap (term.Compared o a) k
+pair_made (pair.Joined o) ts p q a b h k = ap (λ (x : Term). term.Joined o x (part_in ts q)) h ∙ ap (term.Joined o a) k
+
+choice_made : (ts : List Term) (p q r : ℕ) (c a b : Term) → part_in ts p ≡ c → part_in ts q ≡ a → part_in ts r ≡ b → term_from ts (operand.Conditional p q r) ≡ term.Conditional c a b
+choice_made ts p q r c a b h k l =
+    ap (λ (x : Term). term.Conditional x (part_in ts q) (part_in ts r)) h
+    ∙ ap (λ (x : Term). term.Conditional c x (part_in ts r)) k
+    ∙ ap (term.Conditional c a) l
+
+appended_made : (ts : List Term) (p q : ℕ) (a b : Term) → part_in ts p ≡ a → part_in ts q ≡ b → term_from ts (operand.Appended p q) ≡ term.Appended a b
+appended_made ts p q a b h k = ap (λ (x : Term). term.Appended x (part_in ts q)) h ∙ ap (term.Appended a) k
+
+term_from_if : (ts : List Term) (b : Bool) (one other : Operand) → term_from ts (cond b one other) ≡ cond b (term_from ts one) (term_from ts other)
+term_from_if ts true one other = refl
+term_from_if ts false one other = refl
+
+-- ---- derivations
+
+-- what is selected stands in a list that grew from another
+record Selects (d : Elaborated) (first : List node.Expression) (x : selection.Selection × List node.Expression) (s : Selection) : Type 0 where
+  more : List Term
+  grown : terms_in d x.1 ≡ terms_in d first ++ more
+  is : (object : Option ℕ) → term_from (terms_in d x.1) (named_operand d object x.0) ≡ named_term d object s
+
+whole_named : (d : Elaborated) (ts : List Term) (object : Option ℕ) → term_from ts (named_operand d object (put_selection Whole []).0) ≡ named_term d object Whole
+whole_named d ts None = refl
+whole_named d ts (Some object) = refl
+
+bit_named : (d : Elaborated) (ts : List Term) (place opening closing : ℕ) (e : Expr) (object : Option ℕ) → part_in ts place ≡ expr_term d e → term_from ts (named_operand d object (selected_as.Bit place)) ≡ named_term d object (Bit opening e closing)
+bit_named d ts place opening closing e None h = refl
+bit_named d ts place opening closing e (Some object) h = ap (term.BitSelect object (lowest_in d object)) h
+
+part_named : (d : Elaborated) (ts : List Term) (r : Range) (object : Option ℕ) → term_from ts (named_operand d object (put_selection (Part r) []).0) ≡ named_term d object (Part r)
+part_named d ts r None = refl
+part_named d ts r (Some object) = term_from_if ts (is_width (range_width (put_range r))) _ _
+
+mutual
+  expr_stands : (d : Elaborated) (e : Expr) (nodes : List node.Expression) → Stands d nodes (put_expr e nodes) (expr_term d e)
+  expr_stands d (Name place s) nodes =
+      let x = put_selection s nodes in
+      let h = selection_stands d s nodes in
+      placed d nodes x.1 h.more (node_of.Name place x.0) _ h.grown (h.is (object_named d place))
+  expr_stands d (Sized place size kind digits) nodes = leaf d nodes (node_of.Literal place size digits) _ refl
+  expr_stands d (Based digits) nodes = leaf d nodes (node_of.Based digits) _ refl
+  expr_stands d (Number place number) nodes = leaf d nodes (node_of.Number place number) _ refl
+  expr_stands d (Group opening e closing) nodes = expr_stands d e nodes
+  expr_stands d (Unary o place e) nodes =
+      let x = put_expr e nodes in
+      let h = expr_stands d e nodes in
+      placed d nodes x.1 h.more (node_of.Unary o place x.0) _ h.grown (unary_made o (terms_in d x.1) x.0 (expr_term d e) h.is)
+  expr_stands d (Binary o a place b) nodes =
+      let x = put_expr a nodes in
+      let y = put_expr b x.1 in
+      let h = expr_stands d a nodes in
+      let k = expr_stands d b x.1 in
+      let ts = terms_in d y.1 in
+      placed d nodes y.1 (h.more ++ k.more) (node_of.Binary o place x.0 y.0) _
+      (grown_twice (terms_in d nodes) (terms_in d x.1) ts h.more k.more h.grown k.grown)
+      (pair_made (infix_of o) ts x.0 y.0 (expr_term d a) (expr_term d b) (later (terms_in d x.1) k.more ts x.0 (expr_term d a) k.grown h.inside h.is) k.is)
+  expr_stands d (Conditional c question a colon b) nodes =
+      let x = put_expr c nodes in
+      let y = put_expr a x.1 in
+      let z = put_expr b y.1 in
+      let h = expr_stands d c nodes in
+      let k = expr_stands d a x.1 in
+      let l = expr_stands d b y.1 in
+      let ts = terms_in d z.1 in
+      let twice = grown_twice (terms_in d nodes) (terms_in d x.1) (terms_in d y.1) h.more k.more h.grown k.grown in
+      let behind = grown_twice (terms_in d x.1) (terms_in d y.1) ts k.more l.more k.grown l.grown in
+      placed d nodes z.1 (h.more ++ k.more ++ l.more) (node_of.Conditional x.0 y.0 z.0) _
+      (grown_twice (terms_in d nodes) (terms_in d y.1) ts (h.more ++ k.more) l.more twice l.grown)
+      (choice_made ts x.0 y.0 z.0 (expr_term d c) (expr_term d a) (expr_term d b)
+      (later (terms_in d x.1) (k.more ++ l.more) ts x.0 (expr_term d c) behind h.inside h.is)
+      (later (terms_in d y.1) l.more ts y.0 (expr_term d a) l.grown k.inside k.is)
+      l.is)
+  expr_stands d (Concatenation opening l closing) nodes = parts_stand d opening l nodes
+  expr_stands d (Replication opening count_place n inner_opening l inner_closing closing) nodes =
+      let x = put_parts inner_opening l nodes in
+      let h = parts_stand d inner_opening l nodes in
+      placed d nodes x.1 h.more (node_of.Replication opening n x.0) _ h.grown (ap (term.Replicated n) h.is)
+
+  selection_stands : (d : Elaborated) (s : Selection) (nodes : List node.Expression) → Selects d nodes (put_selection s nodes) s
+  selection_stands d Whole nodes = record {
+    more = [];
+    grown = sym (append-nil (terms_in d nodes));
+    is = whole_named d (terms_in d nodes);
+  }
+  selection_stands d (Bit opening e closing) nodes =
+      let x = put_expr e nodes in
+      let h = expr_stands d e nodes in
+      record { more = h.more; grown = h.grown; is = λ object. bit_named d (terms_in d x.1) x.0 opening closing e object h.is }
+  selection_stands d (Part r) nodes = record {
+    more = [];
+    grown = sym (append-nil (terms_in d nodes));
+    is = part_named d (terms_in d nodes) r;
+  }
+
+  parts_stand : (d : Elaborated) (opening : ℕ) (l : Parts) (nodes : List node.Expression) → Stands d nodes (put_parts opening l nodes) (parts_term d l)
+  parts_stand d opening (First e) nodes =
+      let x = put_expr e nodes in
+      let h = expr_stands d e nodes in
+      placed d nodes x.1 h.more (node_of.Concatenation opening x.0) _ h.grown (ap (λ (t : Term). term.Concatenated t) h.is)
+  parts_stand d opening (More l comma e) nodes =
+      let x = put_parts opening l nodes in
+      let y = put_expr e x.1 in
+      let h = parts_stand d opening l nodes in
+      let k = expr_stands d e x.1 in
+      let ts = terms_in d y.1 in
+      placed d nodes y.1 (h.more ++ k.more) (node_of.Appended opening x.0 y.0) _
+      (grown_twice (terms_in d nodes) (terms_in d x.1) ts h.more k.more h.grown k.grown)
+      (appended_made ts x.0 y.0 (parts_term d l) (expr_term d e) (later (terms_in d x.1) k.more ts x.0 (parts_term d l) k.grown h.inside h.is) k.is)
+
+-- the term of an expression of a design is that of the derivation that stands there
+pub term_derived : (d : Elaborated) (place : ℕ) (e : Expr) → StandsAt d place e → term_at (operands_of d) place ≡ expr_term d e
+term_derived d place e s =
+    let x = put_expr e s.before in
+    let h = expr_stands d e s.before in
+    ap (λ (p : ℕ). term_at (operands_of d) p) s.there
+    ∙ ap (λ (es : List node.Expression). part_in (terms_in d es) x.0) s.laid
+    ∙ ap (λ (os : List Operand). part_in (terms_of os) x.0) (map-append (operand_of d) x.1 s.behind)
+    ∙ ap (λ (ts : List Term). part_in ts x.0) (fold-append with_term [] (map (operand_of d) x.1) (map (operand_of d) s.behind))
+    ∙ grows_at (terms_in d x.1) (map (operand_of d) s.behind) x.0 blank h.inside
+    ∙ h.is
+
+-- and its value is the derivation's
+pub value_derived : (d : Elaborated) (values : List (List bits.Bit)) (id : ids.Sized) (e : Expr) → StandsAt d id.place e → eval (tables_of d) values id ≡ derived_value d values id.size e
+unfolding tables_of
+value_derived d values id e s =
+    ap (value (width_in (widths_of d)) (value_in values) id.size) (term_derived d id.place e s)

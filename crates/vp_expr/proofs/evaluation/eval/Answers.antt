@@ -1,0 +1,28 @@
+use Rattle.std.proofs.Common.{◌∙◌, ℕ, ap}
+use Rattle.vp_expr.specs.declared.tables.Tables.{Tables}
+use Rattle.vp_expr.specs.Arena.{term_below, value_at, value_in, width_in}
+use Rattle.vp_expr.specs.Evaluation.{eval}
+use Rattle.vp_expr.specs.Terms.{Term, value}
+use Rattle.vp_expr.proofs.Arenas.{term_whole}
+use Rattle.vp_expr.proofs.Derivations.{value_derived}
+use Rattle.vp_expr.proofs.Sized.{tables_sized}
+use Rattle.vp_expr.proofs.evaluation.eval.Goals as goal
+
+pub returns-clause-value : goal.returns-clause-value
+returns-clause-value c =
+    let t = c.tables-tables.result.now in
+    let v = c.args.values.now in
+    let e = c.args.id in
+    c.value_below.ensures.value
+    ∙ ap (λ (n : ℕ). value (width_in t.widths) (value_in v) c.size.result (term_below t.operands n c.place.result)) c.len.ensures
+    ∙ ap (λ (x : Term). value (width_in t.widths) (value_in v) c.size.result x) (term_whole t.operands c.place.result)
+    ∙ ap (λ (p : ℕ). value_at t.widths t.operands v p c.size.result) c.place.ensures
+    ∙ ap (λ (n : ℕ). value_at t.widths t.operands v e.place n) c.size.ensures.size
+    ∙ ap (λ (x : Tables). eval x v e) c.tables-tables.ensures.tables
+
+pub value_below-requires-clause-sized : goal.value_below-requires-clause-sized
+value_below-requires-clause-sized c =
+    tables_sized c.args.checked.now c.tables-tables.result.now c.tables-tables.ensures.tables c.tables-tables.ensures.fit
+
+pub returns-clause-derived : goal.returns-clause-derived
+returns-clause-derived c = λ e s. returns-clause-value c ∙ value_derived c.args.checked.now c.args.values.now c.args.id e s

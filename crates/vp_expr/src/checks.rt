@@ -1,0 +1,316 @@
+// What is refused of a design's expressions, by the place of each fault.
+ghost use Rattle.std.specs.Prelude.{◌≡◌, ◌++◌, ◌∷◌, [], false, slice_index_or, IfOk};
+ghost use Rattle.vp_parse.specs.Places.{earliest};
+ghost use Rattle.vp_expr.specs.Checks.{bad_at, bad_name, bad_target, bits_named, counted, counted_size, counted_sizes, first_bad, first_signed, first_wide, first_wide_of, is_bad, is_relational, is_wide, is_wide_part, node_size, signed_at, wide_among, wide_at, wide_item, wide_target};
+ghost use Rattle.vp_expr.specs.Tables.{operands_of};
+
+use crate::operand::Operand;
+use crate::resolving::{object_named, operand_of};
+use crate::sizes::{operand_size, sign_at, signs_of};
+use std::alloc::{AllocError, Global};
+use vp_elab::{Design, range_width};
+use vp_parse::{BinaryOperator, Expression, Item, Selection, Source, Statement, earlier};
+
+/// The greatest width of a vector, in bits.
+const WIDTH_LIMIT: u64 = 64;
+
+/// A size as it is counted, in bits: one that is too great as 65.
+fn counted(size: u64) -> u8
+    ensures { result ≡ counted size }
+{
+    size.min(WIDTH_LIMIT + 1) as u8
+}
+
+/// A size is greater than a vector may have.
+fn is_wide(size: u64) -> bool
+    ensures { result ≡ is_wide size }
+{
+    size > WIDTH_LIMIT
+}
+
+/// The bits of the name at a place: how many, and the lowest index, if there is one.
+#[tactic(auto, using(crate::proofs::Named::bits_there))]
+fn bits_named(design: &Design, name: u32) -> Option<(u32, Option<u16>)>
+    ensures { result ≡ bits_named design.now name }
+{
+    let object = object_named(design, name)?;
+    let object = design.object(object)?;
+    Some((object.width, object.lowest))
+}
+
+/// How many bits are selected of the name at a place; 1 where there is no such object.
+fn named_size(design: &Design, name: u32, selection: Selection) -> u64
+    ensures { result ≡ node_size design.now name selection }
+{
+    let Some((width, _lowest)) = bits_named(design, name) else {
+        return 1;
+    };
+    match selection {
+        Selection::Whole => u64::from(width),
+        Selection::Bit { .. } => 1,
+        Selection::Part(range) => u64::from(range_width(range)),
+    }
+}
+
+/// The size of an expression as it is counted, in bits, by the sizes of those before it.
+fn counted_size(design: &Design, sizes: &[u8], expression: Expression) -> u8
+    ensures { result ≡ counted_size design.now sizes.now expression }
+{
+    counted(match expression {
+        Expression::Name { name, selection } => named_size(design, name, selection),
+        Expression::Literal { size, .. } => u64::from(size),
+        _ => operand_size(&[], sizes, operand_of(design, expression)),
+    })
+}
+
+/// The sizes of the expressions of a design, as they are counted. Takes memory.
+fn counted_sizes(alloc: Global, design: &Design) -> Result<Vec<u8>, AllocError>
+    ensures { IfOk result (λ sizes. sizes.items ≡ counted_sizes design.now) }
+{
+    let mut sizes: Vec<u8> = Vec::new(alloc);
+    for expression in design.source().expressions.as_slice() {
+        sizes.push(counted_size(design, &sizes, *expression))?;
+    }
+    Ok(sizes)
+}
+
+/// A selection of a part is too wide.
+fn is_wide_part(selection: Selection) -> bool
+    ensures { result ≡ is_wide_part selection }
+{
+    match selection {
+        Selection::Part(range) => is_wide(u64::from(range_width(range))),
+        Selection::Whole | Selection::Bit { .. } => false,
+    }
+}
+
+/// The place of an expression that is too wide by itself, by its size: a literal, a part of a name, braces.
+fn wide_at(size: u8, expression: Expression) -> Option<u32>
+    ensures { result ≡ wide_at size expression }
+{
+    match expression {
+        Expression::Name { name, selection } if is_wide_part(selection) => Some(name),
+        Expression::Literal { place, size, .. } if is_wide(u64::from(size)) => Some(place),
+        Expression::Concatenation { open, .. }
+        | Expression::Appended { open, .. }
+        | Expression::Replication { open, .. }
+            if is_wide(u64::from(size)) => { Some(open) }
+        _ => None,
+    }
+}
+
+/// The bracket of a declaration whose range is too wide.
+fn wide_item(item: Item) -> Option<u32>
+    ensures { result ≡ wide_item item }
+{
+    match item {
+        Item::Reg {
+            range: Some(declared),
+            ..
+        } if is_wide(u64::from(range_width(declared.range))) => Some(declared.bracket),
+        _ => None,
+    }
+}
+
+/// The name of an assignment's target that is a part too wide.
+fn wide_target(statement: Statement) -> Option<u32>
+    ensures { result ≡ wide_target statement }
+{
+    match statement {
+        Statement::Assign {
+            target,
+            selection,
+            ..
+        } if is_wide_part(selection) => Some(target),
+        _ => None,
+    }
+}
+
+fn first_wide_item(items: &[Item]) -> Option<u32>
+    ensures { result ≡ earliest wide_item items.now }
+{
+    let mut first = None;
+    for item in items {
+        first = earlier(first, wide_item(*item));
+    }
+    first
+}
+
+fn first_wide_target(statements: &[Statement]) -> Option<u32>
+    ensures { result ≡ earliest wide_target statements.now }
+{
+    let mut first = None;
+    for statement in statements {
+        first = earlier(first, wide_target(*statement));
+    }
+    first
+}
+
+/// The place of the expression at a place that is too wide by itself, by the sizes of all.
+fn wide_among(expressions: &[Expression], sizes: &[u8], place: usize) -> Option<u32>
+    ensures { result ≡ wide_among expressions.now sizes.now place }
+{
+    let expression = expressions.get(place)?;
+    let size = match sizes.get(place) {
+        Some(size) => *size,
+        None => 1,
+    };
+    wide_at(size, *expression)
+}
+
+fn first_wide_of(expressions: &[Expression], sizes: &[u8]) -> Option<u32>
+    ensures { result ≡ first_wide_of expressions.now sizes.now }
+{
+    let mut first = None;
+    for place in 0..expressions.len() {
+        first = earlier(first, wide_among(expressions, sizes, place));
+    }
+    first
+}
+
+/// The first place that is too wide: in a declaration, in a statement's target, or in an expression. Takes memory.
+#[tactic(auto, unfolding(crate::specs::Checks::first_wide))]
+pub fn first_wide(alloc: Global, design: &Design) -> Result<Option<u32>, AllocError>
+    ensures { IfOk result (λ first. first ≡ first_wide design.now) }
+{
+    let source = design.source();
+    let sizes = counted_sizes(alloc, design)?;
+    let declared = first_wide_item(source.items.as_slice());
+    let first = earlier(declared, first_wide_target(source.statements.as_slice()));
+    let expressions = source.expressions.as_slice();
+    Ok(earlier(first, first_wide_of(expressions, &sizes)))
+}
+
+/// An operator compares the sizes of numbers.
+fn is_relational(operator: BinaryOperator) -> bool
+    ensures { result ≡ is_relational operator }
+{
+    matches!(
+        operator,
+        BinaryOperator::Less
+            | BinaryOperator::LessOrEqual
+            | BinaryOperator::Greater
+            | BinaryOperator::GreaterOrEqual
+    )
+}
+
+/// The place of a relational operator whose operands are both signed, by the signs of expressions.
+fn signed_at(signs: &[bool], expression: Expression) -> Option<u32>
+    ensures { result ≡ signed_at signs.now expression }
+{
+    match expression {
+        Expression::Binary {
+            operator,
+            place,
+            left,
+            right,
+        } if is_relational(operator) && (sign_at(signs, left) && sign_at(signs, right)) => {
+            Some(place)
+        }
+        _ => None,
+    }
+}
+
+fn first_signed_of(signs: &[bool], expressions: &[Expression]) -> Option<u32>
+    ensures { result ≡ earliest (signed_at signs.now) expressions.now }
+{
+    let mut first = None;
+    for expression in expressions {
+        first = earlier(first, signed_at(signs, *expression));
+    }
+    first
+}
+
+/// The first relational operator on two signed operands, by the expressions of the design as operands. Takes memory.
+#[tactic(auto, unfolding(crate::specs::Checks::first_signed))]
+pub fn first_signed(
+    alloc: Global,
+    design: &Design,
+    operands: &[Operand],
+) -> Result<Option<u32>, AllocError>
+    requires { operands.now ≡ operands_of design.now }
+    ensures { IfOk result (λ first. first ≡ first_signed design.now) }
+{
+    let signs = signs_of(alloc, operands)?;
+    let expressions = design.source().expressions.as_slice();
+    Ok(first_signed_of(signs.as_slice(), expressions))
+}
+
+/// A selection is bad of what has bits from the lowest on: of a scalar, or of a part that is not inside.
+fn is_bad(lowest: Option<u16>, width: u32, selection: Selection) -> bool
+    ensures { result ≡ is_bad lowest width selection }
+{
+    match (selection, lowest) {
+        (Selection::Whole, _) | (Selection::Bit { .. }, Some(_)) => false,
+        (_, None) => true,
+        (Selection::Part(range), Some(lowest)) => {
+            let end = u64::from(lowest) + u64::from(width);
+            !(lowest <= range.lsb && (range.lsb <= range.msb && u64::from(range.msb) < end))
+        }
+    }
+}
+
+/// The name at a place, where the selection of its bits is bad.
+fn bad_name(design: &Design, name: u32, selection: Selection) -> Option<u32>
+    ensures { result ≡ bad_name design.now name selection }
+{
+    let (width, lowest) = bits_named(design, name)?;
+    if is_bad(lowest, width, selection) {
+        Some(name)
+    } else {
+        None
+    }
+}
+
+/// The place of a bad selection in an expression, or of a replication of 0.
+fn bad_at(design: &Design, expression: Expression) -> Option<u32>
+    ensures { result ≡ bad_at design.now expression }
+{
+    match expression {
+        Expression::Name { name, selection } => bad_name(design, name, selection),
+        Expression::Replication { open, count: 0, .. } => Some(open),
+        _ => None,
+    }
+}
+
+/// The name of an assignment's target whose selection is bad.
+fn bad_target(design: &Design, statement: Statement) -> Option<u32>
+    ensures { result ≡ bad_target design.now statement }
+{
+    match statement {
+        Statement::Assign {
+            target,
+            selection,
+            ..
+        } => bad_name(design, target, selection),
+        Statement::Empty | Statement::Then { .. } => None,
+    }
+}
+
+fn first_bad_target(design: &Design) -> Option<u32>
+    ensures { result ≡ earliest (bad_target design.now) design.now.source.statements }
+{
+    let mut first = None;
+    for statement in design.source().statements.as_slice() {
+        first = earlier(first, bad_target(design, *statement));
+    }
+    first
+}
+
+fn first_bad_operand(design: &Design) -> Option<u32>
+    ensures { result ≡ earliest (bad_at design.now) design.now.source.expressions }
+{
+    let mut first = None;
+    for expression in design.source().expressions.as_slice() {
+        first = earlier(first, bad_at(design, *expression));
+    }
+    first
+}
+
+/// The first bad selection.
+#[tactic(auto, unfolding(crate::specs::Checks::first_bad))]
+pub fn first_bad(design: &Design) -> Option<u32>
+    ensures { result ≡ first_bad design.now }
+{
+    earlier(first_bad_target(design), first_bad_operand(design))
+}

@@ -1,0 +1,228 @@
+ghost use Rattle.std.specs.Prelude.{◌≡◌, ◌<◌, length, slice_get, IfSome, MatchOption, OnSome};
+ghost use Rattle.vp_bits.specs.Vector.{IsWidth};
+ghost use Rattle.vp_expr.specs.Arena.{blank, term_below, term_made, value_in, width_in, IsSized};
+ghost use Rattle.vp_parse_expr.specs.Grammar.{Expr};
+ghost use Rattle.vp_expr.specs.Derived.{StandsAt, derived_value};
+ghost use Rattle.vp_expr.specs.Evaluation.{eval, given_to, own_eval};
+ghost use Rattle.vp_expr.specs.Tables.{tables_of};
+ghost use Rattle.vp_expr.specs.Terms.{size, value};
+
+use crate::checked::Checked;
+use crate::id::ExprId;
+use crate::operand::{Infix, Operand};
+use crate::operators::{
+    applied, bit_at, combined, compared, joined, part_at, reduced, shifted, with_bit_at,
+    with_part_at,
+};
+use crate::sizes::size_at;
+use crate::tables::{Tables, Target};
+use crate::values::Values;
+use vp_bits::{Bit, Bits};
+
+/// The operand at a place; none behind the end.
+fn operand_at(operands: &[Operand], place: u32) -> Option<Operand>
+    ensures { result ≡ slice_get operands.now place }
+{
+    operands.get(place as usize).copied()
+}
+
+/// The operand at a place before an end; none elsewhere.
+fn operand_below(tables: &Tables, end: usize, place: u32) -> Option<Operand>
+    requires { IsSized tables.now.widths tables.now.operands tables.now.sizes }
+    ensures below { OnSome result (place < end) }
+    ensures term { MatchOption result (term_below tables.now.operands end place ≡ blank) (λ o. term_below tables.now.operands end place ≡ term_made tables.now.operands place o) }
+    ensures fits { IfSome result (λ o. IsWidth (size (width_in tables.now.widths) (term_made tables.now.operands place o))) }
+{
+    if place as usize >= end {
+        return None;
+    }
+    operand_at(tables.operands.as_slice(), place)
+}
+
+/// The size of the operand at a place before an end, in bits; 1 elsewhere.
+fn size_below(tables: &Tables, end: usize, place: u32) -> u8
+    requires { IsSized tables.now.widths tables.now.operands tables.now.sizes }
+    ensures size { result ≡ size (width_in tables.now.widths) (term_below tables.now.operands end place) }
+    ensures fits { IsWidth result }
+{
+    if place as usize >= end {
+        return 1;
+    }
+    size_at(tables.sizes.as_slice(), place)
+}
+
+/// The value of the operand at a place before an end in a context of a size, in bits; of one unknown bit elsewhere.
+#[cycle(evaluation)]
+fn value_below(tables: &Tables, values: &Values, end: usize, place: u32, context: u8) -> Bits
+    requires sized { IsSized tables.now.widths tables.now.operands tables.now.sizes }
+    requires fits { IsWidth context }
+    ensures value { result ≡ value (width_in tables.now.widths) (value_in values.now) context (term_below tables.now.operands end place) }
+    ensures width { length result ≡ context }
+{
+    match operand_below(tables, end, place) {
+        Some(operand) => value_of(tables, values, place as usize, operand, context),
+        None => Bits::unknown(1).resize(context),
+    }
+}
+
+/// The value of the operand at a place before an end, at its own size.
+#[cycle(evaluation)]
+fn own_value(tables: &Tables, values: &Values, end: usize, place: u32) -> Bits
+    requires { IsSized tables.now.widths tables.now.operands tables.now.sizes }
+    ensures value { let term = term_below tables.now.operands end place in result ≡ value (width_in tables.now.widths) (value_in values.now) (size (width_in tables.now.widths) term) term }
+    ensures width { length result ≡ size (width_in tables.now.widths) (term_below tables.now.operands end place) }
+{
+    value_below(tables, values, end, place, size_below(tables, end, place))
+}
+
+/// The value of an operator between operands, which stands at a place, in a context of a size, in bits.
+#[cycle(evaluation)]
+fn value_of_pair(
+    tables: &Tables,
+    values: &Values,
+    place: usize,
+    operator: Infix,
+    left: u32,
+    right: u32,
+    context: u8,
+) -> Bits
+    requires sized { IsSized tables.now.widths tables.now.operands tables.now.sizes }
+    requires fits { IsWidth context }
+    ensures value { result ≡ value (width_in tables.now.widths) (value_in values.now) context (term_made tables.now.operands place (Operand.Paired operator left right)) }
+    ensures width { length result ≡ context }
+{
+    match operator {
+        Infix::Combined(operator) => {
+            let left = value_below(tables, values, place, left, context);
+            let right = value_below(tables, values, place, right, context);
+            combined(operator, left, right)
+        }
+        Infix::Shifted(operator) => {
+            let left = value_below(tables, values, place, left, context);
+            shifted(operator, left, own_value(tables, values, place, right))
+        }
+        Infix::Compared(operator) => {
+            let common = size_below(tables, place, left).max(size_below(tables, place, right));
+            let left = value_below(tables, values, place, left, common);
+            let right = value_below(tables, values, place, right, common);
+            compared(operator, left, right).resize(context)
+        }
+        Infix::Joined(operator) => {
+            let left = own_value(tables, values, place, left);
+            let right = own_value(tables, values, place, right);
+            joined(operator, left, right).resize(context)
+        }
+    }
+}
+
+/// The value of `?:`, which stands at a place, in a context of a size, in bits.
+#[cycle(evaluation)]
+fn value_of_choice(
+    tables: &Tables,
+    values: &Values,
+    place: usize,
+    condition: u32,
+    first: u32,
+    second: u32,
+    context: u8,
+) -> Bits
+    requires sized { IsSized tables.now.widths tables.now.operands tables.now.sizes }
+    requires fits { IsWidth context }
+    ensures value { result ≡ value (width_in tables.now.widths) (value_in values.now) context (term_made tables.now.operands place (Operand.Conditional condition first second)) }
+    ensures width { length result ≡ context }
+{
+    match own_value(tables, values, place, condition).truth() {
+        Bit::One => value_below(tables, values, place, first, context),
+        Bit::Zero => value_below(tables, values, place, second, context),
+        Bit::Unknown | Bit::HighImpedance => {
+            let first = value_below(tables, values, place, first, context);
+            first.merge(value_below(tables, values, place, second, context))
+        }
+    }
+}
+
+/// The value of an operand at a place in a context of a size, in bits.
+#[cycle(evaluation)]
+fn value_of(tables: &Tables, values: &Values, place: usize, operand: Operand, context: u8) -> Bits
+    requires sized { IsSized tables.now.widths tables.now.operands tables.now.sizes }
+    requires own { IsWidth (size (width_in tables.now.widths) (term_made tables.now.operands place operand)) }
+    requires fits { IsWidth context }
+    ensures value { result ≡ value (width_in tables.now.widths) (value_in values.now) context (term_made tables.now.operands place operand) }
+    ensures width { length result ≡ context }
+{
+    match operand {
+        Operand::Object(object) => values.get(object).resize(context),
+        Operand::Constant { bits, .. } => bits.resize(context),
+        Operand::BitSelect(object, lowest, index) => {
+            let index = own_value(tables, values, place, index).number();
+            bit_at(values.get(object), lowest, index).resize(context)
+        }
+        Operand::PartSelect(object, low, width) => {
+            part_at(values.get(object), low, width).resize(context)
+        }
+        Operand::Applied(operator, part) => {
+            let part = value_below(tables, values, place, part, context);
+            applied(operator, part)
+        }
+        Operand::Reduced(operator, part) => {
+            reduced(operator, own_value(tables, values, place, part)).resize(context)
+        }
+        Operand::Paired(operator, left, right) => {
+            value_of_pair(tables, values, place, operator, left, right, context)
+        }
+        Operand::Conditional(condition, first, second) => {
+            value_of_choice(tables, values, place, condition, first, second, context)
+        }
+        Operand::Concatenated(part) => own_value(tables, values, place, part).resize(context),
+        Operand::Appended { list, part } => {
+            let list = own_value(tables, values, place, list);
+            let part = own_value(tables, values, place, part);
+            list.concat(part).resize(context)
+        }
+        Operand::Replicated { count, list } => {
+            let list = own_value(tables, values, place, list);
+            list.replicate(count as u8).resize(context)
+        }
+    }
+}
+
+/// The value of an expression of a design in its context, from the values of the objects (IEEE Std 1364-2005, 5.4): that of the
+/// derivation that stands at its place; one unknown bit, extended by zeros, behind the end.
+pub fn eval(checked: &Checked, values: &Values, id: ExprId) -> Bits
+    ensures value { result ≡ eval (tables_of checked.now) values.now id }
+    ensures derived { (e : Expr) → StandsAt checked.now id.place e → result ≡ derived_value checked.now values.now id.size e }
+{
+    let tables = checked.tables();
+    value_below(tables, values, tables.operands.len(), id.place(), id.size())
+}
+
+/// The value of the expression at a place, which sizes itself.
+fn own_eval(checked: &Checked, values: &Values, place: u32) -> Bits
+    ensures { result ≡ own_eval (tables_of checked.now) values.now place }
+{
+    let tables = checked.tables();
+    own_value(tables, values, tables.operands.len(), place)
+}
+
+/// What an assignment of a value gives the object of its target, from the values of the objects: the value itself, or the
+/// object's own with a bit or a part set (IEEE Std 1364-2005, 5.2.1).
+pub fn given_to(checked: &Checked, values: &Values, target: Target, value: Bits) -> Bits
+    ensures { result ≡ given_to (tables_of checked.now) values.now target value }
+{
+    match target {
+        Target::Whole(_) => value,
+        Target::Bit {
+            object,
+            lowest,
+            index,
+        } => {
+            let index = own_eval(checked, values, index).number();
+            with_bit_at(values.get(object), lowest, index, value)
+        }
+        Target::Part {
+            object,
+            place,
+            width,
+        } => with_part_at(values.get(object), place, width, value),
+    }
+}

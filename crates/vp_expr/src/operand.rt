@@ -1,0 +1,133 @@
+use vp_bits::Bits;
+use vp_elab::ObjectId;
+
+/// An operator of one operand whose value is as wide as its context (IEEE Std 1364-2005, 5.1.5 and 5.1.10).
+#[derive(Clone, Copy, Debug)]
+pub enum Unary {
+    /// `+`, which keeps x and z bits.
+    Plus,
+    /// `-`.
+    Minus,
+    /// `~`.
+    Negation,
+}
+
+/// An operator of one operand whose value has one bit (IEEE Std 1364-2005, 5.1.9 and 5.1.11).
+#[derive(Clone, Copy, Debug)]
+pub enum Reduction {
+    /// `!`.
+    LogicalNegation,
+    /// `&`.
+    And,
+    /// `~&`.
+    Nand,
+    /// `|`.
+    Or,
+    /// `~|`.
+    Nor,
+    /// `^`.
+    Xor,
+    /// `~^` or `^~`.
+    Xnor,
+}
+
+/// An operator of two operands that are as wide as its context (IEEE Std 1364-2005, 5.1.5 and 5.1.10).
+#[derive(Clone, Copy, Debug)]
+pub enum Binary {
+    /// `+`.
+    Add,
+    /// `-`.
+    Subtract,
+    /// `*`.
+    Multiply,
+    /// `&`.
+    And,
+    /// `|`.
+    Or,
+    /// `^`.
+    Xor,
+    /// `~^` or `^~`.
+    Xnor,
+}
+
+/// A shift, whose first operand is as wide as its context (IEEE Std 1364-2005, 5.1.12).
+#[derive(Clone, Copy, Debug)]
+pub enum Shift {
+    /// `<<`.
+    Left,
+    /// `>>`.
+    Right,
+}
+
+/// A relational or equality operator, whose operands have one size (IEEE Std 1364-2005, 5.1.7 and 5.1.8).
+#[derive(Clone, Copy, Debug)]
+pub enum Comparison {
+    /// `<`.
+    Less,
+    /// `<=`.
+    LessOrEqual,
+    /// `>`.
+    Greater,
+    /// `>=`.
+    GreaterOrEqual,
+    /// `==`.
+    Equal,
+    /// `!=`.
+    Unequal,
+    /// `===`.
+    CaseEqual,
+    /// `!==`.
+    CaseUnequal,
+}
+
+/// A logical operator of two operands that size themselves (IEEE Std 1364-2005, 5.1.9).
+#[derive(Clone, Copy, Debug)]
+pub enum Logical {
+    /// `&&`.
+    And,
+    /// `||`.
+    Or,
+}
+
+/// An operator between two operands.
+#[derive(Clone, Copy, Debug)]
+pub enum Infix {
+    /// `+ - * & | ^ ~^`, as wide as the context.
+    Combined(Binary),
+    /// `<< >>`, as wide as the context.
+    Shifted(Shift),
+    /// `< <= > >= == != === !==`, of one bit.
+    Compared(Comparison),
+    /// `&& ||`, of one bit.
+    Joined(Logical),
+}
+
+/// An expression (IEEE Std 1364-2005, 5) over objects. It names its parts by their places in the list of
+/// operands; a part stands before the whole.
+#[derive(Clone, Copy)]
+pub enum Operand {
+    /// The value of an object.
+    Object(ObjectId),
+    /// The value of a literal, and whether it is signed.
+    Constant { bits: Bits, is_signed: bool },
+    /// The bit of an object at an index: the object, the index of its least significant bit, and the place
+    /// of the index.
+    BitSelect(ObjectId, u32, u32),
+    /// Bits of an object: the object, from which place on, where its least significant bit has place 0, and
+    /// how many.
+    PartSelect(ObjectId, u32, u8),
+    /// `+ - ~` before an operand.
+    Applied(Unary, u32),
+    /// `!` or a reduction before an operand.
+    Reduced(Reduction, u32),
+    /// An operator between a left and a right operand.
+    Paired(Infix, u32, u32),
+    /// `?:`: the condition, and the values where it is true and where it is false.
+    Conditional(u32, u32, u32),
+    /// Braces round one expression.
+    Concatenated(u32),
+    /// A concatenation so far, and one more expression behind it.
+    Appended { list: u32, part: u32 },
+    /// A concatenation so many times.
+    Replicated { count: u32, list: u32 },
+}

@@ -1,0 +1,157 @@
+// Expressions with objects in place of names.
+ghost use Rattle.std.specs.Prelude.{◌≡◌, ◌-◌, false, option_map};
+ghost use Rattle.vp_expr.specs.Values.{no_value};
+ghost use Rattle.vp_expr.specs.Tables.{infix_of, lowest_in, named_operand, object_named, operand_of, selected_operand, unary_operand};
+
+use crate::literal::{based_bits, literal_bits, number_bits};
+use crate::operand::{Binary, Comparison, Infix, Logical, Operand, Reduction, Shift, Unary};
+use crate::sizes::fitted;
+use vp_bits::Bits;
+use vp_elab::{Design, ObjectId, range_width};
+use vp_parse::{BinaryOperator, Expression, Range, Selection, UnaryOperator};
+
+/// The object of the name at a place.
+pub fn object_named(design: &Design, place: u32) -> Option<ObjectId>
+    ensures { option_map (λ o. o.0) result ≡ object_named design.now place }
+{
+    design.find(Some(ObjectId(0)), design.source().word(place))
+}
+
+/// The index of the least significant bit of an object; 0 where it has none.
+pub fn lowest_in(design: &Design, object: ObjectId) -> u32
+    ensures { result ≡ lowest_in design.now object.0 }
+{
+    let Some(object) = design.object(object) else {
+        return 0;
+    };
+    match object.lowest {
+        Some(lowest) => u32::from(lowest),
+        None => 0,
+    }
+}
+
+/// The place of a part of an object, from its least significant bit.
+pub fn part_place(design: &Design, object: ObjectId, range: Range) -> u32
+    ensures { result ≡ range.lsb - lowest_in design.now object.0 }
+{
+    u32::from(range.lsb).saturating_sub(lowest_in(design, object))
+}
+
+/// A constant of one unknown bit.
+fn unknown_bit() -> Operand
+    ensures { result ≡ Operand.Constant no_value false }
+{
+    Operand::Constant {
+        bits: Bits::unknown(1),
+        is_signed: false,
+    }
+}
+
+/// What is selected of an object as an operand; one unknown bit in place of a part that no vector can be.
+fn selected_operand(design: &Design, object: ObjectId, selection: Selection) -> Operand
+    ensures { result ≡ selected_operand design.now object.0 selection }
+{
+    match selection {
+        Selection::Whole => Operand::Object(object),
+        Selection::Bit { index } => Operand::BitSelect(object, lowest_in(design, object), index),
+        Selection::Part(range) => match fitted(u64::from(range_width(range))) {
+            Some(width) => Operand::PartSelect(object, part_place(design, object, range), width),
+            None => unknown_bit(),
+        },
+    }
+}
+
+/// What is selected of a name as an operand; one unknown bit where there is no such object.
+fn named_operand(design: &Design, name: u32, selection: Selection) -> Operand
+    ensures { result ≡ named_operand design.now (object_named design.now name) selection }
+{
+    match object_named(design, name) {
+        Some(object) => selected_operand(design, object, selection),
+        None => unknown_bit(),
+    }
+}
+
+/// An operator of one operand.
+fn unary_operand(operator: UnaryOperator, operand: u32) -> Operand
+    ensures { result ≡ unary_operand operator operand }
+{
+    match operator {
+        UnaryOperator::Plus => Operand::Applied(Unary::Plus, operand),
+        UnaryOperator::Minus => Operand::Applied(Unary::Minus, operand),
+        UnaryOperator::Negation => Operand::Applied(Unary::Negation, operand),
+        UnaryOperator::LogicalNegation => Operand::Reduced(Reduction::LogicalNegation, operand),
+        UnaryOperator::ReductionAnd => Operand::Reduced(Reduction::And, operand),
+        UnaryOperator::ReductionNand => Operand::Reduced(Reduction::Nand, operand),
+        UnaryOperator::ReductionOr => Operand::Reduced(Reduction::Or, operand),
+        UnaryOperator::ReductionNor => Operand::Reduced(Reduction::Nor, operand),
+        UnaryOperator::ReductionXor => Operand::Reduced(Reduction::Xor, operand),
+        UnaryOperator::ReductionXnor => Operand::Reduced(Reduction::Xnor, operand),
+    }
+}
+
+/// An operator between operands.
+fn infix_of(operator: BinaryOperator) -> Infix
+    ensures { result ≡ infix_of operator }
+{
+    match operator {
+        BinaryOperator::Multiply => Infix::Combined(Binary::Multiply),
+        BinaryOperator::Add => Infix::Combined(Binary::Add),
+        BinaryOperator::Subtract => Infix::Combined(Binary::Subtract),
+        BinaryOperator::And => Infix::Combined(Binary::And),
+        BinaryOperator::Or => Infix::Combined(Binary::Or),
+        BinaryOperator::Xor => Infix::Combined(Binary::Xor),
+        BinaryOperator::Xnor => Infix::Combined(Binary::Xnor),
+        BinaryOperator::ShiftLeft => Infix::Shifted(Shift::Left),
+        BinaryOperator::ShiftRight => Infix::Shifted(Shift::Right),
+        BinaryOperator::Less => Infix::Compared(Comparison::Less),
+        BinaryOperator::LessOrEqual => Infix::Compared(Comparison::LessOrEqual),
+        BinaryOperator::Greater => Infix::Compared(Comparison::Greater),
+        BinaryOperator::GreaterOrEqual => Infix::Compared(Comparison::GreaterOrEqual),
+        BinaryOperator::Equal => Infix::Compared(Comparison::Equal),
+        BinaryOperator::Unequal => Infix::Compared(Comparison::Unequal),
+        BinaryOperator::CaseEqual => Infix::Compared(Comparison::CaseEqual),
+        BinaryOperator::CaseUnequal => Infix::Compared(Comparison::CaseUnequal),
+        BinaryOperator::LogicalAnd => Infix::Joined(Logical::And),
+        BinaryOperator::LogicalOr => Infix::Joined(Logical::Or),
+    }
+}
+
+/// The value of a literal as an operand.
+fn constant(bits: Bits, is_signed: bool) -> Operand
+    ensures { result ≡ Operand.Constant bits is_signed }
+{
+    Operand::Constant { bits, is_signed }
+}
+
+/// An expression as an operand: an object in place of a name, its value in place of a literal.
+pub fn operand_of(design: &Design, expression: Expression) -> Operand
+    ensures { result ≡ operand_of design.now expression }
+{
+    match expression {
+        Expression::Name { name, selection } => named_operand(design, name, selection),
+        Expression::Literal { size, digits, .. } => {
+            constant(literal_bits(size, design.source().word(digits)), false)
+        }
+        Expression::Based { digits } => constant(based_bits(design.source().word(digits)), false),
+        Expression::Number { value, .. } => constant(number_bits(value), true),
+        Expression::Unary {
+            operator,
+            operand,
+            ..
+        } => unary_operand(operator, operand),
+        Expression::Binary {
+            operator,
+            left,
+            right,
+            ..
+        } => Operand::Paired(infix_of(operator), left, right),
+        Expression::Conditional {
+            condition,
+            first,
+            second,
+        } => Operand::Conditional(condition, first, second),
+        Expression::Concatenation { part, .. } => Operand::Concatenated(part),
+        Expression::Appended { list, part, .. } => Operand::Appended { list, part },
+        Expression::Replication { count, list, .. } => Operand::Replicated { count, list },
+    }
+}

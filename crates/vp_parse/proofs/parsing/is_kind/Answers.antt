@@ -1,6 +1,0 @@
-use Rattle.std.proofs.Common.{◌∙◌}
-use Rattle.vp_parse.proofs.SameKinds.{same_is}
-use Rattle.vp_parse.proofs.parsing.is_kind.Goals as goal
-
-pub returns : goal.returns
-returns c = c.eq.ensures ∙ same_is c.args.expected c.args.kind

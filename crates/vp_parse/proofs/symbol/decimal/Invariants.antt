@@ -1,6 +1,0 @@
-use Rattle.std.proofs.Common.{◌≡◌, take}
-use Rattle.vp_parse.specs.Symbols.{decimal_value}
-use Rattle.vp_parse.proofs.symbol.decimal.Given as goal
-
-abbrev pub invariant-loop-byte : goal.invariant-loop-byte
-invariant-loop-byte l = l.value ≡ decimal_value (take l.byte-index l.byte-items)
