@@ -4,8 +4,6 @@
 mod bit;
 mod bits;
 mod error;
-#[cfg(test)]
-mod tests;
 
 pub use bit::Bit;
 pub use bits::Bits;

@@ -6,12 +6,14 @@ use Rattle.std.specs.Str.{bytes_eq}
 use Rattle.std.proofs.lemmas.List.{length-map}
 use Rattle.vp_parse.specs.declared.source.Source.{Source}
 use Rattle.vp_pragma.specs.declared.envelope.Envelope.{Envelope}
+use Rattle.vp_pragma.specs.Envelopes.{Protection, Viewport}
 use Rattle.vp_elab.specs.declared.design.Objects.{Objects}
 use Rattle.vp_elab.specs.declared.elaboration.TheConstants.{OBJECT_LIMIT}
 use Rattle.vp_elab.specs.declared.object.Object.{Object}
 use Rattle.vp_elab.specs.declared.object.ObjectId.{ObjectId}
 use Rattle.vp_elab.specs.declared.scope.Modules.{Modules}
 use Rattle.vp_elab.specs.declared.scope.Scope.{Scope}
+use Rattle.vp_elab.specs.declared.sight.Sight.{Sight}
 use Rattle.vp_elab.specs.Tree.{Node, find_in, declared_envelopes}
 use Rattle.vp_elab.specs.Elaboration.{tree_of}
 use Rattle.vp_elab.specs.Objects.{module_names, modules_in, objects_behind, roots_behind}
@@ -36,7 +38,13 @@ swap_root : (roots : List ObjectId) (o : Option ℕ) → option_and_then (λ k. 
 swap_root roots None = refl
 swap_root roots (Some k) = refl
 
-module _ (source : Source) (envelopes : List Envelope) (modules : Modules) (objects : Objects) (built : IsBuilt source envelopes modules objects) where
+module _ (source : Source) (protection : Protection) (modules : Modules) (objects : Objects) (sights : List Sight) (built : IsBuilt source protection modules objects sights) where
+  abbrev envelopes : List Envelope
+  envelopes = protection.envelopes
+
+  abbrev viewports : List Viewport
+  viewports = protection.viewports
+
   abbrev nodes : List Node
   nodes = all_nodes source envelopes
 
@@ -49,21 +57,21 @@ module _ (source : Source) (envelopes : List Envelope) (modules : Modules) (obje
   -- a name in an object
   pub child_built : (id : ℕ) (name : List ℕ) → option_map (λ i. (id + 1) + i) (index_in objects.all modules.scopes id name) ≡ find_in nodes (Some id) name
   child_built id name =
-      sym (child_is source envelopes built.once id name ∙ ap (option_and_then (behind_module id name)) (scope_is id) ∙ swap_child id name (scope_of_object objects.all modules.scopes id))
+      sym (child_is source envelopes viewports built.once id name ∙ ap (option_and_then (behind_module id name)) (scope_is id) ∙ swap_child id name (scope_of_object objects.all modules.scopes id))
 
   -- a name among the top modules
   pub root_built : (name : List ℕ) → option_map (λ (r : ObjectId). r.0) (root_in modules.names objects.roots name) ≡ find_in nodes None name
   root_built name =
       ap (λ (m : Modules). option_map (λ (r : ObjectId). r.0) (root_in m.names objects.roots name)) built.tables
       ∙ ap (λ (o : Objects). option_map (λ (r : ObjectId). r.0) (root_in (module_names source source.modules) o.roots name)) built.flat
-      ∙ sym (root_is source envelopes built.once name ∙ swap_root (roots_behind source 0 source.modules) (position (bytes_eq name) (module_names source source.modules)))
+      ∙ sym (root_is source envelopes viewports built.once name ∙ swap_root (roots_behind source 0 source.modules) (position (bytes_eq name) (module_names source source.modules)))
 
   -- the envelopes of what is declared in an object, and among the top modules
-  pub numbers_built : (id : ℕ) → option_map_or (λ (s : Scope). s.envelopes) (scope_of_object objects.all modules.scopes id) [] ≡ declared_envelopes (tree_of source envelopes) (Some id)
-  numbers_built id = sym (numbers_is source envelopes built.once id ∙ ap (λ (o : Option Scope). option_map_or (λ (s : Scope). s.envelopes) o []) (scope_is id))
+  pub numbers_built : (id : ℕ) → option_map_or (λ (s : Scope). s.envelopes) (scope_of_object objects.all modules.scopes id) [] ≡ declared_envelopes (tree_of source protection) (Some id)
+  numbers_built id = sym (numbers_is source envelopes viewports built.once id ∙ ap (λ (o : Option Scope). option_map_or (λ (s : Scope). s.envelopes) o []) (scope_is id))
 
-  pub root_numbers_built : objects.root_envelopes ≡ declared_envelopes (tree_of source envelopes) None
-  root_numbers_built = ap (λ (o : Objects). o.root_envelopes) built.flat ∙ sym (root_numbers source envelopes)
+  pub root_numbers_built : objects.root_envelopes ≡ declared_envelopes (tree_of source protection) None
+  root_numbers_built = ap (λ (o : Objects). o.root_envelopes) built.flat ∙ sym (root_numbers source envelopes viewports)
 
   count_is : length nodes ≡ length objects.all
   count_is =
@@ -74,7 +82,7 @@ module _ (source : Source) (envelopes : List Envelope) (modules : Modules) (obje
   pub child_within : (id : ℕ) (name : List ℕ) (i : ℕ) → index_in objects.all modules.scopes id name ≡ Some i → (id + 1) + i < OBJECT_LIMIT
   child_within id name i h =
       let found : find_in nodes (Some id) name ≡ Some ((id + 1) + i) = sym (child_built id name) ∙ ap (option_map (λ i. (id + 1) + i)) h in
-      let in_nodes = found_within source envelopes built.once (Some id) name ((id + 1) + i) found in
+      let in_nodes = found_within source envelopes viewports built.once (Some id) name ((id + 1) + i) found in
       let few = built.few in
       let count = count_is in
       omega arith
@@ -85,7 +93,7 @@ module _ (source : Source) (envelopes : List Envelope) (modules : Modules) (obje
   index_same os ss id name o s = ap (λ (x : List Object). index_in x ss id name) o ∙ ap (λ (x : List Scope). index_in objects.all x id name) s
 
   -- a name that is found in an object
-  pub child_some : (d : Elaborated) → design_of source envelopes ≡ d → (os : List Object) (ss : List Scope) (id i : ℕ) (name : List ℕ) → os ≡ objects.all → ss ≡ modules.scopes → Some i ≡ index_in os ss id name → Some ((id + 1) + i) ≡ find_in d.tree.nodes (Some id) name
+  pub child_some : (d : Elaborated) → design_of source protection ≡ d → (os : List Object) (ss : List Scope) (id i : ℕ) (name : List ℕ) → os ≡ objects.all → ss ≡ modules.scopes → Some i ≡ index_in os ss id name → Some ((id + 1) + i) ≡ find_in d.tree.nodes (Some id) name
   child_some d view os ss id i name o s h =
       ap (option_map (λ i. (id + 1) + i)) (h ∙ index_same os ss id name o s) ∙ child_built id name
       ∙ ap (λ (x : Elaborated). find_in x.tree.nodes (Some id) name) view
@@ -94,13 +102,13 @@ module _ (source : Source) (envelopes : List Envelope) (modules : Modules) (obje
   child_small os ss id i name o s h = child_within id name i (sym (h ∙ index_same os ss id name o s))
 
   -- a name that is not found
-  pub child_none : (d : Elaborated) → design_of source envelopes ≡ d → (os : List Object) (ss : List Scope) (id : ℕ) (name : List ℕ) → os ≡ objects.all → ss ≡ modules.scopes → None ≡ index_in os ss id name → None ≡ find_in d.tree.nodes (Some id) name
+  pub child_none : (d : Elaborated) → design_of source protection ≡ d → (os : List Object) (ss : List Scope) (id : ℕ) (name : List ℕ) → os ≡ objects.all → ss ≡ modules.scopes → None ≡ index_in os ss id name → None ≡ find_in d.tree.nodes (Some id) name
   child_none d view os ss id name o s h =
       ap (option_map (λ i. (id + 1) + i)) (h ∙ index_same os ss id name o s) ∙ child_built id name
       ∙ ap (λ (x : Elaborated). find_in x.tree.nodes (Some id) name) view
 
   -- the envelopes of a scope, or of none
-  pub numbers_at : (d : Elaborated) → design_of source envelopes ≡ d → (os : List Object) (ss : List Scope) (id : ℕ) (found : Option Scope) → os ≡ objects.all → ss ≡ modules.scopes → found ≡ scope_of_object os ss id → option_map_or (λ (x : Scope). x.envelopes) found [] ≡ declared_envelopes d.tree (Some id)
+  pub numbers_at : (d : Elaborated) → design_of source protection ≡ d → (os : List Object) (ss : List Scope) (id : ℕ) (found : Option Scope) → os ≡ objects.all → ss ≡ modules.scopes → found ≡ scope_of_object os ss id → option_map_or (λ (x : Scope). x.envelopes) found [] ≡ declared_envelopes d.tree (Some id)
   numbers_at d view os ss id found o s h =
       ap (λ (x : Option Scope). option_map_or (λ (x : Scope). x.envelopes) x []) (h ∙ ap (λ (x : List Object). scope_of_object x ss id) o ∙ ap (λ (x : List Scope). scope_of_object objects.all x id) s)
       ∙ numbers_built id ∙ ap (λ (x : Elaborated). declared_envelopes x.tree (Some id)) view

@@ -10,7 +10,7 @@ use Rattle.vp_parse.specs.declared.source.Source.{Source}
 use Rattle.vp_parse.specs.declared.source.Item.{Item}
 use Rattle.vp_parse.specs.declared.source.Module.{Module}
 use Rattle.vp_pragma.specs.declared.envelope.Envelope.{Envelope}
-use Rattle.vp_pragma.specs.Envelopes.{envelope_at}
+use Rattle.vp_pragma.specs.Envelopes.{Viewport, envelope_at}
 use Rattle.vp_elab.specs.Tree.{Step, Node, below, declared_in, declares_in, envelopes_in, step_in}
 use Rattle.vp_elab.specs.Elaboration.{item_name, item_place, items_in, step_at, root_step, item_node, module_nodes, tree_of}
 use Rattle.vp_elab.specs.Objects.{numbers_of}
@@ -19,7 +19,7 @@ use Rattle.vp_elab.proofs.Marks.{filter_below_same}
 use Rattle.vp_elab.proofs.Preorder.{nodes_in}
 use Rattle.vp_list.specs.Searches.{list_any-map}
 
-module _ (source : Source) (envelopes : List Envelope) where
+module _ (source : Source) (envelopes : List Envelope) (viewports : List Viewport) where
   -- the steps of nodes that stand in a scope, in two lists
   declared-append : (scope : List (List ℕ)) (xs ys : List Node) → declared_in scope (xs ++ ys) ≡ declared_in scope xs ++ declared_in scope ys
   declared-append scope xs ys = filter_map-append (λ (node : Node). step_in scope node.path) xs ys
@@ -106,19 +106,19 @@ module _ (source : Source) (envelopes : List Envelope) where
 
   -- ---- the numbers of the envelopes
 
-  numbers_by : (scope : List (List ℕ)) (places : List ℕ) → ((e : ℕ) → declares_in (tree_of source envelopes) scope e ≡ list_any (λ place. envelope_at envelopes place == e) places) → envelopes_in (tree_of source envelopes) scope ≡ numbers_of envelopes places
+  numbers_by : (scope : List (List ℕ)) (places : List ℕ) → ((e : ℕ) → declares_in (tree_of source (record { envelopes = envelopes; viewports = viewports })) scope e ≡ list_any (λ place. envelope_at envelopes place == e) places) → envelopes_in (tree_of source (record { envelopes = envelopes; viewports = viewports })) scope ≡ numbers_of envelopes places
   numbers_by scope places same =
       let test : ℕ → Bool = λ e. list_any (λ place. envelope_at envelopes place == e) places in
-      filter_below_same (declares_in (tree_of source envelopes) scope) test (suc (length (map (λ (e : Envelope). e.author) envelopes))) (λ e l. same e)
+      filter_below_same (declares_in (tree_of source (record { envelopes = envelopes; viewports = viewports })) scope) test (suc (length (map (λ (e : Envelope). e.author) envelopes))) (λ e l. same e)
       ∙ ap (λ (n : ℕ). filter test (below (suc n))) (length-map envelopes (λ (e : Envelope). e.author))
 
   -- of the top modules
-  pub root_numbers : envelopes_in (tree_of source envelopes) [] ≡ numbers_of envelopes (map (λ m. m.name) source.modules)
+  pub root_numbers : envelopes_in (tree_of source (record { envelopes = envelopes; viewports = viewports })) [] ≡ numbers_of envelopes (map (λ m. m.name) source.modules)
   root_numbers =
       numbers_by [] (map (λ m. m.name) source.modules) (λ e. ap (list_any (λ (s : Step). s.envelope == e)) (roots_declared source.modules) ∙ places_of_roots e source.modules)
 
   -- of what a module declares
-  pub child_numbers : (before : List Module) (m : Module) (after : List Module) → source.modules ≡ before ++ m ∷ after → AllOther source (word_at source m.name) before → AllOther source (word_at source m.name) after → envelopes_in (tree_of source envelopes) (word_at source m.name ∷ []) ≡ numbers_of envelopes (map item_place (items_in source m))
+  pub child_numbers : (before : List Module) (m : Module) (after : List Module) → source.modules ≡ before ++ m ∷ after → AllOther source (word_at source m.name) before → AllOther source (word_at source m.name) after → envelopes_in (tree_of source (record { envelopes = envelopes; viewports = viewports })) (word_at source m.name ∷ []) ≡ numbers_of envelopes (map item_place (items_in source m))
   child_numbers before m after e first last =
       numbers_by (word_at source m.name ∷ []) (map item_place (items_in source m))
       (λ k. ap (list_any (λ (s : Step). s.envelope == k)) (ap (λ (ms : List Module). declared_in (word_at source m.name ∷ []) (nodes_in source envelopes ms)) e ∙ children_declared before m after first last)
@@ -129,7 +129,7 @@ module _ (source : Source) (envelopes : List Envelope) where
   none_left (x ∷ xs) = none_left xs
 
   -- nothing is declared in an item
-  pub no_numbers : (a b : List ℕ) → envelopes_in (tree_of source envelopes) (a ∷ b ∷ []) ≡ []
+  pub no_numbers : (a b : List ℕ) → envelopes_in (tree_of source (record { envelopes = envelopes; viewports = viewports })) (a ∷ b ∷ []) ≡ []
   no_numbers a b =
       numbers_by (a ∷ b ∷ []) [] (λ e. ap (list_any (λ (s : Step). s.envelope == e)) (nothing_in a b source.modules))
       ∙ none_left (below (suc (length envelopes)))

@@ -29,11 +29,11 @@ abbrev pub AllOther : Source → List ℕ → List Module → Type 0
 AllOther source w [] = Unit {0}
 AllOther source w (m ∷ ms) = (bytes_eq w (word_at source m.name) ≡ false) × AllOther source w ms
 
-neither : (a b : Option ElabError) → first_of_two a b ≡ None → (a ≡ None) × (b ≡ None)
+pub neither : (a b : Option ElabError) → first_of_two a b ≡ None → (a ≡ None) × (b ≡ None)
 neither None b h = (refl, h)
 neither (Some e) b h = absurd cc
 
-new_by : (b : Bool) (e : ElabError) (o : Option ElabError) → cond b (Some e) o ≡ None → (b ≡ false) × (o ≡ None)
+pub new_by : (b : Bool) (e : ElabError) (o : Option ElabError) → cond b (Some e) o ≡ None → (b ≡ false) × (o ≡ None)
 new_by true e o h = absurd cc
 new_by false e o h = (refl, h)
 
@@ -48,7 +48,7 @@ either_false : (a b : Bool) → (a || b) ≡ false → (a ≡ false) × (b ≡ f
 either_false true b h = absurd cc
 either_false false b h = (refl, h)
 
-not_there : (front back : List (List ℕ)) (w x : List ℕ) → is_among (front ++ w ∷ back) x ≡ false → bytes_eq x w ≡ false
+pub not_there : (front back : List (List ℕ)) (w x : List ℕ) → is_among (front ++ w ∷ back) x ≡ false → bytes_eq x w ≡ false
 not_there [] back w x h = (either_false (bytes_eq x w) (is_among back x) h).0
 not_there (y ∷ front) back w x h = not_there front back w x (either_false (bytes_eq x y) (is_among (front ++ w ∷ back) x) h).1
 

@@ -9,3 +9,5 @@ pub mod Finding
 pub mod Declared
 pub mod Scopes
 pub mod BuiltTables
+pub mod Sights
+pub mod Viewports

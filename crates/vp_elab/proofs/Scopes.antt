@@ -10,6 +10,7 @@ use Rattle.vp_parse.specs.Places.{word_at}
 use Rattle.vp_parse.specs.declared.source.Source.{Source}
 use Rattle.vp_parse.specs.declared.source.Module.{Module}
 use Rattle.vp_pragma.specs.declared.envelope.Envelope.{Envelope}
+use Rattle.vp_pragma.specs.Envelopes.{Viewport}
 use Rattle.vp_elab.specs.declared.object.Kind.TheVariants as kind
 use Rattle.vp_elab.specs.declared.object.Object.{Object}
 use Rattle.vp_elab.specs.declared.scope.Scope.{Scope}
@@ -31,7 +32,7 @@ scope_of_object objects scopes id = option_and_then (slice_get scopes) (option_a
 abbrev pub behind_module : ℕ → List ℕ → Scope → Option ℕ
 behind_module id name s = option_map (λ i. (id + 1) + i) (position (bytes_eq name) s.names)
 
-module _ (source : Source) (envelopes : List Envelope) (once : twice_in source [] source.modules ≡ None) where
+module _ (source : Source) (envelopes : List Envelope) (viewports : List Viewport) (once : twice_in source [] source.modules ≡ None) where
   abbrev objects : List Object
   objects = objects_behind source envelopes 0 source.modules []
 
@@ -42,7 +43,7 @@ module _ (source : Source) (envelopes : List Envelope) (once : twice_in source [
   nodes = all_nodes source envelopes
 
   abbrev tree : Tree
-  tree = tree_of source envelopes
+  tree = tree_of source (record { envelopes = envelopes; viewports = viewports })
 
   scope_there : (m : Module) (before after : List Module) → source.modules ≡ before ++ m ∷ after → slice_get scopes (length before) ≡ Some (scope_in source envelopes m)
   scope_there m before after e =
@@ -110,11 +111,11 @@ module _ (source : Source) (envelopes : List Envelope) (once : twice_in source [
 
   numbers_by_role : (id : ℕ) (scope : Option ℕ) (path : List Step) → Role source envelopes id scope path → envelopes_in tree (names_of path) ≡ option_map_or (λ (s : Scope). s.envelopes) (option_and_then (slice_get scopes) scope) []
   numbers_by_role id scope path (OfItem s t no_scope steps) =
-      ap (λ (p : List Step). envelopes_in tree (names_of p)) steps ∙ no_numbers source envelopes s.name t.name
+      ap (λ (p : List Step). envelopes_in tree (names_of p)) steps ∙ no_numbers source envelopes viewports s.name t.name
       ∙ sym (ap (λ (o : Option ℕ). option_map_or (λ (s : Scope). s.envelopes) (option_and_then (slice_get scopes) o) []) no_scope)
   numbers_by_role id scope path (OfModule m before after split number here steps) =
       let apart = others source [] before m after (ap (twice_in source []) (sym split) ∙ once) in
-      ap (λ (p : List Step). envelopes_in tree (names_of p)) steps ∙ child_numbers source envelopes before m after split apart.0 apart.1
+      ap (λ (p : List Step). envelopes_in tree (names_of p)) steps ∙ child_numbers source envelopes viewports before m after split apart.0 apart.1
       ∙ sym (ap (λ (o : Option ℕ). option_map_or (λ (s : Scope). s.envelopes) (option_and_then (slice_get scopes) o) []) number ∙ ap (λ (o : Option Scope). option_map_or (λ (s : Scope). s.envelopes) o []) (scope_there m before after split))
 
   numbers_found : (id : ℕ) (found : Option Object) → Beside id found → declared_envelopes tree (Some id) ≡ option_map_or (λ (s : Scope). s.envelopes) (option_and_then (slice_get scopes) (option_and_then (λ (o : Object). o.scope) found)) []

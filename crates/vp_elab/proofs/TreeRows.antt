@@ -9,9 +9,10 @@ use Rattle.vp_lex.specs.declared.token.Token.{Token}
 use Rattle.vp_lex.specs.Tokens.{tokens_of}
 use Rattle.vp_parse.specs.declared.source.Source.{Source}
 use Rattle.vp_parse.specs.declared.source.Item.TheVariants as item
-use Rattle.vp_pragma.specs.declared.envelope.Envelope.{Envelope}
 use Rattle.vp_pragma.specs.declared.fault.PragmaError.{PragmaError}
+use Rattle.vp_pragma.specs.Envelopes.{Protection}
 use Rattle.vp_pragma.specs.EnvelopesOf.{envelopes_of}
+use Rattle.vp_pragma.specs.Pragmas.{value_at}
 use Rattle.vp_elab.specs.declared.object.Kind.{Kind}
 use Rattle.vp_elab.specs.declared.object.Kind.TheVariants.{Module, Reg, Initial}
 use Rattle.vp_elab.specs.Tree.{Step, Node, Tree}
@@ -24,9 +25,9 @@ abbrev tokens_in : Result (List Token) LexError → List Token
 tokens_in (Ok tokens) = tokens
 tokens_in (Err e) = []
 
-abbrev envelopes_in : Result (List Envelope) PragmaError → List Envelope
-envelopes_in (Ok envelopes) = envelopes
-envelopes_in (Err e) = []
+abbrev protection_in : Result Protection PragmaError → Protection
+protection_in (Ok protection) = protection
+protection_in (Err e) = record { envelopes = []; viewports = [] }
 
 -- the source of the text: its statements name nothing
 abbrev source : Source
@@ -40,7 +41,7 @@ source = record {
 }
 
 abbrev tree : Tree
-tree = tree_of source (envelopes_in (envelopes_of text (tokens_in (tokens_of text))))
+tree = tree_of source (protection_in (envelopes_of text (tokens_in (tokens_of text))))
 
 abbrev root : Step
 root = record { name = codes "top"; place = 1; envelope = 0; in_module = None }
@@ -62,9 +63,9 @@ nodes_of_text :
     ∷ declared (codes "k") 14 1 Reg 4
     ∷ declared (codes "initial@6:3") 19 0 Initial 6
     ∷ []
-unfolding digits is_utf8 chars encode_utf8
+unfolding digits is_utf8 chars encode_utf8 value_at
 nodes_of_text = refl
 
 authors_of_text : tree.authors ≡ codes "acme" ∷ []
-unfolding is_utf8 chars encode_utf8
+unfolding is_utf8 chars encode_utf8 value_at
 authors_of_text = refl

@@ -10,7 +10,7 @@ use Rattle.vp_parse.specs.declared.source.Module as declared
 use Rattle.vp_parse.specs.declared.source.Item.{Item}
 use Rattle.vp_parse.specs.declared.source.Item.TheVariants as item
 use Rattle.vp_pragma.specs.declared.envelope.Envelope.{Envelope}
-use Rattle.vp_pragma.specs.Envelopes.{envelope_at}
+use Rattle.vp_pragma.specs.Envelopes.{Protection, envelope_at}
 use Rattle.vp_elab.specs.declared.object.Kind.{Kind}
 use Rattle.vp_elab.specs.declared.object.Kind.TheVariants as kind
 use Rattle.vp_elab.specs.Tree.{Step, Node, Tree}
@@ -100,10 +100,14 @@ module_nodes source envelopes m =
     }
     ∷ map (item_node source envelopes m.name) (items_in source m)
 
--- the tree of a source with these envelopes; each module is a top module, since none is instantiated yet
-abbrev pub tree_of : Source → List Envelope → Tree
-tree_of source envelopes = record {
-  nodes = flat_map (module_nodes source envelopes) source.modules;
-  viewports = [];
-  authors = map (λ e. e.author) envelopes;
+-- the nodes of a source with these envelopes; each module is a top module, since none is instantiated yet
+abbrev pub nodes_of : Source → List Envelope → List Node
+nodes_of source envelopes = flat_map (module_nodes source envelopes) source.modules
+
+-- the tree of a source with these envelopes and viewports
+abbrev pub tree_of : Source → Protection → Tree
+tree_of source protection = record {
+  nodes = nodes_of source protection.envelopes;
+  viewports = protection.viewports;
+  authors = map (λ e. e.author) protection.envelopes;
 }

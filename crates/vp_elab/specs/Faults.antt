@@ -1,13 +1,14 @@
 -- The numbers and the lines of the faults of a source.
 use Rattle.std.specs.Prelude.{ℕ}
 use Rattle.vp_elab.specs.declared.fault.ElabError.{ElabError}
-use Rattle.vp_elab.specs.declared.fault.ElabError.TheVariants.{Duplicate, Undeclared, TooManyObjects, NoMemory}
+use Rattle.vp_elab.specs.declared.fault.ElabError.TheVariants.{Duplicate, Undeclared, TooManyObjects, ViewportUnknown, NoMemory}
 
 -- the number of a refusal (profile)
 abbrev pub code_of : ElabError → ℕ
 code_of (Duplicate line) = 501
 code_of (Undeclared line) = 502
 code_of TooManyObjects = 507
+code_of (ViewportUnknown line) = 508
 code_of NoMemory = 510
 
 -- its line, 0 where it has none
@@ -15,4 +16,5 @@ abbrev pub line_of : ElabError → ℕ
 line_of (Duplicate line) = line
 line_of (Undeclared line) = line
 line_of TooManyObjects = 0
+line_of (ViewportUnknown line) = line
 line_of NoMemory = 0

@@ -1,6 +1,7 @@
 -- Why a source has no design: the refusals, each tested over the whole text, in this order.
-use Rattle.std.specs.Prelude.{◌≡◌, ℕ, ◌+◌, nat_lt, Bool, if◌then◌else◌, List, [], ◌∷◌, ◌++◌, length, map, sum_by, Option, Some, None}
+use Rattle.std.specs.Prelude.{◌≡◌, ℕ, ◌+◌, nat_lt, Bool, false, if◌then◌else◌, List, [], ◌∷◌, ◌++◌, length, map, sum_by, Option, Some, None}
 use Rattle.std.specs.List.{list_any}
+use Rattle.std.specs.Option.{option_map_or}
 use Rattle.std.specs.Str.{bytes_eq}
 use Rattle.vp_parse.specs.Places.{earlier, earliest, line_at, word_at}
 use Rattle.vp_parse.specs.declared.source.Source.{Source}
@@ -12,8 +13,10 @@ use Rattle.vp_parse.specs.declared.source.Statement.{Statement}
 use Rattle.vp_parse.specs.declared.source.Statement.TheVariants as statement
 use Rattle.vp_elab.specs.declared.elaboration.TheConstants.{OBJECT_LIMIT}
 use Rattle.vp_elab.specs.declared.fault.ElabError.{ElabError}
-use Rattle.vp_elab.specs.declared.fault.ElabError.TheVariants.{Duplicate, Undeclared, TooManyObjects, NoMemory}
-use Rattle.vp_elab.specs.Elaboration.{item_name, item_place, items_in}
+use Rattle.vp_elab.specs.declared.fault.ElabError.TheVariants.{Duplicate, Undeclared, TooManyObjects, ViewportUnknown, NoMemory}
+use Rattle.vp_pragma.specs.Envelopes.{Protection, Viewport}
+use Rattle.vp_elab.specs.Elaboration.{item_name, item_place, items_in, nodes_of}
+use Rattle.vp_elab.specs.Tree.{Node, last_step, matches}
 
 -- the first of two refusals that holds
 abbrev pub first_of_two : Option ElabError → Option ElabError → Option ElabError
@@ -26,6 +29,7 @@ Explains refusal NoMemory = Unit {0}
 Explains refusal (Duplicate line) = refusal ≡ Some (Duplicate line)
 Explains refusal (Undeclared line) = refusal ≡ Some (Undeclared line)
 Explains refusal TooManyObjects = refusal ≡ Some TooManyObjects
+Explains refusal (ViewportUnknown line) = refusal ≡ Some (ViewportUnknown line)
 
 -- a name is among these
 abbrev pub is_among : List (List ℕ) → List ℕ → Bool
@@ -91,10 +95,27 @@ object_count source ms = sum_by (λ m. length (items_in source m) + 1) ms
 abbrev pub too_many : ℕ → Option ElabError
 too_many count = if nat_lt OBJECT_LIMIT count then Some TooManyObjects else None
 
+-- ---- viewports that open nothing
+
+-- a viewport matches the last step of an object's path
+abbrev pub matches_node : Viewport → Node → Bool
+matches_node v node = option_map_or (λ s. matches s v) (last_step node.path) false
+
+-- the first of these viewports that matches none of these objects (profile)
+abbrev pub first_unmatched : List Node → List Viewport → Option ElabError
+first_unmatched nodes [] = None
+first_unmatched nodes (v ∷ vs) =
+    if list_any (matches_node v) nodes then first_unmatched nodes vs else Some (ViewportUnknown v.line)
+
+-- the first viewport of a text that matches no object
+abbrev pub unmatched_in : Source → Protection → Option ElabError
+unmatched_in source protection = first_unmatched (nodes_of source protection.envelopes) protection.viewports
+
 -- ---- all of them
 
--- the first refusal of a source that holds; none where it has a design (profile)
-abbrev pub refusal_of : Source → Option ElabError
-refusal_of source =
+-- the first refusal of a source, with its envelopes and viewports, that holds; none where it has a design (profile)
+abbrev pub refusal_of : Source → Protection → Option ElabError
+refusal_of source protection =
     first_of_two (twice_in source [] source.modules)
-    (first_of_two (undeclared_in source source.modules) (too_many (object_count source source.modules)))
+    (first_of_two (undeclared_in source source.modules)
+    (first_of_two (too_many (object_count source source.modules)) (unmatched_in source protection)))

@@ -3,6 +3,7 @@ use Rattle.std.specs.Prelude.{ℕ, zero, suc, ◌==◌, ◌&&◌, Bool, true, fa
 use Rattle.std.specs.List.{filter_map, list_any, position}
 use Rattle.std.specs.Option.{option_map_or}
 use Rattle.std.specs.Str.{bytes_eq}
+use Rattle.vp_pragma.specs.Rights.{RightSet, nothing, either}
 use Rattle.vp_pragma.specs.Envelopes.{Viewport}
 use Rattle.vp_elab.specs.declared.object.Kind.{Kind}
 use Rattle.vp_elab.specs.declared.object.Kind.TheVariants as kind
@@ -69,6 +70,37 @@ fits_module (Some m) (Some n) = bytes_eq m n
 -- a viewport matches a step: an item of its name, and of its module where it names one, in its envelope (profile)
 abbrev pub matches : Step → Viewport → Bool
 matches s v = (v.envelope == s.envelope) && is_some s.in_module && bytes_eq v.item s.name && fits_module v.in_module s.in_module
+
+-- the step to an item of this name in a module and an envelope, whatever its place: viewports don't see it
+abbrev pub step_named : (envelope : ℕ) → (in_module : List ℕ) → (name : List ℕ) → Step
+step_named envelope in_module name = record { name = name; place = 0; envelope = envelope; in_module = Some in_module }
+
+-- the last step of a path
+abbrev pub last_step : List Step → Option Step
+last_step [] = None
+last_step (s ∷ []) = Some s
+last_step (s ∷ t ∷ path) = last_step (t ∷ path)
+
+-- what the viewports that match a step open
+abbrev pub viewed : List Viewport → Step → RightSet
+viewed [] s = nothing
+viewed (v ∷ vs) s = if matches s v then either v.rights (viewed vs s) else viewed vs s
+
+-- the number of the first of these viewports that matches a step, from 0
+abbrev pub first_viewport : List Viewport → Step → Option ℕ
+first_viewport viewports s = position (matches s) viewports
+
+-- what the viewports that match a step open, and the number of the first
+abbrev pub sight_of : List Viewport → Step → RightSet × Option ℕ
+sight_of viewports s = (viewed viewports s, first_viewport viewports s)
+
+-- the same of an object, by the last step of its path
+abbrev pub sight_in : List Viewport → Node → RightSet × Option ℕ
+sight_in viewports node = option_map_or (sight_of viewports) (last_step node.path) (nothing, None)
+
+-- the same of the object of a number; nothing where no object is
+abbrev pub sight_at : Tree → ℕ → RightSet × Option ℕ
+sight_at tree id = option_map_or (sight_in tree.viewports) (slice_get tree.nodes id) (nothing, None)
 
 -- the author of the envelope of a number; of number 0, the open text, and of no envelope the empty text
 abbrev pub author_in : List (List ℕ) → ℕ → List ℕ

@@ -1,17 +1,20 @@
-ghost use Rattle.std.specs.Prelude.{◌≡◌, ◌≤◌, [], All, map, option_and_then, option_map, length, position, slice_get, IfSome, MatchOption};
-ghost use Rattle.std.specs.Option.{option_copied};
+ghost use Rattle.std.specs.Prelude.{◌≡◌, ◌≤◌, [], None, All, map, option_and_then, option_map, length, position, slice_get, IfSome, MatchOption};
+ghost use Rattle.std.specs.Option.{option_copied, option_map_or};
+ghost use Rattle.vp_pragma.specs.Rights.{nothing};
 ghost use Rattle.std.specs.Str.{bytes_eq};
-ghost use Rattle.vp_elab.specs.Tree.{author_in, declared_envelopes, find_in};
+ghost use Rattle.vp_elab.specs.Tree.{author_in, declared_envelopes, find_in, sight_at};
 ghost use Rattle.vp_elab.specs.Objects.{AreObjects, StandsFor, module_name_at};
-ghost use Rattle.vp_elab.specs.Built.{IsBuilt, design_of};
+ghost use Rattle.vp_pragma.specs.Reading.{viewport_of};
+ghost use Rattle.vp_elab.specs.Built.{IsBuilt, design_of, shown};
 
 use crate::names::Names;
 use crate::object::{Object, ObjectId};
 use crate::scope::{Modules, Scope};
+use crate::sight::Sight;
 use std::marker::Model;
 use vp_list::Sequence;
 use vp_parse::Source;
-use vp_pragma::Envelopes;
+use vp_pragma::{Envelopes, Viewport};
 
 /// The objects of a design.
 #[derive(Drop)]
@@ -24,7 +27,7 @@ pub struct Objects {
     pub root_envelopes: Sequence<u8>,
 }
 
-/// A design: its objects in preorder, with the source and the envelopes that it was made of.
+/// A design: its objects in preorder, with the source, the envelopes and the viewports that it was made of.
 /// A contract sees the source and the tree.
 #[derive(Drop)]
 pub struct Design {
@@ -32,6 +35,8 @@ pub struct Design {
     envelopes: Envelopes,
     modules: Modules,
     objects: Objects,
+    /// What viewports open of each object.
+    sights: Sequence<Sight>,
 }
 
 impl Model for Design {
@@ -41,7 +46,7 @@ impl Model for Design {
 
     ghost view = { λ d. design_of d.source d.envelopes };
 
-    ghost invariant = { λ d. IsBuilt d.source d.envelopes d.modules d.objects };
+    ghost invariant = { λ d. IsBuilt d.source d.envelopes d.modules d.objects d.sights };
 }
 
 /// The object of a number.
@@ -49,6 +54,16 @@ fn object_at(objects: &[Object], id: ObjectId) -> Option<Object>
     ensures { result ≡ slice_get objects.now id.0 }
 {
     objects.get(id.0 as usize).copied()
+}
+
+/// What viewports open of the object of a number.
+fn sight_at(sights: &[Sight], id: ObjectId) -> Sight
+    ensures { shown result ≡ option_map_or shown (slice_get sights.now id.0) (nothing, None) }
+{
+    match sights.get(id.0 as usize).copied() {
+        Some(sight) => sight,
+        None => Sight::none(),
+    }
 }
 
 /// The scope of a module's object; none of any other object.
@@ -80,8 +95,9 @@ impl Design {
         envelopes: Envelopes,
         modules: Modules,
         objects: Objects,
+        sights: Sequence<Sight>,
     ) -> Design
-        requires { IsBuilt source envelopes modules objects }
+        requires { IsBuilt source envelopes modules objects sights }
         ensures { result ≡ design_of source envelopes }
     {
         Design {
@@ -89,6 +105,7 @@ impl Design {
             envelopes,
             modules,
             objects,
+            sights,
         }
     }
 
@@ -125,13 +142,33 @@ impl Design {
         self.objects.all.len() as u32
     }
 
-    /// The object of a number; none behind the end. No viewport is read yet.
+    /// The object of a number; none behind the end.
     pub fn object(&self, id: ObjectId) -> Option<Object>
-        ensures viewports { self.now.tree.viewports ≡ [] }
         ensures node { MatchOption result (slice_get self.now.tree.nodes id.0 ≡ None) (λ o. StandsFor self.now.tree.nodes id.0 o) }
         ensures scope { IfSome result (λ o. module_name_at self.now.source o.scope ≡ option_and_then (λ n. n.definition) (slice_get self.now.tree.nodes id.0)) }
     {
         object_at(self.objects.all.as_slice(), id)
+    }
+
+    /// What the viewports that match the object of a number open of it; nothing behind the end.
+    pub fn sight(&self, id: ObjectId) -> Sight
+        ensures { shown result ≡ sight_at self.now.tree id.0 }
+    {
+        sight_at(self.sights.as_slice(), id)
+    }
+
+    /// The viewports, in the order of the text.
+    pub fn viewports(&self) -> &[Viewport]
+        ensures { map viewport_of result.now ≡ self.now.tree.viewports }
+    {
+        self.envelopes.viewports()
+    }
+
+    /// How many envelopes there are.
+    pub fn envelope_count(&self) -> u8
+        ensures { result ≡ length self.now.tree.authors }
+    {
+        self.envelopes.count()
     }
 
     /// The object of a name that is declared in a module, or among the top modules; none in an object that is no

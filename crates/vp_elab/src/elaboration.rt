@@ -10,6 +10,7 @@ use crate::fault::ElabError;
 use crate::names::Names;
 use crate::object::{Kind, Object, ObjectId};
 use crate::scope::{Scope, items_of, modules_of, place_of, root_envelopes_of};
+use crate::sight::{check_viewports, sights_of};
 use std::alloc::Global;
 use vp_list::Sequence;
 use vp_parse::{Expression, Item, Module, Range, Source, Statement, earlier};
@@ -145,7 +146,7 @@ fn lowest_of(range: Option<Range>) -> Option<u16>
 
 /// The object of a top module, by the number of its module.
 fn root_of(envelopes: &Envelopes, number: usize, module: Module) -> Object
-    ensures { result ≡ root_object envelopes.now number «module» }
+    ensures { result ≡ root_object envelopes.now.envelopes number «module» }
 {
     Object {
         kind: Kind::Module,
@@ -160,7 +161,7 @@ fn root_of(envelopes: &Envelopes, number: usize, module: Module) -> Object
 
 /// The object of what an item of a module declares.
 fn object_of(envelopes: &Envelopes, module: ObjectId, item: Item) -> Object
-    ensures { result ≡ item_object envelopes.now «module».0 item }
+    ensures { result ≡ item_object envelopes.now.envelopes «module».0 item }
 {
     let place = place_of(item);
     let range = range_of(item);
@@ -199,7 +200,7 @@ fn add_root(
 ) -> Result<ObjectId, ElabError>
     requires { length objects.old.items ≤ OBJECT_LIMIT }
     ensures root { IfOk result (λ root. root.0 ≡ length objects.old.items) }
-    ensures added { OnOk result (objects.new.items ≡ objects.old.items ++ module_objects source.now envelopes.now number (length objects.old.items) «module») }
+    ensures added { OnOk result (objects.new.items ≡ objects.old.items ++ module_objects source.now envelopes.now.envelopes number (length objects.old.items) «module») }
     ensures few { OnOk result (length objects.new.items ≤ OBJECT_LIMIT) }
     ensures full { IfErr result (λ e. Explains (too_many (length objects.old.items + (length (items_in source.now «module») + 1))) e) }
 {
@@ -213,7 +214,7 @@ fn add_root(
 
 /// The objects of a text, each of whose modules is a top module.
 fn objects_of(alloc: Global, source: &Source, envelopes: &Envelopes) -> Result<Objects, ElabError>
-    ensures objects { IfOk result (λ objects. objects ≡ objects_in source.now envelopes.now) }
+    ensures objects { IfOk result (λ objects. objects ≡ objects_in source.now envelopes.now.envelopes) }
     ensures few { IfOk result (λ objects. length objects.all ≤ OBJECT_LIMIT) }
     ensures counted { IfOk result (λ objects. too_many (object_count source.now source.now.modules) ≡ None) }
     ensures full { IfErr result (λ e. Explains (too_many (object_count source.now source.now.modules)) e) }
@@ -232,15 +233,18 @@ fn objects_of(alloc: Global, source: &Source, envelopes: &Envelopes) -> Result<O
     })
 }
 
-/// The design of a source; or the first refusal that holds (501, 502, 507), or want of memory (510).
+/// The design of a source; or the first refusal that holds (501, 502, 507, 508), or want of memory (510).
 /// The source and the envelopes are of one text; on a refusal both are dropped.
 pub fn elaborate(alloc: Global, source: Source, envelopes: Envelopes) -> Result<Design, ElabError>
     ensures design { IfOk result (λ design. design ≡ design_of source envelopes) }
-    ensures accepted { IfOk result (λ design. refusal_of source ≡ None) }
-    ensures refused { IfErr result (λ e. Explains (refusal_of source) e) }
+    ensures accepted { IfOk result (λ design. refusal_of source envelopes ≡ None) }
+    ensures refused { IfErr result (λ e. Explains (refusal_of source envelopes) e) }
 {
     let modules = modules_of(alloc, &source, &envelopes)?;
-    check_names(&source, modules.scopes.as_slice())?;
+    let scopes = modules.scopes.as_slice();
+    check_names(&source, scopes)?;
     let objects = objects_of(alloc, &source, &envelopes)?;
-    Ok(Design::new(source, envelopes, modules, objects))
+    check_viewports(&source, &envelopes, scopes)?;
+    let sights = sights_of(alloc, &source, &envelopes, scopes)?;
+    Ok(Design::new(source, envelopes, modules, objects, sights))
 }

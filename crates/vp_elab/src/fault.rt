@@ -16,6 +16,9 @@ pub enum ElabError {
     /// More than 65,536 objects (507).
     #[error("too many objects")]
     TooManyObjects,
+    /// A viewport that is on no item of its envelope (508).
+    #[error("line {line}: no item of this name for a viewport")]
+    ViewportUnknown { line: u32 },
     /// Want of memory (510).
     #[error("no memory")]
     NoMemory,
@@ -32,6 +35,7 @@ impl ElabError {
             ElabError::Duplicate { .. } => 501,
             ElabError::Undeclared { .. } => 502,
             ElabError::TooManyObjects => 507,
+            ElabError::ViewportUnknown { .. } => 508,
             ElabError::NoMemory => 510,
         }
     }
@@ -41,7 +45,9 @@ impl ElabError {
         ensures { result ≡ line_of self.now }
     {
         match self {
-            ElabError::Duplicate { line } | ElabError::Undeclared { line } => *line,
+            ElabError::Duplicate { line }
+            | ElabError::Undeclared { line }
+            | ElabError::ViewportUnknown { line } => *line,
             ElabError::TooManyObjects | ElabError::NoMemory => 0,
         }
     }

@@ -1,4 +1,4 @@
-ghost use Rattle.std.specs.Prelude.{◌≡◌, not, [], ◌∷◌, ◌++◌, position, string_bytes, IfOk, if◌then◌else◌};
+ghost use Rattle.std.specs.Prelude.{◌≡◌, not, [], ◌∷◌, ◌++◌, position, slice_index_or, string_bytes, IfOk, if◌then◌else◌};
 ghost use Rattle.std.specs.Str.{bytes_eq};
 ghost use Rattle.vp_elab.specs.Refusals.{is_among};
 
@@ -43,6 +43,16 @@ impl Names {
         ensures { result ≡ position (bytes_eq name.now) self.now }
     {
         self.names.get_index_of(name)
+    }
+
+    /// The name of an index; empty behind the end.
+    pub fn at(&self, index: usize) -> &str
+        ensures { result.now ≡ slice_index_or self.now index [] }
+    {
+        match self.names.get_index(index) {
+            Some(name) => name.as_str(),
+            None => "",
+        }
     }
 
     /// A name is among these.

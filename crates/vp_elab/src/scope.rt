@@ -103,7 +103,7 @@ fn marked(alloc: Global, marks: &[bool; 256], last: u8) -> Result<Sequence<u8>, 
 
 /// The envelopes of items are marked.
 fn marks_of(envelopes: &Envelopes, items: &[Item]) -> [bool; 256]
-    ensures { (e : ℕ) → e < 256 → slice_index_or result e false ≡ list_any (λ place. envelope_at envelopes.now place == e) (map item_place items.now) }
+    ensures { (e : ℕ) → e < 256 → slice_index_or result e false ≡ list_any (λ place. envelope_at envelopes.now.envelopes place == e) (map item_place items.now) }
 {
     let mut marks = [false; 256];
     for item in items {
@@ -114,7 +114,7 @@ fn marks_of(envelopes: &Envelopes, items: &[Item]) -> [bool; 256]
 
 /// The envelopes of the names of modules are marked.
 fn root_marks_of(envelopes: &Envelopes, modules: &[Module]) -> [bool; 256]
-    ensures { (e : ℕ) → e < 256 → slice_index_or result e false ≡ list_any (λ place. envelope_at envelopes.now place == e) (map (λ m. m.name) modules.now) }
+    ensures { (e : ℕ) → e < 256 → slice_index_or result e false ≡ list_any (λ place. envelope_at envelopes.now.envelopes place == e) (map (λ m. m.name) modules.now) }
 {
     let mut marks = [false; 256];
     for module in modules {
@@ -129,7 +129,7 @@ pub fn root_envelopes_of(
     envelopes: &Envelopes,
     modules: &[Module],
 ) -> Result<Sequence<u8>, AllocError>
-    ensures { IfOk result (λ numbers. numbers ≡ numbers_of envelopes.now (map (λ m. m.name) modules.now)) }
+    ensures { IfOk result (λ numbers. numbers ≡ numbers_of envelopes.now.envelopes (map (λ m. m.name) modules.now)) }
 {
     marked(alloc, &root_marks_of(envelopes, modules), envelopes.count())
 }
@@ -140,7 +140,7 @@ fn item_envelopes_of(
     envelopes: &Envelopes,
     items: &[Item],
 ) -> Result<Sequence<u8>, AllocError>
-    ensures { IfOk result (λ numbers. numbers ≡ numbers_of envelopes.now (map item_place items.now)) }
+    ensures { IfOk result (λ numbers. numbers ≡ numbers_of envelopes.now.envelopes (map item_place items.now)) }
 {
     marked(alloc, &marks_of(envelopes, items), envelopes.count())
 }
@@ -170,7 +170,7 @@ fn scope_of(
     envelopes: &Envelopes,
     module: Module,
 ) -> Result<Scope, ElabError>
-    ensures scope { IfOk result (λ scope. scope ≡ scope_in source.now envelopes.now «module») }
+    ensures scope { IfOk result (λ scope. scope ≡ scope_in source.now envelopes.now.envelopes «module») }
     ensures once { IfOk result (λ scope. twice source.now [] (items_in source.now «module») ≡ None) }
     ensures twice { IfErr result (λ e. Explains (twice source.now [] (items_in source.now «module»)) e) }
 {
@@ -186,7 +186,7 @@ pub fn modules_of(
     source: &Source,
     envelopes: &Envelopes,
 ) -> Result<Modules, ElabError>
-    ensures modules { IfOk result (λ modules. modules ≡ modules_in source.now envelopes.now) }
+    ensures modules { IfOk result (λ modules. modules ≡ modules_in source.now envelopes.now.envelopes) }
     ensures once { IfOk result (λ modules. twice_in source.now [] source.now.modules ≡ None) }
     ensures twice { IfErr result (λ e. Explains (twice_in source.now [] source.now.modules) e) }
 {

@@ -6,8 +6,6 @@ mod keyword;
 mod piece;
 mod string;
 mod symbol;
-#[cfg(test)]
-mod tests;
 mod timescale;
 mod token;
 

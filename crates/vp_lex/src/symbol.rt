@@ -88,14 +88,24 @@ pub fn symbol(bytes: &[u8]) -> Option<Punctuator>
     }
 }
 
+/// The length of the longest symbol that bytes begin with, or of their first byte.
+fn symbol_length(bytes: &[u8]) -> usize
+    requires { 0 < length bytes.now }
+    ensures length { result ≡ 1 + length (symbol_front (slice_index bytes.now 0) (drop 1 bytes.now)) }
+    ensures within { result ≤ length bytes.now }
+{
+    match bytes {
+        [a, b, c, ..] if three_byte_symbol(*a, *b, *c).is_some() => 3,
+        [a, b, ..] if two_byte_symbol(*a, *b).is_some() => 2,
+        _ => 1,
+    }
+}
+
 /// The end of the longest symbol from a byte on, or behind that byte.
+#[tactic(auto, using(std::proofs::lemmas::List::drop_more))]
 pub fn symbol_end(bytes: &[u8], start: usize) -> usize
     requires { start < length bytes.now }
     ensures end { result ≡ start + 1 + length (symbol_front (slice_index bytes.now start) (drop (start + 1) bytes.now)) }
 {
-    match &bytes[start..] {
-        [a, b, c, ..] if three_byte_symbol(*a, *b, *c).is_some() => start + 3,
-        [a, b, ..] if two_byte_symbol(*a, *b).is_some() => start + 2,
-        _ => start + 1,
-    }
+    start + symbol_length(&bytes[start..])
 }

@@ -99,7 +99,7 @@ instance_design = record {
       ∷ item (in_u (codes "always@6:3") 50 1) Always 6
       ∷ item (in_top (codes "initial@13:3") 95) Initial 13
       ∷ [];
-  viewports = record { envelope = 1; in_module = Some (codes "ip"); item = codes "s"; rights = reading } ∷ [];
+  viewports = record { envelope = 1; in_module = Some (codes "ip"); item = codes "s"; rights = reading; line = 1 } ∷ [];
   authors = codes "acme" ∷ [];
 }
 
@@ -199,7 +199,7 @@ flat_design = record {
       ∷ item (in_flat (codes "a") 32 0) Reg 6
       ∷ [];
   viewports =
-      record { envelope = 1; in_module = None; item = codes "s"; rights = with_right right.Put reading } ∷ [];
+      record { envelope = 1; in_module = None; item = codes "s"; rights = with_right right.Put reading; line = 1 } ∷ [];
   authors = codes "acme" ∷ [];
 }
 
@@ -293,7 +293,7 @@ nested_read_denied = refl
 -- the same design with a viewport that opens a reg of the leaf to everyone
 abbrev nested_with_viewport : Tree
 nested_with_viewport = record nested_design {
-  viewports = record { envelope = 1; in_module = Some (codes "leaf"); item = codes "k"; rights = reading } ∷ [];
+  viewports = record { envelope = 1; in_module = Some (codes "leaf"); item = codes "k"; rights = reading; line = 1 } ∷ [];
 }
 
 -- it opens the reg under the instance that is listed

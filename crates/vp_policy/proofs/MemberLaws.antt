@@ -1,4 +1,4 @@
--- The members of a policy have no grants yet, and are those of its users.
+-- The members of a policy are those of its users.
 use Rattle.std.proofs.Common.{◌≡◌, ℕ, zero, suc, Bool, false, List, [], ◌∷◌, map, position, slice_get, Option, Some, None, refl, sym, ap, ◌∙◌}
 use Rattle.std.specs.Prelude.{String, if◌then◌else◌, option_and_then, option_map, string_bytes}
 use Rattle.std.specs.Map.{keys_of}
@@ -9,16 +9,6 @@ use Rattle.std.specs.declared.alloc.Global.{Global}
 use Rattle.vp_policy.specs.declared.policy.User.{User}
 use Rattle.vp_policy.specs.Members.{member_of}
 use Rattle.vp_policy.specs.Users.{Member, has_token, login_of, member_at, user_of}
-
--- no member has grants
-no_grants : (es : List (String Global × User)) (n : ℕ) → (member_at (map member_of es) n).grants ≡ []
-no_grants [] n = refl
-no_grants (e ∷ es) zero = refl
-no_grants (e ∷ es) (suc n) = no_grants es n
-
--- no member of a policy has grants
-pub grants_of : (members : List Member) (es : List (String Global × User)) → map member_of es ≡ members → (n : ℕ) → (member_at members n).grants ≡ []
-grants_of members es view n = ap (λ (ms : List Member). (member_at ms n).grants) (sym view) ∙ no_grants es n
 
 member_of_user : (es : List (String Global × User)) (n : ℕ) (e : String Global × User) → slice_get es n ≡ Some e → member_at (map member_of es) n ≡ member_of e
 member_of_user [] n e h = absurd cc

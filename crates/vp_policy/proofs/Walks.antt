@@ -9,17 +9,16 @@ use Rattle.std.proofs.lemmas.List.Quantifiers.{position-Some}
 use Rattle.vp_list.specs.Texts.{behind_part, begun, parts}
 use Rattle.vp_pragma.specs.declared.rights.Right.{Right}
 use Rattle.vp_pragma.specs.Rights.{RightSet, both, either, everything, has, nothing}
-use Rattle.vp_pragma.specs.Envelopes.{Viewport}
 use Rattle.vp_elab.specs.declared.object.Kind.TheVariants as kind
 use Rattle.vp_elab.specs.declared.object.Object.{Object}
 use Rattle.vp_elab.specs.declared.object.ObjectId.{ObjectId}
 use Rattle.vp_elab.specs.Objects.{StandsFor}
-use Rattle.vp_elab.specs.Tree.{Step, Node, Tree, declared_envelopes, envelopes_in, find_in, find_named, is_named, names_of, path_of, scope_names}
+use Rattle.vp_elab.specs.Tree.{Step, Node, Tree, declared_envelopes, envelopes_in, find_in, find_named, is_named, last_step, names_of, path_of, scope_names, sight_at, sight_in, sight_of, viewed}
 use Rattle.vp_policy.specs.declared.denial.Denial.{Denial}
 use Rattle.vp_policy.specs.declared.denial.Look.{Look}
 use Rattle.vp_policy.specs.declared.denial.Look.TheVariants as look
 use Rattle.vp_policy.specs.Users.{Member, granted}
-use Rattle.vp_policy.specs.Filter.{is_listed_at, by_grant, by_step, closed, denial, denial_at, from_found, is_closed, listed_in, opened, rights, rights_at, unlisted, viewed, walk}
+use Rattle.vp_policy.specs.Filter.{is_listed_at, by_first, by_step, closed, denial, denial_at, from_found, is_closed, listed_in, opened, rights, rights_at, unlisted, walk}
 
 -- ---- sets of rights
 
@@ -64,12 +63,25 @@ both-assoc a b c = same_sets _ _ (and_assoc a.list b.list c.list) (and_assoc a.r
 both-swap : (a b c : RightSet) → both (both a b) c ≡ both a (both c b)
 both-swap a b c = same_sets _ _ (and_swap a.list b.list c.list) (and_swap a.read b.read c.read) (and_swap a.watch b.watch c.watch) (and_swap a.put b.put c.put) (and_swap a.race b.race c.race)
 
-either-nothing : (a : RightSet) → either a nothing ≡ a
-either-nothing a = same_sets _ _ (or_false a.list) (or_false a.read) (or_false a.watch) (or_false a.put) (or_false a.race)
+-- the last step of a path is the one that stands behind the others
+last_behind : (above : List Step) (s : Step) → last_step (above ++ s ∷ []) ≡ Some s
+last_behind [] s = refl
+last_behind (t ∷ []) s = refl
+last_behind (t ∷ t' ∷ above) s = last_behind (t' ∷ above) s
 
--- where there is no viewport, what is opened at a step is what is granted for its envelope
-opened_is : (tree : Tree) (u : Member) (s : Step) → tree.viewports ≡ [] → opened tree u s ≡ granted u s.envelope
-opened_is tree u s none = ap (λ (vs : List Viewport). either (granted u s.envelope) (viewed vs s)) none ∙ either-nothing (granted u s.envelope)
+-- what viewports open of an object is what they open at the last step of its path
+sight_is : (tree : Tree) (id : ℕ) (o : Object) (h : StandsFor tree.nodes id o) → sight_at tree id ≡ sight_of tree.viewports h.step
+sight_is tree id o h =
+    ap (λ (x : Option Node). option_map_or (sight_in tree.viewports) x (nothing, None)) h.there
+    ∙ ap (λ (p : List Step). option_map_or (sight_of tree.viewports) (last_step p) (nothing, None)) h.path
+    ∙ ap (λ (x : Option Step). option_map_or (sight_of tree.viewports) x (nothing, None)) (last_behind (path_of tree.nodes (option_map (λ q. q.0) o.parent)) h.step)
+
+-- what is opened at the step to an object
+abbrev pub opened_at : Member → ℕ → RightSet × Option ℕ → RightSet
+opened_at u envelope sight = either (granted u envelope) sight.0
+
+opened_is : (tree : Tree) (u : Member) (id : ℕ) (o : Object) (h : StandsFor tree.nodes id o) → opened tree u h.step ≡ opened_at u o.envelope (sight_at tree id)
+opened_is tree u id o h = ap (λ (e : ℕ). either (granted u e) (viewed tree.viewports h.step)) h.envelope ∙ ap (opened_at u o.envelope) (sym (sight_is tree id o h))
 
 -- ---- the rights on a path, from its end
 
@@ -96,10 +108,10 @@ left_is tree u i n (Some q) h l =
     ∙ sym (ap (λ (o : Option Node). rights tree u (option_map_or (λ (x : Node). x.path) o [])) m.1)
 
 -- the rights on an object are what is granted for its envelope, and the rights on its parent
-pub rights_step : (tree : Tree) (u : Member) (id : ℕ) (o : Object) (r g : RightSet) → tree.viewports ≡ [] → StandsFor tree.nodes id o → g ≡ granted u o.envelope → both (both r g) (rights_left tree u o.parent) ≡ both r (rights_at tree u id)
-rights_step tree u id o r g none h is =
+pub rights_step : (tree : Tree) (u : Member) (id : ℕ) (o : Object) (r g : RightSet) → StandsFor tree.nodes id o → g ≡ opened_at u o.envelope (sight_at tree id) → both (both r g) (rights_left tree u o.parent) ≡ both r (rights_at tree u id)
+rights_step tree u id o r g h is =
     let above : List Step = path_of tree.nodes (option_map (λ q. q.0) o.parent) in
-    let own : opened tree u h.step ≡ g = opened_is tree u h.step none ∙ ap (granted u) h.envelope ∙ sym is in
+    let own : opened tree u h.step ≡ g = opened_is tree u id o h ∙ sym is in
     let here : rights_at tree u id ≡ both (rights tree u above) g =
     ap (λ (x : Option Node). option_map_or (λ (x : Node). rights tree u x.path) x nothing) h.there ∙ ap (rights tree u) h.path
     ∙ rights-append tree u above h.step ∙ ap (both (rights tree u above)) own in
@@ -141,27 +153,31 @@ abbrev pub denial_left : Tree → Member → Right → Option ObjectId → Optio
 denial_left tree u r None = None
 denial_left tree u r (Some id) = denial_at tree u r id.0
 
--- the denial at one step
-abbrev pub denial_here : Member → Right → ℕ → Option Denial
-denial_here u r envelope =
-    if has r (granted u envelope) then None else Some (record { by = by_grant u envelope; envelope = envelope; right = r })
+-- a denial at the step to an object
+abbrev pub denied_at : Member → Right → ℕ → RightSet × Option ℕ → Denial
+denied_at u r envelope sight = record { by = by_first u envelope sight.1; envelope = envelope; right = r }
 
-here_is : (tree : Tree) (u : Member) (r : Right) (s : Step) → tree.viewports ≡ [] → denial tree u r (s ∷ []) ≡ denial_here u r s.envelope
-here_is tree u r s none = rw none (ap (λ (x : RightSet). if has r x then None else Some (record { by = by_grant u s.envelope; envelope = s.envelope; right = r })) (either-nothing (granted u s.envelope)))
+-- the denial at one step
+abbrev pub denial_here : Member → Right → ℕ → RightSet × Option ℕ → Option Denial
+denial_here u r envelope sight = if has r (opened_at u envelope sight) then None else Some (denied_at u r envelope sight)
+
+here_is : (tree : Tree) (u : Member) (r : Right) (id : ℕ) (o : Object) (h : StandsFor tree.nodes id o) → denial tree u r (h.step ∷ []) ≡ denial_here u r o.envelope (sight_at tree id)
+here_is tree u r id o h = ap (λ (e : ℕ). denial_here u r e (sight_of tree.viewports h.step)) h.envelope ∙ ap (denial_here u r o.envelope) (sym (sight_is tree id o h))
 
 above_is : (tree : Tree) (u : Member) (r : Right) (p : Option ObjectId) → denial tree u r (path_of tree.nodes (option_map (λ q. q.0) p)) ≡ denial_left tree u r p
 above_is tree u r None = refl
 above_is tree u r (Some q) = refl
 
 -- a right on an object is denied as it is on its parent, else at its own step
-pub denial_step : (tree : Tree) (u : Member) (r : Right) (id : ℕ) (o : Object) (found : Option Denial) → tree.viewports ≡ [] → StandsFor tree.nodes id o → first_denial (denial_left tree u r o.parent) (first_denial (denial_here u r o.envelope) found) ≡ first_denial (denial_at tree u r id) found
-denial_step tree u r id o found none h =
+pub denial_step : (tree : Tree) (u : Member) (r : Right) (id : ℕ) (o : Object) (found : Option Denial) → StandsFor tree.nodes id o → first_denial (denial_left tree u r o.parent) (first_denial (denial_here u r o.envelope (sight_at tree id)) found) ≡ first_denial (denial_at tree u r id) found
+denial_step tree u r id o found h =
     let above : List Step = path_of tree.nodes (option_map (λ q. q.0) o.parent) in
-    let here : denial_at tree u r id ≡ first_denial (denial_left tree u r o.parent) (denial_here u r o.envelope) =
+    let own : Option Denial = denial_here u r o.envelope (sight_at tree id) in
+    let here : denial_at tree u r id ≡ first_denial (denial_left tree u r o.parent) own =
     ap (λ (x : Option Node). denial tree u r (option_map_or (λ (x : Node). x.path) x [])) h.there ∙ ap (denial tree u r) h.path
-    ∙ denial-append tree u r above h.step ∙ ap (first_denial (denial tree u r above)) (here_is tree u r h.step none ∙ ap (denial_here u r) h.envelope)
-    ∙ ap (λ (d : Option Denial). first_denial d (denial_here u r o.envelope)) (above_is tree u r o.parent) in
-    sym (first-assoc (denial_left tree u r o.parent) (denial_here u r o.envelope) found) ∙ ap (λ (d : Option Denial). first_denial d found) (sym here)
+    ∙ denial-append tree u r above h.step ∙ ap (first_denial (denial tree u r above)) (here_is tree u r id o h)
+    ∙ ap (λ (d : Option Denial). first_denial d own) (above_is tree u r o.parent) in
+    sym (first-assoc (denial_left tree u r o.parent) own found) ∙ ap (λ (d : Option Denial). first_denial d found) (sym here)
 
 -- nothing is denied of what is not there
 pub denial_absent : (tree : Tree) (u : Member) (r : Right) (id : ℕ) → slice_get tree.nodes id ≡ None → denial_at tree u r id ≡ None
@@ -273,16 +289,16 @@ scope_next tree u scope names part o named found =
 -- ---- one turn of each walk
 
 -- a step at which the right is lacking
-pub lacking_step : (tree : Tree) (u : Member) (r : Right) (id : ℕ) (o : Object) (found : Option Denial) (d : Denial) → tree.viewports ≡ [] → StandsFor tree.nodes id o → has r (granted u o.envelope) ≡ false → d ≡ record { by = by_grant u o.envelope; envelope = o.envelope; right = r } → first_denial (denial_left tree u r o.parent) (Some d) ≡ first_denial (denial_at tree u r id) found
-lacking_step tree u r id o found d none h lacks is =
-    let own : Denial = record { by = by_grant u o.envelope; envelope = o.envelope; right = r } in
+pub lacking_step : (tree : Tree) (u : Member) (r : Right) (id : ℕ) (o : Object) (found : Option Denial) (d : Denial) → StandsFor tree.nodes id o → has r (opened_at u o.envelope (sight_at tree id)) ≡ false → d ≡ denied_at u r o.envelope (sight_at tree id) → first_denial (denial_left tree u r o.parent) (Some d) ≡ first_denial (denial_at tree u r id) found
+lacking_step tree u r id o found d h lacks is =
+    let own : Denial = denied_at u r o.envelope (sight_at tree id) in
     ap (λ (x : Denial). first_denial (denial_left tree u r o.parent) (Some x)) is
     ∙ sym (ap (λ (b : Bool). first_denial (denial_left tree u r o.parent) (first_denial (if b then None else Some own) found)) lacks)
-    ∙ denial_step tree u r id o found none h
+    ∙ denial_step tree u r id o found h
 
 -- a step at which it is his
-pub having_step : (tree : Tree) (u : Member) (r : Right) (id : ℕ) (o : Object) (found : Option Denial) → tree.viewports ≡ [] → StandsFor tree.nodes id o → has r (granted u o.envelope) ≡ true → first_denial (denial_left tree u r o.parent) found ≡ first_denial (denial_at tree u r id) found
-having_step tree u r id o found none h his =
-    let own : Denial = record { by = by_grant u o.envelope; envelope = o.envelope; right = r } in
+pub having_step : (tree : Tree) (u : Member) (r : Right) (id : ℕ) (o : Object) (found : Option Denial) → StandsFor tree.nodes id o → has r (opened_at u o.envelope (sight_at tree id)) ≡ true → first_denial (denial_left tree u r o.parent) found ≡ first_denial (denial_at tree u r id) found
+having_step tree u r id o found h his =
+    let own : Denial = denied_at u r o.envelope (sight_at tree id) in
     sym (ap (λ (b : Bool). first_denial (denial_left tree u r o.parent) (first_denial (if b then None else Some own) found)) his)
-    ∙ denial_step tree u r id o found none h
+    ∙ denial_step tree u r id o found h

@@ -1,12 +1,11 @@
 -- The filter: what a policy opens of a design to a user, step by step of each path.
-use Rattle.std.specs.Prelude.{ℕ, ◌==◌, ◌||◌, not, Bool, false, if◌then◌else◌, List, [], ◌∷◌, ◌++◌, filter, slice_get, Option, Some, None, option_and_then, codes}
-use Rattle.std.specs.List.{position}
+use Rattle.std.specs.Prelude.{ℕ, ◌==◌, ◌||◌, not, Bool, false, if◌then◌else◌, List, [], ◌∷◌, ◌++◌, filter, slice_get, Option, Some, None, option_and_then, option_map, codes}
 use Rattle.std.specs.Option.{option_map_or}
 use Rattle.vp_pragma.specs.declared.rights.Right.{Right}
 use Rattle.vp_pragma.specs.declared.rights.Right.TheVariants as right
 use Rattle.vp_pragma.specs.Rights.{RightSet, has, nothing, everything, both, either}
-use Rattle.vp_pragma.specs.Envelopes.{Viewport}
-use Rattle.vp_elab.specs.Tree.{Step, Node, Tree, envelopes_in, find_named, matches, path_of}
+use Rattle.vp_pragma.specs.Envelopes.{Viewport, object_of}
+use Rattle.vp_elab.specs.Tree.{Step, Node, Tree, author_in, envelopes_in, find_named, first_viewport, path_of, viewed}
 use Rattle.vp_policy.specs.declared.denial.By.{By}
 use Rattle.vp_policy.specs.declared.denial.By.TheVariants as by
 use Rattle.vp_policy.specs.declared.denial.Denial.{Denial}
@@ -15,11 +14,6 @@ use Rattle.vp_policy.specs.declared.denial.Look.TheVariants as look
 use Rattle.vp_policy.specs.Users.{Member, granted, has_entry}
 
 -- ---- rights
-
--- what the viewports that match a step open
-abbrev pub viewed : List Viewport → Step → RightSet
-viewed [] s = nothing
-viewed (v ∷ vs) s = if matches s v then either v.rights (viewed vs s) else viewed vs s
 
 -- what is opened to a user at a step: his grant for its envelope, joined with the viewports that match it (profile)
 abbrev pub opened : Tree → Member → Step → RightSet
@@ -54,10 +48,15 @@ closed tree u scope = filter (is_closed u) (envelopes_in tree scope)
 abbrev pub by_grant : Member → ℕ → By
 by_grant u envelope = if (envelope == 0) || has_entry u envelope then by.Grant else by.Envelope
 
--- what keeps a user out at a step: the first viewport that matches it, if one does (profile)
+-- what keeps a user out where this viewport, or none, is the first that matches: the viewport, else what keeps him out of
+-- the envelope (profile)
+abbrev pub by_first : Member → (envelope : ℕ) → Option ℕ → By
+by_first u envelope None = by_grant u envelope
+by_first u envelope (Some viewport) = by.Viewport viewport
+
+-- what keeps a user out at a step
 abbrev pub by_step : Tree → Member → Step → By
-by_step tree u s =
-    elim (position (matches s) tree.viewports) [ None ↦ by_grant u s.envelope | Some v ↦ by.Viewport v ]
+by_step tree u s = by_first u s.envelope (first_viewport tree.viewports s)
 
 -- why a right on the object with this path is denied: by the first step at which it is not opened; none if it is his
 abbrev pub denial : Tree → Member → Right → List Step → Option Denial
@@ -70,6 +69,16 @@ denial tree u r (s ∷ path) =
 -- why a right on the object of a number is denied; none if it is his, and where no object is
 abbrev pub denial_at : Tree → Member → Right → ℕ → Option Denial
 denial_at tree u r o = denial tree u r (path_of tree.nodes (Some o))
+
+-- the object that the viewport which keeps a user out names; none where no viewport does
+abbrev pub viewport_object : List Viewport → By → Option (List ℕ)
+viewport_object viewports (by.Viewport n) = option_map object_of (slice_get viewports n)
+viewport_object viewports by.Envelope = None
+viewport_object viewports by.Grant = None
+
+-- what a denial is told with: the author of its envelope, and the object of its viewport, if one keeps the user out (profile)
+abbrev pub told_of : Tree → Denial → List ℕ × Option (List ℕ)
+told_of tree d = (author_in tree.authors d.envelope, viewport_object tree.viewports d.by)
 
 -- why a user may not run the design, as what keeps him out, the number of the envelope, and the word of the right: by his
 -- grant for the open text, unless his run flag is set (profile)

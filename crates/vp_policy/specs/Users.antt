@@ -23,9 +23,13 @@ abbrev pub granted : Member → ℕ → RightSet
 granted u zero = u.open_set
 granted u (suc e) = granted_by u.grants (suc e)
 
+-- one of these grants is for an envelope, be it empty
+abbrev pub has_grant : List (ℕ × RightSet) → ℕ → Bool
+has_grant grants envelope = list_any (λ g. g.0 == envelope) grants
+
 -- a user has a grant entry for an envelope, be it empty
 abbrev pub has_entry : Member → ℕ → Bool
-has_entry u envelope = list_any (λ g. g.0 == envelope) u.grants
+has_entry u envelope = has_grant u.grants envelope
 
 -- what stands for a user who is not there
 abbrev pub nobody : Member

@@ -4,9 +4,9 @@ use vp_pragma::Right;
 /// What keeps a user out.
 #[derive(Clone, Copy, Debug, PartialEq, Eq)]
 pub enum By {
-    /// A viewport matches the step, and what is opened there lacks the right; by its number in the order of the
-    /// text, from 0. No viewport is read yet.
-    Viewport(u32),
+    /// A viewport matches the step, and what is opened there lacks the right; the first that matches, by its number
+    /// in the order of the text, from 0.
+    Viewport(usize),
     /// He has no grant for the envelope.
     Envelope,
     /// His grant for the envelope, or his open set for number 0, lacks the right.

@@ -1,16 +1,16 @@
 // What is opened to a user, step by step of an object's path (docs/FORMATS.md, "Rights").
 ghost use Rattle.std.specs.Prelude.{◌≡◌, [], Some, IsSome, IfOk, IsOkUnless, filter, option_map};
 ghost use Rattle.vp_list.specs.Texts.{parts};
-ghost use Rattle.vp_pragma.specs.Rights.{set_of};
+ghost use Rattle.vp_pragma.specs.Rights.{either, set_of};
 ghost use Rattle.vp_elab.specs.Tree.{declared_envelopes, find_in};
-ghost use Rattle.vp_policy.specs.Filter.{by_grant, denial_at, is_closed, is_listed_at, listed_in, look_of, rights_at, unlisted};
+ghost use Rattle.vp_policy.specs.Filter.{by_first, by_grant, denial_at, is_closed, is_listed_at, listed_in, look_of, rights_at, unlisted};
 ghost use Rattle.vp_policy.specs.Users.{granted, has_entry, member_at};
 
 use crate::denial::{By, Denial, Look};
 use crate::fault::PolicyError;
 use crate::policy::{Policy, UserId};
 use std::alloc::Global;
-use vp_elab::{Design, ObjectId};
+use vp_elab::{Design, ObjectId, Sight};
 use vp_list::{Sequence, first_part};
 use vp_pragma::{Right, Rights};
 
@@ -26,14 +26,34 @@ impl Policy {
         }
     }
 
-    /// A denial of a right in an envelope: by a user's grant, or by the envelope, for which nobody has a grant yet.
-    fn denial(&self, user: UserId, envelope: u8, right: Right) -> Denial
-        ensures { result ≡ record { by = by_grant (member_at self.now user.0) envelope; envelope = envelope; right = right } }
+    /// What keeps a user out of an envelope: his grant, if it is the open text or he has an entry for it, else the
+    /// envelope.
+    fn by_grant(&self, user: UserId, envelope: u8) -> By
+        ensures { result ≡ by_grant (member_at self.now user.0) envelope }
     {
-        let by = if envelope == 0 || self.has_entry(user, envelope) {
+        if envelope == 0 || self.has_entry(user, envelope) {
             By::Grant
         } else {
             By::Envelope
+        }
+    }
+
+    /// What is opened to a user at the step to an object: what is granted to him in its envelope, and what viewports
+    /// open.
+    fn opened(&self, user: UserId, envelope: u8, sight: Sight) -> Rights
+        ensures { set_of result ≡ either (granted (member_at self.now user.0) envelope) (set_of sight.rights) }
+    {
+        self.granted(user, envelope).either(sight.rights)
+    }
+
+    /// A denial of a right at the step to an object: by the first viewport that matches it, else by the user's grant
+    /// or by the envelope.
+    fn denial(&self, user: UserId, envelope: u8, sight: Sight, right: Right) -> Denial
+        ensures { result ≡ record { by = by_first (member_at self.now user.0) envelope sight.viewport; envelope = envelope; right = right } }
+    {
+        let by = match sight.viewport {
+            Some(viewport) => By::Viewport(viewport),
+            None => self.by_grant(user, envelope),
         };
         Denial {
             by,
@@ -52,7 +72,7 @@ impl Policy {
             let Some(here) = design.object(id) else {
                 return Rights::none();
             };
-            rights = rights.both(self.granted(user, here.envelope));
+            rights = rights.both(self.opened(user, here.envelope, design.sight(id)));
             step = here.parent;
         }
         rights
@@ -75,8 +95,9 @@ impl Policy {
             let Some(here) = design.object(id) else {
                 break;
             };
-            if !self.granted(user, here.envelope).has(right) {
-                found = Some(self.denial(user, here.envelope, right));
+            let sight = design.sight(id);
+            if !self.opened(user, here.envelope, sight).has(right) {
+                found = Some(self.denial(user, here.envelope, sight, right));
             }
             step = here.parent;
         }
@@ -129,7 +150,11 @@ impl Policy {
     {
         for envelope in design.declared_envelopes(scope) {
             if self.is_closed(user, *envelope) {
-                return Look::Denied(self.denial(user, *envelope, Right::List));
+                return Look::Denied(Denial {
+                    by: self.by_grant(user, *envelope),
+                    envelope: *envelope,
+                    right: Right::List,
+                });
             }
         }
         Look::Absent

@@ -4,9 +4,10 @@
 mod denial;
 mod fault;
 mod filter;
+mod grant;
 mod policy;
 mod reading;
 
 pub use denial::{By, Denial, Look};
 pub use fault::PolicyError;
-pub use policy::{Policy, UserId};
+pub use policy::{Policy, USER_LIMIT, UserId};

@@ -1,18 +1,21 @@
 // The policy file (docs/FORMATS.md, "Policy").
-ghost use Rattle.std.specs.Prelude.{◌≡◌, ◌⊎◌, None, Some, option_map, IfErr, IfOk, IsErrOf};
+ghost use Rattle.std.specs.Prelude.{◌≡◌, ◌⊎◌, [], None, Ok, Some, length, map, option_and_then, option_map, IfErr, IfOk, IsErrOf};
 ghost use Rattle.std.specs.List.{list_all};
 ghost use Rattle.serde_json.specs.View.{items_view, view};
 ghost use Rattle.vp_pragma.specs.Rights.{set_of};
-ghost use Rattle.vp_policy.specs.File.{file_of, is_word, is_word_byte, only_item, only_user, open_set_of, opened_by, policy_of, run_of, user_from, word_at};
-ghost use Rattle.vp_policy.specs.Members.{member_of};
+ghost use Rattle.vp_policy.specs.Faults.{Explains};
+ghost use Rattle.vp_policy.specs.File.{access_in, each_of, file_of, grant_of, grants_missing, grants_of, is_word, is_word_byte, open_set_of, opened_by, policy_of, run_of, user_from, users_of, word_at};
+ghost use Rattle.vp_policy.specs.Members.{IsListed, grant_shown, member_of};
 
 use crate::fault::PolicyError;
-use crate::policy::{Policy, User};
+use crate::grant::{Grant, is_for_missing};
+use crate::policy::{Policy, USER_LIMIT, User};
 use indexmap::IndexMap;
 use serde_json::Value;
 use std::alloc::Global;
-use vp_json::{ReadError, has_keys, read, text};
-use vp_list::Text;
+use vp_elab::Design;
+use vp_json::{ReadError, has_keys, number, read, text};
+use vp_list::{Sequence, Text};
 use vp_pragma::{Rights, access};
 
 /// The greatest length of a user's name and of a token, in bytes.
@@ -83,6 +86,52 @@ fn run_flag(user: &Value) -> Option<bool>
     }
 }
 
+/// What a grant gives.
+fn access_in(grant: &Value) -> Option<Rights>
+    ensures { option_map set_of result ≡ access_in (view grant.now) }
+{
+    opened_by(text(grant, "access")?)
+}
+
+/// A grant of a user.
+fn grant_of(grant: &Value) -> Option<Grant>
+    ensures { option_map grant_shown result ≡ grant_of (view grant.now) }
+{
+    if !has_keys(grant, ["envelope", "access"].as_slice(), [].as_slice()) {
+        return None;
+    }
+    let envelope = number(grant, "envelope")?;
+    let access = access_in(grant)?;
+    Some(Grant { envelope, access })
+}
+
+/// The grants of an array.
+fn grants_in(alloc: Global, items: &[Value]) -> Result<Sequence<Grant>, PolicyError>
+    ensures ok { IfOk result (λ grants. each_of grant_of (items_view items.now) ≡ Some (map grant_shown grants)) }
+    ensures bad { IsErrOf result PolicyError.BadPolicy → each_of grant_of (items_view items.now) ≡ None }
+    ensures err { IfErr result (λ e. (e ≡ PolicyError.BadPolicy) ⊎ (e ≡ PolicyError.NoMemory)) }
+{
+    let mut grants = Vec::new(alloc);
+    for item in items {
+        let grant = grant_of(item).ok_or(PolicyError::BadPolicy)?;
+        grants.push(grant)?;
+    }
+    Ok(Sequence::from_vec(grants))
+}
+
+/// A user's grants, by default none.
+fn grants_of(alloc: Global, user: &Value) -> Result<Sequence<Grant>, PolicyError>
+    ensures ok { IfOk result (λ grants. grants_of (view user.now) ≡ Some (map grant_shown grants)) }
+    ensures bad { IsErrOf result PolicyError.BadPolicy → grants_of (view user.now) ≡ None }
+    ensures err { IfErr result (λ e. (e ≡ PolicyError.BadPolicy) ⊎ (e ≡ PolicyError.NoMemory)) }
+{
+    let Some(grants) = user.get("grants") else {
+        return Ok(Sequence::from_vec(Vec::new(alloc)));
+    };
+    let grants = grants.as_array().ok_or(PolicyError::BadPolicy)?;
+    grants_in(alloc, grants.as_slice())
+}
+
 /// A user of a file, with his name.
 fn user_from(alloc: Global, user: &Value) -> Result<(String, User), PolicyError>
     ensures ok { IfOk result (λ u. user_from (view user.now) ≡ Some (member_of u)) }
@@ -90,7 +139,7 @@ fn user_from(alloc: Global, user: &Value) -> Result<(String, User), PolicyError>
     ensures err { IfErr result (λ e. (e ≡ PolicyError.BadPolicy) ⊎ (e ≡ PolicyError.NoMemory)) }
 {
     let required = ["name", "token"];
-    let optional = ["open", "run"];
+    let optional = ["open", "run", "grants"];
     if !has_keys(user, required.as_slice(), optional.as_slice()) {
         return Err(PolicyError::BadPolicy);
     }
@@ -98,57 +147,95 @@ fn user_from(alloc: Global, user: &Value) -> Result<(String, User), PolicyError>
     let token = word(user, "token").ok_or(PolicyError::BadPolicy)?;
     let open = open_set(user).ok_or(PolicyError::BadPolicy)?;
     let run = run_flag(user).ok_or(PolicyError::BadPolicy)?;
+    let grants = grants_of(alloc, user)?;
     let name = String::from_str(alloc, name)?;
     let token = Text::copy(alloc, token)?;
-    Ok((name, User { token, open, run }))
+    let user = User {
+        token,
+        open,
+        run,
+        grants,
+    };
+    Ok((name, user))
 }
 
-/// The one item of an array.
-#[tactic(auto, using(crate::proofs::OneItem::none_of_none, crate::proofs::OneItem::none_of_more))]
-fn only_item(items: &[Value]) -> Option<&Value>
-    ensures { option_map (λ v. view v.now) result ≡ only_item (items_view items.now) }
+/// The users of a file, as they are read.
+#[derive(Drop)]
+struct Listed {
+    /// By name, in the order of the file.
+    users: IndexMap<String, User>,
+    /// Each name stands once in the file; else of those of one name the last is here.
+    once: bool,
+}
+
+/// The users of an array.
+fn users_in(alloc: Global, items: &[Value]) -> Result<Listed, PolicyError>
+    ensures ok { IfOk result (λ listed. IsListed (each_of user_from (items_view items.now)) listed) }
+    ensures bad { IsErrOf result PolicyError.BadPolicy → each_of user_from (items_view items.now) ≡ None }
+    ensures err { IfErr result (λ e. (e ≡ PolicyError.BadPolicy) ⊎ (e ≡ PolicyError.NoMemory)) }
 {
-    match items {
-        [] => None,
-        [item] => Some(item),
-        [_, _, ..] => None,
+    let mut users = IndexMap::new(alloc);
+    let mut once = true;
+    for item in items {
+        let (name, user) = user_from(alloc, item)?;
+        if users.insert(name, user)?.is_some() {
+            once = false;
+        }
     }
+    Ok(Listed { users, once })
 }
 
-/// The one user of a file.
-fn only_user(file: &Value) -> Option<&Value>
-    ensures { option_map (λ v. view v.now) result ≡ only_user (view file.now) }
+/// The array of the users of a file.
+fn users_array(file: &Value) -> Option<&[Value]>
+    ensures { option_and_then (λ users. each_of user_from (items_view users.now)) result ≡ users_of (view file.now) }
 {
     if !has_keys(file, ["users"].as_slice(), [].as_slice()) {
         return None;
     }
-    only_item(file.get("users")?.as_array()?.as_slice())
+    Some(file.get("users")?.as_array()?.as_slice())
 }
 
-/// The policy of a file's value.
-fn policy_of(alloc: Global, file: &Value) -> Result<Policy, PolicyError>
-    ensures ok { IfOk result (λ policy. policy_of (view file.now) ≡ Some policy) }
-    ensures bad { IsErrOf result PolicyError.BadPolicy → policy_of (view file.now) ≡ None }
-    ensures err { IfErr result (λ e. (e ≡ PolicyError.BadPolicy) ⊎ (e ≡ PolicyError.NoMemory)) }
+/// A grant of one of these users is for an envelope that a design with so many does not have.
+fn grants_missing(users: &IndexMap<String, User>, envelopes: u8) -> bool
+    ensures { result ≡ grants_missing envelopes (map member_of users.now.entries) }
 {
-    let only = only_user(file).ok_or(PolicyError::BadPolicy)?;
-    let (name, user) = user_from(alloc, only)?;
-    let mut users = IndexMap::new(alloc);
-    users.insert(name, user)?;
-    Ok(Policy::new(users))
+    for user in users.values() {
+        if is_for_missing(user.grants.as_slice(), envelopes) {
+            return true;
+        }
+    }
+    false
+}
+
+/// The policy of a file's value, for a design with so many envelopes.
+fn policy_of(alloc: Global, file: &Value, envelopes: u8) -> Result<Policy, PolicyError>
+    ensures ok { IfOk result (λ policy. policy_of envelopes (view file.now) ≡ Ok policy) }
+    ensures refused { IfErr result (λ e. Explains (policy_of envelopes (view file.now)) e) }
+{
+    let users = users_array(file).ok_or(PolicyError::BadPolicy)?;
+    let listed = users_in(alloc, users)?;
+    if !listed.once {
+        return Err(PolicyError::DuplicateUser);
+    }
+    if listed.users.len() > USER_LIMIT {
+        return Err(PolicyError::TooManyUsers);
+    }
+    if grants_missing(&listed.users, envelopes) {
+        return Err(PolicyError::NoSuchEnvelope);
+    }
+    Ok(Policy::new(listed.users))
 }
 
 impl Policy {
-    /// The policy of a file; or `BadPolicy` (901) where the bytes are no policy file, or want of memory (905).
-    /// A file has one user so far, without grants.
-    #[tactic(auto, using(crate::proofs::Files::file_of_json, crate::proofs::Files::file_of_other))]
-    pub fn read(alloc: Global, bytes: &[u8]) -> Result<Policy, PolicyError>
-        ensures ok { IfOk result (λ policy. file_of bytes.now ≡ Some policy) }
-        ensures bad { IsErrOf result PolicyError.BadPolicy → file_of bytes.now ≡ None }
-        ensures err { IfErr result (λ e. (e ≡ PolicyError.BadPolicy) ⊎ (e ≡ PolicyError.NoMemory)) }
+    /// The policy of a file, for a design; or why it is refused, each reason tested over the whole file before the next: the bytes
+    /// are no policy file (901), two users have one name (902), there are more than 256 (904), a grant is for an envelope that the
+    /// design does not have (903). Want of memory (905) may be met at any time.
+    pub fn read(alloc: Global, bytes: &[u8], design: &Design) -> Result<Policy, PolicyError>
+        ensures ok { IfOk result (λ policy. file_of (length design.now.tree.authors) bytes.now ≡ Ok policy) }
+        ensures refused { IfErr result (λ e. Explains (file_of (length design.now.tree.authors) bytes.now) e) }
     {
         match read(alloc, bytes) {
-            Ok(file) => policy_of(alloc, &file),
+            Ok(file) => policy_of(alloc, &file, design.envelope_count()),
             Err(ReadError::NotJson) => Err(PolicyError::BadPolicy),
             Err(ReadError::NoMemory) => Err(PolicyError::NoMemory),
         }

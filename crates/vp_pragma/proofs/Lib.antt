@@ -4,3 +4,6 @@ pub mod Refusals
 pub mod Turns
 pub mod RightBits
 pub mod PragmaRows
+pub mod Lists
+pub mod Names
+pub mod Views

@@ -3,6 +3,7 @@ use Rattle.std.proofs.Common.{◌≡◌, ℕ, suc, ◌<◌, Bool, false, cond, e
 use Rattle.std.specs.Prelude.{IfSome}
 use Rattle.std.proofs.lemmas.Bool.Decides.{nat_tests}
 use Rattle.vp_pragma.specs.declared.deed.Deed.{Deed}
+use Rattle.vp_pragma.specs.declared.deed.Pragma.{Pragma}
 use Rattle.vp_pragma.specs.declared.fault.PragmaError.{PragmaError}
 use Rattle.vp_pragma.specs.declared.fault.PragmaError.TheVariants as error
 use Rattle.vp_pragma.specs.declared.line.Expression.{Expression}
@@ -10,7 +11,7 @@ use Rattle.vp_pragma.specs.declared.line.Rest.{Rest}
 use Rattle.vp_pragma.specs.declared.reading.Line.{Line}
 use Rattle.vp_pragma.specs.declared.reading.Reading.{Reading}
 use Rattle.vp_pragma.specs.EnvelopesOf.{Progress, after_deeds}
-use Rattle.vp_pragma.specs.Pragmas.{Placed, before_deeds, deed_of, deeds_from, expression_at, first_deeds, next_deeds, protect_deeds}
+use Rattle.vp_pragma.specs.Pragmas.{Placed, before_deeds, deed_of, deeds_from, expression_at, first_deeds, next_deeds, all_deeds}
 use Rattle.vp_pragma.specs.Faults.{Explains}
 use Rattle.vp_pragma.specs.Reading.{after_all, after_one, directive_of, placed}
 
@@ -23,6 +24,9 @@ explains_through f given (error.NestedBegin line) keeps h = ap f h ∙ keeps (er
 explains_through f given (error.EndWithoutBegin line) keeps h = ap f h ∙ keeps (error.EndWithoutBegin line)
 explains_through f given (error.OpenEnvelope line) keeps h = ap f h ∙ keeps (error.OpenEnvelope line)
 explains_through f given (error.Unbalanced line) keeps h = ap f h ∙ keeps (error.Unbalanced line)
+explains_through f given (error.ViewportOutside line) keeps h = ap f h ∙ keeps (error.ViewportOutside line)
+explains_through f given (error.BadAccess line) keeps h = ap f h ∙ keeps (error.BadAccess line)
+explains_through f given (error.NeedsDecryption line) keeps h = ap f h ∙ keeps (error.NeedsDecryption line)
 explains_through f given (error.TooMany line) keeps h = ap f h ∙ keeps (error.TooMany line)
 explains_through f given (error.BadPragma line) keeps h = ap f h ∙ keeps (error.BadPragma line)
 
@@ -36,23 +40,23 @@ explains_more line reading deed e h ds =
 
 -- the refusal of an expression is that of the expressions from it on
 pub explains_first :
-    (line : Line) (reading : Reading) (ps : List Placed) (first : Expression) (behind : List Placed) (deed : Option Deed) (e : PragmaError)
-    → Some (first, behind) ≡ expression_at ps → deed ≡ deed_of line.text.now first
+    (line : Line) (pragma : Pragma) (reading : Reading) (ps : List Placed) (first : Expression) (behind : List Placed) (deed : Option Deed) (e : PragmaError)
+    → Some (first, behind) ≡ expression_at ps → deed ≡ deed_of pragma line.text.now first
     → ((ds : List Deed) → Explains (after_all line reading (before_deeds deed ds)) e)
-    → (n : ℕ) → Explains (after_all line reading (deeds_from line.text.now (suc n) ps)) e
-explains_first line reading ps first behind deed e is deed_is h n =
-    subst (λ (found : Option (Expression × List Placed)). Explains (after_all line reading (first_deeds line.text.now (deeds_from line.text.now n) found)) e) is
-    (subst (λ (d : Option Deed). Explains (after_all line reading (before_deeds d (next_deeds (deeds_from line.text.now n) behind))) e) deed_is (h _))
+    → (n : ℕ) → Explains (after_all line reading (deeds_from pragma line.text.now (suc n) ps)) e
+explains_first line pragma reading ps first behind deed e is deed_is h n =
+    subst (λ (found : Option (Expression × List Placed)). Explains (after_all line reading (first_deeds pragma line.text.now (deeds_from pragma line.text.now n) found)) e) is
+    (subst (λ (d : Option Deed). Explains (after_all line reading (before_deeds d (next_deeds (deeds_from pragma line.text.now n) behind))) e) deed_is (h _))
 
 -- a number that is not zero
 not_none : (n : ℕ) → 0 < n → eqb n 0 ≡ false
 not_none n lt = grind (arith, nat_tests)
 
 -- the expressions of a pragma that has some
-pub protect_some : (text : List ℕ) (ps : List Placed) (n : ℕ) → length ps ≡ n → 0 < n → deeds_from text n ps ≡ protect_deeds text ps
-protect_some text ps n e lt =
+pub all_some : (pragma : Pragma) (text : List ℕ) (ps : List Placed) (n : ℕ) → length ps ≡ n → 0 < n → deeds_from pragma text n ps ≡ all_deeds pragma text ps
+all_some pragma text ps n e lt =
     let some : eqb (length ps) 0 ≡ false = not_none (length ps) (omega arith) in
-    ap (λ (k : ℕ). deeds_from text k ps) (sym e) ∙ sym (ap (λ (b : Bool). cond b [] (deeds_from text (length ps) ps)) some)
+    ap (λ (k : ℕ). deeds_from pragma text k ps) (sym e) ∙ sym (ap (λ (b : Bool). cond b [] (deeds_from pragma text (length ps) ps)) some)
 
 -- what is there has what it is to have
 pub at_some : {A : Type 0} (P : A → Type 0) (o : Option A) (x : A) → o ≡ Some x → IfSome o P → P x
@@ -60,8 +64,8 @@ at_some P o x e h = subst (λ (q : Option _). IfSome q P) e h
 
 -- the expressions that are left
 pub next_left :
-    (line : Line) (before after : Reading) (ps : List Placed) (o : Option Rest) (next : Rest) → o ≡ Some next
-    → IfSome o (λ (r : Rest). (n : ℕ) → after_all line before (deeds_from line.text.now (suc n) ps) ≡ after_all line after (deeds_from line.text.now n (placed r)))
-    → (n : ℕ) → after_all line before (deeds_from line.text.now (suc n) ps) ≡ after_all line after (deeds_from line.text.now n (placed next))
-next_left line before after ps o next e h =
-    at_some (λ (r : Rest). (n : ℕ) → after_all line before (deeds_from line.text.now (suc n) ps) ≡ after_all line after (deeds_from line.text.now n (placed r))) o next e h
+    (line : Line) (pragma : Pragma) (before after : Reading) (ps : List Placed) (o : Option Rest) (next : Rest) → o ≡ Some next
+    → IfSome o (λ (r : Rest). (n : ℕ) → after_all line before (deeds_from pragma line.text.now (suc n) ps) ≡ after_all line after (deeds_from pragma line.text.now n (placed r)))
+    → (n : ℕ) → after_all line before (deeds_from pragma line.text.now (suc n) ps) ≡ after_all line after (deeds_from pragma line.text.now n (placed next))
+next_left line pragma before after ps o next e h =
+    at_some (λ (r : Rest). (n : ℕ) → after_all line before (deeds_from pragma line.text.now (suc n) ps) ≡ after_all line after (deeds_from pragma line.text.now n (placed r))) o next e h

@@ -1,5 +1,5 @@
 -- Envelopes by their numbers, and viewports.
-use Rattle.std.specs.Prelude.{ℕ, zero, suc, ◌&&◌, Bool, nat_lt, if◌then◌else◌, List, [], ◌∷◌, Option, slice_get}
+use Rattle.std.specs.Prelude.{ℕ, zero, suc, ◌&&◌, Bool, nat_lt, if◌then◌else◌, List, [], ◌∷◌, ◌++◌, Option, slice_get, codes}
 use Rattle.std.specs.Option.{option_map_or}
 use Rattle.vp_pragma.specs.declared.envelope.Envelope.{Envelope}
 use Rattle.vp_pragma.specs.Rights.{RightSet}
@@ -27,9 +27,20 @@ last_holding n (e ∷ es) place = or_later (if holds place e then n else 0) (las
 abbrev pub envelope_at : List Envelope → ℕ → ℕ
 envelope_at envelopes place = last_holding 1 envelopes place
 
--- a viewport: in which envelope it stands, the item that it opens, by module where that is named, and the rights (profile)
+-- a viewport: in which envelope it stands, the item that it opens, by module where that is named, the rights, and the line on which
+-- it stands (profile)
 pub record Viewport : Type 0 where
   pub envelope : ℕ
   pub in_module : Option (List ℕ)
   pub item : List ℕ
   pub rights : RightSet
+  pub line : ℕ
+
+-- the object that a viewport names: an item, behind its module and a dot where that is named (profile)
+abbrev pub object_of : Viewport → List ℕ
+object_of v = option_map_or (λ m. m ++ (codes "." ++ v.item)) v.in_module v.item
+
+-- the envelopes of a text, in the order of their begin, and its viewports, in the order of the text
+pub record Protection : Type 0 where
+  pub envelopes : List Envelope
+  pub viewports : List Viewport

@@ -1,13 +1,19 @@
 -- The envelopes of a text: what its pragmas do, one after the other.
-use Rattle.std.specs.Prelude.{ℕ, ◌==◌, ◌&&◌, not, Bool, true, false, if◌then◌else◌, nat_le, List, [], ◌∷◌, ◌++◌, length, Option, Some, None, Result, Ok, Err}
+use Rattle.std.specs.Prelude.{ℕ, ◌+◌, ◌==◌, ◌&&◌, not, Bool, true, false, if◌then◌else◌, nat_le, List, [], ◌∷◌, ◌++◌, length, Option, Some, None, Result, Ok, Err}
 use Rattle.vp_lex.specs.declared.token.Token.{Token}
 use Rattle.vp_lex.specs.Strings.{string_value}
 use Rattle.vp_lex.specs.Texts.{text_of}
 use Rattle.vp_pragma.specs.declared.deed.Deed.{Deed}
-use Rattle.vp_pragma.specs.declared.deed.Deed.TheVariants.{Begins, Ends, Names, Bad}
+use Rattle.vp_pragma.specs.declared.deed.Deed.TheVariants.{Begins, Ends, Names, Forgets, Views, Encrypted, Bad}
+use Rattle.vp_pragma.specs.declared.deed.View.{View}
 use Rattle.vp_pragma.specs.declared.envelope.Envelope.{Envelope}
 use Rattle.vp_pragma.specs.declared.fault.PragmaError.{PragmaError}
 use Rattle.vp_pragma.specs.declared.fault.PragmaError.TheVariants as error
+use Rattle.vp_list.specs.Texts.{parts}
+use Rattle.vp_lex.specs.Pieces.{is_word}
+use Rattle.vp_pragma.specs.Access.{access_of}
+use Rattle.vp_pragma.specs.Envelopes.{Protection, Viewport}
+use Rattle.vp_pragma.specs.Rights.{RightSet}
 use Rattle.vp_pragma.specs.Surroundings.{is_free, module_at}
 use Rattle.vp_pragma.specs.Pragmas.{Placed, deeds_of_text}
 
@@ -18,15 +24,16 @@ pub record Begun : Type 0 where
   pub inside : Option ℕ
   pub author : List ℕ
 
--- what has been read: the envelopes that have ended, the one that has begun, and the author in force
+-- what has been read: the envelopes that have ended, the one that has begun, the author in force, and the viewports
 pub record Progress : Type 0 where
   pub ended : List Envelope
   pub begun : Option Begun
   pub author : List ℕ
+  pub viewports : List Viewport
 
 -- nothing has been read
 abbrev pub at_start : Progress
-at_start = record { ended = []; begun = None; author = [] }
+at_start = record { ended = []; begun = None; author = []; viewports = [] }
 
 -- two places stand in one module, or both outside of all modules
 abbrev pub same_module : Option ℕ → Option ℕ → Bool
@@ -62,11 +69,49 @@ end_at tokens r directive place (Some b) =
     })
     else Err (error.Unbalanced directive.1.line)
 
+-- the item that a viewport's object names, perhaps by its module: one name, or two with a dot between them (profile)
+abbrev pub item_named : List (List ℕ) → Option (Option (List ℕ) × List ℕ)
+item_named (item ∷ []) = if is_word item then Some (None, item) else None
+item_named (m ∷ item ∷ []) = if is_word m && is_word item then Some (Some m, item) else None
+item_named _ = None
+
+-- a viewport opens these rights on an item, unless its access string names none
+abbrev pub with_rights : Progress → (line : ℕ) → Option (List ℕ) × List ℕ → Option RightSet → Result Progress PragmaError
+with_rights r line item None = Err (error.BadAccess line)
+with_rights r line item (Some rights) =
+    Ok (record r {
+      viewports =
+          r.viewports
+          ++ record {
+            envelope = length r.ended + 1;
+            in_module = item.0;
+            item = item.1;
+            rights = rights;
+            line = line;
+          }
+          ∷ [];
+    })
+
+-- a viewport is on an item, unless its object names none
+abbrev pub with_item : List ℕ → Progress → (line : ℕ) → (access : List ℕ) → Option (Option (List ℕ) × List ℕ) → Result Progress PragmaError
+with_item text r line access None = Err (error.BadPragma line)
+with_item text r line access (Some item) = with_rights r line item (access_of access)
+
+-- a viewport stands in an envelope, and says an object and an access, tested in this order (profile)
+abbrev pub view_at : List ℕ → Progress → (line : ℕ) → Option View → Option Begun → Result Progress PragmaError
+view_at text r line view None = Err (error.ViewportOutside line)
+view_at text r line None (Some b) = Err (error.BadPragma line)
+view_at text r line (Some view) (Some b) =
+    with_item text r line (string_value (text_of text view.access)) (item_named (parts 46 (string_value (text_of text view.object))))
+
 -- what a deed on the line of a directive makes of what has been read, or the first refusal of it that holds
 abbrev pub after_deed : List ℕ → List Token → Progress → Placed → Deed → Result Progress PragmaError
 after_deed text tokens r directive (Begins place) = begin_at tokens r directive place r.begun
 after_deed text tokens r directive (Ends place) = end_at tokens r directive place r.begun
 after_deed text tokens r directive (Names string) = Ok (record r { author = string_value (text_of text string) })
+after_deed text tokens r directive Forgets = Ok (record r { author = [] })
+after_deed text tokens r directive (Views view) = view_at text r directive.1.line view r.begun
+after_deed text tokens r directive Encrypted = Err (error.NeedsDecryption directive.1.line)
 after_deed text tokens r directive Bad = Err (error.BadPragma directive.1.line)
 
 -- the same of deeds one after the other, up to the first refusal
@@ -76,15 +121,15 @@ after_deeds text tokens (Ok r) [] = Ok r
 after_deeds text tokens (Ok r) (d ∷ ds) = after_deeds text tokens (after_deed text tokens r d.0 d.1) ds
 
 -- the envelopes at the end of a text: none may be left open (profile)
-abbrev pub ended_all : Progress → Option Begun → Result (List Envelope) PragmaError
-ended_all r None = Ok r.ended
+abbrev pub ended_all : Progress → Option Begun → Result Protection PragmaError
+ended_all r None = Ok (record { envelopes = r.ended; viewports = r.viewports })
 ended_all r (Some b) = Err (error.OpenEnvelope b.line)
 
 -- the envelopes at the end of a text that was read, or the refusal that ended the reading
-abbrev pub envelopes_behind : Result Progress PragmaError → Result (List Envelope) PragmaError
+abbrev pub envelopes_behind : Result Progress PragmaError → Result Protection PragmaError
 envelopes_behind (Err e) = Err e
 envelopes_behind (Ok r) = ended_all r r.begun
 
--- the envelopes of a text in the order of their begin, or the first fault of its pragmas; one left open is told last (profile)
-abbrev pub envelopes_of : List ℕ → List Token → Result (List Envelope) PragmaError
+-- the envelopes of a text and its viewports, or the first fault of its pragmas; an envelope left open is told last (profile)
+abbrev pub envelopes_of : List ℕ → List Token → Result Protection PragmaError
 envelopes_of text tokens = envelopes_behind (after_deeds text tokens (Ok at_start) (deeds_of_text text tokens))

@@ -14,6 +14,10 @@ use Rattle.vp_pragma.specs.declared.reading.Open.{Open}
 use Rattle.vp_pragma.specs.declared.reading.Reading.{Reading}
 use Rattle.vp_pragma.specs.Surroundings.{CountsUpTo, around_of, is_before_else, is_free, kinds_before, module_at}
 use Rattle.vp_pragma.specs.Pragmas.{Placed, deeds_behind}
+use Rattle.vp_pragma.specs.declared.viewport.Viewport as declared
+use Rattle.vp_pragma.specs.declared.envelope.Envelope.{Envelope}
+use Rattle.vp_pragma.specs.Envelopes.{Protection, Viewport}
+use Rattle.vp_pragma.specs.Rights.{set_of}
 use Rattle.vp_pragma.specs.EnvelopesOf.{Begun, Progress, after_deed, after_deeds}
 
 -- the tokens of a line that are left, with their places
@@ -35,12 +39,27 @@ author_in text (Some string) = string_value (text_of text string)
 abbrev pub begun_of : Open → Begun
 begun_of b = record { place = b.begin; line = b.line; inside = b.«module»; author = b.author }
 
+-- a viewport that has been read
+abbrev pub viewport_of : declared.Viewport → Viewport
+viewport_of v = record {
+  envelope = v.envelope;
+  in_module = v.«module»;
+  item = v.item;
+  rights = set_of v.rights;
+  line = v.line;
+}
+
+-- envelopes and viewports that have been read
+abbrev pub protection_of : List Envelope → List declared.Viewport → Protection
+protection_of envelopes viewports = record { envelopes = envelopes; viewports = map viewport_of viewports }
+
 -- what a reading of a text has come to
 abbrev pub progress_of : List ℕ → Reading → Progress
 progress_of text reading = record {
   ended = reading.closed.items;
   begun = option_map begun_of reading.open;
   author = author_in text reading.author;
+  viewports = map viewport_of reading.viewports.items;
 }
 
 -- the envelopes that are closed, and the one that is open, are at most 255 (profile)

@@ -1,9 +1,23 @@
-// What the expressions of a protect pragma do.
-ghost use Rattle.std.specs.Prelude.{◌≡◌, if◌then◌else◌};
-ghost use Rattle.vp_pragma.specs.Pragmas.{alone_deed, assigned_deed, author_deed, deed_of, is_unread};
+// What the expressions of a pragma do.
+ghost use Rattle.std.specs.Prelude.{◌≡◌};
+ghost use Rattle.vp_pragma.specs.Pragmas.{alone_deed, assigned_deed, author_deed, deed_if, deed_of, has_no_value, is_encryption, protect_deed, reset_deed, view_of};
 
 use crate::line::{Expression, Value};
 use vp_lex::Token;
+
+/// A pragma whose expressions are read.
+#[derive(Clone, Copy)]
+pub enum Pragma {
+    Protect,
+    Reset,
+}
+
+/// What a viewport says: the strings of its object and of its access.
+#[derive(Clone, Copy)]
+pub struct View {
+    pub object: Token,
+    pub access: Token,
+}
 
 /// What an expression does.
 #[derive(Clone, Copy)]
@@ -14,19 +28,30 @@ pub enum Deed {
     Ends(u32),
     /// It sets the author in force, by a string.
     Names(Token),
+    /// It empties the author in force.
+    Forgets,
+    /// It opens a viewport; none where it says no object and access.
+    Views(Option<View>),
+    /// It is part of an encrypted envelope.
+    Encrypted,
     /// It is bad.
     Bad,
 }
 
-/// A protect keyword with an effect that is not read yet.
-fn is_unread(word: &str) -> bool
-    ensures { result ≡ is_unread word.now }
+/// A deed, where something is so.
+fn deed_if(so: bool, deed: Deed) -> Option<Deed>
+    ensures { result ≡ deed_if so deed }
+{
+    if so { Some(deed) } else { None }
+}
+
+/// A protect keyword of encrypted envelopes.
+fn is_encryption(word: &str) -> bool
+    ensures { result ≡ is_encryption word.now }
 {
     matches!(
         word,
-        "viewport"
-            | "reset"
-            | "begin_protected"
+        "begin_protected"
             | "end_protected"
             | "data_block"
             | "key_block"
@@ -47,15 +72,10 @@ fn alone_deed(place: u32, word: &str) -> Option<Deed>
         "begin" => Some(Deed::Begins(place)),
         "end" => Some(Deed::Ends(place)),
         "author" => Some(Deed::Bad),
-        _ => bad_if(is_unread(word)),
+        "reset" => Some(Deed::Forgets),
+        "viewport" => Some(Deed::Views(None)),
+        _ => deed_if(is_encryption(word), Deed::Encrypted),
     }
-}
-
-/// The bad deed, if it is one.
-fn bad_if(is_bad: bool) -> Option<Deed>
-    ensures { result ≡ (if is_bad then Some Deed.Bad else None) }
-{
-    if is_bad { Some(Deed::Bad) } else { None }
 }
 
 /// The author that a value names.
@@ -64,28 +84,72 @@ fn author_deed(value: Value) -> Deed
 {
     match value {
         Value::Text(string) => Deed::Names(string),
-        Value::Other => Deed::Bad,
+        Value::Pairs(_) | Value::Other => Deed::Bad,
     }
 }
 
+/// The viewport that a value says.
+fn view_of(text: &str, value: Value) -> Option<View>
+    ensures { result ≡ view_of text.now value }
+{
+    match value {
+        Value::Pairs(pair)
+            if pair.first.text(text) == "object" && pair.second.text(text) == "access" => {
+            Some(View {
+                object: pair.text,
+                access: pair.other,
+            })
+        }
+        _ => None,
+    }
+}
+
+/// A keyword that has no value.
+fn has_no_value(word: &str) -> bool
+    ensures { result ≡ has_no_value word.now }
+{
+    matches!(word, "begin" | "end" | "reset")
+}
+
 /// What a keyword with a value does.
-fn assigned_deed(word: &str, value: Value) -> Option<Deed>
-    ensures { result ≡ assigned_deed word.now value }
+fn assigned_deed(text: &str, word: &str, value: Value) -> Option<Deed>
+    ensures { result ≡ assigned_deed text.now word.now value }
 {
     match word {
         "author" => Some(author_deed(value)),
-        "begin" | "end" => Some(Deed::Bad),
-        _ => bad_if(is_unread(word)),
+        "viewport" => Some(Deed::Views(view_of(text, value))),
+        _ if has_no_value(word) => Some(Deed::Bad),
+        _ => deed_if(is_encryption(word), Deed::Encrypted),
     }
 }
 
 /// What an expression of a protect pragma does; nothing, for most.
-pub fn deed_of(text: &str, expression: Expression) -> Option<Deed>
-    ensures { result ≡ deed_of text.now expression }
+fn protect_deed(text: &str, expression: Expression) -> Option<Deed>
+    ensures { result ≡ protect_deed text.now expression }
 {
     match expression {
         Expression::Alone(place, keyword) => alone_deed(place, keyword.text(text)),
-        Expression::Assigned(keyword, value) => assigned_deed(keyword.text(text), value),
+        Expression::Assigned(keyword, value) => assigned_deed(text, keyword.text(text), value),
         Expression::Only => None,
+    }
+}
+
+/// What an expression of a reset pragma does: the keyword `protect` empties the author.
+fn reset_deed(text: &str, expression: Expression) -> Option<Deed>
+    ensures { result ≡ reset_deed text.now expression }
+{
+    match expression {
+        Expression::Alone(_, keyword) => deed_if(keyword.text(text) == "protect", Deed::Forgets),
+        Expression::Assigned(_, _) | Expression::Only => None,
+    }
+}
+
+/// What an expression of a pragma does.
+pub fn deed_of(pragma: Pragma, text: &str, expression: Expression) -> Option<Deed>
+    ensures { result ≡ deed_of pragma text.now expression }
+{
+    match pragma {
+        Pragma::Protect => protect_deed(text, expression),
+        Pragma::Reset => reset_deed(text, expression),
     }
 }

@@ -20,10 +20,19 @@ pub enum PragmaError {
     /// A `begin` or an `end` at a place that is not free, or the two in different modules (304).
     #[error("line {line}: an envelope may not begin or end here")]
     Unbalanced { line: u32 },
+    /// A viewport outside of every envelope (305).
+    #[error("line {line}: a viewport outside of every envelope")]
+    ViewportOutside { line: u32 },
+    /// A viewport whose access string names no rights (306).
+    #[error("line {line}: bad access")]
+    BadAccess { line: u32 },
+    /// A keyword of encrypted envelopes (307).
+    #[error("line {line}: decryption is needed")]
+    NeedsDecryption { line: u32 },
     /// More than 255 envelopes (308).
     #[error("line {line}: more than 255 envelopes")]
     TooMany { line: u32 },
-    /// A pragma that is not well formed, or a keyword with an effect that is not read (309).
+    /// A pragma that is not well formed (309).
     #[error("line {line}: bad pragma")]
     BadPragma { line: u32 },
     /// Want of memory (310).
@@ -43,6 +52,9 @@ impl PragmaError {
             PragmaError::EndWithoutBegin { .. } => 302,
             PragmaError::OpenEnvelope { .. } => 303,
             PragmaError::Unbalanced { .. } => 304,
+            PragmaError::ViewportOutside { .. } => 305,
+            PragmaError::BadAccess { .. } => 306,
+            PragmaError::NeedsDecryption { .. } => 307,
             PragmaError::TooMany { .. } => 308,
             PragmaError::BadPragma { .. } => 309,
             PragmaError::NoMemory => 310,
@@ -58,6 +70,9 @@ impl PragmaError {
             | PragmaError::EndWithoutBegin { line }
             | PragmaError::OpenEnvelope { line }
             | PragmaError::Unbalanced { line }
+            | PragmaError::ViewportOutside { line }
+            | PragmaError::BadAccess { line }
+            | PragmaError::NeedsDecryption { line }
             | PragmaError::TooMany { line }
             | PragmaError::BadPragma { line } => *line,
             PragmaError::NoMemory => 0,

@@ -8,8 +8,10 @@ mod line;
 mod reading;
 mod rights;
 mod surroundings;
+mod viewport;
 
 pub use envelope::{Envelope, Envelopes};
 pub use fault::PragmaError;
 pub use reading::envelopes;
 pub use rights::{Right, Rights, access};
+pub use viewport::Viewport;

@@ -3,16 +3,17 @@ ghost use Rattle.vp_lex.specs.declared.token.TheConstants.{TEXT_LIMIT};
 ghost use Rattle.vp_lex.specs.declared.token.Token.{Token};
 ghost use Rattle.vp_pragma.specs.declared.deed.Deed.{Deed};
 ghost use Rattle.vp_pragma.specs.EnvelopesOf.{after_deeds, at_start, envelopes_behind, envelopes_of, same_module};
-ghost use Rattle.vp_pragma.specs.Pragmas.{before_deeds, begins_line, deeds_from, deeds_of_text, directive_deeds, is_pragma, line_deeds, named_deeds, on_line, pragma_line, protect_deeds};
+ghost use Rattle.vp_pragma.specs.Pragmas.{before_deeds, begins_line, deeds_from, deeds_of_text, directive_deeds, is_pragma, line_deeds, named_deeds, on_line, pragma_line, all_deeds};
 ghost use Rattle.vp_pragma.specs.Faults.{Explains};
 ghost use Rattle.vp_pragma.specs.Reading.{HasPlaces, HasRoom, IsBefore, IsLine, after_all, after_left, after_one, author_in, placed, progress_of};
 ghost use Rattle.vp_pragma.specs.Surroundings.{is_before_else};
 
-use crate::deed::{Deed, deed_of};
+use crate::deed::{Deed, Pragma, View, deed_of};
 use crate::envelope::{Envelope, Envelopes};
 use crate::fault::PragmaError;
 use crate::line::{Rest, expression_at, is_comma, is_word, run_of, split};
 use crate::surroundings::{Surroundings, is_before_else};
+use crate::viewport::{Viewport, read_view};
 use std::alloc::{AllocError, Global};
 use vp_lex::{Token, string_value};
 use vp_list::Text;
@@ -36,6 +37,7 @@ pub struct Reading {
     open: Option<Open>,
     /// The string that names the author in force.
     author: Option<Token>,
+    viewports: Vec<Viewport>,
 }
 
 /// The line of a pragma, and what stands around it.
@@ -136,7 +138,33 @@ fn end(reading: &mut Reading, line: Line<'_>, place: u32) -> Result<(), PragmaEr
     Ok(())
 }
 
-/// Does what an expression of a protect pragma does.
+/// Opens a viewport in the open envelope.
+fn open_view(
+    alloc: Global,
+    reading: &mut Reading,
+    line: Line<'_>,
+    view: Option<View>,
+) -> Result<(), PragmaError>
+    requires line { IsLine line }
+    requires room { HasRoom reading.old }
+    ensures room { OnOk result (HasRoom reading.new) }
+    ensures opened { let after = after_one line.entry reading.old (Deed.Views view) in MatchResult result (λ _. after ≡ Ok (progress_of line.entry.text.now reading.new)) (λ e. Explains after e) }
+{
+    let number = line.directive.line;
+    if reading.open.is_none() {
+        return Err(PragmaError::ViewportOutside { line: number });
+    }
+    let Some(view) = view else {
+        return Err(PragmaError::BadPragma { line: number });
+    };
+    let envelope = (reading.closed.len() + 1) as u8;
+    reading
+        .viewports
+        .push(read_view(alloc, line.text, envelope, number, view)?)?;
+    Ok(())
+}
+
+/// Does what an expression of a pragma does.
 fn apply(
     alloc: Global,
     reading: &mut Reading,
@@ -155,6 +183,14 @@ fn apply(
             reading.author = Some(string);
             Ok(())
         }
+        Deed::Forgets => {
+            reading.author = None;
+            Ok(())
+        }
+        Deed::Views(view) => open_view(alloc, reading, line, view),
+        Deed::Encrypted => Err(PragmaError::NeedsDecryption {
+            line: line.directive.line,
+        }),
         Deed::Bad => Err(PragmaError::BadPragma {
             line: line.directive.line,
         }),
@@ -181,11 +217,12 @@ fn apply_any(
     }
 }
 
-/// Applies the first expression of a protect pragma's tokens; what follows its comma, if more is to follow.
+/// Applies the first expression of a pragma's tokens; what follows its comma, if more is to follow.
 fn apply_first<'a>(
     alloc: Global,
     reading: &mut Reading,
     line: Line<'_>,
+    pragma: Pragma,
     rest: Rest<'a>,
 ) -> Result<Option<Rest<'a>>, PragmaError>
     requires line { IsLine line }
@@ -193,15 +230,15 @@ fn apply_first<'a>(
     requires room { HasRoom reading.old }
     ensures room { OnOk result (HasRoom reading.new) }
     ensures places { IfOk result (λ next. IfSome next HasPlaces) }
-    ensures last { IfOk result (λ next. IfNone next ((n : ℕ) → after_all line.entry reading.old (deeds_from line.entry.text.now (suc n) (placed rest.entry)) ≡ Ok (progress_of line.entry.text.now reading.new))) }
-    ensures more { IfOk result (λ next. IfSome next (λ r. (n : ℕ) → after_all line.entry reading.old (deeds_from line.entry.text.now (suc n) (placed rest.entry)) ≡ after_all line.entry reading.new (deeds_from line.entry.text.now n (placed r)))) }
-    ensures fault { IfErr result (λ e. (n : ℕ) → Explains (after_all line.entry reading.old (deeds_from line.entry.text.now (suc n) (placed rest.entry))) e) }
+    ensures last { IfOk result (λ next. IfNone next ((n : ℕ) → after_all line.entry reading.old (deeds_from pragma line.entry.text.now (suc n) (placed rest.entry)) ≡ Ok (progress_of line.entry.text.now reading.new))) }
+    ensures more { IfOk result (λ next. IfSome next (λ r. (n : ℕ) → after_all line.entry reading.old (deeds_from pragma line.entry.text.now (suc n) (placed rest.entry)) ≡ after_all line.entry reading.new (deeds_from pragma line.entry.text.now n (placed r)))) }
+    ensures fault { IfErr result (λ e. (n : ℕ) → Explains (after_all line.entry reading.old (deeds_from pragma line.entry.text.now (suc n) (placed rest.entry))) e) }
 {
     let number = line.directive.line;
     let Some((expression, behind)) = expression_at(rest) else {
         return Err(PragmaError::BadPragma { line: number });
     };
-    apply_any(alloc, reading, line, deed_of(line.text, expression))?;
+    apply_any(alloc, reading, line, deed_of(pragma, line.text, expression))?;
     let Some((comma, next)) = split(behind) else {
         return Ok(None);
     };
@@ -211,18 +248,19 @@ fn apply_first<'a>(
     Ok(Some(next))
 }
 
-/// Applies the expressions of a protect pragma.
-fn protect(
+/// Applies the expressions of a pragma.
+fn apply_all(
     alloc: Global,
     reading: &mut Reading,
     line: Line<'_>,
+    pragma: Pragma,
     rest: Rest<'_>,
 ) -> Result<(), PragmaError>
     requires line { IsLine line }
     requires places { HasPlaces rest }
     requires room { HasRoom reading.old }
     ensures room { OnOk result (HasRoom reading.new) }
-    ensures done { let after = after_all line.entry reading.old (protect_deeds line.entry.text.now (placed rest.entry)) in MatchResult result (λ _. after ≡ Ok (progress_of line.entry.text.now reading.new)) (λ e. Explains after e) }
+    ensures done { let after = after_all line.entry reading.old (all_deeds pragma line.entry.text.now (placed rest.entry)) in MatchResult result (λ _. after ≡ Ok (progress_of line.entry.text.now reading.new)) (λ e. Explains after e) }
 {
     let count = rest.tokens.len();
     if count == 0 {
@@ -231,7 +269,7 @@ fn protect(
     // Each expression has a token at least.
     let mut left = rest;
     for _ in 0..count {
-        match apply_first(alloc, reading, line, left)? {
+        match apply_first(alloc, reading, line, pragma, left)? {
             Some(next) => left = next,
             None => return Ok(()),
         }
@@ -256,10 +294,9 @@ fn read_named(
     ensures done { let after = after_all line.entry reading.old (named_deeds line.entry.text.now name.now (placed rest.entry)) in MatchResult result (λ _. after ≡ Ok (progress_of line.entry.text.now reading.new)) (λ e. Explains after e) }
 {
     match name {
-        "protect" => protect(alloc, reading, line, rest),
-        "reset" | "resetall" => Err(PragmaError::BadPragma {
-            line: line.directive.line,
-        }),
+        "protect" => apply_all(alloc, reading, line, Pragma::Protect, rest),
+        "reset" => apply_all(alloc, reading, line, Pragma::Reset, rest),
+        "resetall" => apply(alloc, reading, line, Deed::Forgets),
         _ => Ok(()),
     }
 }
@@ -400,6 +437,7 @@ fn read(alloc: Global, text: &str, tokens: &[Token]) -> Result<Reading, PragmaEr
         closed: Vec::new(alloc),
         open: None,
         author: None,
+        viewports: Vec::new(alloc),
     };
     let mut before = Before {
         around: Surroundings::new(),
@@ -427,14 +465,19 @@ fn ended(reading: Reading) -> Result<Envelopes, PragmaError>
     requires { HasRoom reading }
     ensures { (text : List ℕ) → let after = envelopes_behind (Ok (progress_of text reading)) in MatchResult result (λ envelopes. after ≡ Ok envelopes) (λ e. Explains after e) }
 {
-    let Reading { closed, open, .. } = reading;
+    let Reading {
+        closed,
+        open,
+        viewports,
+        ..
+    } = reading;
     match open {
         Some(open) => Err(PragmaError::OpenEnvelope { line: open.line }),
-        None => Ok(Envelopes::new(closed)),
+        None => Ok(Envelopes::new(closed, viewports)),
     }
 }
 
-/// The envelopes of a text, of its tokens; or the first fault of its pragmas (301, 302, 304, 308, 309;
+/// The envelopes of a text and its viewports, of its tokens; or the first fault of its pragmas (301, 302, 304 to 309;
 /// 303 last), or want of memory (310).
 pub fn envelopes(alloc: Global, text: &str, tokens: &[Token]) -> Result<Envelopes, PragmaError>
     requires { length tokens.now ≤ TEXT_LIMIT }

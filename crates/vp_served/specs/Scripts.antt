@@ -1,7 +1,7 @@
 -- A script: the lines of one session with a world, in which the simulation runs behind each request (profile).
-use Rattle.std.specs.Prelude.{◌≡◌, ◌⊎◌, ◌<◌, IsUtf8, length, ℕ, zero, suc, List, [], ◌∷◌, ◌++◌, Option, Some, None, IsSome}
+use Rattle.std.specs.Prelude.{◌≡◌, ◌⊎◌, ◌<◌, IsUtf8, length, ℕ, zero, suc, List, [], ◌∷◌, ◌++◌, Option, Some, None, IsSome, Ok}
 use Rattle.vp_elab.specs.Built.{Elaborated}
-use Rattle.vp_policy.specs.declared.fault.PolicyError.TheVariants as policy_error
+use Rattle.vp_policy.specs.Faults.{Explains}
 use Rattle.vp_policy.specs.File.{file_of}
 use Rattle.vp_policy.specs.Users.{Member}
 use Rattle.vp_sim.specs.declared.fault.SimError.TheVariants.{Idle}
@@ -110,7 +110,7 @@ pub record IsOpened (text policy : List ℕ) (script : Script) : Type 0 where
   pub design : Elaborated
   pub is_design : IsDesignOf text design
   pub users : List Member
-  pub are_users : file_of policy ≡ Some users
+  pub are_users : file_of (length design.tree.authors) policy ≡ Ok users
   pub fresh : script ≡ opened (record { design = design; users = users; limits = greatest })
 
 -- a script over an input has read it to the end, so many lines, and each was told what the script answers it
@@ -146,18 +146,18 @@ pub record IsStopped (e : WireError) (script : Script) (unread still_unread held
   pub behind : Script
   pub closes : Closes Serves end.stage end.caller behind
 
--- a policy file is refused by a fault, behind a text that has a design
-abbrev pub IsPolicyRefusedBy : List ℕ → ServeFault → Type 0
-IsPolicyRefusedBy policy (fault.Policy e) = (e ≡ policy_error.NoMemory) ⊎ (file_of policy ≡ None)
-IsPolicyRefusedBy policy fault.TooLong = text_limit < length policy
-IsPolicyRefusedBy policy (fault.World e) = e ≡ error.NoMemory
-IsPolicyRefusedBy policy fault.NoMemory = Unit {0}
-IsPolicyRefusedBy policy f = ⊥
+-- a policy file is refused by a fault, behind a text that has this design
+abbrev pub IsPolicyRefusedBy : Elaborated → List ℕ → ServeFault → Type 0
+IsPolicyRefusedBy design policy (fault.Policy e) = Explains (file_of (length design.tree.authors) policy) e
+IsPolicyRefusedBy design policy fault.TooLong = text_limit < length policy
+IsPolicyRefusedBy design policy (fault.World e) = e ≡ error.NoMemory
+IsPolicyRefusedBy design policy fault.NoMemory = Unit {0}
+IsPolicyRefusedBy design policy f = ⊥
 
 -- no script is opened for a text and a policy file, by a fault of the text, or else of the file; or memory is lacking
 abbrev pub IsUnopened : List ℕ → List ℕ → ServeFault → Type 0
 IsUnopened text policy f =
-    IsRefusedBy text f ⊎ ((design : Elaborated) × IsDesignOf text design × IsPolicyRefusedBy policy f)
+    IsRefusedBy text f ⊎ ((design : Elaborated) × IsDesignOf text design × IsPolicyRefusedBy design policy f)
 
 -- the fault that ended a script over an input: of the text, then of the policy file, then of the reader or the writer; or memory is
 -- lacking

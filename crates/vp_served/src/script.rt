@@ -1,4 +1,4 @@
-ghost use Rattle.std.specs.Prelude.{◌≡◌, ◌⊎◌, IfErr, IfOk, Some};
+ghost use Rattle.std.specs.Prelude.{◌≡◌, ◌⊎◌, length, IfErr, IfOk, Ok};
 ghost use Rattle.vp_wire.specs.declared.fault.WireError.{WireError};
 ghost use Rattle.vp_served.specs.declared.fault.ServeFault.TheVariants.{Lines, NoMemory};
 ghost use Rattle.vp_policy.specs.File.{file_of};
@@ -12,7 +12,7 @@ use crate::sources::TEXT_LIMIT;
 use std::alloc::Global;
 use std::io::{Read, Write};
 use std::sync::Arc;
-use vp_elab::elaborate;
+use vp_elab::{Design, elaborate};
 use vp_expr::{Checked, check};
 use vp_lex::tokens;
 use vp_parse::parse;
@@ -44,15 +44,15 @@ fn checked(alloc: Global, text: &str) -> Result<Checked, ServeFault>
     Ok(check(alloc, design)?)
 }
 
-/// The policy of a file.
-fn policy_of(alloc: Global, bytes: &[u8]) -> Result<Policy, ServeFault>
-    ensures users { IfOk result (λ policy. file_of bytes.now ≡ Some policy) }
-    ensures refused { IfErr result (λ fault. IsPolicyRefusedBy bytes.now fault) }
+/// The policy of a file, for a design.
+fn policy_of(alloc: Global, bytes: &[u8], design: &Design) -> Result<Policy, ServeFault>
+    ensures users { IfOk result (λ policy. file_of (length design.now.tree.authors) bytes.now ≡ Ok policy) }
+    ensures refused { IfErr result (λ fault. IsPolicyRefusedBy design.now bytes.now fault) }
 {
     if bytes.len() > TEXT_LIMIT {
         return Err(ServeFault::TooLong);
     }
-    Ok(Policy::read(alloc, bytes)?)
+    Ok(Policy::read(alloc, bytes, design)?)
 }
 
 /// A fresh world of a design and a policy, with the greatest limits, whose script has no session yet; or the first fault of the
@@ -62,7 +62,7 @@ fn opened(alloc: Global, design: &str, policy: &[u8]) -> Result<Keeper, ServeFau
     ensures refused { IfErr result (λ fault. IsUnopened design.now policy.now fault) }
 {
     let checked = Arc::new(alloc, checked(alloc, design)?)?;
-    let policy = policy_of(alloc, policy)?;
+    let policy = policy_of(alloc, policy, checked.design())?;
     let world = World::new(alloc, checked, policy, Limits::GREATEST)?;
     Ok(Keeper::new(world))
 }

@@ -144,6 +144,10 @@ fn bad_lines(rt: HostRuntime) {
         ("{\"op\":\"value\"", "bad json"),
         ("{\"op\":\"time\"", "bad json"),
         ("{\"op\":\"tim\"}", "bad request"),
+        (
+            "{\"op\":\"run\",\"until\":4611686018427387904}\n",
+            "bad request",
+        ),
         ("[1]\n", "bad request"),
         ("{\"op\":\"value\",\"h\":-1}\n", "bad request"),
         ("{\"op\":\"value\",\"h\":1,\"x\":2}\n", "bad request"),
@@ -162,10 +166,14 @@ fn bad_lines(rt: HostRuntime) {
 fn kinds_and_closing(rt: HostRuntime) {
     let script = "{\"op\":\"handle\",\"name\":\"top.initial@6:3\"}
 {\"op\":\"value\",\"h\":1}
+{\"op\":\"handle\",\"name\":\"top\"}
+{\"op\":\"value\",\"h\":2}
 {\"op\":\"close\"}
 {\"op\":\"value\",\"h\":1}
 ";
     let lines = "{\"h\":1}
+{\"error\":\"wrong kind\"}
+{\"h\":2}
 {\"error\":\"wrong kind\"}
 {\"ok\":true}
 {\"error\":\"not open\"}
@@ -180,11 +188,13 @@ fn running(rt: HostRuntime) {
 {\"op\":\"handle\",\"name\":\"top.a\"}
 {\"op\":\"value\",\"h\":1}
 {\"op\":\"time\"}
+{\"op\":\"run\",\"until\":4611686018427387903}
 ";
     let lines = "{\"ok\":true}
 {\"h\":1}
 {\"value\":\"1\"}
 {\"finished\":false,\"time\":0}
+{\"ok\":true}
 ";
     let text = answered(rt.alloc(), POLICY, script);
     assert_eq!(rt; text.as_str(), lines);
@@ -254,19 +264,88 @@ fn bad_policies(rt: HostRuntime) {
     let rows = [
         "",
         "{}",
-        "{\"users\":[]}",
         "{\"users\":[{\"name\":\"ann\"}]}",
         "{\"users\":[{\"name\":\"\",\"token\":\"t1\"}]}",
         "{\"users\":[{\"name\":\"a.b\",\"token\":\"t1\"}]}",
         "{\"users\":[{\"name\":\"ann\",\"token\":\"t1\",\"open\":\"see\"}]}",
         "{\"users\":[{\"name\":\"ann\",\"token\":\"t1\",\"open\":\"list+\"}]}",
         "{\"users\":[{\"name\":\"ann\",\"token\":\"t1\",\"run\":1}]}",
-        "{\"users\":[{\"name\":\"ann\",\"token\":\"t1\",\"grants\":[]}]}",
+        "{\"users\":[{\"name\":\"ann\",\"token\":\"t1\",\"age\":1}]}",
+        "{\"users\":[{\"name\":\"ann\",\"token\":\"t1\",\"grants\":{}}]}",
+        "{\"users\":[{\"name\":\"ann\",\"token\":\"t1\",\"grants\":[{\"envelope\":1}]}]}",
+        "{\"users\":[{\"name\":\"ann\",\"token\":\"t1\",\"grants\":[{\"envelope\":1.0,\"access\":\"\"}]}]}",
     ];
     for policy in rows {
         let text = printed(rt.alloc(), DESIGN, policy, OPEN);
         assert_eq!(rt; text.as_str(), "fault 901 line 0", "at {policy}");
     }
+}
+
+/// A policy file of so many users.
+fn users(alloc: Global, count: u32) -> String {
+    let mut file = copies(alloc, "{\"users\":[{\"name\":\"ann\",\"token\":\"t1\"}", 1);
+    for i in 1..count {
+        let _written = write!(&mut file, ",{{\"name\":\"u{i}\",\"token\":\"t{i}\"}}");
+    }
+    joined(alloc, &file, "]}")
+}
+
+#[test]
+fn user_count(rt: HostRuntime) {
+    for (count, lines) in [(256, "{\"ok\":true}\n"), (257, "fault 904 line 0")] {
+        let text = printed(rt.alloc(), DESIGN, &users(rt.alloc(), count), OPEN);
+        assert_eq!(rt; text.as_str(), lines);
+    }
+}
+
+#[test]
+fn refused_policies(rt: HostRuntime) {
+    let rows = [
+        (
+            "{\"users\":[{\"name\":\"ann\",\"token\":\"t1\"},{\"name\":\"ann\",\"token\":\"t2\"}]}",
+            "fault 902 line 0",
+        ),
+        (
+            "{\"users\":[{\"name\":\"ann\",\"token\":\"t1\",\"grants\":[{\"envelope\":2,\"access\":\"\"}]}]}",
+            "fault 903 line 0",
+        ),
+    ];
+    for (policy, fault) in rows {
+        let text = printed(rt.alloc(), DESIGN, policy, OPEN);
+        assert_eq!(rt; text.as_str(), fault, "at {policy}");
+    }
+    let text = printed(rt.alloc(), DESIGN, "{\"users\":[]}", OPEN);
+    assert_eq!(rt; text.as_str(), "{\"error\":\"bad token\"}\n");
+}
+
+/// Two users, of whom the second has grants for the envelope.
+const TWO: &str = "{\"users\":[{\"name\":\"bob\",\"token\":\"t2\",\"open\":\"read\"},
+{\"name\":\"ann\",\"token\":\"t1\",\"open\":\"list\",\"run\":true,\"grants\":[
+{\"envelope\":1,\"access\":\"read\"},{\"envelope\":1,\"access\":\"\"}]}]}";
+
+#[test]
+fn second_user(rt: HostRuntime) {
+    let script = "{\"op\":\"handle\",\"name\":\"top.k\"}
+{\"op\":\"handle\",\"name\":\"top.zz\"}
+{\"op\":\"value\",\"h\":1}
+";
+    let lines = "{\"h\":1}
+{\"error\":\"no such name\"}
+{\"denied\":{\"author\":\"\",\"by\":\"grant\",\"no\":0,\"right\":\"read\"}}
+";
+    let text = answered(rt.alloc(), TWO, script);
+    assert_eq!(rt; text.as_str(), lines);
+}
+
+#[test]
+fn granted_value(rt: HostRuntime) {
+    let policy = "{\"users\":[{\"name\":\"bob\",\"token\":\"t2\"},
+{\"name\":\"ann\",\"token\":\"t1\",\"open\":\"read\",\"grants\":[{\"envelope\":1,\"access\":\"read\"}]}]}";
+    let script = "{\"op\":\"handle\",\"name\":\"top.k\"}
+{\"op\":\"value\",\"h\":1}
+";
+    let text = answered(rt.alloc(), policy, script);
+    assert_eq!(rt; text.as_str(), "{\"h\":1}\n{\"value\":\"x\"}\n");
 }
 
 #[test]
@@ -287,7 +366,28 @@ fn bad_designs(rt: HostRuntime) {
             "module m; initial begin\n`pragma protect begin\nend endmodule",
             "fault 304 line 2",
         ),
-        ("`pragma protect viewport=\"a\"", "fault 309 line 1"),
+        (
+            "`pragma protect viewport=(object=\"a\", access=\"read\")",
+            "fault 305 line 1",
+        ),
+        (
+            "`pragma protect begin\n`pragma protect viewport=(object=\"a\", access=\"peek\")",
+            "fault 306 line 2",
+        ),
+        (
+            "`pragma protect begin\n`pragma protect viewport=(object=\"a\", access=\"\")",
+            "fault 306 line 2",
+        ),
+        ("`pragma protect begin_protected", "fault 307 line 1"),
+        ("`pragma protect data_public_key=\"k\"", "fault 307 line 1"),
+        (
+            "`pragma protect begin\n`pragma protect viewport=(object=\"a.b.c\", access=\"read\")",
+            "fault 309 line 2",
+        ),
+        (
+            "`pragma protect begin\n`pragma protect viewport=\"a\"",
+            "fault 309 line 2",
+        ),
         ("`pragma protect begin,", "fault 309 line 1"),
         ("module m", "fault 401 line 1"),
         ("module m;\n", "fault 401 line 1"),
@@ -333,6 +433,100 @@ fn bad_designs(rt: HostRuntime) {
     for (design, fault) in rows {
         let text = printed(rt.alloc(), design, POLICY, OPEN);
         assert_eq!(rt; text.as_str(), fault, "at {design}");
+    }
+}
+
+/// A design in which `acme` hides two regs, and opens one of them by a viewport of this object and access.
+fn viewed(alloc: Global, object: &str, access: &str) -> String {
+    let mut text = copies(alloc, HIDDEN, 1);
+    let _written = write!(
+        &mut text,
+        "`pragma protect viewport=(object=\"{object}\", access=\"{access}\")\n"
+    );
+    joined(alloc, &text, "`pragma protect end\n  reg a;\nendmodule\n")
+}
+
+const HIDDEN: &str = "module top;
+`pragma protect author=\"acme\", begin
+  reg s, k;
+";
+
+/// Users with an open set of all rights or of none, and with or without a grant for the envelope.
+const FOUR: &str = "{\"users\":[
+{\"name\":\"ann\",\"token\":\"t\",\"open\":\"list+read+watch+put+race\"},
+{\"name\":\"dan\",\"token\":\"t\",\"open\":\"list+read+watch+put+race\",\"grants\":[{\"envelope\":1,\"access\":\"list\"}]},
+{\"name\":\"eve\",\"token\":\"t\",\"open\":\"\"},
+{\"name\":\"fay\",\"token\":\"t\",\"open\":\"\",\"grants\":[{\"envelope\":1,\"access\":\"list+read+watch+put+race\"}]}]}";
+
+/// What a user is told of a name, and of the value behind it, where a viewport has this object and this access.
+fn told(alloc: Global, object: &str, access: &str, user: &str, name: &str) -> String {
+    let mut script = String::new(alloc);
+    let _opened = write!(
+        &mut script,
+        "{{\"op\":\"open\",\"user\":\"{user}\",\"token\":\"t\"}}\n"
+    );
+    let _asked = write!(
+        &mut script,
+        "{{\"op\":\"handle\",\"name\":\"{name}\"}}\n{{\"op\":\"value\",\"h\":1}}\n"
+    );
+    printed(alloc, &viewed(alloc, object, access), FOUR, &script)
+}
+
+#[test]
+fn viewports(rt: HostRuntime) {
+    let by_envelope = "{\"ok\":true}
+{\"denied\":{\"author\":\"acme\",\"by\":\"envelope\",\"no\":1,\"right\":\"list\"}}
+{\"error\":\"bad handle\"}
+";
+    let by_open_set = "{\"ok\":true}
+{\"denied\":{\"author\":\"\",\"by\":\"grant\",\"no\":0,\"right\":\"list\"}}
+{\"error\":\"bad handle\"}
+";
+    let by_grant = "{\"ok\":true}
+{\"h\":1}
+{\"denied\":{\"author\":\"acme\",\"by\":\"grant\",\"no\":1,\"right\":\"read\"}}
+";
+    let by_viewport = "{\"ok\":true}
+{\"h\":1}
+{\"denied\":{\"author\":\"acme\",\"by\":\"viewport\",\"no\":1,\"object\":\"top.s\",\"right\":\"read\"}}
+";
+    let absent = "{\"ok\":true}
+{\"error\":\"no such name\"}
+{\"error\":\"bad handle\"}
+";
+    let seen = "{\"ok\":true}\n{\"h\":1}\n{\"value\":\"x\"}\n";
+    let rows = [
+        ("s", "read+put", "ann", "top.s", seen),
+        ("s", "read+put", "ann", "top.k", by_envelope),
+        ("s", "read+put", "ann", "top.zz", by_envelope),
+        ("s", "read+put", "dan", "top.s", seen),
+        ("s", "read+put", "dan", "top.k", by_grant),
+        ("s", "read+put", "dan", "top.zz", absent),
+        ("s", "read+put", "eve", "top", by_open_set),
+        ("s", "read+put", "eve", "zz", by_open_set),
+        ("s", "read+put", "fay", "top.s", by_open_set),
+        ("top.s", "list", "ann", "top.s", by_viewport),
+        ("q", "read", "ann", "top.s", "fault 508 line 4"),
+        ("other.s", "read", "ann", "top.s", "fault 508 line 4"),
+        ("a", "read", "ann", "top.s", "fault 508 line 4"),
+    ];
+    for (object, access, user, name, lines) in rows {
+        let text = told(rt.alloc(), object, access, user, name);
+        assert_eq!(rt; text.as_str(), lines, "at {object} {access} {user} {name}");
+    }
+}
+
+#[test]
+fn envelope_count(rt: HostRuntime) {
+    let pair = "`pragma protect begin\n`pragma protect end\n";
+    for (count, lines) in [(255, "{\"ok\":true}\n"), (256, "fault 308 line 512")] {
+        let design = joined(
+            rt.alloc(),
+            "`pragma protect\n",
+            &copies(rt.alloc(), pair, count),
+        );
+        let text = printed(rt.alloc(), &design, POLICY, OPEN);
+        assert_eq!(rt; text.as_str(), lines);
     }
 }
 

@@ -6,24 +6,24 @@ use Rattle.vp_bits.specs.declared.bit.Bit.TheVariants.{Unknown}
 use Rattle.vp_pragma.specs.declared.rights.Right.{Right}
 use Rattle.vp_pragma.specs.declared.rights.Right.TheVariants as right
 use Rattle.vp_elab.specs.declared.object.Kind.{Kind}
-use Rattle.vp_elab.specs.Tree.{Tree, author_in, has_value}
+use Rattle.vp_elab.specs.Tree.{Tree, has_value}
 use Rattle.vp_policy.specs.declared.denial.Denial.{Denial}
 use Rattle.vp_policy.specs.declared.denial.Look.{Look}
 use Rattle.vp_policy.specs.declared.denial.Look.TheVariants as look
 use Rattle.vp_policy.specs.Users.{Member}
-use Rattle.vp_policy.specs.Filter.{denial_at, look_of}
+use Rattle.vp_policy.specs.Filter.{denial_at, look_of, told_of}
 use Rattle.vp_vpi.specs.declared.fault.VpiError.{VpiError}
 use Rattle.vp_vpi.specs.declared.fault.VpiError.TheVariants as error
 
 -- what a session can look up: the object of a dotted name, why a right on an object is denied, the kind and the value of
--- an object, and the author of an envelope. A world gives it from the design, the policy and the values; what a user sees
+-- an object, and what a denial is told with. A world gives it from the design, the policy and the values; what a user sees
 -- gives it from that alone
 pub record Observer : Type 0 where
   pub named : List ℕ → Look
   pub denied : Right → ℕ → Option Denial
   pub kind_of : ℕ → Option Kind
   pub value : ℕ → List Bit
-  pub author : ℕ → List ℕ
+  pub told : Denial → List ℕ × Option (List ℕ)
 
 -- an object is there and has a value
 abbrev pub is_readable : Option Kind → Bool
@@ -37,7 +37,7 @@ observer_of tree u values = record {
   denied = denial_at tree u;
   kind_of = λ o. option_map (λ node. node.kind) (slice_get tree.nodes o);
   value = λ o. slice_index_or values o (Unknown ∷ []);
-  author = author_in tree.authors;
+  told = told_of tree;
 }
 
 -- the handles of a session, each with its object, and the number of the newest

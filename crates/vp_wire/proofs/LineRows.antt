@@ -1,5 +1,5 @@
 -- Lines, computed. Each row is an equation that holds by computation.
-use Rattle.std.proofs.Common.{◌≡◌, [], ◌∷◌, refl}
+use Rattle.std.proofs.Common.{◌≡◌, [], ◌∷◌, Some, None, refl}
 use Rattle.std.specs.Prelude.{codes}
 use Rattle.std.specs.Fmt.{digits}
 use Rattle.std.specs.Str.{is_utf8, chars}
@@ -25,10 +25,16 @@ unfolding serde_json_on_literals
 value = refl
 
 denied :
-    line_of (reply.Denied (record { by = by.Envelope; envelope = 1; right = right.List }) (codes "acme"))
+    line_of (reply.Denied (record { by = by.Envelope; envelope = 1; right = right.List }) (codes "acme") None)
     ≡ codes "{\"denied\":{\"author\":\"acme\",\"by\":\"envelope\",\"no\":1,\"right\":\"list\"}}\n"
 unfolding serde_json_on_literals digits
 denied = refl
+
+denied_by_viewport :
+    line_of (reply.Denied (record { by = by.Viewport 0; envelope = 1; right = right.Put }) (codes "acme") (Some (codes "ip.s")))
+    ≡ codes "{\"denied\":{\"author\":\"acme\",\"by\":\"viewport\",\"no\":1,\"object\":\"ip.s\",\"right\":\"put\"}}\n"
+unfolding serde_json_on_literals digits
+denied_by_viewport = refl
 
 no_such_name : line_of (reply.Error refusal.NoSuchName) ≡ codes "{\"error\":\"no such name\"}\n"
 unfolding serde_json_on_literals

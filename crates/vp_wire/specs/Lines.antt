@@ -1,7 +1,7 @@
 -- The lines of requests and replies.
 use Rattle.std.specs.Prelude.{ℕ, ◌^◌, nat_lt, Bool, true, if◌then◌else◌, List, [], ◌∷◌, ◌++◌, map, reverse, Option, Some, None, option_and_then, option_map, codes}
 use Rattle.std.specs.Str.{bytes_eq, is_utf8}
-use Rattle.serde_json.specs.Data.{unsigned, Data, boolean, number, string, object, no_members, member}
+use Rattle.serde_json.specs.Data.{unsigned, Data, Members, boolean, number, string, object, no_members, member}
 use Rattle.serde_json.specs.Find.{get, as_str, as_number, as_u64}
 use Rattle.serde_json.specs.Read.{read}
 use Rattle.serde_json.specs.Written.{compact_text}
@@ -29,15 +29,21 @@ by_text by.Grant = codes "grant"
 abbrev pub only : List ℕ → Data → Data
 only key value = object (member key value no_members)
 
--- a denial as JSON, with the author of its envelope, its keys in the order of their bytes (profile)
-abbrev pub denial_data : Denial → List ℕ → Data
-denial_data denial author =
+-- the object of a viewport, if one keeps the user out, before other members
+abbrev pub with_object : Option (List ℕ) → Members → Members
+with_object None members = members
+with_object (Some name) members = member (codes "object") (string name) members
+
+-- a denial as JSON, with the author of its envelope and the object of the viewport that keeps the user out, its keys in
+-- the order of their bytes (profile)
+abbrev pub denial_data : Denial → List ℕ → Option (List ℕ) → Data
+denial_data denial author name =
     only (codes "denied")
     (object
     (member (codes "author") (string author)
     (member (codes "by") (string (by_text denial.by))
     (member (codes "no") (number (unsigned denial.envelope))
-    (member (codes "right") (string (name_of denial.right)) no_members)))))
+    (with_object name (member (codes "right") (string (name_of denial.right)) no_members))))))
 
 -- the denial of a run: by the grant for the open text, which has no author (profile)
 abbrev pub run_denial_data : Data
@@ -60,7 +66,7 @@ data_of (reply.Opened session) = only (codes "ok") (boolean true)
 data_of reply.Done = only (codes "ok") (boolean true)
 data_of (reply.Handle handle) = only (codes "h") (number (unsigned handle))
 data_of (reply.Value bits) = only (codes "value") (string (map digit_of (reverse bits)))
-data_of (reply.Denied denial author) = denial_data denial author
+data_of (reply.Denied denial author name) = denial_data denial author name
 data_of reply.RunDenied = run_denial_data
 data_of (reply.Time time finished) = time_data time finished
 data_of (reply.Error refusal) = only (codes "error") (string (text_of refusal))

@@ -7,8 +7,6 @@ mod fault;
 mod line;
 mod replies;
 mod requests;
-#[cfg(test)]
-mod tests;
 
 pub use counted::{Counted, Failed};
 pub use dialogue::{Caller, Ended, Stage, TURN_LIMIT, session};

@@ -1,5 +1,5 @@
 // Replies (docs/FORMATS.md, "Lines").
-ghost use Rattle.std.specs.Prelude.{◌≡◌, IfOk, IsOkUnless, map, reverse};
+ghost use Rattle.std.specs.Prelude.{◌≡◌, None, Some, IfOk, IsOkUnless, map, reverse};
 ghost use Rattle.serde_json.specs.Data.{string};
 ghost use Rattle.serde_json.specs.View.{view};
 ghost use Rattle.vp_bits.specs.Digits.{digit_of};
@@ -36,12 +36,27 @@ fn by_text(by: By) -> &'static str
 
 /// A denial, with the author of its envelope.
 fn denied(alloc: Global, denial: Denial, author: &str) -> Result<Value, AllocError>
-    ensures { IfOk result (λ v. view v ≡ denial_data denial author.now) }
+    ensures { IfOk result (λ v. view v ≡ denial_data denial author.now None) }
 {
     let by = by_text(denial.by);
     let number = u64::from(denial.envelope);
     let right = denial.right.name();
     json!(in alloc; {"denied": {"author": author, "by": by, "no": number, "right": right}})
+}
+
+/// A denial by a viewport, with the author of its envelope and the viewport's object.
+fn denied_by_viewport(
+    alloc: Global,
+    denial: Denial,
+    author: &str,
+    object: &str,
+) -> Result<Value, AllocError>
+    ensures { IfOk result (λ v. view v ≡ denial_data denial author.now (Some object.now)) }
+{
+    let by = by_text(denial.by);
+    let number = u64::from(denial.envelope);
+    let right = denial.right.name();
+    json!(in alloc; {"denied": {"author": author, "by": by, "no": number, "object": object, "right": right}})
 }
 
 /// The denial of a run: by the grant for the open text, which has no author.
@@ -74,7 +89,19 @@ fn value_of(alloc: Global, reply: &Reply) -> Result<Value, WireError>
             let value = digits(alloc, *value)?;
             Ok(json!(in alloc; {"value": value})?)
         }
-        Reply::Denied { denial, author } => Ok(denied(alloc, *denial, author.as_str())?),
+        Reply::Denied {
+            denial,
+            author,
+            object: None,
+        } => Ok(denied(alloc, *denial, author.as_str())?),
+        Reply::Denied {
+            denial,
+            author,
+            object: Some(object),
+        } => {
+            let author = author.as_str();
+            Ok(denied_by_viewport(alloc, *denial, author, object.as_str())?)
+        }
         Reply::RunDenied => Ok(run_denied(alloc)?),
         Reply::Time { time, finished } => Ok(time_value(alloc, *time, *finished)?),
         Reply::Error(refusal) => {

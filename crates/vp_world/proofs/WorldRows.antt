@@ -112,7 +112,7 @@ abbrev reads : ℕ → Event
 reads handle = event.Ask first (request.Value handle)
 
 abbrev hidden : Reply
-hidden = reply.Denied (record { by = by.Envelope; envelope = 1; right = right.List }) (codes "acme")
+hidden = reply.Denied (record { by = by.Envelope; envelope = 1; right = right.List }) (codes "acme") None
 
 abbrev runs : Event
 runs = event.Ask first (request.Run 0)

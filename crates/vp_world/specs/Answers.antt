@@ -1,6 +1,7 @@
 -- What a session's request is answered: a reply for each answer of its calls.
 use Rattle.std.specs.Prelude.{ℕ, suc, Bool, if◌then◌else◌, List, Option, Some, None, Result, Ok, Err}
 use Rattle.vp_bits.specs.declared.bit.Bit.{Bit}
+use Rattle.vp_policy.specs.declared.denial.Denial.{Denial}
 use Rattle.vp_vpi.specs.declared.fault.VpiError.{VpiError}
 use Rattle.vp_vpi.specs.declared.fault.VpiError.TheVariants as vpi
 use Rattle.vp_vpi.specs.Observers.{Handles, Observer, handle_of, object_of, value_of}
@@ -18,23 +19,24 @@ pub record Outlook : Type 0 where
   pub time : ℕ
   pub finished : Bool
 
--- the reply to a request that a session refused: a denial has the author of its envelope, by its number (profile)
-abbrev pub refused : (ℕ → List ℕ) → VpiError → Reply
-refused author (vpi.Denied d) = reply.Denied d (author d.envelope)
-refused author vpi.BadHandle = reply.Error refusal.BadHandle
-refused author vpi.WrongKind = reply.Error refusal.WrongKind
-refused author vpi.TooManyHandles = reply.Error refusal.TooManyHandles
-refused author vpi.NoSuchName = reply.Error refusal.NoSuchName
-refused author vpi.NoMemory = reply.Error refusal.NoMemory
+-- the reply to a request that a session refused: a denial has the author of its envelope, and the object of the viewport
+-- that keeps the user out (profile)
+abbrev pub refused : (Denial → List ℕ × Option (List ℕ)) → VpiError → Reply
+refused told (vpi.Denied d) = reply.Denied d (told d).0 (told d).1
+refused told vpi.BadHandle = reply.Error refusal.BadHandle
+refused told vpi.WrongKind = reply.Error refusal.WrongKind
+refused told vpi.TooManyHandles = reply.Error refusal.TooManyHandles
+refused told vpi.NoSuchName = reply.Error refusal.NoSuchName
+refused told vpi.NoMemory = reply.Error refusal.NoMemory
 
 -- the reply to a name: the number of the handle that it makes
 abbrev pub reply_of_handle : Observer → Handles → Result ℕ VpiError → Reply
-reply_of_handle eyes s (Err e) = refused eyes.author e
+reply_of_handle eyes s (Err e) = refused eyes.told e
 reply_of_handle eyes s (Ok object) = reply.Handle (suc s.newest)
 
 -- the reply to a handle: the value of its object
 abbrev pub reply_of_value : Observer → Result (List Bit) VpiError → Reply
-reply_of_value eyes (Err e) = refused eyes.author e
+reply_of_value eyes (Err e) = refused eyes.told e
 reply_of_value eyes (Ok bits) = reply.Value bits
 
 -- the reply to what a session asks: openings and closings are no questions

@@ -1,6 +1,6 @@
 ghost use Rattle.std.specs.Prelude.{◌≡◌, ◌≢◌, ◌<◌, false, true, length, slice_get, slice_index, slice_set, None, Some, IfErr, IfOk, IsOkUnless, OnErr, OnOk};
 ghost use Rattle.std.specs.Arc.{arc_value};
-ghost use Rattle.vp_elab.specs.Tree.{author_in};
+ghost use Rattle.vp_policy.specs.Filter.{told_of, viewport_object};
 ghost use Rattle.vp_sim.specs.States as sim;
 ghost use Rattle.vp_vpi.specs.declared.fault.VpiError.TheVariants as vpi_error;
 ghost use Rattle.vp_world.specs.declared.event.Event.TheVariants as event;
@@ -25,7 +25,7 @@ use std::sync::Arc;
 use vp_elab::Design;
 use vp_expr::Checked;
 use vp_list::Text;
-use vp_policy::{Denial, Policy, UserId};
+use vp_policy::{By, Denial, Policy, UserId};
 use vp_sim::{Change, Sim};
 use vp_vpi::{Session, VpiError};
 
@@ -64,7 +64,7 @@ pub struct Answer {
 
 /// The reply to a request that a session refused; want of memory is the world's.
 fn session_reply(alloc: Global, design: &Design, error: VpiError) -> Result<Reply, WorldError>
-    ensures reply { IfOk result (λ told. told ≡ refused (author_in design.now.tree.authors) error) }
+    ensures reply { IfOk result (λ told. told ≡ refused (told_of design.now.tree) error) }
     ensures told { OnOk result (error ≢ vpi_error.NoMemory) }
     ensures refused { IsOkUnless result world_error.NoMemory }
 {
@@ -78,22 +78,37 @@ fn session_reply(alloc: Global, design: &Design, error: VpiError) -> Result<Repl
     })
 }
 
-/// The reply of a denial, which names the envelope's author.
+/// The object of the viewport that keeps a user out, if one does.
+fn viewport_object(alloc: Global, design: &Design, by: By) -> Result<Option<Text>, WorldError>
+    ensures object { IfOk result (λ object. object ≡ viewport_object design.now.tree.viewports by) }
+    ensures refused { IsOkUnless result world_error.NoMemory }
+{
+    let By::Viewport(number) = by else {
+        return Ok(None);
+    };
+    match design.viewports().get(number) {
+        Some(viewport) => Ok(Some(viewport.object(alloc)?)),
+        None => Ok(None),
+    }
+}
+
+/// The reply of a denial, which names the envelope's author, and the viewport's object.
 fn denial_reply(alloc: Global, design: &Design, denial: Denial) -> Result<Reply, WorldError>
-    ensures reply { IfOk result (λ told. told ≡ reply.Denied denial (author_in design.now.tree.authors denial.envelope)) }
+    ensures reply { IfOk result (λ told. told ≡ reply.Denied denial (told_of design.now.tree denial).0 (told_of design.now.tree denial).1) }
     ensures refused { IsOkUnless result world_error.NoMemory }
 {
     let author = design.author(denial.envelope);
     Ok(Reply::Denied {
         denial,
         author: Text::copy(alloc, author)?,
+        object: viewport_object(alloc, design, denial.by)?,
     })
 }
 
 /// The answer to a request that a session refused; want of memory is the world's.
 fn session_answer(alloc: Global, design: &Design, error: VpiError) -> Result<Answer, WorldError>
-    ensures told { IfOk result (λ a. a.told ≡ refused (author_in design.now.tree.authors) error) }
-    ensures kept { IfOk result (λ a. a.kept ≡ refused (author_in design.now.tree.authors) error) }
+    ensures told { IfOk result (λ a. a.told ≡ refused (told_of design.now.tree) error) }
+    ensures kept { IfOk result (λ a. a.kept ≡ refused (told_of design.now.tree) error) }
     ensures change { IfOk result (λ a. a.change ≡ None) }
     ensures reason { OnOk result (error ≢ vpi_error.NoMemory) }
     ensures refused { IsOkUnless result world_error.NoMemory }

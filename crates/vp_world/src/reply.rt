@@ -74,12 +74,20 @@ pub enum Reply {
     Handle(u32),
     /// The value of an object.
     Value(Bits),
-    /// A right is lacking; the author is that of the envelope.
-    Denied { denial: Denial, author: Text },
+    /// A right is lacking. The author is that of the envelope; the object is that of the viewport, if one keeps the
+    /// user out.
+    Denied {
+        denial: Denial,
+        author: Text,
+        object: Option<Text>,
+    },
     /// The user may not let the design run.
     RunDenied,
     /// The current time, in time units, and whether `$finish` was executed.
-    Time { time: u64, finished: bool },
+    Time {
+        time: u64,
+        finished: bool,
+    },
     /// Another refusal.
     Error(Refusal),
 }

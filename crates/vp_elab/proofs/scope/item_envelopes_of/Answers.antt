@@ -12,7 +12,7 @@ pub returns : goal.returns
 returns c =
     let places : List ℕ = map item_place c.args.items.now in
     let few = c.count.type_inv in
-    let same : filter (λ e. get_or c.marks_of.result e false) (below (suc c.count.result)) ≡ numbers_of c.args.envelopes.now places =
-    filter_below_same (λ e. get_or c.marks_of.result e false) (λ e. list_any (λ place. envelope_at c.args.envelopes.now place == e) places) (suc c.count.result) (λ e l. c.marks_of.ensures e (omega arith))
-    ∙ ap (λ (n : ℕ). filter (λ e. list_any (λ place. envelope_at c.args.envelopes.now place == e) places) (below (suc n))) c.count.ensures in
+    let same : filter (λ e. get_or c.marks_of.result e false) (below (suc c.count.result)) ≡ numbers_of c.args.envelopes.now.envelopes places =
+    filter_below_same (λ e. get_or c.marks_of.result e false) (λ e. list_any (λ place. envelope_at c.args.envelopes.now.envelopes place == e) places) (suc c.count.result) (λ e l. c.marks_of.ensures e (omega arith))
+    ∙ ap (λ (n : ℕ). filter (λ e. list_any (λ place. envelope_at c.args.envelopes.now.envelopes place == e) places) (below (suc n))) c.count.ensures in
     subst (λ (ns : List ℕ). IfOk c.marked.result (λ numbers. numbers ≡ ns)) same c.marked.ensures

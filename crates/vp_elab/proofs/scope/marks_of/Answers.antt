@@ -13,6 +13,6 @@ pub loop-item-preserved : goal.loop-item-preserved
 loop-item-preserved c = record {
   long = length-set c.loop-item.marks c.of.result true ∙ c.loop-item.invariant.long;
   marked = λ e l.
-      mark_next c.args.envelopes.now item_place c.loop-item.marks c.args.items.now c.loop-item.item-index (Reg 0 None) c.of.result e
-      c.loop-item-test.true (let long = c.loop-item.invariant.long in omega arith) (c.of.ensures ∙ ap (envelope_at c.args.envelopes.now) c.place_of.ensures) (c.loop-item.invariant.marked e l);
+      mark_next c.args.envelopes.now.envelopes item_place c.loop-item.marks c.args.items.now c.loop-item.item-index (Reg 0 None) c.of.result e
+      c.loop-item-test.true (let long = c.loop-item.invariant.long in omega arith) (c.of.ensures ∙ ap (envelope_at c.args.envelopes.now.envelopes) c.place_of.ensures) (c.loop-item.invariant.marked e l);
 }

@@ -7,5 +7,5 @@ use Rattle.vp_elab.proofs.scope.marks_of.Given as goal
 abbrev pub invariant-loop-item : goal.invariant-loop-item
 invariant-loop-item l = record {
   long : length l.marks ≡ 256;
-  marked : (e : ℕ) → e < 256 → slice_index_or l.marks e false ≡ list_any (λ place. envelope_at l.envelopes place == e) (map item_place (take l.item-index l.items));
+  marked : (e : ℕ) → e < 256 → slice_index_or l.marks e false ≡ list_any (λ place. envelope_at l.envelopes.envelopes place == e) (map item_place (take l.item-index l.items));
 }

@@ -6,6 +6,6 @@ use Rattle.vp_elab.proofs.scope.modules_of.Given as goal
 abbrev pub invariant-loop-module : goal.invariant-loop-module
 invariant-loop-module l = record {
   names : l.names ≡ module_names l.source (take l.module-index l.source.modules);
-  scopes : l.scopes.items ≡ map (scope_in l.source l.envelopes) (take l.module-index l.source.modules);
+  scopes : l.scopes.items ≡ map (scope_in l.source l.envelopes.envelopes) (take l.module-index l.source.modules);
   once : twice_in l.source l.names (drop l.module-index l.source.modules) ≡ twice_in l.source [] l.source.modules;
 }

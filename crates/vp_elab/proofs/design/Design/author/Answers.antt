@@ -6,5 +6,5 @@ use Rattle.vp_elab.proofs.design.Design.author.Goals as goal
 
 pub returns : goal.returns
 returns c =
-    c.author.ensures ∙ author_is c.self.inside.envelopes c.args.envelope
+    c.author.ensures ∙ author_is c.self.inside.envelopes.envelopes c.args.envelope
     ∙ ap (λ (d : Elaborated). author_in d.tree.authors c.args.envelope) c.self.view_is

@@ -13,5 +13,5 @@ returns c =
     ∙ sym (length-map c.self.inside.objects.all (λ (o : Object). o.kind))
     ∙ ap length
     (ap (λ (o : Objects). map (λ (p : Object). p.kind) o.all) c.self.invariant.flat
-    ∙ kinds_same c.self.inside.source c.self.inside.envelopes ∙ ap (λ (d : Elaborated). map (λ (n : Node). n.kind) d.tree.nodes) c.self.view_is)
+    ∙ kinds_same c.self.inside.source c.self.inside.envelopes.envelopes ∙ ap (λ (d : Elaborated). map (λ (n : Node). n.kind) d.tree.nodes) c.self.view_is)
     ∙ length-map c.args.self.now.tree.nodes (λ (n : Node). n.kind)

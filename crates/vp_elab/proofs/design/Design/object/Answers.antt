@@ -12,8 +12,8 @@ pub returns-clause-node : goal.returns-clause-node
 returns-clause-node c =
     let id = c.args.id.0 in
     let found = c.object_at.ensures ∙ ap (λ (os : List Object). slice_get os id) (c.as_slice.ensures ∙ ap (λ (o : Objects). o.all) c.self.invariant.flat) in
-    let nodes : List Node = all_nodes c.self.inside.source c.self.inside.envelopes in
-    let stands = object_stands c.self.inside.source c.self.inside.envelopes id in
+    let nodes : List Node = all_nodes c.self.inside.source c.self.inside.envelopes.envelopes in
+    let stands = object_stands c.self.inside.source c.self.inside.envelopes.envelopes id in
     subst (λ (d : Elaborated). MatchOption c.object_at.result (slice_get d.tree.nodes id ≡ None) (λ o. StandsFor d.tree.nodes id o)) c.self.view_is
     (subst (λ (o : Option Object). MatchOption o (slice_get nodes id ≡ None) (λ o. StandsFor nodes id o)) (sym found) stands)
 
@@ -21,7 +21,7 @@ pub returns-clause-scope : goal.returns-clause-scope
 returns-clause-scope c =
     let id = c.args.id.0 in
     let found = c.object_at.ensures ∙ ap (λ (os : List Object). slice_get os id) (c.as_slice.ensures ∙ ap (λ (o : Objects). o.all) c.self.invariant.flat) in
-    let nodes : List Node = all_nodes c.self.inside.source c.self.inside.envelopes in
+    let nodes : List Node = all_nodes c.self.inside.source c.self.inside.envelopes.envelopes in
     subst (λ (d : Elaborated). IfSome c.object_at.result (λ o. module_name_at d.source o.scope ≡ option_and_then (λ n. n.definition) (slice_get d.tree.nodes id))) c.self.view_is
     (subst (λ (o : Option Object). IfSome o (λ o. module_name_at c.self.inside.source o.scope ≡ option_and_then (λ n. n.definition) (slice_get nodes id))) (sym found)
-    (object_scope c.self.inside.source c.self.inside.envelopes id))
+    (object_scope c.self.inside.source c.self.inside.envelopes.envelopes id))

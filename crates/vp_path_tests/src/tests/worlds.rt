@@ -1,0 +1,309 @@
+//! What a design with a policy answers beside the program: closed envelopes, copies of a simulation, and a world's limits and log.
+//! The helpers are short and give plain answers, which keeps each test's proof short.
+ghost use Rattle.std.specs.Prelude.{IfSome};
+ghost use Rattle.vp_world.specs.Events.{IsWellFormed};
+
+use std::alloc::Global;
+use std::sync::Arc;
+use vp_bits::Bits;
+use vp_elab::{Design, ObjectId, elaborate};
+use vp_expr::{Checked, check};
+use vp_lex::tokens;
+use vp_list::{Sequence, Text};
+use vp_parse::{Source, parse};
+use vp_policy::{Policy, UserId};
+use vp_pragma::{Envelopes, envelopes};
+use vp_sim::Sim;
+use vp_world::{Event, Limits, Reply, Request, SessionId, World, WorldError};
+
+/// The README's design. Its objects are `top` (0), `a` (1), `k` (2) and the process (3).
+const DESIGN: &str = "module top;
+  reg a;
+`pragma protect author=\"acme\", begin
+  reg k;
+`pragma protect end
+  initial begin a = 1'b1; k = a; end
+endmodule
+";
+
+/// The README's policy.
+const POLICY: &[u8] =
+    b"{\"users\":[{\"name\":\"ann\",\"token\":\"t1\",\"open\":\"list+read\",\"run\":true}]}";
+
+/// Ann's first session.
+const ANN: SessionId = SessionId {
+    user: UserId(0),
+    opens: 1,
+};
+
+/// The design's envelopes.
+fn design_envelopes(alloc: Global) -> Option<Envelopes> {
+    let tokens = tokens(alloc, DESIGN).ok()?;
+    envelopes(alloc, DESIGN, &tokens).ok()
+}
+
+/// The design's source.
+fn source(alloc: Global) -> Option<Source> {
+    let tokens = tokens(alloc, DESIGN).ok()?;
+    parse(alloc, DESIGN, &tokens).ok()
+}
+
+/// The design, with its objects.
+fn design(alloc: Global) -> Option<Design> {
+    let envelopes = design_envelopes(alloc)?;
+    elaborate(alloc, source(alloc)?, envelopes).ok()
+}
+
+/// The design, checked.
+fn checked(alloc: Global) -> Option<Checked> {
+    check(alloc, design(alloc)?).ok()
+}
+
+/// The policy, read.
+fn policy(alloc: Global) -> Option<Policy> {
+    Policy::read(alloc, POLICY, &design(alloc)?).ok()
+}
+
+/// The envelopes of a scope of a design that are closed to Ann.
+fn closed_in(alloc: Global, design: &Design, scope: Option<ObjectId>) -> Option<Sequence<u8>> {
+    policy(alloc)?.closed(alloc, design, UserId(0), scope).ok()
+}
+
+/// The envelopes of a scope of the design that are closed to Ann.
+fn closed(alloc: Global, scope: Option<ObjectId>) -> Option<Sequence<u8>> {
+    closed_in(alloc, &design(alloc)?, scope)
+}
+
+#[test]
+fn closed_envelopes(rt: HostRuntime) {
+    let rows: [(Option<ObjectId>, &[u8]); 2] = [(None, &[]), (Some(ObjectId(0)), &[1])];
+    for (scope, want) in rows {
+        let numbers = closed(rt.alloc(), scope).expect(&rt, "numbers");
+        assert_eq!(rt; numbers.as_slice(), want);
+    }
+}
+
+/// A simulation of the design.
+fn simulation(alloc: Global) -> Option<Sim> {
+    let checked = Arc::new(alloc, checked(alloc)?).ok()?;
+    Sim::new(alloc, checked).ok()
+}
+
+/// The object that a step changes, or the number of its refusal.
+fn stepped(simulation: &mut Sim, k: usize) -> u32 {
+    match simulation.step(k) {
+        Ok(Some(change)) => change.object.0,
+        Ok(None) => u32::MAX,
+        Err(error) => error.code(),
+    }
+}
+
+/// The number of the refusal of an advance.
+fn advanced(simulation: &mut Sim) -> u32 {
+    match simulation.advance() {
+        Ok(()) => u32::MAX,
+        Err(error) => error.code(),
+    }
+}
+
+/// What comes of steps and advances of a new simulation.
+fn turns_of(simulation: &mut Sim) -> [u32; 6] {
+    [
+        stepped(simulation, 1),
+        advanced(simulation),
+        stepped(simulation, 0),
+        stepped(simulation, 0),
+        stepped(simulation, 0),
+        advanced(simulation),
+    ]
+}
+
+/// The same of a simulation of the design.
+fn turns(alloc: Global) -> Option<[u32; 6]> {
+    Some(turns_of(&mut simulation(alloc)?))
+}
+
+#[test]
+fn steps_and_advances(rt: HostRuntime) {
+    assert_eq!(rt; turns(rt.alloc()), Some([802, 803, 1, 2, 801, 801]));
+}
+
+/// The process whose event comes first in a simulation.
+fn first_source_of(simulation: &Sim) -> Option<ObjectId> {
+    if simulation.eligible() > 0 {
+        Some(simulation.source(0))
+    } else {
+        None
+    }
+}
+
+/// The process whose event comes first.
+fn first_source(alloc: Global) -> Option<ObjectId> {
+    first_source_of(&simulation(alloc)?)
+}
+
+#[test]
+fn source_of_the_first_event(rt: HostRuntime) {
+    assert_eq!(rt; first_source(rt.alloc()), Some(ObjectId(3)));
+}
+
+/// The value of `top.a` in a copy of a simulation that takes a step.
+fn value_in_copy(simulation: &Sim) -> Option<Bits> {
+    let mut copy = simulation.try_clone().ok()?;
+    let _changed = stepped(&mut copy, 0);
+    Some(copy.value(ObjectId(1)))
+}
+
+/// The value of `top.a` in a copy of a new simulation that takes a step, and then in the simulation itself.
+fn values_of_both(alloc: Global) -> Option<(Bits, Bits)> {
+    let simulation = simulation(alloc)?;
+    Some((value_in_copy(&simulation)?, simulation.value(ObjectId(1))))
+}
+
+#[test]
+fn copy_of_a_simulation(rt: HostRuntime) {
+    let both = (Bits::of_number(1, 1), Bits::unknown(1));
+    assert_eq!(rt; values_of_both(rt.alloc()), Some(both));
+}
+
+/// What happens to a world.
+#[derive(Clone, Copy)]
+enum Deed {
+    /// Ann opens a session.
+    Open,
+    /// Ann opens a session with another token than hers.
+    Mistake,
+    /// Ann's first session is closed.
+    Close,
+    /// The time is asked in it.
+    Time,
+    /// A run until time 0 is asked in it.
+    Run,
+    /// The simulation takes the k-th event.
+    Step(usize),
+    /// The simulation goes on.
+    Advance,
+}
+
+/// Ann's opening with a token.
+fn opening(alloc: Global, token: &str) -> Option<Event>
+    ensures { IfSome result IsWellFormed }
+{
+    let user = Text::copy(alloc, "ann").ok()?;
+    let token = Text::copy(alloc, token).ok()?;
+    Some(Event::Open { user, token })
+}
+
+/// The event of a deed.
+fn event(alloc: Global, deed: Deed) -> Option<Event>
+    ensures { IfSome result IsWellFormed }
+{
+    let session = ANN;
+    match deed {
+        Deed::Open => opening(alloc, "t1"),
+        Deed::Mistake => opening(alloc, "t2"),
+        Deed::Close => Some(Event::Close { session }),
+        Deed::Time => Some(Event::Ask {
+            session,
+            request: Request::Time,
+        }),
+        Deed::Run => Some(Event::Ask {
+            session,
+            request: Request::Run { until: 0 },
+        }),
+        Deed::Step(k) => Some(Event::Step(k)),
+        Deed::Advance => Some(Event::Advance),
+    }
+}
+
+/// What comes of an event: the how-many-th of its user's a session is, 0 for another reply, or a refusal's number, which is the
+/// simulation's where that refuses it.
+fn outcome(world: &mut World, event: Event) -> u64
+    requires { IsWellFormed event }
+{
+    match world.apply(event) {
+        Ok(Reply::Opened(session)) => session.opens,
+        Ok(_) => 0,
+        Err(WorldError::Sim(error)) => u64::from(error.code()),
+        Err(error) => u64::from(error.code()),
+    }
+}
+
+/// What comes of deeds in turn.
+fn outcomes(alloc: Global, world: &mut World, deeds: &[Deed]) -> Option<Vec<u64>> {
+    let mut outcomes = Vec::new(alloc);
+    for deed in deeds {
+        let event = event(alloc, *deed)?;
+        outcomes.push(outcome(world, event)).ok()?;
+    }
+    Some(outcomes)
+}
+
+/// A world of the design and the policy, with these limits.
+fn world(alloc: Global, limits: Limits) -> Option<World> {
+    let checked = Arc::new(alloc, checked(alloc)?).ok()?;
+    World::new(alloc, checked, policy(alloc)?, limits).ok()
+}
+
+/// What comes of deeds in a new world, and how long its log is then.
+fn history(alloc: Global, limits: Limits, deeds: &[Deed]) -> Option<(Vec<u64>, usize)> {
+    let mut world = world(alloc, limits)?;
+    let outcomes = outcomes(alloc, &mut world, deeds)?;
+    Some((outcomes, world.log().len()))
+}
+
+#[test]
+fn run_of_a_world(rt: HostRuntime) {
+    let deeds = [
+        Deed::Time,
+        Deed::Mistake,
+        Deed::Open,
+        Deed::Open,
+        Deed::Step(0),
+        Deed::Advance,
+        Deed::Run,
+        Deed::Step(1),
+        Deed::Advance,
+        Deed::Step(0),
+        Deed::Step(0),
+        Deed::Step(0),
+        Deed::Advance,
+        Deed::Time,
+        Deed::Close,
+        Deed::Close,
+        Deed::Time,
+    ];
+    let want = [
+        1303, 1302, 1, 2, 1305, 1305, 0, 802, 803, 0, 0, 801, 801, 0, 0, 1303, 1303,
+    ];
+    let (outcomes, entries) = history(rt.alloc(), Limits::GREATEST, &deeds).expect(&rt, "a world");
+    assert_eq!(rt; outcomes.as_slice(), want.as_slice());
+    assert_eq!(rt; entries, 7);
+}
+
+#[test]
+fn limits_of_a_world(rt: HostRuntime) {
+    let greatest = Limits::GREATEST;
+    let rows: [(Limits, [Deed; 3], [u64; 3], usize); 2] = [
+        (
+            Limits { log: 2, ..greatest },
+            [Deed::Open, Deed::Time, Deed::Time],
+            [1, 0, 1304],
+            2,
+        ),
+        (
+            Limits {
+                sessions: 1,
+                ..greatest
+            },
+            [Deed::Open, Deed::Open, Deed::Mistake],
+            [1, 1301, 1302],
+            1,
+        ),
+    ];
+    for (limits, deeds, want, length) in rows {
+        let (outcomes, entries) = history(rt.alloc(), limits, &deeds).expect(&rt, "a world");
+        assert_eq!(rt; outcomes.as_slice(), want.as_slice());
+        assert_eq!(rt; entries, length);
+    }
+}
