@@ -8,6 +8,8 @@ pub mod Distinct
 pub mod Finding
 pub mod Declared
 pub mod Scopes
+pub mod Named
 pub mod BuiltTables
 pub mod Sights
+pub mod LastSteps
 pub mod Viewports

@@ -14,6 +14,7 @@ use Rattle.vp_parse.specs.declared.source.Item.{Item}
 use Rattle.vp_parse.specs.declared.source.Module.{Module}
 use Rattle.vp_pragma.specs.declared.envelope.Envelope.{Envelope}
 use Rattle.vp_elab.specs.declared.object.Object.{Object}
+use Rattle.vp_elab.specs.declared.object.ObjectId.{ObjectId}
 use Rattle.vp_elab.specs.Tree.{Step, Node, path_of}
 use Rattle.vp_elab.specs.Elaboration.{item_name, item_place, item_range, width_of, items_in, step_at, root_step, item_node, module_nodes}
 use Rattle.vp_elab.specs.Objects.{AreObjects, StandsFor, item_object, module_name_at, module_names, module_objects, objects_behind}
@@ -38,6 +39,15 @@ module _ (source : Source) (envelopes : List Envelope) where
     OfItem : (s t : Step) → scope ≡ None → path ≡ s ∷ t ∷ [] → Role id scope path
     OfModule : (m : Module) (before after : List Module) → source.modules ≡ before ++ m ∷ after → scope ≡ Some (length before) → id ≡ length (nodes_in before) → path ≡ root_step source envelopes m.name ∷ [] → Role id scope path
 
+  -- an object is a top module, or that of an item of the module whose object is its parent
+  pub data Named (id : ℕ) (o : Object) (n : Node) : Type 0 where
+    OfTop : o.parent ≡ None → n.path ≡ root_step source envelopes o.place ∷ [] → Named id o n
+    OfChild : (m : Module) (before after : List Module) (base k : ℕ) (i : Item) → source.modules ≡ before ++ m ∷ after → base ≡ length (nodes_in before) → o.parent ≡ Some (record { 0 = base }) → id ≡ (base + 1) + k → slice_get (items_in source m) k ≡ Some i → n ≡ item_node source envelopes m.name i → Named id o n
+
+  -- the definition of what an object stands in
+  abbrev pub definition_above : Option ObjectId → Option (List ℕ)
+  definition_above parent = option_and_then (λ p. option_and_then (λ n. n.definition) (slice_get all_nodes p.0)) parent
+
   -- an object of a number belongs to a node
   pub record Fits (id : ℕ) (o : Object) (n : Node) : Type 0 where
     pub step : Step
@@ -48,14 +58,28 @@ module _ (source : Source) (envelopes : List Envelope) where
     pub path : n.path ≡ path_of all_nodes (option_map (λ p. p.0) o.parent) ++ step ∷ []
     pub place : step.place ≡ o.place
     pub envelope : step.envelope ≡ o.envelope
+    pub inside : step.in_module ≡ definition_above o.parent
     pub behind : IfSome o.parent (λ p. p.0 < id)
+    pub line : line_at source o.place ≡ n.line
+    pub named : Named id o n
     pub role : Role id o.scope n.path
     pub definition : module_name_at source o.scope ≡ n.definition
 
-  -- the objects of items, behind their module's
-  items_fit : (m : Module) (base n : ℕ) (is : List Item) → base < n → path_of all_nodes (Some base) ≡ root_step source envelopes m.name ∷ [] → Zip Fits n (map (item_node source envelopes m.name) is) (map (item_object envelopes base) is)
-  items_fit m base n [] l h = tt
-  items_fit m base n (i ∷ is) l h =
+  -- the node of a top module
+  abbrev pub root_node : Module → Node
+  root_node m = record { path = root_step source envelopes m.name ∷ []; kind = kind.Module; width = 1; lowest = None; line = line_at source m.name; definition = Some (word_at source m.name) }
+
+  -- it stands behind those of the modules before it
+  pub root_there : (m : Module) (before after : List Module) → source.modules ≡ before ++ m ∷ after → slice_get all_nodes (length (nodes_in before)) ≡ Some (root_node m)
+  root_there m before after e =
+      let behind : List Node = map (item_node source envelopes m.name) (items_in source m) ++ nodes_in after in
+      let all : all_nodes ≡ nodes_in before ++ (root_node m ∷ behind) = ap nodes_in e ∙ flat_map-append (module_nodes source envelopes) before (m ∷ after) in
+      ap (λ (ns : List Node). slice_get ns (length (nodes_in before))) all ∙ slice_get_behind (nodes_in before) (root_node m) behind
+
+  -- the objects of items, behind their module's and those of the items before them
+  items_fit : (m : Module) (before after : List Module) (base n : ℕ) (done is : List Item) → source.modules ≡ before ++ m ∷ after → base ≡ length (nodes_in before) → n ≡ (base + 1) + length done → items_in source m ≡ done ++ is → slice_get all_nodes base ≡ Some (root_node m) → Zip Fits n (map (item_node source envelopes m.name) is) (map (item_object envelopes base) is)
+  items_fit m before after base n done [] e b l s h = tt
+  items_fit m before after base n done (i ∷ is) e b l s h =
       let own : Step = step_at envelopes (Some (word_at source m.name)) (item_name source i) (item_place i) in (
         record {
           step = own;
@@ -63,28 +87,27 @@ module _ (source : Source) (envelopes : List Envelope) where
           width = refl;
           some = range_some (item_range i);
           lowest = refl;
-          path = ap (λ (p : List Step). p ++ own ∷ []) (sym h);
+          path = ap (λ (o : Option Node). option_map_or (λ n. n.path) o [] ++ own ∷ []) (sym h);
           place = refl;
           envelope = refl;
-          behind = l;
+          inside = sym (ap (option_and_then (λ (n : Node). n.definition)) h);
+          behind = omega arith;
+          line = refl;
+          named = OfChild m before after base (length done) i e b refl l (ap (λ (is : List Item). slice_get is (length done)) s ∙ slice_get_behind done i is) refl;
           role = OfItem (root_step source envelopes m.name) own refl refl;
           definition = refl;
         },
-        items_fit m base (suc n) is (omega arith) h,
+        items_fit m before after base (suc n) (done ++ i ∷ []) is e b (let more = length-append done (i ∷ []) in omega arith) (s ∙ sym (append_assoc done (i ∷ []) is)) h,
       )
 
   -- the objects of a module
   module_fits : (m : Module) (before after : List Module) → source.modules ≡ before ++ m ∷ after → Zip Fits (length (nodes_in before)) (module_nodes source envelopes m) (module_objects source envelopes (length before) (length (nodes_in before)) m)
   module_fits m before after e =
       let base : ℕ = length (nodes_in before) in
-      let root : Node = record { path = root_step source envelopes m.name ∷ []; kind = kind.Module; width = 1; lowest = None; line = line_at source m.name; definition = Some (word_at source m.name) } in
-      let behind : List Node = map (item_node source envelopes m.name) (items_in source m) ++ nodes_in after in
-      let all : all_nodes ≡ nodes_in before ++ (root ∷ behind) = ap nodes_in e ∙ flat_map-append (module_nodes source envelopes) before (m ∷ after) in
-      let there : slice_get all_nodes base ≡ Some root = ap (λ (ns : List Node). slice_get ns base) all ∙ slice_get_behind (nodes_in before) root behind in
+      let there : slice_get all_nodes base ≡ Some (root_node m) = root_there m before after e in
       let named : slice_get (module_names source source.modules) (length before) ≡ Some (word_at source m.name) =
       slice_get-map (λ (m : Module). word_at source m.name) source.modules (length before)
-      ∙ ap (option_map (λ (m : Module). word_at source m.name)) (ap (λ (ms : List Module). slice_get ms (length before)) e ∙ slice_get_behind before m after) in
-      let path : path_of all_nodes (Some base) ≡ root_step source envelopes m.name ∷ [] = ap (λ (o : Option Node). option_map_or (λ n. n.path) o []) there in (
+      ∙ ap (option_map (λ (m : Module). word_at source m.name)) (ap (λ (ms : List Module). slice_get ms (length before)) e ∙ slice_get_behind before m after) in (
         record {
           step = root_step source envelopes m.name;
           kind = refl;
@@ -94,11 +117,14 @@ module _ (source : Source) (envelopes : List Envelope) where
           path = refl;
           place = refl;
           envelope = refl;
+          inside = refl;
           behind = tt;
+          line = refl;
+          named = OfTop refl refl;
           role = OfModule m before after e refl refl refl;
           definition = named;
         },
-        items_fit m base (suc base) (items_in source m) (omega arith) path,
+        items_fit m before after base (suc base) [] (items_in source m) e refl (omega arith) refl there,
       )
 
   -- the objects of modules behind others
@@ -124,7 +150,14 @@ module _ (source : Source) (envelopes : List Envelope) where
   pub objects_fit : Zip Fits 0 all_nodes (objects_behind source envelopes 0 source.modules [])
   objects_fit = modules_fit [] source.modules [] refl refl tt
 
-  stands_by : (id : ℕ) (found : Option Object) → MatchOption found (slice_get all_nodes id ≡ None) (λ o. (n : Node) × (slice_get all_nodes id ≡ Some n) × Fits id o n) → MatchOption found (slice_get all_nodes id ≡ None) (λ o. StandsFor all_nodes id o)
+  -- an object and its node, or neither
+  abbrev pub Beside : ℕ → Option Object → Type 0
+  Beside id found = MatchOption found (slice_get all_nodes id ≡ None) (λ o. (n : Node) × (slice_get all_nodes id ≡ Some n) × Fits id o n)
+
+  pub beside : (id : ℕ) → Beside id (slice_get (objects_behind source envelopes 0 source.modules []) id)
+  beside id = zip_at Fits 0 id id all_nodes (objects_behind source envelopes 0 source.modules []) (omega arith) objects_fit
+
+  stands_by : (id : ℕ) (found : Option Object) → Beside id found → MatchOption found (slice_get all_nodes id ≡ None) (λ o. StandsFor all_nodes id o)
   stands_by id None h = h
   stands_by id (Some o) h = record {
     node = h.0;
@@ -136,12 +169,13 @@ module _ (source : Source) (envelopes : List Envelope) where
     path = h.2.path;
     place = h.2.place;
     envelope = h.2.envelope;
+    inside = h.2.inside;
     behind = h.2.behind;
   }
 
   -- the object of a number stands for the node of that number
   pub object_stands : (id : ℕ) → MatchOption (slice_get (objects_behind source envelopes 0 source.modules []) id) (slice_get all_nodes id ≡ None) (λ o. StandsFor all_nodes id o)
-  object_stands id = stands_by id (slice_get (objects_behind source envelopes 0 source.modules []) id) (zip_at Fits 0 id id all_nodes (objects_behind source envelopes 0 source.modules []) (omega arith) objects_fit)
+  object_stands id = stands_by id (slice_get (objects_behind source envelopes 0 source.modules []) id) (beside id)
 
   -- the objects stand for the nodes
   pub objects_stand : AreObjects all_nodes (objects_behind source envelopes 0 source.modules [])
@@ -155,13 +189,13 @@ module _ (source : Source) (envelopes : List Envelope) where
   widths_same = zip_map Fits (λ n. n.width) (λ o. o.width) (λ k o n h. h.width) 0 all_nodes (objects_behind source envelopes 0 source.modules []) objects_fit
 
   -- of an object that was found
-  definition_by : (id : ℕ) (found : Option Object) → MatchOption found (slice_get all_nodes id ≡ None) (λ o. (n : Node) × (slice_get all_nodes id ≡ Some n) × Fits id o n) → IfSome found (λ o. module_name_at source o.scope ≡ option_and_then (λ n. n.definition) (slice_get all_nodes id))
+  definition_by : (id : ℕ) (found : Option Object) → Beside id found → IfSome found (λ o. module_name_at source o.scope ≡ option_and_then (λ n. n.definition) (slice_get all_nodes id))
   definition_by id None h = tt
   definition_by id (Some o) h = h.2.definition ∙ sym (ap (option_and_then (λ (n : Node). n.definition)) h.1)
 
   -- the scope of the object of a number is the module of its node's definition
   pub object_scope : (id : ℕ) → IfSome (slice_get (objects_behind source envelopes 0 source.modules []) id) (λ o. module_name_at source o.scope ≡ option_and_then (λ n. n.definition) (slice_get all_nodes id))
-  object_scope id = definition_by id (slice_get (objects_behind source envelopes 0 source.modules []) id) (zip_at Fits 0 id id all_nodes (objects_behind source envelopes 0 source.modules []) (omega arith) objects_fit)
+  object_scope id = definition_by id (slice_get (objects_behind source envelopes 0 source.modules []) id) (beside id)
 
   -- the scopes of objects are the modules of the definitions of the nodes
   pub scopes_same : map (λ o. module_name_at source o.scope) (objects_behind source envelopes 0 source.modules []) ≡ map (λ n. n.definition) all_nodes

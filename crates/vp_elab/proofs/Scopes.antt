@@ -1,6 +1,6 @@
 -- Look-ups in the tables of a design are look-ups in its tree.
-use Rattle.std.proofs.Common.{◌≡◌, ℕ, ◌+◌, ◌<◌, List, [], ◌∷◌, ◌++◌, length, map, position, slice_get, Option, Some, None, refl, sym, ap, ◌∙◌, arith}
-use Rattle.std.specs.Prelude.{MatchOption, option_map, option_and_then}
+use Rattle.std.proofs.Common.{◌≡◌, ℕ, ◌+◌, ◌<◌, List, [], ◌∷◌, ◌++◌, length, map, position, slice_get, Option, Some, None, refl, sym, ap, ◌∙◌}
+use Rattle.std.specs.Prelude.{option_map, option_and_then}
 use Rattle.std.specs.List.{position_from}
 use Rattle.std.specs.Option.{option_map_or}
 use Rattle.std.specs.Str.{bytes_eq}
@@ -18,9 +18,9 @@ use Rattle.vp_elab.specs.Tree.{Step, Node, Tree, names_of, find_named, find_in, 
 use Rattle.vp_elab.specs.Elaboration.{item_name, items_in, tree_of}
 use Rattle.vp_elab.specs.Objects.{module_names, objects_behind, roots_behind, scope_in}
 use Rattle.vp_elab.specs.Refusals.{twice_in}
-use Rattle.vp_elab.proofs.Zip.{zip_at, slice_get_behind, position_is}
+use Rattle.vp_elab.proofs.Zip.{slice_get_behind, position_is}
 use Rattle.vp_elab.proofs.Distinct.{others}
-use Rattle.vp_elab.proofs.Preorder.{Role, OfItem, OfModule, Fits, nodes_in, all_nodes, objects_fit}
+use Rattle.vp_elab.proofs.Preorder.{Role, OfItem, OfModule, Beside, beside, nodes_in, all_nodes}
 use Rattle.vp_elab.proofs.Finding.{child_found, nothing_found, roots_found}
 use Rattle.vp_elab.proofs.Declared.{child_numbers, no_numbers}
 
@@ -31,6 +31,13 @@ scope_of_object objects scopes id = option_and_then (slice_get scopes) (option_a
 -- the number of the object of a name, behind its module's
 abbrev pub behind_module : ℕ → List ℕ → Scope → Option ℕ
 behind_module id name s = option_map (λ i. (id + 1) + i) (position (bytes_eq name) s.names)
+
+module _ (source : Source) (envelopes : List Envelope) where
+  -- what a module declares stands among the scopes as the module among the others
+  pub scope_there : (m : Module) (before after : List Module) → source.modules ≡ before ++ m ∷ after → slice_get (map (scope_in source envelopes) source.modules) (length before) ≡ Some (scope_in source envelopes m)
+  scope_there m before after e =
+      slice_get-map (scope_in source envelopes) source.modules (length before)
+      ∙ ap (option_map (scope_in source envelopes)) (ap (λ (ms : List Module). slice_get ms (length before)) e ∙ slice_get_behind before m after)
 
 module _ (source : Source) (envelopes : List Envelope) (viewports : List Viewport) (once : twice_in source [] source.modules ≡ None) where
   abbrev objects : List Object
@@ -44,11 +51,6 @@ module _ (source : Source) (envelopes : List Envelope) (viewports : List Viewpor
 
   abbrev tree : Tree
   tree = tree_of source (record { envelopes = envelopes; viewports = viewports })
-
-  scope_there : (m : Module) (before after : List Module) → source.modules ≡ before ++ m ∷ after → slice_get scopes (length before) ≡ Some (scope_in source envelopes m)
-  scope_there m before after e =
-      slice_get-map (scope_in source envelopes) source.modules (length before)
-      ∙ ap (option_map (scope_in source envelopes)) (ap (λ (ms : List Module). slice_get ms (length before)) e ∙ slice_get_behind before m after)
 
   -- ---- names
 
@@ -70,16 +72,9 @@ module _ (source : Source) (envelopes : List Envelope) (viewports : List Viewpor
       ∙ child_found source envelopes name before m after apart.0 apart.1
       ∙ ap (λ (k : ℕ). option_map (λ i. (k + 1) + i) (position_from (bytes_eq name) 0 names)) (sym here)
       ∙ ap (option_map (λ i. (id + 1) + i)) (sym (position_is (bytes_eq name) names))
-      ∙ sym (ap (λ (o : Option ℕ). option_and_then (behind_module id name) (option_and_then (slice_get scopes) o)) number ∙ ap (option_and_then (behind_module id name)) (scope_there m before after split))
+      ∙ sym (ap (λ (o : Option ℕ). option_and_then (behind_module id name) (option_and_then (slice_get scopes) o)) number ∙ ap (option_and_then (behind_module id name)) (scope_there source envelopes m before after split))
 
-  -- an object and its node, or neither
-  abbrev Beside : ℕ → Option Object → Type 0
-  Beside id found = MatchOption found (slice_get nodes id ≡ None) (λ o. (n : Node) × (slice_get nodes id ≡ Some n) × Fits source envelopes id o n)
-
-  beside : (id : ℕ) → Beside id (slice_get objects id)
-  beside id = zip_at (Fits source envelopes) 0 id id nodes objects (omega arith) (objects_fit source envelopes)
-
-  child_by : (id : ℕ) (name : List ℕ) (found : Option Object) → Beside id found → find_in nodes (Some id) name ≡ option_and_then (behind_module id name) (option_and_then (slice_get scopes) (option_and_then (λ (o : Object). o.scope) found))
+  child_by : (id : ℕ) (name : List ℕ) (found : Option Object) → Beside source envelopes id found → find_in nodes (Some id) name ≡ option_and_then (behind_module id name) (option_and_then (slice_get scopes) (option_and_then (λ (o : Object). o.scope) found))
   child_by id name None h = ap (λ (o : Option Node). option_and_then (λ names. find_named nodes (names ++ name ∷ [])) (option_map (λ n. names_of n.path) o)) h
   child_by id name (Some o) h =
       ap (λ (o : Option Node). option_and_then (λ names. find_named nodes (names ++ name ∷ [])) (option_map (λ n. names_of n.path) o)) h.1
@@ -87,7 +82,7 @@ module _ (source : Source) (envelopes : List Envelope) (viewports : List Viewpor
 
   -- a name in an object
   pub child_is : (id : ℕ) (name : List ℕ) → find_in nodes (Some id) name ≡ option_and_then (behind_module id name) (scope_of_object objects scopes id)
-  child_is id name = child_by id name (slice_get objects id) (beside id)
+  child_is id name = child_by id name (slice_get objects id) (beside source envelopes id)
 
   -- a name among the top modules
   pub root_is : (name : List ℕ) → find_in nodes None name ≡ option_and_then (λ k. option_map (λ r. r.0) (slice_get (roots_behind source 0 source.modules) k)) (position (bytes_eq name) (module_names source source.modules))
@@ -116,9 +111,9 @@ module _ (source : Source) (envelopes : List Envelope) (viewports : List Viewpor
   numbers_by_role id scope path (OfModule m before after split number here steps) =
       let apart = others source [] before m after (ap (twice_in source []) (sym split) ∙ once) in
       ap (λ (p : List Step). envelopes_in tree (names_of p)) steps ∙ child_numbers source envelopes viewports before m after split apart.0 apart.1
-      ∙ sym (ap (λ (o : Option ℕ). option_map_or (λ (s : Scope). s.envelopes) (option_and_then (slice_get scopes) o) []) number ∙ ap (λ (o : Option Scope). option_map_or (λ (s : Scope). s.envelopes) o []) (scope_there m before after split))
+      ∙ sym (ap (λ (o : Option ℕ). option_map_or (λ (s : Scope). s.envelopes) (option_and_then (slice_get scopes) o) []) number ∙ ap (λ (o : Option Scope). option_map_or (λ (s : Scope). s.envelopes) o []) (scope_there source envelopes m before after split))
 
-  numbers_found : (id : ℕ) (found : Option Object) → Beside id found → declared_envelopes tree (Some id) ≡ option_map_or (λ (s : Scope). s.envelopes) (option_and_then (slice_get scopes) (option_and_then (λ (o : Object). o.scope) found)) []
+  numbers_found : (id : ℕ) (found : Option Object) → Beside source envelopes id found → declared_envelopes tree (Some id) ≡ option_map_or (λ (s : Scope). s.envelopes) (option_and_then (slice_get scopes) (option_and_then (λ (o : Object). o.scope) found)) []
   numbers_found id None h = ap (λ (o : Option Node). option_map_or (envelopes_in tree) (option_map (λ n. names_of n.path) o) []) h
   numbers_found id (Some o) h =
       ap (λ (o : Option Node). option_map_or (envelopes_in tree) (option_map (λ n. names_of n.path) o) []) h.1
@@ -126,4 +121,4 @@ module _ (source : Source) (envelopes : List Envelope) (viewports : List Viewpor
 
   -- the envelopes of what is declared in an object
   pub numbers_is : (id : ℕ) → declared_envelopes tree (Some id) ≡ option_map_or (λ (s : Scope). s.envelopes) (scope_of_object objects scopes id) []
-  numbers_is id = numbers_found id (slice_get objects id) (beside id)
+  numbers_is id = numbers_found id (slice_get objects id) (beside source envelopes id)

@@ -13,9 +13,9 @@ use Rattle.vp_pragma.specs.declared.envelope.Envelope.{Envelope}
 use Rattle.vp_pragma.specs.Envelopes.{Viewport, envelope_at}
 use Rattle.vp_elab.specs.declared.fault.ElabError.TheVariants.{Duplicate}
 use Rattle.vp_elab.specs.declared.scope.Scope.{Scope}
-use Rattle.vp_elab.specs.Tree.{fits_module, matches, step_named}
+use Rattle.vp_elab.specs.Tree.{fits_module, matches, matches_node, step_named}
 use Rattle.vp_elab.specs.Elaboration.{item_name, item_node, item_place, items_in, module_nodes}
-use Rattle.vp_elab.specs.Refusals.{first_of_two, is_among, matches_node, twice, twice_in}
+use Rattle.vp_elab.specs.Refusals.{first_of_two, is_among, twice, twice_in}
 use Rattle.vp_elab.proofs.Distinct.{accepted, bytes_eq-swap, neither, new_by, not_there}
 use Rattle.vp_elab.proofs.Sights.{none_at_root}
 use Rattle.vp_elab.proofs.Zip.{position_is}

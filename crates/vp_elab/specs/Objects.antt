@@ -100,7 +100,7 @@ objects_in source envelopes = record {
 -- ---- objects and nodes
 
 -- an object of a number stands for a node of the tree: its kind, its width, its lowest index, and the last step of its path; what stands
--- above that step is the path of its parent, which has a smaller number
+-- above that step is the path of its parent, which has a smaller number; it stands in the text of the module of which its parent is one
 pub record StandsFor (nodes : List Node) (id : ℕ) (o : Object) : Type 0 where
   pub node : Node
   pub step : Step
@@ -111,6 +111,7 @@ pub record StandsFor (nodes : List Node) (id : ℕ) (o : Object) : Type 0 where
   pub path : node.path ≡ path_of nodes (option_map (λ p. p.0) o.parent) ++ step ∷ []
   pub place : step.place ≡ o.place
   pub envelope : step.envelope ≡ o.envelope
+  pub inside : step.in_module ≡ option_and_then (λ p. option_and_then (λ n. n.definition) (slice_get nodes p.0)) o.parent
   pub behind : IfSome o.parent (λ p. p.0 < id)
 
 -- these objects stand for the nodes: each for that of its number, and none is left out

@@ -1,7 +1,6 @@
 -- Why a source has no design: the refusals, each tested over the whole text, in this order.
-use Rattle.std.specs.Prelude.{◌≡◌, ℕ, ◌+◌, nat_lt, Bool, false, if◌then◌else◌, List, [], ◌∷◌, ◌++◌, length, map, sum_by, Option, Some, None}
+use Rattle.std.specs.Prelude.{◌≡◌, ℕ, ◌+◌, nat_lt, Bool, if◌then◌else◌, List, [], ◌∷◌, ◌++◌, length, map, sum_by, Option, Some, None}
 use Rattle.std.specs.List.{list_any}
-use Rattle.std.specs.Option.{option_map_or}
 use Rattle.std.specs.Str.{bytes_eq}
 use Rattle.vp_parse.specs.Places.{earlier, earliest, line_at, word_at}
 use Rattle.vp_parse.specs.declared.source.Source.{Source}
@@ -16,7 +15,7 @@ use Rattle.vp_elab.specs.declared.fault.ElabError.{ElabError}
 use Rattle.vp_elab.specs.declared.fault.ElabError.TheVariants.{Duplicate, Undeclared, TooManyObjects, ViewportUnknown, NoMemory}
 use Rattle.vp_pragma.specs.Envelopes.{Protection, Viewport}
 use Rattle.vp_elab.specs.Elaboration.{item_name, item_place, items_in, nodes_of}
-use Rattle.vp_elab.specs.Tree.{Node, last_step, matches}
+use Rattle.vp_elab.specs.Tree.{Node, matches_node}
 
 -- the first of two refusals that holds
 abbrev pub first_of_two : Option ElabError → Option ElabError → Option ElabError
@@ -96,10 +95,6 @@ abbrev pub too_many : ℕ → Option ElabError
 too_many count = if nat_lt OBJECT_LIMIT count then Some TooManyObjects else None
 
 -- ---- viewports that open nothing
-
--- a viewport matches the last step of an object's path
-abbrev pub matches_node : Viewport → Node → Bool
-matches_node v node = option_map_or (λ s. matches s v) (last_step node.path) false
 
 -- the first of these viewports that matches none of these objects (profile)
 abbrev pub first_unmatched : List Node → List Viewport → Option ElabError

@@ -81,6 +81,14 @@ last_step [] = None
 last_step (s ∷ []) = Some s
 last_step (s ∷ t ∷ path) = last_step (t ∷ path)
 
+-- the name of an object, which is that of the last step of its path
+abbrev pub node_name : Node → List ℕ
+node_name node = option_map_or (λ s. s.name) (last_step node.path) []
+
+-- a viewport matches an object, by the last step of its path
+abbrev pub matches_node : Viewport → Node → Bool
+matches_node v node = option_map_or (λ s. matches s v) (last_step node.path) false
+
 -- what the viewports that match a step open
 abbrev pub viewed : List Viewport → Step → RightSet
 viewed [] s = nothing
@@ -101,6 +109,14 @@ sight_in viewports node = option_map_or (sight_of viewports) (last_step node.pat
 -- the same of the object of a number; nothing where no object is
 abbrev pub sight_at : Tree → ℕ → RightSet × Option ℕ
 sight_at tree id = option_map_or (sight_in tree.viewports) (slice_get tree.nodes id) (nothing, None)
+
+-- the name of the object of a number; empty where no object is
+abbrev pub name_at : Tree → ℕ → List ℕ
+name_at tree id = option_map_or node_name (slice_get tree.nodes id) []
+
+-- a viewport matches the object of a number; not where no object is
+abbrev pub matches_at : Tree → Viewport → ℕ → Bool
+matches_at tree v id = option_map_or (matches_node v) (slice_get tree.nodes id) false
 
 -- the author of the envelope of a number; of number 0, the open text, and of no envelope the empty text
 abbrev pub author_in : List (List ℕ) → ℕ → List ℕ

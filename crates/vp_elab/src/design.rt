@@ -1,8 +1,8 @@
-ghost use Rattle.std.specs.Prelude.{◌≡◌, ◌≤◌, [], None, All, map, option_and_then, option_map, length, position, slice_get, IfSome, MatchOption};
+ghost use Rattle.std.specs.Prelude.{◌≡◌, ◌<◌, ◌≤◌, ◌-◌, [], None, All, map, option_and_then, option_map, length, position, slice_get, slice_index_or, IfSome, MatchOption};
 ghost use Rattle.std.specs.Option.{option_copied, option_map_or};
 ghost use Rattle.vp_pragma.specs.Rights.{nothing};
 ghost use Rattle.std.specs.Str.{bytes_eq};
-ghost use Rattle.vp_elab.specs.Tree.{author_in, declared_envelopes, find_in, sight_at};
+ghost use Rattle.vp_elab.specs.Tree.{author_in, declared_envelopes, find_in, matches_at, name_at, sight_at};
 ghost use Rattle.vp_elab.specs.Objects.{AreObjects, StandsFor, module_name_at};
 ghost use Rattle.vp_pragma.specs.Reading.{viewport_of};
 ghost use Rattle.vp_elab.specs.Built.{IsBuilt, design_of, shown};
@@ -10,7 +10,7 @@ ghost use Rattle.vp_elab.specs.Built.{IsBuilt, design_of, shown};
 use crate::names::Names;
 use crate::object::{Object, ObjectId};
 use crate::scope::{Modules, Scope};
-use crate::sight::Sight;
+use crate::sight::{Sight, is_on};
 use std::marker::Model;
 use vp_list::Sequence;
 use vp_parse::Source;
@@ -79,6 +79,30 @@ fn index_at(objects: &[Object], scopes: &[Scope], object: ObjectId, name: &str) 
     ensures { result ≡ option_and_then (λ s. position (bytes_eq name.now) s.names) (option_and_then (slice_get scopes.now) (option_and_then (λ o. o.scope) (slice_get objects.now object.0))) }
 {
     scope_at(objects, scopes, object)?.names.find(name)
+}
+
+/// The name of the object of a number, which is declared in a module's object.
+fn child_name<'a>(
+    objects: &'a [Object],
+    scopes: &'a [Scope],
+    object: ObjectId,
+    id: ObjectId,
+) -> &'a str
+    requires { object.0 < id.0 }
+    ensures { result.now ≡ option_map_or (λ s. slice_index_or s.names (id.0 - object.0 - 1) []) (option_and_then (slice_get scopes.now) (option_and_then (λ o. o.scope) (slice_get objects.now object.0))) [] }
+{
+    match scope_at(objects, scopes, object) {
+        Some(scope) => scope.names.at((id.0 - object.0 - 1) as usize),
+        None => "",
+    }
+}
+
+/// The name of a module, by the number of its object; none of any other object.
+fn module_name<'a>(names: &'a Names, objects: &[Object], id: ObjectId) -> Option<&'a str>
+    ensures { option_map (λ n. n.now) result ≡ option_and_then (slice_get names.now) (option_and_then (λ o. o.scope) (slice_get objects.now id.0)) }
+{
+    let number = object_at(objects, id)?.scope?;
+    names.get(number)
 }
 
 /// The top module of a name.
@@ -150,6 +174,37 @@ impl Design {
         object_at(self.objects.all.as_slice(), id)
     }
 
+    /// The name of the object of a number, as it stands in paths; empty behind the end.
+    pub fn name(&self, id: ObjectId) -> &str
+        ensures { result.now ≡ name_at self.now.tree id.0 }
+    {
+        let objects = self.objects.all.as_slice();
+        let Some(object) = object_at(objects, id) else {
+            return "";
+        };
+        match object.parent {
+            Some(module) => child_name(objects, self.modules.scopes.as_slice(), module, id),
+            None => self.source.word(object.place),
+        }
+    }
+
+    /// The line of the object of a number, from 1; 0 behind the end.
+    pub fn line(&self, id: ObjectId) -> u32
+        ensures { result ≡ option_map_or (λ n. n.line) (slice_get self.now.tree.nodes id.0) 0 }
+    {
+        match object_at(self.objects.all.as_slice(), id) {
+            Some(object) => self.source.line(object.place),
+            None => 0,
+        }
+    }
+
+    /// The name of the definition of a module, by the number of its object; none of any other object.
+    pub fn definition(&self, id: ObjectId) -> Option<&str>
+        ensures { option_map (λ d. d.now) result ≡ option_and_then (λ n. n.definition) (slice_get self.now.tree.nodes id.0) }
+    {
+        module_name(&self.modules.names, self.objects.all.as_slice(), id)
+    }
+
     /// What the viewports that match the object of a number open of it; nothing behind the end.
     pub fn sight(&self, id: ObjectId) -> Sight
         ensures { shown result ≡ sight_at self.now.tree id.0 }
@@ -162,6 +217,26 @@ impl Design {
         ensures { map viewport_of result.now ≡ self.now.tree.viewports }
     {
         self.envelopes.viewports()
+    }
+
+    /// The name of the module in which an object is declared; none of a top module.
+    fn module_of(&self, object: Object) -> Option<&str>
+        ensures { option_map (λ m. m.now) result ≡ option_and_then (λ p. option_and_then (λ n. n.definition) (slice_get self.now.tree.nodes p.0)) object.parent }
+    {
+        self.definition(object.parent?)
+    }
+
+    /// A viewport matches the object of a number; none does behind the end.
+    pub fn is_on(&self, viewport: &Viewport, id: ObjectId) -> bool
+        ensures { result ≡ matches_at self.now.tree (viewport_of viewport.now) id.0 }
+    {
+        let Some(object) = self.object(id) else {
+            return false;
+        };
+        match self.module_of(object) {
+            Some(module) => is_on(viewport, object.envelope, module, self.name(id)),
+            None => false,
+        }
     }
 
     /// How many envelopes there are.

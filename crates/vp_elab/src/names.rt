@@ -1,4 +1,4 @@
-ghost use Rattle.std.specs.Prelude.{◌≡◌, not, [], ◌∷◌, ◌++◌, position, slice_index_or, string_bytes, IfOk, if◌then◌else◌};
+ghost use Rattle.std.specs.Prelude.{◌≡◌, not, [], ◌∷◌, ◌++◌, option_map, position, slice_get, slice_index_or, string_bytes, IfOk, if◌then◌else◌};
 ghost use Rattle.std.specs.Str.{bytes_eq};
 ghost use Rattle.vp_elab.specs.Refusals.{is_among};
 
@@ -52,6 +52,16 @@ impl Names {
         match self.names.get_index(index) {
             Some(name) => name.as_str(),
             None => "",
+        }
+    }
+
+    /// The name of an index, if there is one.
+    pub fn get(&self, index: usize) -> Option<&str>
+        ensures { option_map (λ n. n.now) result ≡ slice_get self.now index }
+    {
+        match self.names.get_index(index) {
+            Some(name) => Some(name.as_str()),
+            None => None,
         }
     }
 

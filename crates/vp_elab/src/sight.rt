@@ -4,11 +4,11 @@ ghost use Rattle.std.specs.List.{list_any};
 ghost use Rattle.std.specs.Option.{option_or};
 ghost use Rattle.vp_pragma.specs.Reading.{viewport_of};
 ghost use Rattle.vp_pragma.specs.Rights.{either, nothing, set_of};
-ghost use Rattle.vp_elab.specs.Tree.{matches, sight_in, sight_of, step_named};
+ghost use Rattle.vp_elab.specs.Tree.{matches, matches_node, sight_in, sight_of, step_named};
 ghost use Rattle.vp_elab.specs.Elaboration.{item_name, item_node, items_in, module_nodes, nodes_of};
 ghost use Rattle.vp_elab.specs.Objects.{modules_in};
 ghost use Rattle.vp_elab.specs.Built.{shown};
-ghost use Rattle.vp_elab.specs.Refusals.{Explains, matches_node, twice, twice_in, unmatched_in};
+ghost use Rattle.vp_elab.specs.Refusals.{Explains, twice, twice_in, unmatched_in};
 
 use crate::fault::ElabError;
 use crate::names::Names;
@@ -50,7 +50,7 @@ impl Sight {
 }
 
 /// A viewport is on the item of this name in this module and this envelope.
-fn is_on(viewport: &Viewport, envelope: u8, module: &str, item: &str) -> bool
+pub fn is_on(viewport: &Viewport, envelope: u8, module: &str, item: &str) -> bool
     ensures { result ≡ matches (step_named envelope «module».now item.now) (viewport_of viewport.now) }
 {
     let named = match &viewport.module {

@@ -1,4 +1,5 @@
 mod dialogues;
 mod tokens;
 mod vectors;
+mod views;
 mod worlds;

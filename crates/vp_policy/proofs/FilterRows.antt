@@ -14,7 +14,7 @@ use Rattle.vp_policy.specs.Filter.{closed, denial, is_listed, look_of, run_denia
 
 -- ---- users
 
-abbrev reading : RightSet
+abbrev pub reading : RightSet
 reading = with_right right.Read (with_right right.List nothing)
 
 abbrev listing : RightSet
@@ -23,10 +23,10 @@ listing = with_right right.List nothing
 abbrev user : List ℕ → RightSet → List (ℕ × RightSet) → Member
 user name open_set grants = record { name = name; token = codes "t1"; open_set = open_set; grants = grants; run = true }
 
-abbrev ann : Member
+abbrev pub ann : Member
 ann = user (codes "ann") everything []
 
-abbrev bob : Member
+abbrev pub bob : Member
 bob = user (codes "bob") everything ((1, everything) ∷ [])
 
 abbrev cem : Member
@@ -39,7 +39,7 @@ without_run = record cem { run = false }
 abbrev dan : Member
 dan = user (codes "dan") everything ((1, listing) ∷ [])
 
-abbrev eve : Member
+abbrev pub eve : Member
 eve = user (codes "eve") nothing []
 
 abbrev fay : Member
@@ -84,7 +84,7 @@ in_top name place = a_top ∷ step name place 0 (Some (codes "top")) ∷ []
 abbrev in_u : List ℕ → ℕ → ℕ → List Step
 in_u name place envelope = a_top ∷ a_u ∷ step name place envelope (Some (codes "ip")) ∷ []
 
-abbrev instance_design : Tree
+abbrev pub instance_design : Tree
 instance_design = record {
   nodes =
       instance (a_top ∷ []) 9 (codes "top")
@@ -249,7 +249,7 @@ shut_leaf = step (codes "u") 31 2 (Some (codes "top"))
 abbrev open_leaf : Step
 open_leaf = step (codes "v") 39 0 (Some (codes "top"))
 
-abbrev nested_design : Tree
+abbrev pub nested_design : Tree
 nested_design = record {
   nodes =
       instance (step (codes "top") 21 0 None ∷ []) 7 (codes "top")

@@ -14,6 +14,7 @@ use Rattle.vp_elab.specs.declared.object.Object.{Object}
 use Rattle.vp_elab.specs.declared.object.ObjectId.{ObjectId}
 use Rattle.vp_elab.specs.Objects.{StandsFor}
 use Rattle.vp_elab.specs.Tree.{Step, Node, Tree, declared_envelopes, envelopes_in, find_in, find_named, is_named, last_step, names_of, path_of, scope_names, sight_at, sight_in, sight_of, viewed}
+use Rattle.vp_elab.proofs.LastSteps.{last_behind}
 use Rattle.vp_policy.specs.declared.denial.Denial.{Denial}
 use Rattle.vp_policy.specs.declared.denial.Look.{Look}
 use Rattle.vp_policy.specs.declared.denial.Look.TheVariants as look
@@ -63,12 +64,6 @@ both-assoc a b c = same_sets _ _ (and_assoc a.list b.list c.list) (and_assoc a.r
 both-swap : (a b c : RightSet) → both (both a b) c ≡ both a (both c b)
 both-swap a b c = same_sets _ _ (and_swap a.list b.list c.list) (and_swap a.read b.read c.read) (and_swap a.watch b.watch c.watch) (and_swap a.put b.put c.put) (and_swap a.race b.race c.race)
 
--- the last step of a path is the one that stands behind the others
-last_behind : (above : List Step) (s : Step) → last_step (above ++ s ∷ []) ≡ Some s
-last_behind [] s = refl
-last_behind (t ∷ []) s = refl
-last_behind (t ∷ t' ∷ above) s = last_behind (t' ∷ above) s
-
 -- what viewports open of an object is what they open at the last step of its path
 sight_is : (tree : Tree) (id : ℕ) (o : Object) (h : StandsFor tree.nodes id o) → sight_at tree id ≡ sight_of tree.viewports h.step
 sight_is tree id o h =
@@ -94,7 +89,8 @@ abbrev pub rights_left : Tree → Member → Option ObjectId → RightSet
 rights_left tree u None = everything
 rights_left tree u (Some id) = rights_at tree u id.0
 
-there_before : (nodes : List Node) (i j : ℕ) (n : Node) → slice_get nodes i ≡ Some n → j < i → (m : Node) × (slice_get nodes j ≡ Some m)
+-- before an object there is an object of each number
+pub there_before : (nodes : List Node) (i j : ℕ) (n : Node) → slice_get nodes i ≡ Some n → j < i → (m : Node) × (slice_get nodes j ≡ Some m)
 there_before [] i j n h l = absurd cc
 there_before (x ∷ xs) zero j n h l = absurd (omega arith)
 there_before (x ∷ xs) (suc i) zero n h l = (x, refl)

@@ -7,3 +7,4 @@ pub mod Members
 pub mod File
 pub mod Filter
 pub mod View
+pub mod SeenObjects

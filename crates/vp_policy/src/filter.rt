@@ -161,7 +161,7 @@ impl Policy {
     }
 
     /// An object is listed to a user.
-    fn is_listed(&self, design: &Design, user: UserId, object: ObjectId) -> bool
+    pub(crate) fn is_listed(&self, design: &Design, user: UserId, object: ObjectId) -> bool
         ensures { result ≡ is_listed_at design.now.tree (member_at self.now user.0) object.0 }
     {
         self.rights(design, user, object).has(Right::List)

@@ -7,7 +7,9 @@ mod filter;
 mod grant;
 mod policy;
 mod reading;
+mod view;
 
 pub use denial::{By, Denial, Look};
 pub use fault::PolicyError;
 pub use policy::{Policy, USER_LIMIT, UserId};
+pub use view::{SeenEnvelope, SeenObject, View};

@@ -41,6 +41,29 @@ impl Viewport {
             None => Text::copy(alloc, self.item.as_str()),
         }
     }
+
+    /// The name of the module of its item, if it is named.
+    fn module_name(&self) -> Option<&str>
+        ensures { option_map (λ m. m.now) result ≡ (viewport_of self.now).in_module }
+    {
+        match &self.module {
+            Some(module) => Some(module.as_str()),
+            None => None,
+        }
+    }
+
+    /// The same viewport once more. Takes memory.
+    pub fn try_clone(&self, alloc: Global) -> Result<Viewport, AllocError>
+        ensures { IfOk result (λ copy. viewport_of copy ≡ viewport_of self.now) }
+    {
+        Ok(Viewport {
+            envelope: self.envelope,
+            module: copied(alloc, self.module_name())?,
+            item: Text::copy(alloc, self.item.as_str())?,
+            rights: self.rights,
+            line: self.line,
+        })
+    }
 }
 
 /// Two names with a dot between them.

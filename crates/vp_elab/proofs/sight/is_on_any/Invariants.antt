@@ -2,7 +2,7 @@ use Rattle.std.proofs.Common.{◌≡◌, drop}
 use Rattle.std.specs.List.{flat_map, list_any}
 use Rattle.vp_pragma.specs.Reading.{viewport_of}
 use Rattle.vp_elab.specs.Elaboration.{module_nodes, nodes_of}
-use Rattle.vp_elab.specs.Refusals.{matches_node}
+use Rattle.vp_elab.specs.Tree.{matches_node}
 use Rattle.vp_elab.proofs.sight.is_on_any.Given as goal
 
 -- it is on an item of the modules that are left, if on any

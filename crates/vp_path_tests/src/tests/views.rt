@@ -1,0 +1,70 @@
+//! What a user sees of a design.
+
+use std::alloc::Global;
+use vp_elab::{Design, elaborate};
+use vp_lex::tokens;
+use vp_list::Text;
+use vp_parse::parse;
+use vp_policy::{Policy, SeenObject, UserId, View};
+use vp_pragma::envelopes;
+
+/// A design in which `acme` hides two regs, and opens one of them by a viewport.
+const DESIGN: &str = "module top;
+  reg a;
+`pragma protect author=\"acme\", begin
+`pragma protect viewport=(object=\"top.s\", access=\"read\")
+  reg k;
+  reg s;
+`pragma protect end
+endmodule
+";
+
+/// A policy with one user.
+const POLICY: &[u8] =
+    b"{\"users\":[{\"name\":\"ann\",\"token\":\"t1\",\"open\":\"list+read\",\"run\":true}]}";
+
+/// The design, with its objects.
+fn design(alloc: Global) -> Option<Design> {
+    let tokens = tokens(alloc, DESIGN).ok()?;
+    let envelopes = envelopes(alloc, DESIGN, &tokens).ok()?;
+    let source = parse(alloc, DESIGN, &tokens).ok()?;
+    elaborate(alloc, source, envelopes).ok()
+}
+
+/// What Ann sees of a design.
+fn view_in(alloc: Global, design: &Design) -> Option<View> {
+    let policy = Policy::read(alloc, POLICY, design).ok()?;
+    policy.view(alloc, design, UserId(0)).ok()
+}
+
+/// What Ann sees of the design.
+fn view(alloc: Global) -> Option<View> {
+    view_in(alloc, &design(alloc)?)
+}
+
+/// How many objects Ann sees, and whether she may let the design run.
+fn count_and_run(alloc: Global) -> Option<(usize, bool)> {
+    let view = view(alloc)?;
+    Some((view.objects().len(), view.may_run()))
+}
+
+#[test]
+fn policy_view(rt: HostRuntime) {
+    assert_eq!(rt; count_and_run(rt.alloc()), Some((3, true)));
+}
+
+/// The object of the first viewport that matches an object.
+fn first_viewport(alloc: Global, object: &SeenObject) -> Option<Text> {
+    object.viewports.as_slice().first()?.object(alloc).ok()
+}
+
+/// The object of the viewport through which Ann sees the last object.
+fn last_viewport(alloc: Global) -> Option<Text> {
+    first_viewport(alloc, view(alloc)?.objects().last()?)
+}
+
+#[test]
+fn viewport_of_a_view(rt: HostRuntime) {
+    let object = last_viewport(rt.alloc()).expect(&rt, "a viewport");
+    assert_eq!(rt; object.as_str(), "top.s");
+}

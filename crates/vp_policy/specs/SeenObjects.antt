@@ -1,0 +1,64 @@
+-- What a flat list of objects shows, of which each has the number of the one in which it is declared.
+use Rattle.std.specs.Prelude.{ℕ, ◌+◌, Bool, if◌then◌else◌, List, [], ◌∷◌, ◌++◌, map, slice_get, Option, Some, None, option_and_then}
+use Rattle.std.specs.Option.{option_map_or}
+use Rattle.vp_pragma.specs.Reading.{viewport_of}
+use Rattle.vp_pragma.specs.Rights.{set_of}
+use Rattle.vp_elab.specs.Tree.{Node, Tree}
+use Rattle.vp_policy.specs.declared.view.SeenEnvelope.{SeenEnvelope}
+use Rattle.vp_policy.specs.declared.view.SeenObject.{SeenObject}
+use Rattle.vp_policy.specs.Users.{Member}
+use Rattle.vp_policy.specs.Filter.{is_listed}
+use Rattle.vp_policy.specs.View.{SeenNode, SeenStep, View}
+
+-- the path to the object of a number among these; the path of no step where no number is given, and where no object is
+abbrev pub path_to : List SeenNode → Option ℕ → List SeenStep
+path_to nodes None = []
+path_to nodes (Some n) = option_map_or (λ node. node.path) (slice_get nodes n) []
+
+-- the last step to an object
+abbrev pub own_step : SeenObject → SeenStep
+own_step o = record {
+  name = o.name;
+  envelope = o.envelope;
+  rights = set_of o.rights;
+  viewports = map viewport_of o.viewports;
+}
+
+-- the node of an object behind these nodes: its step stands behind the path to the object in which it is declared
+abbrev pub node_behind : List SeenNode → SeenObject → SeenNode
+node_behind nodes o = record {
+  path = path_to nodes o.parent ++ own_step o ∷ [];
+  kind = o.kind;
+  width = o.width;
+  line = o.line;
+  definition = o.definition;
+  closed_list = o.closed;
+}
+
+-- these nodes, and behind them those of objects, one after the other
+abbrev pub nodes_from : List SeenNode → List SeenObject → List SeenNode
+nodes_from nodes [] = nodes
+nodes_from nodes (o ∷ objects) = nodes_from (nodes ++ node_behind nodes o ∷ []) objects
+
+-- the author of an envelope, and whether the user has a grant entry for it
+abbrev pub envelope_shown : SeenEnvelope → List ℕ × Bool
+envelope_shown e = (e.author, e.granted)
+
+-- what is seen of the objects, the closed list of the top modules, the envelopes and the run flag
+abbrev pub view_shown : List SeenObject → List ℕ → List SeenEnvelope → Bool → View
+view_shown objects closed_list envelopes run = record {
+  nodes = nodes_from [] objects;
+  closed_list = closed_list;
+  envelopes = map envelope_shown envelopes;
+  run = run;
+}
+
+-- of each of these objects its number among those that are listed to a user, from this number on; none where it is not listed
+abbrev pub numbers_from : Tree → Member → ℕ → List Node → List (Option ℕ)
+numbers_from tree u n [] = []
+numbers_from tree u n (node ∷ nodes) =
+    if is_listed tree u node then Some n ∷ numbers_from tree u (n + 1) nodes else None ∷ numbers_from tree u n nodes
+
+-- the number, among those listed, of the object in which another is declared
+abbrev pub number_in : List (Option ℕ) → Option ℕ → Option ℕ
+number_in numbers parent = option_and_then (λ p. option_and_then (λ n. n) (slice_get numbers p)) parent
