@@ -5,6 +5,7 @@ use Rattle.std.specs.List.{position_from}
 use Rattle.std.specs.Str.{bytes_eq}
 use Rattle.std.proofs.lemmas.List.{length-map}
 use Rattle.std.proofs.lemmas.Grind.{flat_map-append}
+use Rattle.std.proofs.Math.Bool.{and-false, and-true}
 use Rattle.vp_parse.specs.Places.{word_at}
 use Rattle.vp_parse.specs.declared.source.Source.{Source}
 use Rattle.vp_parse.specs.declared.source.Item.{Item}
@@ -17,14 +18,6 @@ use Rattle.vp_elab.specs.Objects.{module_names, roots_behind}
 use Rattle.vp_elab.proofs.Zip.{or_else, position_from-append, position_from-shift, position_from-same, position_from-none}
 use Rattle.vp_elab.proofs.Distinct.{AllOther, bytes_eq-self}
 use Rattle.vp_elab.proofs.Preorder.{nodes_in}
-
-and_true : (b : Bool) → b && true ≡ b
-and_true true = refl
-and_true false = refl
-
-and_false : (b : Bool) → b && false ≡ false
-and_false true = refl
-and_false false = refl
 
 or_else_none : (o : Option ℕ) → or_else o None ≡ o
 or_else_none None = refl
@@ -40,8 +33,8 @@ module _ (source : Source) (envelopes : List Envelope) where
   root_here : (n : List ℕ) (base : ℕ) (m : Module) → position_from (named (n ∷ [])) base (module_nodes source envelopes m) ≡ cond (bytes_eq n (word_at source m.name)) (Some base) None
   root_here n base m =
       let w : List ℕ = word_at source m.name in
-      ap (λ (b : Bool). cond b (Some base) (position_from (named (n ∷ [])) (base + 1) (map (item_node source envelopes m.name) (items_in source m)))) (and_true (bytes_eq n w))
-      ∙ ap (λ (o : Option ℕ). cond (bytes_eq n w) (Some base) o) (position_from-none (named (n ∷ [])) (item_node source envelopes m.name) (λ i. and_false (bytes_eq n w)) (base + 1) (items_in source m))
+      ap (λ (b : Bool). cond b (Some base) (position_from (named (n ∷ [])) (base + 1) (map (item_node source envelopes m.name) (items_in source m)))) (and-true (bytes_eq n w))
+      ∙ ap (λ (o : Option ℕ). cond (bytes_eq n w) (Some base) o) (position_from-none (named (n ∷ [])) (item_node source envelopes m.name) (λ i. and-false (bytes_eq n w)) (base + 1) (items_in source m))
 
   -- the number of the root of an index
   abbrev root_at : List ObjectId → ℕ → Option ℕ
@@ -74,20 +67,20 @@ module _ (source : Source) (envelopes : List Envelope) where
   item_named : (m : Module) (n : List ℕ) (i : Item) → named (word_at source m.name ∷ n ∷ []) (item_node source envelopes m.name i) ≡ bytes_eq n (item_name source i)
   item_named m n i =
       let x : List ℕ = item_name source i in
-      ap (λ (b : Bool). b && (bytes_eq n x && true)) (bytes_eq-self (word_at source m.name)) ∙ and_true (bytes_eq n x)
+      ap (λ (b : Bool). b && (bytes_eq n x && true)) (bytes_eq-self (word_at source m.name)) ∙ and-true (bytes_eq n x)
 
   child_here : (m : Module) (n : List ℕ) (base : ℕ) → position_from (named (word_at source m.name ∷ n ∷ [])) base (module_nodes source envelopes m) ≡ position_from (bytes_eq n) (base + 1) (map (item_name source) (items_in source m))
   child_here m n base =
       let w : List ℕ = word_at source m.name in
       let own : Option ℕ = position_from (named (w ∷ n ∷ [])) (base + 1) (map (item_node source envelopes m.name) (items_in source m)) in
-      ap (λ (b : Bool). cond b (Some base) own) (and_false (bytes_eq w w))
+      ap (λ (b : Bool). cond b (Some base) own) (and-false (bytes_eq w w))
       ∙ position_from-same (λ i. bytes_eq n (item_name source i)) (named (w ∷ n ∷ [])) (item_node source envelopes m.name) (item_named m n) (base + 1) (items_in source m)
       ∙ sym (position_from-same (λ i. bytes_eq n (item_name source i)) (bytes_eq n) (item_name source) (λ i. refl) (base + 1) (items_in source m))
 
   not_here : (w n : List ℕ) (m : Module) (base : ℕ) → bytes_eq w (word_at source m.name) ≡ false → position_from (named (w ∷ n ∷ [])) base (module_nodes source envelopes m) ≡ None
   not_here w n m base h =
       let x : List ℕ = word_at source m.name in
-      ap (λ (b : Bool). cond b (Some base) (position_from (named (w ∷ n ∷ [])) (base + 1) (map (item_node source envelopes m.name) (items_in source m)))) (and_false (bytes_eq w x))
+      ap (λ (b : Bool). cond b (Some base) (position_from (named (w ∷ n ∷ [])) (base + 1) (map (item_node source envelopes m.name) (items_in source m)))) (and-false (bytes_eq w x))
       ∙ position_from-none (named (w ∷ n ∷ [])) (item_node source envelopes m.name) (λ i. ap (λ (b : Bool). b && (bytes_eq n (item_name source i) && true)) h) (base + 1) (items_in source m)
 
   none_there : (w n : List ℕ) (ms : List Module) (base : ℕ) → AllOther source w ms → position_from (named (w ∷ n ∷ [])) base (nodes_in source envelopes ms) ≡ None
@@ -124,9 +117,9 @@ module _ (source : Source) (envelopes : List Envelope) where
       let t : Node → Bool = named (a ∷ b ∷ n ∷ []) in
       let next : ℕ = base + length (module_nodes source envelopes m) in
       let own : Option ℕ = position_from t (base + 1) (map (item_node source envelopes m.name) (items_in source m)) in
-      let none : own ≡ None = position_from-none t (item_node source envelopes m.name) (λ i. ap (λ (x : Bool). bytes_eq a w && x) (and_false (bytes_eq b (item_name source i))) ∙ and_false (bytes_eq a w)) (base + 1) (items_in source m) in
+      let none : own ≡ None = position_from-none t (item_node source envelopes m.name) (λ i. ap (λ (x : Bool). bytes_eq a w && x) (and-false (bytes_eq b (item_name source i))) ∙ and-false (bytes_eq a w)) (base + 1) (items_in source m) in
       position_from-append t base next (module_nodes source envelopes m) (nodes_in source envelopes ms) refl
-      ∙ ap (λ (x : Bool). or_else (cond x (Some base) own) (position_from t next (nodes_in source envelopes ms))) (and_false (bytes_eq a w))
+      ∙ ap (λ (x : Bool). or_else (cond x (Some base) own) (position_from t next (nodes_in source envelopes ms))) (and-false (bytes_eq a w))
       ∙ ap (λ (o : Option ℕ). or_else o (position_from t next (nodes_in source envelopes ms))) none ∙ nothing_in a b n next ms
 
   -- nothing stands behind an item

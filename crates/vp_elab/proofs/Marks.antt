@@ -5,29 +5,22 @@ use Rattle.std.proofs.lemmas.Bool.{eqb-true, eqb-false}
 use Rattle.std.proofs.lemmas.List.{take_more, get_or-set_same, get_or-set_other}
 use Rattle.std.proofs.lemmas.List.Elements.{filter-append}
 use Rattle.std.proofs.lemmas.List.{map-append}
+use Rattle.std.proofs.Math.Bool.{or-false, or-true}
 use Rattle.vp_pragma.specs.declared.envelope.Envelope.{Envelope}
 use Rattle.vp_pragma.specs.Envelopes.{envelope_at}
 use Rattle.vp_elab.specs.Tree.{below}
-
-or_false : (b : Bool) → (b || false) ≡ b
-or_false true = refl
-or_false false = refl
-
-or_true : (b : Bool) → (b || true) ≡ true
-or_true true = refl
-or_true false = refl
 
 or_assoc : (a b c : Bool) → (a || (b || c)) ≡ ((a || b) || c)
 or_assoc true b c = refl
 or_assoc false b c = refl
 
 any_more : {X : Type 0} (p : X → Bool) (xs : List X) (x : X) → list_any p (xs ++ x ∷ []) ≡ (list_any p xs || p x)
-any_more p [] x = or_false (p x)
+any_more p [] x = or-false (p x)
 any_more p (y ∷ ys) x = ap (λ b. p y || b) (any_more p ys x) ∙ or_assoc (p y) (list_any p ys) (p x)
 
 step_by : (marks : List Bool) (k e : ℕ) (before here : Bool) → k < length marks → get_or marks e false ≡ before → (k == e) ≡ here → get_or (set marks k true) e false ≡ (before || here)
-step_by marks k e before true l h t = let same : k ≡ e = eqb-true k e t in rw (sym same) (get_or-set_same marks k true false l ∙ sym (or_true before))
-step_by marks k e before false l h t = get_or-set_other marks k e true false (λ q. eqb-false k e t (sym q)) ∙ h ∙ sym (or_false before)
+step_by marks k e before true l h t = let same : k ≡ e = eqb-true k e t in rw (sym same) (get_or-set_same marks k true false l ∙ sym (or-true before))
+step_by marks k e before false l h t = get_or-set_other marks k e true false (λ q. eqb-false k e t (sym q)) ∙ h ∙ sym (or-false before)
 
 -- one more number is marked
 pub mark_more : {X : Type 0} (number : X → ℕ) (marks : List Bool) (e : ℕ) (xs : List X) (x : X) → number x < length marks → get_or marks e false ≡ list_any (λ y. number y == e) xs → get_or (set marks (number x) true) e false ≡ list_any (λ y. number y == e) (xs ++ x ∷ [])

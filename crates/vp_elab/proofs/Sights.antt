@@ -7,6 +7,7 @@ use Rattle.std.specs.Str.{bytes_eq}
 use Rattle.std.proofs.lemmas.Option.{slice_get-map}
 use Rattle.std.proofs.Math.Bool.{or_assoc}
 use Rattle.std.proofs.Math.Seq.{drop-cons}
+use Rattle.std.proofs.Math.Bool.{or-false, and-false}
 use Rattle.vp_pragma.specs.declared.viewport.Viewport as declared
 use Rattle.vp_pragma.specs.Envelopes.{Viewport}
 use Rattle.vp_pragma.specs.Reading.{viewport_of}
@@ -22,12 +23,8 @@ pub either-assoc : (a b c : RightSet) → either (either a b) c ≡ either a (ei
 either-assoc a b c =
     rw (or_assoc a.list b.list c.list, or_assoc a.read b.read c.read, or_assoc a.watch b.watch c.watch, or_assoc a.put b.put c.put, or_assoc a.race b.race c.race) refl
 
-or_false : (b : Bool) → (b || false) ≡ b
-or_false true = refl
-or_false false = refl
-
 pub either-nothing : (a : RightSet) → either a nothing ≡ a
-either-nothing a = rw (or_false a.list, or_false a.read, or_false a.watch, or_false a.put, or_false a.race) refl
+either-nothing a = rw (or-false a.list, or-false a.read, or-false a.watch, or-false a.put, or-false a.race) refl
 
 -- ---- one viewport more
 
@@ -107,14 +104,10 @@ sight_named vs name p e m =
 
 -- ---- modules
 
-and_false : (b : Bool) → (b && false) ≡ false
-and_false true = refl
-and_false false = refl
-
 -- a viewport is on no top module
 pub none_at_root : (name : List ℕ) (place envelope : ℕ) (v : Viewport) → matches (record { name = name; place = place; envelope = envelope; in_module = None }) v ≡ false
 none_at_root name place envelope v =
-    ap (λ b. (b && bytes_eq v.item name) && fits_module v.in_module None) (and_false (v.envelope == envelope))
+    ap (λ b. (b && bytes_eq v.item name) && fits_module v.in_module None) (and-false (v.envelope == envelope))
 
 rights_at_root : (name : List ℕ) (place envelope : ℕ) (vs : List Viewport) → viewed vs (record { name = name; place = place; envelope = envelope; in_module = None }) ≡ nothing
 rights_at_root name place envelope [] = refl

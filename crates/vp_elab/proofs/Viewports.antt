@@ -4,6 +4,7 @@ use Rattle.std.specs.List.{list_any, position_from}
 use Rattle.std.specs.Str.{bytes_eq}
 use Rattle.std.proofs.lemmas.List.{append_assoc}
 use Rattle.std.proofs.lemmas.Slice.Eq.{bytes_eq-Decides}
+use Rattle.std.proofs.Math.Bool.{and-false, or-false}
 use Rattle.vp_list.specs.Searches.{list_any-map}
 use Rattle.vp_parse.specs.Places.{line_at, word_at}
 use Rattle.vp_parse.specs.declared.source.Source.{Source}
@@ -19,14 +20,6 @@ use Rattle.vp_elab.specs.Refusals.{first_of_two, is_among, twice, twice_in}
 use Rattle.vp_elab.proofs.Distinct.{accepted, bytes_eq-swap, neither, new_by, not_there}
 use Rattle.vp_elab.proofs.Sights.{none_at_root}
 use Rattle.vp_elab.proofs.Zip.{position_is}
-
-and_false : (b : Bool) → (b && false) ≡ false
-and_false true = refl
-and_false false = refl
-
-or_false : (b : Bool) → (b || false) ≡ b
-or_false true = refl
-or_false false = refl
 
 either_false : (a b : Bool) → (a || b) ≡ false → (a ≡ false) × (b ≡ false)
 either_false true b h = absurd cc
@@ -45,7 +38,7 @@ module _ (source : Source) (envelopes : List Envelope) (v : Viewport) (m : Modul
   other_name : (i : Item) → bytes_eq v.item (item_name source i) ≡ false → is_on_item i ≡ false
   other_name i h =
       ap (λ b. ((v.envelope == envelope_at envelopes (item_place i)) && true) && b && fits_module v.in_module (Some (word_at source m.name))) h
-      ∙ ap (λ b. b && fits_module v.in_module (Some (word_at source m.name))) (and_false ((v.envelope == envelope_at envelopes (item_place i)) && true))
+      ∙ ap (λ b. b && fits_module v.in_module (Some (word_at source m.name))) (and-false ((v.envelope == envelope_at envelopes (item_place i)) && true))
 
   -- an item has the name of the viewport's
   abbrev is_named : Item → Bool
@@ -94,7 +87,7 @@ module _ (source : Source) (envelopes : List Envelope) (v : Viewport) (m : Modul
       let rest = (new_by (is_among names (item_name source x)) (Duplicate (line_at source (item_place x))) (twice source (names ++ item_name source x ∷ []) is) t).1 in
       let named : is_named x ≡ true = subst (λ (y : Item). is_named y ≡ true) (sym same) k in
       ap (λ b. is_on_item x || b) (none_on is (new_names (names ++ item_name source x ∷ []) names [] (item_name source x) is refl named rest))
-      ∙ or_false (is_on_item x) ∙ ap is_on_item same
+      ∙ or-false (is_on_item x) ∙ ap is_on_item same
   on_found names (suc j) (x ∷ is) i t h k =
       let rest = (new_by (is_among names (item_name source x)) (Duplicate (line_at source (item_place x))) (twice source (names ++ item_name source x ∷ []) is) t).1 in
       on_found_by names j x is i (is_named x) refl rest h k (on_found (names ++ item_name source x ∷ []) j is i rest h k)

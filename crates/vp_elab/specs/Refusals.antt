@@ -8,8 +8,8 @@ use Rattle.vp_parse_expr.specs.declared.node.Expression.{Expression}
 use Rattle.vp_parse_expr.specs.declared.node.Expression.TheVariants as expression
 use Rattle.vp_parse.specs.declared.source.Item.{Item}
 use Rattle.vp_parse.specs.declared.source.Module as declared
-use Rattle.vp_parse.specs.declared.source.Statement.{Statement}
-use Rattle.vp_parse.specs.declared.source.Statement.TheVariants as statement
+use Rattle.vp_parse_stmt.specs.declared.arena.Statement.{Statement}
+use Rattle.vp_parse_stmt.specs.declared.arena.Statement.TheVariants as statement
 use Rattle.vp_elab.specs.declared.elaboration.TheConstants.{OBJECT_LIMIT}
 use Rattle.vp_elab.specs.declared.fault.ElabError.{ElabError}
 use Rattle.vp_elab.specs.declared.fault.ElabError.TheVariants.{Duplicate, Undeclared, TooManyObjects, ViewportUnknown, NoMemory}

@@ -6,7 +6,6 @@ ghost use Rattle.vp_pragma.specs.Reading.{viewport_of};
 ghost use Rattle.vp_pragma.specs.Rights.{either, nothing, set_of};
 ghost use Rattle.vp_elab.specs.Tree.{matches, matches_node, sight_in, sight_of, step_named};
 ghost use Rattle.vp_elab.specs.Elaboration.{item_name, item_node, items_in, module_nodes, nodes_of};
-ghost use Rattle.vp_elab.specs.Objects.{modules_in};
 ghost use Rattle.vp_elab.specs.Built.{shown};
 ghost use Rattle.vp_elab.specs.Refusals.{Explains, twice, twice_in, unmatched_in};
 

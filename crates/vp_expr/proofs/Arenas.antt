@@ -90,6 +90,11 @@ pub not_fitted : (b : Bool) (n : ℕ) → None ≡ cond b (Some n) None → b �
 not_fitted true n h = absurd cc
 not_fitted false n h = refl
 
+-- a size that fits
+pub fitted : (b : Bool) (n m : ℕ) → Some m ≡ cond b (Some n) None → (b ≡ true) × (m ≡ n)
+fitted true n m h = (refl, cc)
+fitted false n m h = absurd cc
+
 -- an operand whose size does not fit
 pub refuses : (widths : List ℕ) (os : List Operand) (i : ℕ) (o : Operand) (sizes : List ℕ) (found : Option ℕ) → i < length os → o ≡ get_or os i o → sizes ≡ map (size (width_in widths)) (terms_of (take i os)) → found ≡ cond (is_width (operand_size widths sizes o)) (Some (operand_size widths sizes o)) None → found ≡ None → fitting (sizes_in widths os) ≡ None
 unfolding sizes_in
@@ -107,6 +112,25 @@ refuses widths os i o sizes found h at is tested none =
 pub record AreFirst (widths : List ℕ) (os : List Operand) (i : ℕ) (sizes : List ℕ) : Type 0 where
   pub are : sizes ≡ map (size (width_in widths)) (terms_of (take i os))
   pub fit : list_all is_width sizes ≡ true
+
+-- and those of one more operand, whose size fits
+pub first_more : (widths : List ℕ) (os : List Operand) (i : ℕ) (o : Operand) (sizes : List ℕ) (found : Option ℕ) (n : ℕ) → i < length os → o ≡ get_or os i o → AreFirst widths os i sizes → found ≡ cond (is_width (operand_size widths sizes o)) (Some (operand_size widths sizes o)) None → found ≡ Some n → AreFirst widths os (i + 1) (sizes ++ n ∷ [])
+first_more widths os i o sizes found n h at first tested there =
+    let own = fitted (is_width (operand_size widths sizes o)) (operand_size widths sizes o) n (sym there ∙ tested) in
+    record {
+      are =
+          ap (λ m. sizes ++ m ∷ []) own.1
+          ∙ ap (λ s. s ++ operand_size widths s o ∷ []) first.are
+          ∙ sizes_more widths os i o h at;
+      fit = last_fits sizes n first.fit (ap is_width own.1 ∙ own.0);
+    }
+
+-- and those of all operands
+pub first_all : (widths : List ℕ) (os : List Operand) (i : ℕ) (sizes : List ℕ) → length os ≤ i → AreFirst widths os i sizes → Some sizes ≡ fitting (sizes_in widths os)
+unfolding sizes_in
+first_all widths os i sizes h first =
+    sym (all_fit sizes first.fit)
+    ∙ ap fitting (first.are ∙ ap (λ l. map (size (width_in widths)) (terms_of l)) (take_all i os h))
 
 -- ---- terms by place
 

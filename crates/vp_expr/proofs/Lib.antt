@@ -1,4 +1,5 @@
 pub mod Starts
+pub mod Growing
 pub mod Arenas
 pub mod Digits
 mod ArenaRows

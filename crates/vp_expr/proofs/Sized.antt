@@ -1,10 +1,14 @@
 -- The sizes in the tables of a design are those of its operands.
-use Rattle.std.proofs.Common.{◌≡◌, ◌∙◌, ap, sym, true}
+use Rattle.std.proofs.Common.{◌≡◌, ◌∙◌, ◌&&◌, ℕ, Bool, true, false, cond, List, map, Some, None, ap, sym, refl}
 use Rattle.std.specs.List.{list_all}
 use Rattle.vp_elab.specs.Built.{Elaborated}
+use Rattle.vp_expr.specs.declared.operand.Operand.{Operand}
+use Rattle.vp_expr.specs.declared.tables.Action.{Action}
+use Rattle.vp_expr.specs.declared.tables.Process.{Process}
 use Rattle.vp_expr.specs.declared.tables.Tables.{Tables}
-use Rattle.vp_expr.specs.Arena.{IsSized, is_width, sizes_in}
-use Rattle.vp_expr.specs.Tables.{tables_of}
+use Rattle.vp_expr.specs.Arena.{IsSized, fitting, is_width, sizes_in}
+use Rattle.vp_expr.specs.Checks.{IsChecked}
+use Rattle.vp_expr.specs.Tables.{action_of, all_fit, operands_of, processes_of, sizes_of, tables_of, widths_of}
 
 pub tables_sized : (design : Elaborated) (t : Tables) → t ≡ tables_of design → list_all is_width t.sizes ≡ true → IsSized t.widths t.operands t.sizes
 unfolding tables_of
@@ -12,3 +16,40 @@ tables_sized design t is fit = record {
   are_sizes = ap (λ (s : Tables). s.sizes) is ∙ sym (ap (λ (s : Tables). sizes_in s.widths s.operands) is);
   fit = fit;
 }
+
+-- sizes that fit
+fits : (b : Bool) (ns ms : List ℕ) → cond b (Some ns) None ≡ Some ms → (b ≡ true) × (ms ≡ ns)
+fits true ns ms h = (refl, cc)
+fits false ns ms h = absurd cc
+
+-- widths and sizes that were found to fit
+module _ (d : Elaborated) (operands : List Operand) (widths sizes : List ℕ) (are : operands ≡ operands_of d) (wide : fitting (widths_of d) ≡ Some widths) (fit : fitting (sizes_in widths operands) ≡ Some sizes) where
+  widths_fit : (list_all is_width (widths_of d) ≡ true) × (widths ≡ widths_of d)
+  widths_fit = fits (list_all is_width (widths_of d)) (widths_of d) widths wide
+
+  sizes_fit : (list_all is_width (sizes_in widths operands) ≡ true) × (sizes ≡ sizes_in widths operands)
+  sizes_fit = fits (list_all is_width (sizes_in widths operands)) (sizes_in widths operands) sizes fit
+
+  sizes_are : sizes ≡ sizes_of d
+  sizes_are = sizes_fit.1 ∙ ap (λ ws. sizes_in ws operands) widths_fit.1 ∙ ap (sizes_in (widths_of d)) are
+
+  -- each of the design's fits
+  pub design_fits : all_fit d ≡ true
+  design_fits =
+      ap (λ b. b && list_all is_width (sizes_of d)) widths_fit.0
+      ∙ ap (list_all is_width) (sym sizes_are ∙ sizes_fit.1)
+      ∙ sizes_fit.0
+
+  -- and the tables that are made of them are the design's
+  pub tables_checked : (actions : List Action) (processes : List Process) → actions ≡ map (action_of d widths sizes) d.source.statements → processes ≡ processes_of d → IsChecked d (record { operands = operands; widths = widths; sizes = sizes; actions = actions; processes = processes })
+  unfolding tables_of
+  tables_checked actions processes acts runs =
+      let all : actions ≡ map (action_of d (widths_of d) (sizes_of d)) d.source.statements =
+      acts
+      ∙ ap (λ ws. map (action_of d ws sizes) d.source.statements) widths_fit.1
+      ∙ ap (λ ns. map (action_of d (widths_of d) ns) d.source.statements) sizes_are in
+      record {
+        tables_are = rw (are, widths_fit.1, sizes_are, all, runs) refl;
+        wide = ap (list_all is_width) widths_fit.1 ∙ widths_fit.0;
+        fit = ap (list_all is_width) sizes_fit.1 ∙ sizes_fit.0;
+      }

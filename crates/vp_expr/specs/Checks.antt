@@ -11,8 +11,8 @@ use Rattle.vp_parse.specs.Places.{earlier, earliest, line_at}
 use Rattle.vp_parse.specs.declared.source.Source.{Source}
 use Rattle.vp_parse.specs.declared.source.Item.{Item}
 use Rattle.vp_parse.specs.declared.source.Item.TheVariants as item
-use Rattle.vp_parse.specs.declared.source.Statement.{Statement}
-use Rattle.vp_parse.specs.declared.source.Statement.TheVariants as statement
+use Rattle.vp_parse_stmt.specs.declared.arena.Statement.{Statement}
+use Rattle.vp_parse_stmt.specs.declared.arena.Statement.TheVariants as statement
 use Rattle.vp_elab.specs.Built.{Elaborated}
 use Rattle.vp_elab.specs.Elaboration.{range_width}
 use Rattle.vp_elab.specs.Tree.{below}

@@ -11,8 +11,8 @@ use Rattle.vp_parse_expr.specs.declared.operator.BinaryOperator.TheVariants as b
 use Rattle.vp_parse_expr.specs.declared.operator.UnaryOperator.{UnaryOperator}
 use Rattle.vp_parse_expr.specs.declared.operator.UnaryOperator.TheVariants as before
 use Rattle.vp_parse.specs.Places.{word_at}
-use Rattle.vp_parse.specs.declared.source.Statement.{Statement}
-use Rattle.vp_parse.specs.declared.source.Statement.TheVariants as statement
+use Rattle.vp_parse_stmt.specs.declared.arena.Statement.{Statement}
+use Rattle.vp_parse_stmt.specs.declared.arena.Statement.TheVariants as statement
 use Rattle.vp_parse.specs.declared.source.Item.{Item}
 use Rattle.vp_parse.specs.declared.source.Item.TheVariants as item
 use Rattle.vp_elab.specs.Built.{Elaborated}

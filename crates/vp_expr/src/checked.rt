@@ -64,6 +64,12 @@ pub fn check(alloc: Global, design: Design) -> Result<Checked, ExprError>
     ensures accepted { OnOk result (refusal_of design ≡ None) }
     ensures refused { IfErr result (λ e. Explains (refusal_of design) e) }
 {
-    let tables = checked_tables(alloc, &design)?;
-    Ok(Checked { design, tables })
+    match checked_tables(alloc, &design) {
+        Ok(tables) => Ok(Checked { design, tables }),
+        Err(fault) => {
+            // Dropped by a call, so that how a design is dropped is no part of this function's proof.
+            drop(design);
+            Err(fault)
+        }
+    }
 }

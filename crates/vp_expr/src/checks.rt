@@ -146,16 +146,22 @@ fn first_wide_target(statements: &[Statement]) -> Option<u32>
     first
 }
 
+/// The size at a place, in bits; 1 behind the end.
+fn size_among(sizes: &[u8], place: usize) -> u8
+    ensures { result ≡ slice_index_or sizes.now place 1 }
+{
+    match sizes.get(place) {
+        Some(size) => *size,
+        None => 1,
+    }
+}
+
 /// The place of the expression at a place that is too wide by itself, by the sizes of all.
 fn wide_among(expressions: &[Expression], sizes: &[u8], place: usize) -> Option<u32>
     ensures { result ≡ wide_among expressions.now sizes.now place }
 {
     let expression = expressions.get(place)?;
-    let size = match sizes.get(place) {
-        Some(size) => *size,
-        None => 1,
-    };
-    wide_at(size, *expression)
+    wide_at(size_among(sizes, place), *expression)
 }
 
 fn first_wide_of(expressions: &[Expression], sizes: &[u8]) -> Option<u32>

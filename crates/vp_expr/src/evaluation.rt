@@ -88,8 +88,7 @@ fn value_of_pair(
 ) -> Bits
     requires sized { IsSized tables.now.widths tables.now.operands tables.now.sizes }
     requires fits { IsWidth context }
-    ensures value { result ≡ value (width_in tables.now.widths) (value_in values.now) context (term_made tables.now.operands place (Operand.Paired operator left right)) }
-    ensures width { length result ≡ context }
+    ensures { result ≡ value (width_in tables.now.widths) (value_in values.now) context (term_made tables.now.operands place (Operand.Paired operator left right)) }
 {
     match operator {
         Infix::Combined(operator) => {
@@ -128,8 +127,7 @@ fn value_of_choice(
 ) -> Bits
     requires sized { IsSized tables.now.widths tables.now.operands tables.now.sizes }
     requires fits { IsWidth context }
-    ensures value { result ≡ value (width_in tables.now.widths) (value_in values.now) context (term_made tables.now.operands place (Operand.Conditional condition first second)) }
-    ensures width { length result ≡ context }
+    ensures { result ≡ value (width_in tables.now.widths) (value_in values.now) context (term_made tables.now.operands place (Operand.Conditional condition first second)) }
 {
     match own_value(tables, values, place, condition).truth() {
         Bit::One => value_below(tables, values, place, first, context),
@@ -147,8 +145,7 @@ fn value_of(tables: &Tables, values: &Values, place: usize, operand: Operand, co
     requires sized { IsSized tables.now.widths tables.now.operands tables.now.sizes }
     requires own { IsWidth (size (width_in tables.now.widths) (term_made tables.now.operands place operand)) }
     requires fits { IsWidth context }
-    ensures value { result ≡ value (width_in tables.now.widths) (value_in values.now) context (term_made tables.now.operands place operand) }
-    ensures width { length result ≡ context }
+    ensures { result ≡ value (width_in tables.now.widths) (value_in values.now) context (term_made tables.now.operands place operand) }
 {
     match operand {
         Operand::Object(object) => values.get(object).resize(context),

@@ -162,9 +162,10 @@ pub fn literal_bits(size: u32, text: &str) -> Bits
     if size == 0 || size > WIDTH_LIMIT {
         return Bits::unknown(1);
     }
-    let bytes = text.as_bytes();
-    let letter = bytes.get(1).copied().unwrap_or(0);
-    digits_value(size as u8, letter, bytes.get(2..).unwrap_or(&[]))
+    match text.as_bytes() {
+        [_, letter, digits @ ..] => digits_value(size as u8, *letter, digits),
+        _ => digits_value(size as u8, 0, &[]),
+    }
 }
 
 /// The value of a base part without a size, which is unsigned, by its text (IEEE Std 1364-2005, 3.5.1).

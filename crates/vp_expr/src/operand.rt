@@ -2,7 +2,7 @@ use vp_bits::Bits;
 use vp_elab::ObjectId;
 
 /// An operator of one operand whose value is as wide as its context (IEEE Std 1364-2005, 5.1.5 and 5.1.10).
-#[derive(Clone, Copy, Debug)]
+#[derive(Clone, Copy)]
 pub enum Unary {
     /// `+`, which keeps x and z bits.
     Plus,
@@ -13,7 +13,7 @@ pub enum Unary {
 }
 
 /// An operator of one operand whose value has one bit (IEEE Std 1364-2005, 5.1.9 and 5.1.11).
-#[derive(Clone, Copy, Debug)]
+#[derive(Clone, Copy)]
 pub enum Reduction {
     /// `!`.
     LogicalNegation,
@@ -32,7 +32,7 @@ pub enum Reduction {
 }
 
 /// An operator of two operands that are as wide as its context (IEEE Std 1364-2005, 5.1.5 and 5.1.10).
-#[derive(Clone, Copy, Debug)]
+#[derive(Clone, Copy)]
 pub enum Binary {
     /// `+`.
     Add,
@@ -51,7 +51,7 @@ pub enum Binary {
 }
 
 /// A shift, whose first operand is as wide as its context (IEEE Std 1364-2005, 5.1.12).
-#[derive(Clone, Copy, Debug)]
+#[derive(Clone, Copy)]
 pub enum Shift {
     /// `<<`.
     Left,
@@ -60,7 +60,7 @@ pub enum Shift {
 }
 
 /// A relational or equality operator, whose operands have one size (IEEE Std 1364-2005, 5.1.7 and 5.1.8).
-#[derive(Clone, Copy, Debug)]
+#[derive(Clone, Copy)]
 pub enum Comparison {
     /// `<`.
     Less,
@@ -81,7 +81,7 @@ pub enum Comparison {
 }
 
 /// A logical operator of two operands that size themselves (IEEE Std 1364-2005, 5.1.9).
-#[derive(Clone, Copy, Debug)]
+#[derive(Clone, Copy)]
 pub enum Logical {
     /// `&&`.
     And,
@@ -90,7 +90,7 @@ pub enum Logical {
 }
 
 /// An operator between two operands.
-#[derive(Clone, Copy, Debug)]
+#[derive(Clone, Copy)]
 pub enum Infix {
     /// `+ - * & | ^ ~^`, as wide as the context.
     Combined(Binary),

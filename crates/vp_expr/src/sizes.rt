@@ -79,7 +79,6 @@ pub fn fitted(size: u64) -> Option<u8>
 }
 
 /// The sizes of operands, in bits, by the widths of objects; none where one is not 1 to 64. Takes memory.
-#[tactic(auto, unfolding(crate::specs::Arena::sizes_in))]
 pub fn sizes_of(
     alloc: Global,
     widths: &[u8],

@@ -3,7 +3,7 @@ ghost use Rattle.std.specs.List.{filter_map};
 ghost use Rattle.vp_elab.specs.Tree.{below};
 ghost use Rattle.vp_expr.specs.Arena.{fitting};
 ghost use Rattle.vp_expr.specs.Checks.{IsChecked};
-ghost use Rattle.vp_expr.specs.Tables.{action_of, all_fit, assign_target, assign_value, body_at, named_target, object_named, operands_of, processes_of, selected_target, sized_at, target_width, widths_of};
+ghost use Rattle.vp_expr.specs.Tables.{action_of, all_fit, assign_target, assign_value, body_at, body_of, named_target, object_named, operands_of, processes_of, selected_target, sized_at, target_width, widths_of};
 
 use crate::id::ExprId;
 use crate::operand::Operand;
@@ -15,7 +15,7 @@ use vp_list::Sequence;
 use vp_parse::{Item, Selection, Statement};
 
 /// What of an object an assignment sets (clause 5.2.1).
-#[derive(Clone, Copy, Debug)]
+#[derive(Clone, Copy)]
 pub enum Target {
     Whole(ObjectId),
     /// The bit at an index, by the place of that, which sizes itself; `lowest` is the index of the least significant bit.
@@ -48,7 +48,7 @@ impl Target {
 
 /// A statement (clause 9), with an object in place of a name. It names its parts by their places in the list of
 /// actions or of operands.
-#[derive(Clone, Copy, Debug)]
+#[derive(Clone, Copy)]
 pub enum Action {
     /// A block without statements.
     Nothing,
@@ -59,7 +59,7 @@ pub enum Action {
 }
 
 /// A process: its object, and its statement by its place in the list of actions.
-#[derive(Clone, Copy, Debug)]
+#[derive(Clone, Copy)]
 pub struct Process {
     pub object: ObjectId,
     pub body: u32,
@@ -161,14 +161,23 @@ fn action_of(design: &Design, widths: &[u8], sizes: &[u8], statement: Statement)
     }
 }
 
+/// The statement of an item that is a process.
+fn body_of(item: Item) -> Option<u32>
+    ensures { result ≡ body_of item }
+{
+    match item {
+        Item::Initial { body, .. } => Some(body),
+        Item::Reg { .. } => None,
+    }
+}
+
 /// The statement of an object that is a process.
 fn body_at(items: &[Item], object: u32) -> Option<u32>
     ensures { result ≡ body_at items.now object }
 {
-    match items.get(object.checked_sub(1)? as usize)? {
-        Item::Initial { body, .. } => Some(*body),
-        Item::Reg { .. } => None,
-    }
+    let place = object.checked_sub(1)?;
+    let item = items.get(place as usize)?;
+    body_of(*item)
 }
 
 /// The expressions of a design as operands.

@@ -9,8 +9,10 @@ use Rattle.vp_parse_expr.specs.Kinds.{symbol_at}
 use Rattle.vp_parse_expr.specs.Grammar.{Name, Sized, Whole, Part}
 use Rattle.vp_parse_expr.specs.Stopping.{Stop, Unexpected, TooDeep, terminal}
 use Rattle.vp_parse_expr.specs.Reading.{bound_by, bound_at, range_at, sized_at, number_at, bit_at, part_select_at, select_at, name_at, group_at, unary_at, part_at, further_part_at, further_parts_at, parts_at, concatenation_at, replication_at, braces_at, operand_by, operand_at, binary_at, more_at, conditional_at, choice_at, chain_at, expr_at}
-use Rattle.vp_parse.specs.Grammar.{Stmt, Assign, Block, Empty, Then, Reg, Initial, Derivation}
-use Rattle.vp_parse.specs.Reading.{stmts_at, assign_at, block_at, stmt_by, form_at, stmt_at, width_at, further_at, regs_at, initial_at, item_by, item_at, items_at, module_at, only, source_at, read}
+use Rattle.vp_parse_stmt.specs.Grammar.{Stmt, Assign, Block, Empty, Then}
+use Rattle.vp_parse.specs.Grammar.{Reg, Initial, Derivation}
+use Rattle.vp_parse_stmt.specs.Reading.{stmts_at, assign_at, block_at, stmt_by, form_at, stmt_at}
+use Rattle.vp_parse.specs.Reading.{width_at, further_at, regs_at, initial_at, item_by, item_at, items_at, module_at, only, source_at, read}
 
 -- ---- symbols
 

@@ -2,10 +2,11 @@
 use Rattle.std.proofs.Common.{◌≡◌, List, [], ◌∷◌, Some, None, refl}
 use Rattle.vp_parse_expr.specs.declared.node.Expression.TheVariants as expression_of
 use Rattle.vp_parse_expr.specs.declared.node.Selection.TheVariants as selection_of
-use Rattle.vp_parse.specs.declared.source.Statement.TheVariants as statement_of
+use Rattle.vp_parse_stmt.specs.declared.arena.Statement.TheVariants as statement_of
 use Rattle.vp_parse.specs.declared.source.Item.TheVariants as item_of
 use Rattle.vp_parse_expr.specs.Grammar.{Name, Sized, Whole}
-use Rattle.vp_parse.specs.Grammar.{Assign, Block, Empty, Then, Reg, Initial, Derivation}
+use Rattle.vp_parse_stmt.specs.Grammar.{Assign, Block, Empty, Then}
+use Rattle.vp_parse.specs.Grammar.{Reg, Initial, Derivation}
 use Rattle.vp_parse.specs.Layout.{put_source}
 use Rattle.vp_parse_expr.specs.declared.symbol.Symbol.{Symbol}
 use Rattle.vp_parse_expr.specs.declared.symbol.SymbolKind.TheVariants as symbol
@@ -33,11 +34,13 @@ lists_of_example : put_source example ≡ (
   record { name = 1; first = 0; end = 3 } ∷ [],
   record {
     items = item_of.Reg 4 None ∷ item_of.Reg 6 None ∷ item_of.Initial 8 6 ∷ [];
-    statements =
-        statement_of.Empty ∷ statement_of.Assign 10 selection_of.Whole 0 ∷ statement_of.Then 0 1
-        ∷ statement_of.Empty ∷ statement_of.Then 2 3
-        ∷ statement_of.Assign 17 selection_of.Whole 1 ∷ statement_of.Then 4 5 ∷ [];
-    expressions = expression_of.Literal 12 1 13 ∷ expression_of.Name 19 selection_of.Whole ∷ [];
+    parts = record {
+      statements =
+          statement_of.Empty ∷ statement_of.Assign 10 selection_of.Whole 0 ∷ statement_of.Then 0 1
+          ∷ statement_of.Empty ∷ statement_of.Then 2 3
+          ∷ statement_of.Assign 17 selection_of.Whole 1 ∷ statement_of.Then 4 5 ∷ [];
+      expressions = expression_of.Literal 12 1 13 ∷ expression_of.Name 19 selection_of.Whole ∷ [];
+    };
   },
 )
 lists_of_example = refl

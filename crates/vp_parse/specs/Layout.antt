@@ -1,57 +1,25 @@
 -- How a derivation lies in the flat lists of a source: each part behind its own parts, and nothing else.
 use Rattle.std.specs.Prelude.{◌≡◌, ℕ, List, [], ◌∷◌, ◌++◌, length, map, Some, None, option_map}
 use Rattle.vp_lex.specs.declared.token.Token.{Token}
-use Rattle.vp_parse_expr.specs.declared.node.Expression.{Expression}
-use Rattle.vp_parse_expr.specs.declared.node.Selection as selection
-use Rattle.vp_parse_expr.specs.Grammar.{Expr, Selection, Range}
-use Rattle.vp_parse_expr.specs.Layout.{put_expr, put_selection, put_range}
+use Rattle.vp_parse_expr.specs.Grammar.{Range}
 use Rattle.vp_parse.specs.declared.source.DeclaredRange.{DeclaredRange}
-use Rattle.vp_parse.specs.declared.source.Statement as statement
-use Rattle.vp_parse.specs.declared.source.Statement.TheVariants as statement_of
 use Rattle.vp_parse.specs.declared.source.Item as item
 use Rattle.vp_parse.specs.declared.source.Item.TheVariants as item_of
 use Rattle.vp_parse.specs.declared.source.Module as module_of
 use Rattle.vp_parse.specs.declared.source.Source.{Source}
-use Rattle.vp_parse.specs.Grammar.{Stmt, Assign, Block, Stmts, Empty, Then, Item, Reg, Initial, Module, Derivation}
+use Rattle.vp_parse.specs.Grammar.{Item, Reg, Initial, Module, Derivation}
+use Rattle.vp_parse_expr.specs.Layout.{put_range}
+use Rattle.vp_parse_stmt.specs.Layout as layout
+use Rattle.vp_parse_stmt.specs.Layout.{put_stmt}
 
--- the flat lists of a source
+-- the flat lists of a source: its items, and the parts that they name
 pub record Lists : Type 0 where
   pub items : List item.Item
-  pub statements : List statement.Statement
-  pub expressions : List Expression
+  pub parts : layout.Lists
 
 -- no parts
 abbrev pub no_parts : Lists
-no_parts = record { items = []; statements = []; expressions = [] }
-
--- ---- one more part, and its place
-
--- one more statement
-abbrev pub with_statement : statement.Statement → Lists → ℕ × Lists
-with_statement s lists = (length lists.statements, record lists { statements = lists.statements ++ s ∷ [] })
-
--- ---- the parts of a derivation behind others, and the place of the whole
-
--- an expression
-abbrev pub put_value : Expr → Lists → ℕ × Lists
-put_value e lists = let x = put_expr e lists.expressions in (x.0, record lists { expressions = x.1 })
-
--- what is selected of a name
-abbrev pub put_target : Selection → Lists → selection.Selection × Lists
-put_target s lists = let x = put_selection s lists.expressions in (x.0, record lists { expressions = x.1 })
-
-abbrev mutual
-  -- a statement: an assignment behind its index and its value; a block is the chain of its statements, from an empty one on
-  pub put_stmt : Stmt → Lists → ℕ × Lists
-  put_stmt (Assign target selection equals value semicolon) lists =
-      let s = put_target selection lists in let v = put_value value s.1 in with_statement (statement_of.Assign target s.0 v.0) v.1
-  put_stmt (Block begin body end) lists = let b = with_statement statement_of.Empty lists in put_stmts body b.0 b.1
-
-  -- the statements of a block, behind those of the chain at a place
-  pub put_stmts : Stmts → ℕ → Lists → ℕ × Lists
-  put_stmts Empty chain lists = (chain, lists)
-  put_stmts (Then s l) chain lists =
-      let x = put_stmt s lists in let y = with_statement (statement_of.Then chain x.0) x.1 in put_stmts l y.0 y.1
+no_parts = record { items = []; parts = layout.no_parts }
 
 -- ---- items, modules and the whole
 
@@ -65,7 +33,7 @@ put_item (Reg place range first further semicolon) lists =
     let r = option_map put_declared range in
     record lists { items = lists.items ++ item_of.Reg first r ∷ map (λ f. item_of.Reg f.name r) further }
 put_item (Initial place body) lists =
-    let b = put_stmt body lists in record b.1 { items = b.1.items ++ item_of.Initial place b.0 ∷ [] }
+    let b = put_stmt body lists.parts in record { items = lists.items ++ item_of.Initial place b.0 ∷ []; parts = b.1 }
 
 -- the items of a module, in order
 abbrev pub put_items : List Item → Lists → Lists
@@ -85,7 +53,7 @@ put_source (Some m) = let x = put_module m no_parts in (x.0 ∷ [], x.1)
 
 -- the flat lists of a source
 abbrev pub lists_of : Source → Lists
-lists_of s = record { items = s.items; statements = s.statements; expressions = s.expressions }
+lists_of s = record { items = s.items; parts = record { statements = s.statements; expressions = s.expressions } }
 
 -- the source of a text with these tokens and this derivation
 pub record IsSourceOf (text : List ℕ) (tokens : List Token) (d : Derivation) (s : Source) : Type 0 where

@@ -1,9 +1,10 @@
 -- What is read and what is left to read, weighed so that reading never makes it more.
-use Rattle.std.specs.Prelude.{ℕ, ◌+◌, ◌*◌, List, length, vec_len}
+use Rattle.std.specs.Prelude.{ℕ, ◌+◌, List, vec_len}
 use Rattle.vp_parse.specs.declared.source.Arena.{Arena}
 use Rattle.vp_parse_expr.specs.declared.symbol.Symbol.{Symbol}
+use Rattle.vp_parse_stmt.specs.Weight.{weight as weight_of}
 
--- the parts in the arena, and two for each symbol that is left
+-- the items in the arena, and its other parts with two for each symbol that is left
 abbrev pub weight : Arena → List Symbol → ℕ
 weight arena symbols =
-    vec_len arena.items + vec_len arena.statements + vec_len arena.expressions + 2 * length symbols
+    vec_len arena.items + weight_of arena.parts symbols

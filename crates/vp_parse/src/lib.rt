@@ -7,5 +7,6 @@ mod source;
 
 pub use fault::ParseError;
 pub use parsing::{DEPTH_LIMIT, parse};
-pub use source::{DeclaredRange, Item, Module, Source, Statement, earlier};
+pub use source::{DeclaredRange, Item, Module, Source, earlier};
 pub use vp_parse_expr::{BinaryOperator, Expression, Range, Selection, UnaryOperator};
+pub use vp_parse_stmt::Statement;

@@ -1,38 +1,21 @@
-ghost use Rattle.std.specs.Prelude.{◌≡◌, [], ◌∷◌, ◌++◌, length, ◌+◌, ◌<◌, ◌^◌, IfOk, OnOk, vec_len};
+ghost use Rattle.std.specs.Prelude.{◌≡◌, vec_len};
 ghost use Rattle.vp_parse.specs.Places.{earlier};
 
-use std::alloc::{AllocError, Global};
+use std::alloc::Global;
 use vp_lex::Token;
 use vp_list::{Sequence, Text};
-use vp_parse_expr::{Expression, Range, Selection};
-
-/// A statement (clause 9). It names its parts by their places in the list of statements or of expressions.
-#[derive(Clone, Copy, Debug)]
-pub enum Statement {
-    /// A block without statements.
-    Empty,
-    /// The statements of a block, and one more after them.
-    Then {
-        list: u32,
-        last: u32,
-    },
-    /// A blocking assignment to what is selected of a name, by its token.
-    Assign {
-        target: u32,
-        selection: Selection,
-        value: u32,
-    },
-}
+use vp_parse_expr::{Expression, Range};
+use vp_parse_stmt::Statement;
 
 /// The range of a declaration, and the token of its bracket (clause 4.3.1).
-#[derive(Clone, Copy, Debug)]
+#[derive(Clone, Copy)]
 pub struct DeclaredRange {
     pub bracket: u32,
     pub range: Range,
 }
 
 /// An item of a module, by the place of its declaration.
-#[derive(Clone, Copy, Debug)]
+#[derive(Clone, Copy)]
 pub enum Item {
     /// A reg, by its name, with the range of its bits; a scalar has none.
     Reg {
@@ -47,7 +30,7 @@ pub enum Item {
 }
 
 /// A module: the token of its name, and its items from `first` up to `end`.
-#[derive(Clone, Copy, Debug, PartialEq, Eq)]
+#[derive(Clone, Copy, PartialEq, Eq)]
 pub struct Module {
     pub name: u32,
     pub first: u32,
@@ -111,39 +94,23 @@ pub fn earlier(one: Option<u32>, other: Option<u32>) -> Option<u32>
 #[derive(Drop)]
 pub struct Arena {
     pub items: Vec<Item>,
-    pub statements: Vec<Statement>,
-    pub expressions: Vec<Expression>,
+    pub parts: vp_parse_stmt::Arena,
 }
 
 impl Arena {
     ghost use Rattle.vp_parse.specs.Layout.{no_parts};
     ghost use Rattle.vp_parse.specs.Placing.{lists_in};
 
+    /// No items, and no parts of them.
     pub fn new(alloc: Global) -> Arena
         ensures none { lists_in result ≡ no_parts }
         ensures items { vec_len result.items ≡ 0 }
-        ensures statements { vec_len result.statements ≡ 0 }
-        ensures expressions { vec_len result.expressions ≡ 0 }
+        ensures statements { vec_len result.parts.statements ≡ 0 }
+        ensures expressions { vec_len result.parts.expressions ≡ 0 }
     {
         Arena {
             items: Vec::new(alloc),
-            statements: Vec::new(alloc),
-            expressions: Vec::new(alloc),
+            parts: vp_parse_stmt::Arena::new(alloc),
         }
     }
-}
-
-/// One more statement, and its place.
-pub fn add_statement(
-    statements: &mut Vec<Statement>,
-    statement: Statement,
-) -> Result<u32, AllocError>
-    requires { vec_len statements.old < 2 ^ 32 }
-    ensures place { IfOk result (λ place. place ≡ length statements.old.items) }
-    ensures added { OnOk result (statements.new.items ≡ statements.old.items ++ statement ∷ []) }
-    ensures len { OnOk result (vec_len statements.new ≡ vec_len statements.old + 1) }
-{
-    let place = statements.len() as u32;
-    statements.push(statement)?;
-    Ok(place)
 }

@@ -30,6 +30,11 @@ pub bind_seen : {X Y A B : Type 0} (h : Y → X) (k : A → B) (r : Result X Sto
 bind_seen {X} h k r (Ok y) f g e p = ap (λ (r : Result X Stop). r >>= f) e ∙ p y
 bind_seen {X} h k r (Err s) f g e p = ap (λ (r : Result X Stop). r >>= f) e
 
+-- steps one behind the other, grouped from the left or from the right
+bind_twice : {A B C : Type 0} (r : Result A Stop) (f : A → Result B Stop) (g : B → Result C Stop) → ((r >>= f) >>= g) ≡ (r >>= λ x. f x >>= g)
+bind_twice (Ok x) f g = refl
+bind_twice (Err s) f g = refl
+
 pub last_seen : {Y A B : Type 0} (h : Y → A) (k : A → B) (s : Result Y Stop) → seen (λ y. k (h y)) s ≡ seen k (s >>= λ y. Ok (h y))
 last_seen h k (Ok y) = refl
 last_seen h k (Err s) = refl
@@ -212,14 +217,16 @@ module _ (placer : ℕ → Placer) (reader : ℕ → Reader Expr) (places : (lea
       (λ l. bind_seen left (made nodes) (behind right_kind l.1) (terminal right_kind l.1) _ _ (behind_seen right_kind l.1) (λ z. refl))
 
   replication_seen : (opening : ℕ) → Places (replication_into placer opening) (replication_at reader opening)
-  unfolding replication_into replication_at
+  unfolding replication_into concatenation_into replication_at
   replication_seen opening nodes ts =
       let left_kind = symbol.Punctuator punctuator.LeftBrace in
       let right_kind = symbol.Punctuator punctuator.RightBrace in
       bind_seen valued (made nodes) (bound_into (NUMBER_LIMIT - 1) ts) (bound_at (NUMBER_LIMIT - 1) ts) _ _ (bound_seen (NUMBER_LIMIT - 1) ts)
       (λ n. bind_seen (λ (x : ℕ × List Symbol). x) (made nodes) (terminal left_kind n.2) (terminal left_kind n.2) _ _ (all_seen (terminal left_kind n.2))
-      (λ i. bind_seen (made_parts i.0 nodes) (made nodes) (parts_into placer i.0 nodes i.1) (parts_at reader i.1) _ _ (parts_seen i.0 nodes i.1)
-      (λ l. bind_seen left (made nodes) (behind right_kind l.1) (terminal right_kind l.1) _ _ (behind_seen right_kind l.1)
+      (λ i. bind_twice (parts_into placer i.0 nodes i.1) _ _
+      ∙ bind_seen (made_parts i.0 nodes) (made nodes) (parts_into placer i.0 nodes i.1) (parts_at reader i.1) _ _ (parts_seen i.0 nodes i.1)
+      (λ l. bind_twice (behind right_kind l.1) _ _
+      ∙ bind_seen left (made nodes) (behind right_kind l.1) (terminal right_kind l.1) _ _ (behind_seen right_kind l.1)
       (λ y. bind_seen left (made nodes) (behind right_kind y.1) (terminal right_kind y.1) _ _ (behind_seen right_kind y.1) (λ z. refl)))))
 
   braces_seen : (opening : ℕ) → Places (braces_into placer opening) (braces_at reader opening)

@@ -162,10 +162,9 @@ unfoldable pub replication_into : (ℕ → Placer) → (opening : ℕ) → Place
 replication_into next opening nodes ts = do
   count ← bound_into (NUMBER_LIMIT - 1) ts
   inner ← terminal (symbol.Punctuator punctuator.LeftBrace) count.1
-  parts ← parts_into next inner.0 nodes inner.1
-  rest ← behind (symbol.Punctuator punctuator.RightBrace) parts.3
-  rest ← behind (symbol.Punctuator punctuator.RightBrace) rest
-  Ok (made (node_of.Replication opening count.0 parts.0) (parts.1 + 1) parts.2 rest)
+  list ← concatenation_into next inner.0 nodes inner.1
+  rest ← behind (symbol.Punctuator punctuator.RightBrace) list.3
+  Ok (made (node_of.Replication opening count.0 list.0) list.1 list.2 rest)
 
 -- a concatenation or a replication, from behind its brace (5.1.14)
 unfoldable pub braces_into : (ℕ → Placer) → (opening : ℕ) → Placer

@@ -4,14 +4,14 @@ use crate::operator::{BinaryOperator, UnaryOperator};
 use std::alloc::AllocError;
 
 /// The bounds of a range: `lsb` is at most `msb`, and `msb` at most 65,535 (5.2.1).
-#[derive(Clone, Copy, Debug)]
+#[derive(Clone, Copy)]
 pub struct Range {
     pub msb: u16,
     pub lsb: u16,
 }
 
 /// What of a named object is meant (5.2.1).
-#[derive(Clone, Copy, Debug)]
+#[derive(Clone, Copy)]
 pub enum Selection {
     Whole,
     /// The bit at an index, by the place of its expression.
@@ -21,7 +21,7 @@ pub enum Selection {
 
 /// A part of an expression (clause 5). It names its parts by their places in the list of expressions, where they
 /// stand before it, and tokens by their places in the text. Parentheses make no part.
-#[derive(Clone, Copy, Debug)]
+#[derive(Clone, Copy)]
 pub enum Expression {
     /// A name, by its token, and what is selected of it.
     Name {

@@ -4,7 +4,7 @@ ghost use Rattle.vp_parse_expr.specs.Operators.{unary_of as unary_by, binary_of 
 use vp_lex::Punctuator;
 
 /// An operator of one operand (5.1).
-#[derive(Clone, Copy, Debug)]
+#[derive(Clone, Copy)]
 pub enum UnaryOperator {
     Plus,
     Minus,
@@ -19,7 +19,7 @@ pub enum UnaryOperator {
 }
 
 /// An operator of two operands (5.1).
-#[derive(Clone, Copy, Debug)]
+#[derive(Clone, Copy)]
 pub enum BinaryOperator {
     Multiply,
     Add,

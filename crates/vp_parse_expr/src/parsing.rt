@@ -1,9 +1,9 @@
 // Expressions, read from left to right.
-ghost use Rattle.std.specs.Prelude.{◌≡◌, ◌<◌, ◌≤◌, ◌+◌, ◌^◌, ◌⊎◌, max, length, Some, IfOk, IfErr, vec_len};
+ghost use Rattle.std.specs.Prelude.{◌≡◌, ◌<◌, ◌≤◌, ◌+◌, ◌^◌, ◌⊎◌, max, length, Some, Ok, IfOk, IfErr, vec_len};
 ghost use Rattle.vp_parse_expr.specs.declared.reading.Stop.TheVariants.{NoMemory};
 ghost use Rattle.vp_parse_expr.specs.Grammar.{Expr, Selection as SelectionRead};
 ghost use Rattle.vp_parse_expr.specs.Meaning.{IsExpressionOf, NoExpression, IsSelectionOf, NoSelection};
-ghost use Rattle.vp_parse_expr.specs.Placing.{sized_into, number_into, bit_into, part_select_into, select_into, selection_into, name_into, based_into, group_into, unary_into, part_into, further_part_into, further_parts_into, first_part_into, parts_into, concatenation_into, replication_into, braces_into, operand_into, binary_into, more_into, conditional_into, choice_into, chain_into, expr_into};
+ghost use Rattle.vp_parse_expr.specs.Placing.{made, sized_into, number_into, bit_into, part_select_into, select_into, selection_into, name_into, based_into, group_into, unary_into, part_into, further_part_into, further_parts_into, first_part_into, parts_into, concatenation_into, replication_into, braces_into, operand_into, binary_into, more_into, conditional_into, choice_into, chain_into, expr_into};
 ghost use Rattle.vp_parse_expr.specs.Stopping.{Gives};
 
 use crate::ahead::{
@@ -36,6 +36,23 @@ pub struct Selected<'a> {
     pub rest: &'a [Symbol],
 }
 
+/// One more part behind the others: its place, how deep it nests, and what follows.
+fn add_node<'a>(
+    expressions: &mut Vec<Expression>,
+    node: Expression,
+    depth: u32,
+    rest: &'a [Symbol],
+) -> Result<Found<'a>, Stop>
+    requires { vec_len expressions.old < 2 ^ 32 }
+    ensures read { Gives (λ found. (found.place, found.depth, expressions.new.items, found.rest.now)) result (Ok (made node depth expressions.old.items rest.now)) }
+    ensures len { IfOk result (λ found. vec_len expressions.new ≡ vec_len expressions.old + 1) }
+    ensures rest { IfOk result (λ found. found.rest.now ≡ rest.now) }
+    ensures depth { IfOk result (λ found. found.depth ≡ depth) }
+{
+    let place = add_expression(expressions, node)?;
+    Ok(Found { place, depth, rest })
+}
+
 // ---- literals
 
 /// A literal with a size, from behind its size.
@@ -48,9 +65,7 @@ fn sized<'a>(
 ) -> Result<Found<'a>, Stop>
     requires { vec_len expressions.old + length symbols.now + 1 < 2 ^ 32 }
     ensures read { Gives (λ found. (found.place, found.depth, expressions.new.items, found.rest.now)) result (sized_into size place expressions.old.items symbols.now) }
-    ensures lighter { IfOk result (λ found. vec_len expressions.new + length found.rest.now ≤ vec_len expressions.old + length symbols.now + 1) }
-    ensures no_longer { IfOk result (λ found. length found.rest.now ≤ length symbols.now) }
-    ensures depth { IfOk result (λ found. found.depth ≤ 1) }
+    ensures fits { IfOk result (λ found. (vec_len expressions.new + length found.rest.now ≤ vec_len expressions.old + length symbols.now + 1) × (length found.rest.now ≤ length symbols.now) × (found.depth ≤ 1)) }
 {
     match symbols {
         [digits, rest @ ..] if is_size_of(size, digits.kind) => {
@@ -59,12 +74,7 @@ fn sized<'a>(
                 size,
                 digits: digits.place,
             };
-            let place = add_expression(expressions, literal)?;
-            Ok(Found {
-                place,
-                depth: 1,
-                rest,
-            })
+            add_node(expressions, literal, 1, rest)
         }
         _ => Err(Stop::LeftOut(symbols.len() + 1)),
     }
@@ -81,9 +91,7 @@ fn number<'a>(
 ) -> Result<Found<'a>, Stop>
     requires { vec_len expressions.old + length symbols.now + 1 < 2 ^ 32 }
     ensures read { Gives (λ found. (found.place, found.depth, expressions.new.items, found.rest.now)) result (number_into value place expressions.old.items symbols.now) }
-    ensures lighter { IfOk result (λ found. vec_len expressions.new + length found.rest.now ≤ vec_len expressions.old + length symbols.now + 1) }
-    ensures no_longer { IfOk result (λ found. length found.rest.now ≤ length symbols.now) }
-    ensures depth { IfOk result (λ found. found.depth ≤ 1) }
+    ensures fits { IfOk result (λ found. (vec_len expressions.new + length found.rest.now ≤ vec_len expressions.old + length symbols.now + 1) × (length found.rest.now ≤ length symbols.now) × (found.depth ≤ 1)) }
 {
     if is_base_next(symbols) {
         return sized(expressions, value, place, symbols);
@@ -91,12 +99,7 @@ fn number<'a>(
     if value >= NUMBER_LIMIT {
         return Err(Stop::LeftOut(symbols.len() + 1));
     }
-    let place = add_expression(expressions, Expression::Number { place, value })?;
-    Ok(Found {
-        place,
-        depth: 1,
-        rest: symbols,
-    })
+    add_node(expressions, Expression::Number { place, value }, 1, symbols)
 }
 
 // ---- selections
@@ -111,9 +114,7 @@ fn bit<'a>(
 ) -> Result<Selected<'a>, Stop>
     requires room { vec_len expressions.old + length symbols.now < 2 ^ 32 }
     ensures read { Gives (λ found. (found.selection, found.depth, expressions.new.items, found.rest.now)) result (bit_into (expr_into depth 0) expressions.old.items symbols.now) }
-    ensures lighter { IfOk result (λ found. vec_len expressions.new + length found.rest.now ≤ vec_len expressions.old + length symbols.now) }
-    ensures shorter { IfOk result (λ found. length found.rest.now < length symbols.now) }
-    ensures depth { IfOk result (λ found. found.depth ≤ depth) }
+    ensures fits { IfOk result (λ found. (vec_len expressions.new + length found.rest.now ≤ vec_len expressions.old + length symbols.now) × (length found.rest.now < length symbols.now) × (found.depth ≤ depth)) }
 {
     let rest = skip(SymbolKind::Punctuator(Punctuator::LeftBracket), symbols)?;
     let index = match expression_at(expressions, depth, 0, rest) {
@@ -138,9 +139,7 @@ fn select<'a>(
 ) -> Result<Selected<'a>, Stop>
     requires room { vec_len expressions.old + length symbols.now < 2 ^ 32 }
     ensures read { Gives (λ found. (found.selection, found.depth, expressions.new.items, found.rest.now)) result (selection_into depth expressions.old.items symbols.now) }
-    ensures lighter { IfOk result (λ found. vec_len expressions.new + length found.rest.now ≤ vec_len expressions.old + length symbols.now) }
-    ensures no_longer { IfOk result (λ found. length found.rest.now ≤ length symbols.now) }
-    ensures depth { IfOk result (λ found. found.depth ≤ depth) }
+    ensures fits { IfOk result (λ found. (vec_len expressions.new + length found.rest.now ≤ vec_len expressions.old + length symbols.now) × (length found.rest.now ≤ length symbols.now) × (found.depth ≤ depth)) }
 {
     if !is_next(SymbolKind::Punctuator(Punctuator::LeftBracket), symbols) {
         return Ok(Selected {
@@ -174,21 +173,14 @@ fn named<'a>(
     requires room { vec_len expressions.old + length symbols.now + 1 < 2 ^ 32 }
     requires limit { depth + 1 < 2 ^ 32 }
     ensures read { Gives (λ found. (found.place, found.depth, expressions.new.items, found.rest.now)) result (name_into (expr_into depth) name expressions.old.items symbols.now) }
-    ensures lighter { IfOk result (λ found. vec_len expressions.new + length found.rest.now ≤ vec_len expressions.old + length symbols.now + 1) }
-    ensures no_longer { IfOk result (λ found. length found.rest.now ≤ length symbols.now) }
-    ensures depth { IfOk result (λ found. found.depth ≤ depth + 1) }
+    ensures fits { IfOk result (λ found. (vec_len expressions.new + length found.rest.now ≤ vec_len expressions.old + length symbols.now + 1) × (length found.rest.now ≤ length symbols.now) × (found.depth ≤ depth + 1)) }
 {
     let found = select(expressions, depth, symbols)?;
     let node = Expression::Name {
         name,
         selection: found.selection,
     };
-    let place = add_expression(expressions, node)?;
-    Ok(Found {
-        place,
-        depth: found.depth + 1,
-        rest: found.rest,
-    })
+    add_node(expressions, node, found.depth + 1, found.rest)
 }
 
 /// An expression in parentheses, from behind the first.
@@ -202,9 +194,7 @@ fn group<'a>(
     requires room { vec_len expressions.old + length symbols.now < 2 ^ 32 }
     requires limit { depth + 1 < 2 ^ 32 }
     ensures read { Gives (λ found. (found.place, found.depth, expressions.new.items, found.rest.now)) result (group_into (expr_into depth) expressions.old.items symbols.now) }
-    ensures lighter { IfOk result (λ found. vec_len expressions.new + length found.rest.now ≤ vec_len expressions.old + length symbols.now) }
-    ensures no_longer { IfOk result (λ found. length found.rest.now ≤ length symbols.now) }
-    ensures depth { IfOk result (λ found. found.depth ≤ depth + 1) }
+    ensures fits { IfOk result (λ found. (vec_len expressions.new + length found.rest.now ≤ vec_len expressions.old + length symbols.now) × (length found.rest.now ≤ length symbols.now) × (found.depth ≤ depth + 1)) }
 {
     let value = expression_at(expressions, depth, 0, symbols)?;
     let rest = skip(
@@ -231,9 +221,7 @@ fn unary<'a>(
     requires room { vec_len expressions.old + length symbols.now + 1 < 2 ^ 32 }
     requires limit { depth + 1 < 2 ^ 32 }
     ensures read { Gives (λ found. (found.place, found.depth, expressions.new.items, found.rest.now)) result (unary_into (expr_into depth) (Some operator) place expressions.old.items symbols.now) }
-    ensures lighter { IfOk result (λ found. vec_len expressions.new + length found.rest.now ≤ vec_len expressions.old + length symbols.now + 1) }
-    ensures no_longer { IfOk result (λ found. length found.rest.now ≤ length symbols.now) }
-    ensures depth { IfOk result (λ found. found.depth ≤ depth + 1) }
+    ensures fits { IfOk result (λ found. (vec_len expressions.new + length found.rest.now ≤ vec_len expressions.old + length symbols.now + 1) × (length found.rest.now ≤ length symbols.now) × (found.depth ≤ depth + 1)) }
 {
     let operand = expression_at(expressions, depth, UNARY_LEVEL, symbols)?;
     let node = Expression::Unary {
@@ -241,12 +229,7 @@ fn unary<'a>(
         place,
         operand: operand.place,
     };
-    let place = add_expression(expressions, node)?;
-    Ok(Found {
-        place,
-        depth: operand.depth + 1,
-        rest: operand.rest,
-    })
+    add_node(expressions, node, operand.depth + 1, operand.rest)
 }
 
 /// An expression in braces; a literal without a size is left out (5.1.14).
@@ -259,9 +242,7 @@ fn part<'a>(
 ) -> Result<Found<'a>, Stop>
     requires room { vec_len expressions.old + length symbols.now < 2 ^ 32 }
     ensures read { Gives (λ found. (found.place, found.depth, expressions.new.items, found.rest.now)) result (part_into (expr_into depth) expressions.old.items symbols.now) }
-    ensures lighter { IfOk result (λ found. vec_len expressions.new + length found.rest.now ≤ vec_len expressions.old + length symbols.now) }
-    ensures shorter { IfOk result (λ found. length found.rest.now < length symbols.now) }
-    ensures depth { IfOk result (λ found. found.depth ≤ depth) }
+    ensures fits { IfOk result (λ found. (vec_len expressions.new + length found.rest.now ≤ vec_len expressions.old + length symbols.now) × (length found.rest.now < length symbols.now) × (found.depth ≤ depth)) }
 {
     let part = expression_at(expressions, depth, 0, symbols)?;
     if is_bare(symbols, part.rest) {
@@ -281,17 +262,14 @@ fn first_part<'a>(
 ) -> Result<Found<'a>, Stop>
     requires room { vec_len expressions.old + length symbols.now + 1 < 2 ^ 32 }
     ensures read { Gives (λ found. (found.place, found.depth, expressions.new.items, found.rest.now)) result (first_part_into (expr_into depth) brace expressions.old.items symbols.now) }
-    ensures lighter { IfOk result (λ found. vec_len expressions.new + length found.rest.now ≤ vec_len expressions.old + length symbols.now + 1) }
-    ensures shorter { IfOk result (λ found. length found.rest.now < length symbols.now) }
-    ensures depth { IfOk result (λ found. found.depth ≤ depth) }
+    ensures fits { IfOk result (λ found. (vec_len expressions.new + length found.rest.now ≤ vec_len expressions.old + length symbols.now + 1) × (length found.rest.now < length symbols.now) × (found.depth ≤ depth)) }
 {
     let first = part(expressions, depth, symbols)?;
     let node = Expression::Concatenation {
         open: brace,
         part: first.place,
     };
-    let place = add_expression(expressions, node)?;
-    Ok(Found { place, ..first })
+    add_node(expressions, node, first.depth, first.rest)
 }
 
 /// One more expression in braces, with the comma before it.
@@ -305,9 +283,7 @@ fn further_part<'a>(
 ) -> Result<Found<'a>, Stop>
     requires room { vec_len expressions.old + length list.rest.now < 2 ^ 32 }
     ensures read { Gives (λ found. (found.place, found.depth, expressions.new.items, found.rest.now)) result (further_part_into (expr_into depth) brace list.entry.place list.entry.depth expressions.old.items list.entry.rest.now) }
-    ensures lighter { IfOk result (λ found. vec_len expressions.new + length found.rest.now ≤ vec_len expressions.old + length list.entry.rest.now) }
-    ensures shorter { IfOk result (λ found. length found.rest.now < length list.entry.rest.now) }
-    ensures depth { IfOk result (λ found. found.depth ≤ max list.entry.depth depth) }
+    ensures fits { IfOk result (λ found. (vec_len expressions.new + length found.rest.now ≤ vec_len expressions.old + length list.entry.rest.now) × (length found.rest.now < length list.entry.rest.now) × (found.depth ≤ max list.entry.depth depth)) }
 {
     let rest = skip(SymbolKind::Punctuator(Punctuator::Comma), list.rest)?;
     let further = part(expressions, depth, rest)?;
@@ -316,12 +292,8 @@ fn further_part<'a>(
         list: list.place,
         part: further.place,
     };
-    let place = add_expression(expressions, node)?;
-    Ok(Found {
-        place,
-        depth: list.depth.max(further.depth),
-        rest: further.rest,
-    })
+    let nesting = list.depth.max(further.depth);
+    add_node(expressions, node, nesting, further.rest)
 }
 
 /// The expressions in braces, from the first on.
@@ -335,9 +307,7 @@ fn parts<'a>(
 ) -> Result<Found<'a>, Stop>
     requires room { vec_len expressions.old + length symbols.now + 1 < 2 ^ 32 }
     ensures read { Gives (λ found. (found.place, found.depth, expressions.new.items, found.rest.now)) result (parts_into (expr_into depth) brace expressions.old.items symbols.now) }
-    ensures lighter { IfOk result (λ found. vec_len expressions.new + length found.rest.now ≤ vec_len expressions.old + length symbols.now + 1) }
-    ensures shorter { IfOk result (λ found. length found.rest.now < length symbols.now) }
-    ensures depth { IfOk result (λ found. found.depth ≤ depth) }
+    ensures fits { IfOk result (λ found. (vec_len expressions.new + length found.rest.now ≤ vec_len expressions.old + length symbols.now + 1) × (length found.rest.now < length symbols.now) × (found.depth ≤ depth)) }
 {
     let first = first_part(expressions, depth, brace, symbols)?;
     further_parts(expressions, depth, brace, first)
@@ -354,9 +324,7 @@ fn further_parts<'a>(
     requires room { vec_len expressions.old + length first.rest.now < 2 ^ 32 }
     requires within { first.depth ≤ depth }
     ensures read { Gives (λ found. (found.place, found.depth, expressions.new.items, found.rest.now)) result (further_parts_into (expr_into depth) (length first.entry.rest.now) brace first.entry.place first.entry.depth expressions.old.items first.entry.rest.now) }
-    ensures lighter { IfOk result (λ found. vec_len expressions.new + length found.rest.now ≤ vec_len expressions.old + length first.entry.rest.now) }
-    ensures no_longer { IfOk result (λ found. length found.rest.now ≤ length first.entry.rest.now) }
-    ensures depth { IfOk result (λ found. found.depth ≤ depth) }
+    ensures fits { IfOk result (λ found. (vec_len expressions.new + length found.rest.now ≤ vec_len expressions.old + length first.entry.rest.now) × (length found.rest.now ≤ length first.entry.rest.now) × (found.depth ≤ depth)) }
 {
     let mut list = first;
     while is_next(SymbolKind::Punctuator(Punctuator::Comma), list.rest) {
@@ -377,9 +345,7 @@ fn concatenation<'a>(
     requires room { vec_len expressions.old + length symbols.now + 1 < 2 ^ 32 }
     requires limit { depth + 1 < 2 ^ 32 }
     ensures read { Gives (λ found. (found.place, found.depth, expressions.new.items, found.rest.now)) result (concatenation_into (expr_into depth) brace expressions.old.items symbols.now) }
-    ensures lighter { IfOk result (λ found. vec_len expressions.new + length found.rest.now ≤ vec_len expressions.old + length symbols.now) }
-    ensures no_longer { IfOk result (λ found. length found.rest.now ≤ length symbols.now) }
-    ensures depth { IfOk result (λ found. found.depth ≤ depth + 1) }
+    ensures fits { IfOk result (λ found. (vec_len expressions.new + length found.rest.now ≤ vec_len expressions.old + length symbols.now) × (length found.rest.now ≤ length symbols.now) × (found.depth ≤ depth + 1)) }
 {
     let parts = parts(expressions, depth, brace, symbols)?;
     let rest = skip(SymbolKind::Punctuator(Punctuator::RightBrace), parts.rest)?;
@@ -402,26 +368,18 @@ fn replication<'a>(
     requires room { vec_len expressions.old + length symbols.now + 1 < 2 ^ 32 }
     requires limit { depth + 1 < 2 ^ 32 }
     ensures read { Gives (λ found. (found.place, found.depth, expressions.new.items, found.rest.now)) result (replication_into (expr_into depth) brace expressions.old.items symbols.now) }
-    ensures lighter { IfOk result (λ found. vec_len expressions.new + length found.rest.now ≤ vec_len expressions.old + length symbols.now) }
-    ensures no_longer { IfOk result (λ found. length found.rest.now ≤ length symbols.now) }
-    ensures depth { IfOk result (λ found. found.depth ≤ depth + 1) }
+    ensures fits { IfOk result (λ found. (vec_len expressions.new + length found.rest.now ≤ vec_len expressions.old + length symbols.now) × (length found.rest.now ≤ length symbols.now) × (found.depth ≤ depth + 1)) }
 {
     let (count, rest) = bound(NUMBER_LIMIT - 1, symbols)?;
     let (inner, rest) = terminal(SymbolKind::Punctuator(Punctuator::LeftBrace), rest)?;
-    let parts = parts(expressions, depth, inner, rest)?;
-    let rest = skip(SymbolKind::Punctuator(Punctuator::RightBrace), parts.rest)?;
-    let rest = skip(SymbolKind::Punctuator(Punctuator::RightBrace), rest)?;
+    let list = concatenation(expressions, depth, inner, rest)?;
+    let rest = skip(SymbolKind::Punctuator(Punctuator::RightBrace), list.rest)?;
     let node = Expression::Replication {
         open: brace,
         count,
-        list: parts.place,
+        list: list.place,
     };
-    let place = add_expression(expressions, node)?;
-    Ok(Found {
-        place,
-        depth: parts.depth + 1,
-        rest,
-    })
+    add_node(expressions, node, list.depth, rest)
 }
 
 /// A concatenation or a replication, from behind its brace.
@@ -436,9 +394,7 @@ fn braces<'a>(
     requires room { vec_len expressions.old + length symbols.now + 1 < 2 ^ 32 }
     requires limit { depth + 1 < 2 ^ 32 }
     ensures read { Gives (λ found. (found.place, found.depth, expressions.new.items, found.rest.now)) result (braces_into (expr_into depth) brace expressions.old.items symbols.now) }
-    ensures lighter { IfOk result (λ found. vec_len expressions.new + length found.rest.now ≤ vec_len expressions.old + length symbols.now) }
-    ensures no_longer { IfOk result (λ found. length found.rest.now ≤ length symbols.now) }
-    ensures depth { IfOk result (λ found. found.depth ≤ depth + 1) }
+    ensures fits { IfOk result (λ found. (vec_len expressions.new + length found.rest.now ≤ vec_len expressions.old + length symbols.now) × (length found.rest.now ≤ length symbols.now) × (found.depth ≤ depth + 1)) }
 {
     if is_number_before(SymbolKind::Punctuator(Punctuator::LeftBrace), symbols) {
         replication(expressions, depth, brace, symbols)
@@ -460,12 +416,7 @@ fn based<'a>(
     ensures rest { IfOk result (λ found. found.rest.now ≡ symbols.now) }
     ensures depth { IfOk result (λ found. found.depth ≤ 1) }
 {
-    let place = add_expression(expressions, Expression::Based { digits })?;
-    Ok(Found {
-        place,
-        depth: 1,
-        rest: symbols,
-    })
+    add_node(expressions, Expression::Based { digits }, 1, symbols)
 }
 
 /// An operand: a primary, or an operator of one operand with its own.
@@ -479,9 +430,7 @@ fn operand<'a>(
     requires room { vec_len expressions.old + length symbols.now < 2 ^ 32 }
     requires limit { depth + 1 < 2 ^ 32 }
     ensures read { Gives (λ found. (found.place, found.depth, expressions.new.items, found.rest.now)) result (operand_into (expr_into depth) expressions.old.items symbols.now) }
-    ensures lighter { IfOk result (λ found. vec_len expressions.new + length found.rest.now ≤ vec_len expressions.old + length symbols.now) }
-    ensures shorter { IfOk result (λ found. length found.rest.now < length symbols.now) }
-    ensures depth { IfOk result (λ found. found.depth ≤ depth + 1) }
+    ensures fits { IfOk result (λ found. (vec_len expressions.new + length found.rest.now ≤ vec_len expressions.old + length symbols.now) × (length found.rest.now < length symbols.now) × (found.depth ≤ depth + 1)) }
 {
     let [first, rest @ ..] = symbols else {
         return Err(unexpected(symbols));
@@ -516,9 +465,7 @@ fn binary<'a>(
     requires room { vec_len expressions.old + length left.rest.now < 2 ^ 32 }
     requires limit { depth + 1 < 2 ^ 32 }
     ensures read { Gives (λ found. (found.place, found.depth, expressions.new.items, found.rest.now)) result (binary_into (expr_into depth) depth operator left.entry.place left.entry.depth expressions.old.items left.entry.rest.now) }
-    ensures lighter { IfOk result (λ found. vec_len expressions.new + length found.rest.now ≤ vec_len expressions.old + length left.entry.rest.now) }
-    ensures shorter { IfOk result (λ found. length found.rest.now < length left.entry.rest.now) }
-    ensures depth { IfOk result (λ found. found.depth ≤ depth + 1) }
+    ensures fits { IfOk result (λ found. (vec_len expressions.new + length found.rest.now ≤ vec_len expressions.old + length left.entry.rest.now) × (length found.rest.now < length left.entry.rest.now) × (found.depth ≤ depth + 1)) }
 {
     let [sign, rest @ ..] = left.rest else {
         return Err(unexpected(left.rest));
@@ -533,12 +480,8 @@ fn binary<'a>(
         left: left.place,
         right: right.place,
     };
-    let place = add_expression(expressions, node)?;
-    Ok(Found {
-        place,
-        depth: left.depth.max(right.depth) + 1,
-        rest: right.rest,
-    })
+    let nesting = left.depth.max(right.depth) + 1;
+    add_node(expressions, node, nesting, right.rest)
 }
 
 /// The operators that bind at least so tightly, with their right operands, from left to right.
@@ -553,9 +496,7 @@ fn more<'a>(
     requires limit { depth + 1 < 2 ^ 32 }
     requires within { first.depth ≤ depth + 1 }
     ensures read { Gives (λ found. (found.place, found.depth, expressions.new.items, found.rest.now)) result (more_into (expr_into depth) depth (length first.entry.rest.now) least first.entry.place first.entry.depth expressions.old.items first.entry.rest.now) }
-    ensures lighter { IfOk result (λ found. vec_len expressions.new + length found.rest.now ≤ vec_len expressions.old + length first.entry.rest.now) }
-    ensures no_longer { IfOk result (λ found. length found.rest.now ≤ length first.entry.rest.now) }
-    ensures depth { IfOk result (λ found. found.depth ≤ depth + 1) }
+    ensures fits { IfOk result (λ found. (vec_len expressions.new + length found.rest.now ≤ vec_len expressions.old + length first.entry.rest.now) × (length found.rest.now ≤ length first.entry.rest.now) × (found.depth ≤ depth + 1)) }
 {
     let mut left = first;
     while let Some(operator) = binding(least, left.rest) {
@@ -575,9 +516,7 @@ fn conditional<'a>(
     requires room { vec_len expressions.old + length condition.rest.now < 2 ^ 32 }
     requires limit { depth + 1 < 2 ^ 32 }
     ensures read { Gives (λ found. (found.place, found.depth, expressions.new.items, found.rest.now)) result (conditional_into (expr_into depth) depth condition.entry.place condition.entry.depth expressions.old.items condition.entry.rest.now) }
-    ensures lighter { IfOk result (λ found. vec_len expressions.new + length found.rest.now ≤ vec_len expressions.old + length condition.entry.rest.now) }
-    ensures shorter { IfOk result (λ found. length found.rest.now < length condition.entry.rest.now) }
-    ensures depth { IfOk result (λ found. found.depth ≤ depth + 1) }
+    ensures fits { IfOk result (λ found. (vec_len expressions.new + length found.rest.now ≤ vec_len expressions.old + length condition.entry.rest.now) × (length found.rest.now < length condition.entry.rest.now) × (found.depth ≤ depth + 1)) }
 {
     if condition.depth > depth {
         return Err(Stop::TooDeep(condition.rest.len()));
@@ -594,12 +533,8 @@ fn conditional<'a>(
         first: first.place,
         second: second.place,
     };
-    let place = add_expression(expressions, node)?;
-    Ok(Found {
-        place,
-        depth: condition.depth.max(first.depth.max(second.depth)) + 1,
-        rest: second.rest,
-    })
+    let nesting = condition.depth.max(first.depth.max(second.depth)) + 1;
+    add_node(expressions, node, nesting, second.rest)
 }
 
 /// An operand, the operators behind it, and `?:` behind them.
@@ -614,9 +549,7 @@ fn chain<'a>(
     requires room { vec_len expressions.old + length symbols.now < 2 ^ 32 }
     requires limit { depth + 1 < 2 ^ 32 }
     ensures read { Gives (λ found. (found.place, found.depth, expressions.new.items, found.rest.now)) result (chain_into (expr_into depth) depth least expressions.old.items symbols.now) }
-    ensures lighter { IfOk result (λ found. vec_len expressions.new + length found.rest.now ≤ vec_len expressions.old + length symbols.now) }
-    ensures shorter { IfOk result (λ found. length found.rest.now < length symbols.now) }
-    ensures depth { IfOk result (λ found. found.depth ≤ depth + 1) }
+    ensures fits { IfOk result (λ found. (vec_len expressions.new + length found.rest.now ≤ vec_len expressions.old + length symbols.now) × (length found.rest.now < length symbols.now) × (found.depth ≤ depth + 1)) }
 {
     let first = operand(expressions, depth, symbols)?;
     let left = more(expressions, depth, least, first)?;
@@ -637,9 +570,7 @@ fn expression_at<'a>(
 ) -> Result<Found<'a>, Stop>
     requires room { vec_len expressions.old + length symbols.now < 2 ^ 32 }
     ensures read { Gives (λ found. (found.place, found.depth, expressions.new.items, found.rest.now)) result (expr_into depth least expressions.old.items symbols.now) }
-    ensures lighter { IfOk result (λ found. vec_len expressions.new + length found.rest.now ≤ vec_len expressions.old + length symbols.now) }
-    ensures shorter { IfOk result (λ found. length found.rest.now < length symbols.now) }
-    ensures depth { IfOk result (λ found. found.depth ≤ depth) }
+    ensures fits { IfOk result (λ found. (vec_len expressions.new + length found.rest.now ≤ vec_len expressions.old + length symbols.now) × (length found.rest.now < length symbols.now) × (found.depth ≤ depth)) }
 {
     if depth == 0 {
         return Err(Stop::TooDeep(symbols.len() + 1));

@@ -13,7 +13,7 @@ pub const NUMBER_LIMIT: u32 = 1 << 31;
 const VALUE_LIMIT: u64 = 1 << 32;
 
 /// What the grammar sees of a token.
-#[derive(Clone, Copy, Debug, PartialEq, Eq)]
+#[derive(Clone, Copy, PartialEq, Eq)]
 pub enum SymbolKind {
     Name,
     /// A decimal number, at most `NUMBER_LIMIT`.
@@ -31,7 +31,7 @@ pub enum SymbolKind {
 }
 
 /// A token that the grammar sees, with its place.
-#[derive(Clone, Copy, Debug, PartialEq, Eq)]
+#[derive(Clone, Copy, PartialEq, Eq)]
 pub struct Symbol {
     pub kind: SymbolKind,
     pub place: u32,

@@ -1,4 +1,6 @@
+mod commands;
 mod dialogues;
+mod scripts;
 mod tokens;
 mod vectors;
 mod views;

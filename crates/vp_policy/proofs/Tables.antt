@@ -6,6 +6,7 @@ use Rattle.std.specs.Map.{lookup, values_of}
 use Rattle.std.specs.Str.{bytes_eq}
 use Rattle.std.specs.declared.alloc.Global.{Global}
 use Rattle.std.proofs.lemmas.List.{append_assoc, append-nil, map-append}
+use Rattle.std.proofs.Math.Bool.{or-false}
 use Rattle.vp_list.specs.Searches.{list_any-map}
 use Rattle.vp_policy.specs.declared.policy.User.{User}
 use Rattle.vp_policy.specs.File.{grants_missing, has_user, is_for_missing, is_named_twice}
@@ -17,17 +18,13 @@ pub record AreRead (done : List Member) (once : Bool) (entries : List (String Gl
   pub twice : is_named_twice [] done ≡ not once
   pub shown : once ≡ true → map member_of entries ≡ done
 
-or_false : (a : Bool) → a || false ≡ a
-or_false true = refl
-or_false false = refl
-
 or_assoc : (a b c : Bool) → (a || (b || c)) ≡ ((a || b) || c)
 or_assoc true b c = refl
 or_assoc false b c = refl
 
 -- one user more has a name that stands there, or two before him have one
 twice_last : (before us : List Member) (u : Member) → is_named_twice before (us ++ u ∷ []) ≡ (is_named_twice before us || has_user (before ++ us) u.name)
-twice_last before [] u = or_false (has_user before u.name) ∙ ap (λ (vs : List Member). has_user vs u.name) (sym (append-nil before))
+twice_last before [] u = or-false (has_user before u.name) ∙ ap (λ (vs : List Member). has_user vs u.name) (sym (append-nil before))
 twice_last before (v ∷ us) u =
     ap (λ (b : Bool). has_user before v.name || b)
     (twice_last (before ++ v ∷ []) us u ∙ ap (λ (vs : List Member). is_named_twice (before ++ v ∷ []) us || has_user vs u.name) (append_assoc before (v ∷ []) us))

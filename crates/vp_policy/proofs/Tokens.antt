@@ -2,14 +2,11 @@
 use Rattle.std.proofs.Common.{◌≡◌, ◌⊎◌, ℕ, ◌==◌, Bool, true, false, ◌&&◌, List, [], ◌∷◌, length, inl, inr, refl, sym, ap, ◌∙◌, arith, eq-eqb}
 use Rattle.std.specs.Str.{bytes_eq}
 use Rattle.std.proofs.lemmas.Slice.Eq.{bytes_eq-Decides}
-
-and_false : (b : Bool) → (b && false) ≡ false
-and_false true = refl
-and_false false = refl
+use Rattle.std.proofs.Math.Bool.{and-false}
 
 even_by : (a b : List ℕ) (e : Bool) → bytes_eq a b ≡ e → ((length a == length b) && e) ≡ e
 even_by a b true h = ap (λ (n : Bool). n && true) (eq-eqb (length a) (length b) (ap length ((bytes_eq-Decides a b).0 h)))
-even_by a b false h = and_false (length a == length b)
+even_by a b false h = and-false (length a == length b)
 
 -- texts of different lengths differ
 pub even_first : (a b : List ℕ) → ((length a == length b) && bytes_eq a b) ≡ bytes_eq a b

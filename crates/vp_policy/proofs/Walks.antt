@@ -6,6 +6,7 @@ use Rattle.std.specs.Str.{bytes_eq}
 use Rattle.std.proofs.lemmas.Slice.Eq.{bytes_eq-Decides}
 use Rattle.std.proofs.lemmas.Bool.{and_parts}
 use Rattle.std.proofs.lemmas.List.Quantifiers.{position-Some}
+use Rattle.std.proofs.Math.Bool.{and-false, and-true, or-false}
 use Rattle.vp_list.specs.Texts.{behind_part, begun, parts}
 use Rattle.vp_pragma.specs.declared.rights.Right.{Right}
 use Rattle.vp_pragma.specs.Rights.{RightSet, both, either, everything, has, nothing}
@@ -22,18 +23,6 @@ use Rattle.vp_policy.specs.Users.{Member, granted}
 use Rattle.vp_policy.specs.Filter.{is_listed_at, by_first, by_step, closed, denial, denial_at, from_found, is_closed, listed_in, opened, rights, rights_at, unlisted, walk}
 
 -- ---- sets of rights
-
-and_true : (b : Bool) → b && true ≡ b
-and_true true = refl
-and_true false = refl
-
-and_false : (b : Bool) → b && false ≡ false
-and_false true = refl
-and_false false = refl
-
-or_false : (b : Bool) → b || false ≡ b
-or_false true = refl
-or_false false = refl
 
 and_assoc : (a b c : Bool) → (a && b) && c ≡ a && (b && c)
 and_assoc true b c = refl
@@ -53,10 +42,10 @@ same_sets : (a b : RightSet) → a.list ≡ b.list → a.read ≡ b.read → a.w
 same_sets a b l r w p c = same_fields a.list a.read a.watch a.put a.race b.list b.read b.watch b.put b.race l r w p c
 
 both-everything : (a : RightSet) → both a everything ≡ a
-both-everything a = same_sets _ _ (and_true a.list) (and_true a.read) (and_true a.watch) (and_true a.put) (and_true a.race)
+both-everything a = same_sets _ _ (and-true a.list) (and-true a.read) (and-true a.watch) (and-true a.put) (and-true a.race)
 
 pub both-nothing : (a : RightSet) → both a nothing ≡ nothing
-both-nothing a = same_sets _ _ (and_false a.list) (and_false a.read) (and_false a.watch) (and_false a.put) (and_false a.race)
+both-nothing a = same_sets _ _ (and-false a.list) (and-false a.read) (and-false a.watch) (and-false a.put) (and-false a.race)
 
 both-assoc : (a b c : RightSet) → both (both a b) c ≡ both a (both b c)
 both-assoc a b c = same_sets _ _ (and_assoc a.list b.list c.list) (and_assoc a.read b.read c.read) (and_assoc a.watch b.watch c.watch) (and_assoc a.put b.put c.put) (and_assoc a.race b.race c.race)

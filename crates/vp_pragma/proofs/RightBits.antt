@@ -8,6 +8,7 @@ use Rattle.std.specs.Int.RustNames.{bit_and, bit_or}
 use Rattle.std.proofs.lemmas.Bool.{eq-eqb, ne_eqb}
 use Rattle.std.proofs.lemmas.Nat.{pow_pos}
 use Rattle.std.proofs.lemmas.Nat.Bits.{and_pow, bit_at_and, bit_at_or, bit_at-lt}
+use Rattle.std.proofs.Math.Bool.{or-true}
 use Rattle.vp_pragma.specs.declared.rights.Right.{Right}
 use Rattle.vp_pragma.specs.declared.rights.Right.TheVariants as right
 use Rattle.vp_pragma.specs.Rights.{RightSet, both, either, has_bit, only, set_of, with_right}
@@ -57,10 +58,6 @@ set_of-both a b = same_sets _ _ _ _ _ _ _ _ _ _ (bit_of_both a b 0) (bit_of_both
 -- the bits of either are the rights of either
 pub set_of-either : (a b : ℕ) → set_of (record { 0 = bit_or a b }) ≡ either (set_of (record { 0 = a })) (set_of (record { 0 = b }))
 set_of-either a b = same_sets _ _ _ _ _ _ _ _ _ _ (bit_of_either a b 0) (bit_of_either a b 1) (bit_of_either a b 2) (bit_of_either a b 3) (bit_of_either a b 4)
-
-or_true : (a : Bool) → a || true ≡ true
-or_true true = refl
-or_true false = refl
 
 one_more : (a b : Bool) → (a || true) ≡ ((a || true) || b)
 one_more true b = refl

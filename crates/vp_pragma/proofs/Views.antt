@@ -6,7 +6,7 @@ use Rattle.std.specs.Prelude.{is_some, option_map}
 use Rattle.vp_list.specs.Texts.{parts}
 use Rattle.vp_lex.specs.Strings.{string_value}
 use Rattle.vp_lex.specs.Texts.{text_of}
-use Rattle.vp_pragma.specs.declared.deed.View.{View}
+use Rattle.vp_pragma.specs.declared.deed.ViewportStrings.{ViewportStrings}
 use Rattle.vp_pragma.specs.declared.fault.PragmaError.{PragmaError}
 use Rattle.vp_pragma.specs.declared.reading.Open.{Open}
 use Rattle.vp_pragma.specs.declared.reading.Reading.{Reading}
@@ -16,15 +16,15 @@ use Rattle.vp_pragma.specs.EnvelopesOf.{Progress, item_named, view_at, with_item
 use Rattle.vp_pragma.specs.Reading.{begun_of, progress_of, viewport_of}
 
 -- what the strings of a viewport make of what has been read
-abbrev viewed : List ℕ → Progress → ℕ → View → Result Progress PragmaError
+abbrev viewed : List ℕ → Progress → ℕ → ViewportStrings → Result Progress PragmaError
 viewed text r line view =
     with_item text r line (string_value (text_of text view.access)) (item_named (parts 46 (string_value (text_of text view.object))))
 
-pub in_envelope : (text : List ℕ) (r : Progress) (line : ℕ) (found : Option View) (view : View) (begun : Option Open) → found ≡ Some view → is_some begun ≡ true → view_at text r line found (option_map begun_of begun) ≡ viewed text r line view
+pub in_envelope : (text : List ℕ) (r : Progress) (line : ℕ) (found : Option ViewportStrings) (view : ViewportStrings) (begun : Option Open) → found ≡ Some view → is_some begun ≡ true → view_at text r line found (option_map begun_of begun) ≡ viewed text r line view
 in_envelope text r line found view None h k = absurd (false≢true k)
-in_envelope text r line found view (Some b) h k = ap (λ (v : Option View). view_at text r line v (Some (begun_of b))) h
+in_envelope text r line found view (Some b) h k = ap (λ (v : Option ViewportStrings). view_at text r line v (Some (begun_of b))) h
 
-pub one_more : (text : List ℕ) (line envelope : ℕ) (reading : Reading) (v : declared.Viewport) (items : List declared.Viewport) (view : View) → ((r : Progress) → length r.ended + 1 ≡ envelope → viewed text r line view ≡ Ok (record r { viewports = r.viewports ++ viewport_of v ∷ [] })) → length reading.closed.items + 1 ≡ envelope → items ≡ reading.viewports.items ++ v ∷ [] → viewed text (progress_of text reading) line view ≡ Ok (record (progress_of text reading) { viewports = map viewport_of items })
+pub one_more : (text : List ℕ) (line envelope : ℕ) (reading : Reading) (v : declared.Viewport) (items : List declared.Viewport) (view : ViewportStrings) → ((r : Progress) → length r.ended + 1 ≡ envelope → viewed text r line view ≡ Ok (record r { viewports = r.viewports ++ viewport_of v ∷ [] })) → length reading.closed.items + 1 ≡ envelope → items ≡ reading.viewports.items ++ v ∷ [] → viewed text (progress_of text reading) line view ≡ Ok (record (progress_of text reading) { viewports = map viewport_of items })
 one_more text line envelope reading v items view h e is =
     h (progress_of text reading) e
     ∙ ap (λ (vs : List Viewport). Ok (record (progress_of text reading) { viewports = vs }))

@@ -5,7 +5,7 @@ use Rattle.vp_lex.specs.Strings.{string_value}
 use Rattle.vp_lex.specs.Texts.{text_of}
 use Rattle.vp_pragma.specs.declared.deed.Deed.{Deed}
 use Rattle.vp_pragma.specs.declared.deed.Deed.TheVariants.{Begins, Ends, Names, Forgets, Views, Encrypted, Bad}
-use Rattle.vp_pragma.specs.declared.deed.View.{View}
+use Rattle.vp_pragma.specs.declared.deed.ViewportStrings.{ViewportStrings}
 use Rattle.vp_pragma.specs.declared.envelope.Envelope.{Envelope}
 use Rattle.vp_pragma.specs.declared.fault.PragmaError.{PragmaError}
 use Rattle.vp_pragma.specs.declared.fault.PragmaError.TheVariants as error
@@ -98,7 +98,7 @@ with_item text r line access None = Err (error.BadPragma line)
 with_item text r line access (Some item) = with_rights r line item (access_of access)
 
 -- a viewport stands in an envelope, and says an object and an access, tested in this order (profile)
-abbrev pub view_at : List ℕ → Progress → (line : ℕ) → Option View → Option Begun → Result Progress PragmaError
+abbrev pub view_at : List ℕ → Progress → (line : ℕ) → Option ViewportStrings → Option Begun → Result Progress PragmaError
 view_at text r line view None = Err (error.ViewportOutside line)
 view_at text r line None (Some b) = Err (error.BadPragma line)
 view_at text r line (Some view) (Some b) =

@@ -18,7 +18,7 @@ use Rattle.vp_pragma.specs.declared.deed.Deed.{Deed}
 use Rattle.vp_pragma.specs.declared.deed.Deed.TheVariants.{Begins, Ends, Names, Forgets, Views, Encrypted, Bad}
 use Rattle.vp_pragma.specs.declared.deed.Pragma.{Pragma}
 use Rattle.vp_pragma.specs.declared.deed.Pragma.TheVariants.{Protect, Reset}
-use Rattle.vp_pragma.specs.declared.deed.View.{View}
+use Rattle.vp_pragma.specs.declared.deed.ViewportStrings.{ViewportStrings}
 
 -- a token with its place
 abbrev pub Placed : Type 0
@@ -181,7 +181,7 @@ author_deed (Text string) = Names string
 author_deed _ = Bad
 
 -- the viewport that a value says: the strings of `object` and of `access`, in this order
-abbrev pub view_of : List ℕ → Value → Option View
+abbrev pub view_of : List ℕ → Value → Option ViewportStrings
 view_of text (Pairs p) =
     if bytes_eq (text_of text p.first) (codes "object") && bytes_eq (text_of text p.second) (codes "access")
     then Some (record { object = p.text; access = p.other })

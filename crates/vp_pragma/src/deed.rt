@@ -14,7 +14,7 @@ pub enum Pragma {
 
 /// What a viewport says: the strings of its object and of its access.
 #[derive(Clone, Copy)]
-pub struct View {
+pub struct ViewportStrings {
     pub object: Token,
     pub access: Token,
 }
@@ -31,7 +31,7 @@ pub enum Deed {
     /// It empties the author in force.
     Forgets,
     /// It opens a viewport; none where it says no object and access.
-    Views(Option<View>),
+    Views(Option<ViewportStrings>),
     /// It is part of an encrypted envelope.
     Encrypted,
     /// It is bad.
@@ -89,13 +89,13 @@ fn author_deed(value: Value) -> Deed
 }
 
 /// The viewport that a value says.
-fn view_of(text: &str, value: Value) -> Option<View>
+fn view_of(text: &str, value: Value) -> Option<ViewportStrings>
     ensures { result ≡ view_of text.now value }
 {
     match value {
         Value::Pairs(pair)
             if pair.first.text(text) == "object" && pair.second.text(text) == "access" => {
-            Some(View {
+            Some(ViewportStrings {
                 object: pair.text,
                 access: pair.other,
             })

@@ -8,7 +8,7 @@ ghost use Rattle.vp_pragma.specs.Faults.{Explains};
 ghost use Rattle.vp_pragma.specs.Reading.{HasPlaces, HasRoom, IsBefore, IsLine, after_all, after_left, after_one, author_in, placed, progress_of};
 ghost use Rattle.vp_pragma.specs.Surroundings.{is_before_else};
 
-use crate::deed::{Deed, Pragma, View, deed_of};
+use crate::deed::{Deed, Pragma, ViewportStrings, deed_of};
 use crate::envelope::{Envelope, Envelopes};
 use crate::fault::PragmaError;
 use crate::line::{Rest, expression_at, is_comma, is_word, run_of, split};
@@ -143,7 +143,7 @@ fn open_view(
     alloc: Global,
     reading: &mut Reading,
     line: Line<'_>,
-    view: Option<View>,
+    view: Option<ViewportStrings>,
 ) -> Result<(), PragmaError>
     requires line { IsLine line }
     requires room { HasRoom reading.old }

@@ -11,7 +11,7 @@ ghost use Rattle.vp_pragma.specs.EnvelopesOf.{Progress, item_named, with_item};
 ghost use Rattle.vp_pragma.specs.Faults.{Explains};
 ghost use Rattle.vp_pragma.specs.Reading.{viewport_of};
 
-use crate::deed::View;
+use crate::deed::ViewportStrings;
 use crate::fault::PragmaError;
 use crate::rights::{Rights, access};
 use std::alloc::{AllocError, Global};
@@ -163,7 +163,7 @@ pub fn read_view(
     text: &str,
     envelope: u8,
     line: u32,
-    view: View,
+    view: ViewportStrings,
 ) -> Result<Viewport, PragmaError>
     ensures { MatchResult result
         (λ v. (r : Progress) → length r.ended + 1 ≡ envelope → with_item text.now r line (string_value (text_of text.now view.access)) (item_named (parts 46 (string_value (text_of text.now view.object)))) ≡ Ok (record r { viewports = r.viewports ++ viewport_of v ∷ [] }))

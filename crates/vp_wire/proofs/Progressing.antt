@@ -1,9 +1,9 @@
 -- How a dialogue gets on: bytes are gathered, lines are answered, and what holds where a writer fails.
-use Rattle.std.proofs.Common.{inr, ◌≡◌, ◌∙◌, ℕ, suc, ◌+◌, List, [], ◌∷◌, ◌++◌, length, Option, Some, None, Result, Ok, Err, refl, sym, ap, subst}
+use Rattle.std.proofs.Common.{inr, ◌≡◌, ◌∙◌, ℕ, suc, ◌+◌, ◌≤◌, arith, List, [], ◌∷◌, ◌++◌, length, Option, Some, None, Result, Ok, Err, refl, sym, ap, subst}
 use Rattle.std.proofs.lemmas.List.{append_assoc, length-append}
 use Rattle.std.proofs.KnownBytes.{Appends-trans}
 use Rattle.std.specs.Io.KnownBytes.{Appends}
-use Rattle.std.specs.Result.{IsErr, MatchResult}
+use Rattle.std.specs.Result.{IfOk, IsErr, MatchResult}
 use Rattle.std.specs.List.{concat}
 use Rattle.vp_list.specs.Texts.{behind_part, parts, parts_some}
 use Rattle.vp_world.specs.declared.event.Request.{Request}
@@ -12,6 +12,7 @@ use Rattle.vp_wire.specs.declared.dialogue.Dialogue.{Dialogue}
 use Rattle.vp_wire.specs.declared.fault.WireError.TheVariants as fault
 use Rattle.vp_wire.specs.declared.line.Line.{Line}
 use Rattle.vp_wire.specs.Dialogue.{IsFront, Stops, turn_of, without_empty_end}
+use Rattle.vp_wire.specs.Failures.{failures_behind, one_more}
 use Rattle.vp_wire.specs.Reading.{IsBegun, Progress, Told, Writes}
 use Rattle.vp_wire.proofs.Answering.{answers_more, concat_more}
 use Rattle.vp_wire.proofs.Parting.{joined_part, lines_first}
@@ -48,6 +49,10 @@ written_ok result x told held holds is w = subst (λ (r : Result _ _). Writes r 
 
 written_err : {T E : Type 0} (result : Result T E) (e : E) (told : List ℕ) (held holds : Option (List ℕ)) → result ≡ Err e → Writes result told held holds → (front : List ℕ) × IsFront front told × Appends held holds front
 written_err result e told held holds is w = subst (λ (r : Result _ _). Writes r told held holds) is w
+
+-- what is left behind a newline is shorter
+pub rest_shorter : (bytes piece rest : List ℕ) → bytes ≡ piece ++ 10 ∷ rest → length rest + 1 ≤ length bytes
+rest_shorter bytes piece rest whole = rw whole (rw length-append (omega arith))
 
 -- a line is answered
 pub answered : {C T E : Type 0} {calls : C → Request → Reply → C → Type 0} {unread still_unread held mid holds : Option (List ℕ)} {first before now : C} (d e : Dialogue) (line : Line) (bytes piece rest : List ℕ) (result : Result T E) (x : T)
@@ -101,6 +106,16 @@ failed {C} {calls = calls} {held = held} {mid = mid} {holds = holds} d e line by
 pub matches_err : {T E : Type 0} (P : T → Type 0) {Q : Type 0} (result : Result T E) → IsErr result → Q → MatchResult result P (λ e. Q)
 matches_err P (Ok x) none q = cc
 matches_err P (Err e) is q = q
+
+-- what holds of every good result holds of an error
+pub none_ok : {T E : Type 0} (P : T → Type 0) (result : Result T E) → IsErr result → IfOk result P
+none_ok P (Ok x) none = cc
+none_ok P (Err e) is = tt
+
+-- behind an error one failure more is counted
+pub failures_err : {T E : Type 0} (n : ℕ) (result : Result T E) → IsErr result → failures_behind n result ≡ one_more n
+failures_err n (Ok x) none = cc
+failures_err n (Err e) is = refl
 
 -- how often a dialogue still looks at what is left
 abbrev pub turns_left : Option (List ℕ) → ℕ

@@ -6,6 +6,7 @@ use Rattle.serde_json.specs.Find.{get, as_str, as_number, as_u64}
 use Rattle.serde_json.specs.Read.{read}
 use Rattle.serde_json.specs.Written.{compact_text}
 use Rattle.vp_json.specs.Keys.{has_keys}
+use Rattle.vp_bits.specs.declared.bit.Bit.{Bit}
 use Rattle.vp_bits.specs.Digits.{digit_of}
 use Rattle.vp_pragma.specs.Rights.{name_of}
 use Rattle.vp_policy.specs.declared.denial.By.{By}
@@ -13,6 +14,7 @@ use Rattle.vp_policy.specs.declared.denial.By.TheVariants as by
 use Rattle.vp_policy.specs.declared.denial.Denial.{Denial}
 use Rattle.vp_world.specs.declared.event.Request.{Request}
 use Rattle.vp_world.specs.declared.event.Request.TheVariants as request
+use Rattle.vp_world.specs.declared.reply.Refusal.{Refusal}
 use Rattle.vp_world.specs.declared.reply.Reply.{Reply}
 use Rattle.vp_world.specs.declared.reply.Reply.TheVariants as reply
 use Rattle.vp_world.specs.Refusals.{text_of}
@@ -34,42 +36,55 @@ abbrev pub with_object : Option (List ℕ) → Members → Members
 with_object None members = members
 with_object (Some name) members = member (codes "object") (string name) members
 
--- a denial as JSON, with the author of its envelope and the object of the viewport that keeps the user out, its keys in
--- the order of their bytes (profile)
+-- the members of a denial: the author of its envelope, what keeps the user out, the number of the envelope, the object of the
+-- viewport, if one keeps him out, and the right that he lacks, in the order of the bytes of their keys (profile)
+abbrev pub denial_members : List ℕ → List ℕ → ℕ → Option (List ℕ) → List ℕ → Members
+denial_members author by envelope name right =
+    member (codes "author") (string author)
+    (member (codes "by") (string by)
+    (member (codes "no") (number (unsigned envelope))
+    (with_object name (member (codes "right") (string right) no_members))))
+
+-- a denial as JSON, with the author of its envelope and the object of the viewport that keeps the user out (profile)
 abbrev pub denial_data : Denial → List ℕ → Option (List ℕ) → Data
 denial_data denial author name =
-    only (codes "denied")
-    (object
-    (member (codes "author") (string author)
-    (member (codes "by") (string (by_text denial.by))
-    (member (codes "no") (number (unsigned denial.envelope))
-    (with_object name (member (codes "right") (string (name_of denial.right)) no_members))))))
+    only (codes "denied") (object (denial_members author (by_text denial.by) denial.envelope name (name_of denial.right)))
 
 -- the denial of a run: by the grant for the open text, which has no author (profile)
 abbrev pub run_denial_data : Data
-run_denial_data =
-    only (codes "denied")
-    (object
-    (member (codes "author") (string [])
-    (member (codes "by") (string (codes "grant"))
-    (member (codes "no") (number (unsigned 0))
-    (member (codes "right") (string (codes "run")) no_members)))))
+run_denial_data = only (codes "denied") (object (denial_members [] (codes "grant") 0 None (codes "run")))
 
 -- the current time as JSON, its keys in the order of their bytes (profile)
 abbrev pub time_data : ℕ → Bool → Data
 time_data time finished =
     object (member (codes "finished") (boolean finished) (member (codes "time") (number (unsigned time)) no_members))
 
+-- that it was done, as JSON (profile)
+abbrev pub done_data : Data
+done_data = only (codes "ok") (boolean true)
+
+-- a handle as JSON (profile)
+abbrev pub handle_data : ℕ → Data
+handle_data handle = only (codes "h") (number (unsigned handle))
+
+-- the value of a vector as JSON, in binary digits, greatest bit first (profile)
+abbrev pub vector_data : List Bit → Data
+vector_data bits = only (codes "value") (string (map digit_of (reverse bits)))
+
+-- a refusal as JSON (profile)
+abbrev pub error_data : Refusal → Data
+error_data refusal = only (codes "error") (string (text_of refusal))
+
 -- a reply as JSON (profile)
 abbrev pub data_of : Reply → Data
-data_of (reply.Opened session) = only (codes "ok") (boolean true)
-data_of reply.Done = only (codes "ok") (boolean true)
-data_of (reply.Handle handle) = only (codes "h") (number (unsigned handle))
-data_of (reply.Value bits) = only (codes "value") (string (map digit_of (reverse bits)))
+data_of (reply.Opened session) = done_data
+data_of reply.Done = done_data
+data_of (reply.Handle handle) = handle_data handle
+data_of (reply.Value bits) = vector_data bits
 data_of (reply.Denied denial author name) = denial_data denial author name
 data_of reply.RunDenied = run_denial_data
 data_of (reply.Time time finished) = time_data time finished
-data_of (reply.Error refusal) = only (codes "error") (string (text_of refusal))
+data_of (reply.Error refusal) = error_data refusal
 
 -- the line of a reply: compact JSON, and a newline (profile)
 abbrev pub line_of : Reply → List ℕ

@@ -1,25 +1,46 @@
 // Replies (docs/FORMATS.md, "Lines").
-ghost use Rattle.std.specs.Prelude.{◌≡◌, None, Some, IfOk, IsOkUnless, map, reverse};
-ghost use Rattle.serde_json.specs.Data.{string};
-ghost use Rattle.serde_json.specs.View.{view};
-ghost use Rattle.vp_bits.specs.Digits.{digit_of};
-ghost use Rattle.vp_wire.specs.Lines.{by_text, denial_data, data_of, line_of, run_denial_data, time_data};
+ghost use Rattle.std.specs.Prelude.{◌≡◌, None, Some, IfOk, IsOkUnless, OnOk};
+ghost use Rattle.serde_json.specs.Data.{put as with_member, string};
+ghost use Rattle.serde_json.specs.View.{members_view, view};
+ghost use Rattle.vp_wire.specs.Lines.{by_text, data_of, denial_data, denial_members, done_data, error_data, handle_data, line_of, only, run_denial_data, time_data, vector_data};
 
 use crate::fault::WireError;
-use serde_json::{Value, json};
+use serde_json::{Map, Value, put};
 use std::alloc::{AllocError, Global};
 use vp_bits::Bits;
 use vp_policy::{By, Denial};
-use vp_world::Reply;
+use vp_world::{Refusal, Reply};
+
+/// An object of one member.
+fn only(alloc: Global, key: &str, value: Value) -> Result<Value, AllocError>
+    ensures { IfOk result (λ v. view v ≡ only key.now (view value)) }
+{
+    let mut members = Map::new(alloc);
+    put(&mut members, alloc, key, value)?;
+    Ok(Value::Object(members))
+}
+
+/// It was done.
+fn done_value(alloc: Global) -> Result<Value, AllocError>
+    ensures { IfOk result (λ v. view v ≡ done_data) }
+{
+    only(alloc, "ok", Value::Bool(true))
+}
+
+/// A handle.
+fn handle_value(alloc: Global, handle: u32) -> Result<Value, AllocError>
+    ensures { IfOk result (λ v. view v ≡ handle_data handle) }
+{
+    only(alloc, "h", Value::from(handle))
+}
 
 /// The value of a vector, in binary digits.
-fn digits(alloc: Global, value: Bits) -> Result<Value, WireError>
-    ensures ok { IfOk result (λ v. view v ≡ string (map digit_of (reverse value))) }
-    ensures err { IsOkUnless result WireError.NoMemory }
+fn vector_value(alloc: Global, bits: Bits) -> Result<Value, AllocError>
+    ensures { IfOk result (λ v. view v ≡ vector_data bits) }
 {
-    match value.to_bin(alloc) {
-        Ok(digits) => Ok(Value::String(digits)),
-        Err(_) => Err(WireError::NoMemory),
+    match bits.to_bin(alloc) {
+        Ok(digits) => only(alloc, "value", Value::String(digits)),
+        Err(_) => Err(AllocError),
     }
 }
 
@@ -34,14 +55,43 @@ fn by_text(by: By) -> &'static str
     }
 }
 
+/// Puts a text under a key of an object.
+fn put_text(
+    alloc: Global,
+    members: &mut Map<String, Value>,
+    key: &str,
+    text: &str,
+) -> Result<(), AllocError>
+    ensures { OnOk result (members_view members.new.entries ≡ with_member key.now (string text.now) (members_view members.old.entries)) }
+{
+    put(members, alloc, key, Value::try_from_str(alloc, text)?)
+}
+
+/// The members of a denial, but for the object of a viewport.
+fn denial_members(
+    alloc: Global,
+    author: &str,
+    by: &str,
+    number: u8,
+    right: &str,
+) -> Result<Map<String, Value>, AllocError>
+    ensures { IfOk result (λ m. members_view m.entries ≡ denial_members author.now by.now number None right.now) }
+{
+    let mut members = Map::new(alloc);
+    put_text(alloc, &mut members, "author", author)?;
+    put_text(alloc, &mut members, "by", by)?;
+    put(&mut members, alloc, "no", Value::from(number))?;
+    put_text(alloc, &mut members, "right", right)?;
+    Ok(members)
+}
+
 /// A denial, with the author of its envelope.
 fn denied(alloc: Global, denial: Denial, author: &str) -> Result<Value, AllocError>
     ensures { IfOk result (λ v. view v ≡ denial_data denial author.now None) }
 {
     let by = by_text(denial.by);
-    let number = u64::from(denial.envelope);
-    let right = denial.right.name();
-    json!(in alloc; {"denied": {"author": author, "by": by, "no": number, "right": right}})
+    let members = denial_members(alloc, author, by, denial.envelope, denial.right.name())?;
+    only(alloc, "denied", Value::Object(members))
 }
 
 /// A denial by a viewport, with the author of its envelope and the viewport's object.
@@ -54,60 +104,57 @@ fn denied_by_viewport(
     ensures { IfOk result (λ v. view v ≡ denial_data denial author.now (Some object.now)) }
 {
     let by = by_text(denial.by);
-    let number = u64::from(denial.envelope);
-    let right = denial.right.name();
-    json!(in alloc; {"denied": {"author": author, "by": by, "no": number, "object": object, "right": right}})
+    let mut members = denial_members(alloc, author, by, denial.envelope, denial.right.name())?;
+    put_text(alloc, &mut members, "object", object)?;
+    only(alloc, "denied", Value::Object(members))
 }
 
 /// The denial of a run: by the grant for the open text, which has no author.
 fn run_denied(alloc: Global) -> Result<Value, AllocError>
     ensures { IfOk result (λ v. view v ≡ run_denial_data) }
 {
-    let open_text = 0u64;
-    json!(in alloc; {"denied": {"author": "", "by": "grant", "no": open_text, "right": "run"}})
+    let members = denial_members(alloc, "", "grant", 0, "run")?;
+    only(alloc, "denied", Value::Object(members))
 }
 
 /// The current time, in time units, and whether `$finish` was executed.
 fn time_value(alloc: Global, time: u64, finished: bool) -> Result<Value, AllocError>
     ensures { IfOk result (λ v. view v ≡ time_data time finished) }
 {
-    json!(in alloc; {"finished": finished, "time": time})
+    let mut members = Map::new(alloc);
+    put(&mut members, alloc, "finished", Value::Bool(finished))?;
+    put(&mut members, alloc, "time", Value::from(time))?;
+    Ok(Value::Object(members))
+}
+
+/// Another refusal.
+fn error_value(alloc: Global, refusal: Refusal) -> Result<Value, AllocError>
+    ensures { IfOk result (λ v. view v ≡ error_data refusal) }
+{
+    only(alloc, "error", Value::try_from_str(alloc, refusal.text())?)
 }
 
 /// A reply as a JSON value.
-fn value_of(alloc: Global, reply: &Reply) -> Result<Value, WireError>
-    ensures ok { IfOk result (λ v. view v ≡ data_of reply.now) }
-    ensures err { IsOkUnless result WireError.NoMemory }
+fn value_of(alloc: Global, reply: &Reply) -> Result<Value, AllocError>
+    ensures { IfOk result (λ v. view v ≡ data_of reply.now) }
 {
     match reply {
-        Reply::Opened(_) | Reply::Done => Ok(json!(in alloc; {"ok": true})?),
-        Reply::Handle(handle) => {
-            let handle = u64::from(*handle);
-            Ok(json!(in alloc; {"h": handle})?)
-        }
-        Reply::Value(value) => {
-            let value = digits(alloc, *value)?;
-            Ok(json!(in alloc; {"value": value})?)
-        }
+        Reply::Opened(_) | Reply::Done => done_value(alloc),
+        Reply::Handle(handle) => handle_value(alloc, *handle),
+        Reply::Value(bits) => vector_value(alloc, *bits),
         Reply::Denied {
             denial,
             author,
             object: None,
-        } => Ok(denied(alloc, *denial, author.as_str())?),
+        } => denied(alloc, *denial, author.as_str()),
         Reply::Denied {
             denial,
             author,
             object: Some(object),
-        } => {
-            let author = author.as_str();
-            Ok(denied_by_viewport(alloc, *denial, author, object.as_str())?)
-        }
-        Reply::RunDenied => Ok(run_denied(alloc)?),
-        Reply::Time { time, finished } => Ok(time_value(alloc, *time, *finished)?),
-        Reply::Error(refusal) => {
-            let text = refusal.text();
-            Ok(json!(in alloc; {"error": text})?)
-        }
+        } => denied_by_viewport(alloc, *denial, author.as_str(), object.as_str()),
+        Reply::RunDenied => run_denied(alloc),
+        Reply::Time { time, finished } => time_value(alloc, *time, *finished),
+        Reply::Error(refusal) => error_value(alloc, *refusal),
     }
 }
 

@@ -11,7 +11,7 @@ use Rattle.vp_lex.specs.declared.token.TokenKind.TheVariants.{Name}
 use Rattle.vp_parse.specs.declared.source.Source.{Source}
 use Rattle.vp_parse_expr.specs.declared.node.Expression.TheVariants as expression
 use Rattle.vp_parse_expr.specs.declared.node.Selection.TheVariants as selection
-use Rattle.vp_parse.specs.declared.source.Statement.TheVariants as statement
+use Rattle.vp_parse_stmt.specs.declared.arena.Statement.TheVariants as statement
 use Rattle.vp_parse.specs.declared.source.Item.TheVariants as item
 use Rattle.vp_elab.specs.declared.object.Kind.{Kind}
 use Rattle.vp_elab.specs.declared.object.Kind.TheVariants.{Module, Reg, Initial}

@@ -5,4 +5,4 @@ use Rattle.vp_expr.proofs.checks.counted_sizes.Given as goal
 
 abbrev pub invariant-loop-expression : goal.invariant-loop-expression
 invariant-loop-expression l =
-    fold (with_size l.design) l.sizes.items (drop l.expression-index l.design.source.expressions) ≡ counted_sizes l.design
+    fold (with_size l.design) l.sizes.items (drop l.expression-index l.expression-items) ≡ counted_sizes l.design

@@ -1,6 +1,7 @@
 use Rattle.std.proofs.Common.{◌∙◌, sym, arith}
 use Rattle.std.proofs.lemmas.Result.{err_from_is_err_and}
-use Rattle.vp_parse.specs.Placing.{Kept, lists_in, stmt_into}
+use Rattle.vp_parse_stmt.specs.Placing.{stmt_into}
+use Rattle.vp_parse.specs.Placing.{Kept, lists_in}
 use Rattle.vp_parse.proofs.Loops.{item_turn, items_done, item_fails}
 use Rattle.vp_parse.proofs.parsing.items.Goals as goal
 

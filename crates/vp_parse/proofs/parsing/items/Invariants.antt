@@ -1,6 +1,7 @@
 use Rattle.std.proofs.Common.{◌≤◌, length}
 use Rattle.vp_parse.specs.Weight.{weight}
-use Rattle.vp_parse.specs.Placing.{lists_in, stmt_into, items_into}
+use Rattle.vp_parse_stmt.specs.Placing.{stmt_into}
+use Rattle.vp_parse.specs.Placing.{lists_in, items_into}
 use Rattle.vp_parse.proofs.Loops.{ItemsGoOn}
 use Rattle.vp_parse.proofs.parsing.items.Given as goal
 

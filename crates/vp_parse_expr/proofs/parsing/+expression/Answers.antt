@@ -20,10 +20,10 @@ pub further_parts-loop-expressions-preserved : goal.further_parts-loop-expressio
 further_parts-loop-expressions-preserved t c =
     let e : Made = (c.in_ok-list.list.place, c.in_ok-list.list.depth, c.further_part.new.expressions.items, c.in_ok-list.list.rest.now) in
     record {
-      lighter = omega (arith, c.in_ok-list.ensures.lighter);
-      no_longer = omega (arith, c.in_ok-list.ensures.shorter);
-      within = omega (arith, c.in_ok-list.ensures.depth);
-      goes_on = part_turn (expr_into c.args.depth) c.args.brace c.loop-expressions.list.place c.loop-expressions.list.depth c.loop-expressions.expressions.items c.loop-expressions.list.rest.now _ e (sym c.is_next.ensures ∙ c.loop-expressions-test.true) c.in_ok-list.ensures.read c.in_ok-list.ensures.shorter c.loop-expressions.invariant.goes_on;
+      lighter = omega (arith, c.in_ok-list.ensures.fits.0);
+      no_longer = omega (arith, c.in_ok-list.ensures.fits.1);
+      within = omega (arith, c.in_ok-list.ensures.fits.2);
+      goes_on = part_turn (expr_into c.args.depth) c.args.brace c.loop-expressions.list.place c.loop-expressions.list.depth c.loop-expressions.expressions.items c.loop-expressions.list.rest.now _ e (sym c.is_next.ensures ∙ c.loop-expressions-test.true) c.in_ok-list.ensures.read c.in_ok-list.ensures.fits.1 c.loop-expressions.invariant.goes_on;
     }
 
 pub further_parts-returns-clause-read : goal.further_parts-returns-clause-read
@@ -38,10 +38,10 @@ pub more-loop-operator-preserved : goal.more-loop-operator-preserved
 more-loop-operator-preserved t c =
     let e : Made = (c.in_ok-left.left.place, c.in_ok-left.left.depth, c.binary.new.expressions.items, c.in_ok-left.left.rest.now) in
     record {
-      lighter = omega (arith, c.in_ok-left.ensures.lighter);
-      no_longer = omega (arith, c.in_ok-left.ensures.shorter);
-      within = omega (arith, c.in_ok-left.ensures.depth);
-      goes_on = operator_turn (expr_into c.args.depth) c.args.depth c.args.least c.loop-operator.left.place c.loop-operator.left.depth c.loop-operator.expressions.items c.loop-operator.left.rest.now _ c.in-Some.operator e (sym c.in-Some.ensures) c.in_ok-left.ensures.read c.in_ok-left.ensures.shorter c.loop-operator.invariant.goes_on;
+      lighter = omega (arith, c.in_ok-left.ensures.fits.0);
+      no_longer = omega (arith, c.in_ok-left.ensures.fits.1);
+      within = omega (arith, c.in_ok-left.ensures.fits.2);
+      goes_on = operator_turn (expr_into c.args.depth) c.args.depth c.args.least c.loop-operator.left.place c.loop-operator.left.depth c.loop-operator.expressions.items c.loop-operator.left.rest.now _ c.in-Some.operator e (sym c.in-Some.ensures) c.in_ok-left.ensures.read c.in_ok-left.ensures.fits.1 c.loop-operator.invariant.goes_on;
     }
 
 pub more-returns-clause-read : goal.more-returns-clause-read

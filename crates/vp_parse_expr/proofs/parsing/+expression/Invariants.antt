@@ -20,22 +20,22 @@ abbrev pub decreases-replication : goal.decreases-replication
 decreases-replication l = 10 * l.depth + 6
 
 abbrev pub decreases-concatenation : goal.decreases-concatenation
-decreases-concatenation l = 10 * l.depth + 6
+decreases-concatenation l = 10 * l.depth + 5
 
 abbrev pub decreases-parts : goal.decreases-parts
-decreases-parts l = 10 * l.depth + 5
+decreases-parts l = 10 * l.depth + 4
 
 abbrev pub decreases-further_parts : goal.decreases-further_parts
-decreases-further_parts l = 10 * l.depth + 4
+decreases-further_parts l = 10 * l.depth + 3
 
 abbrev pub decreases-further_part : goal.decreases-further_part
-decreases-further_part l = 10 * l.depth + 3
+decreases-further_part l = 10 * l.depth + 2
 
 abbrev pub decreases-first_part : goal.decreases-first_part
-decreases-first_part l = 10 * l.depth + 3
+decreases-first_part l = 10 * l.depth + 2
 
 abbrev pub decreases-part : goal.decreases-part
-decreases-part l = 10 * l.depth + 2
+decreases-part l = 10 * l.depth + 1
 
 abbrev pub decreases-named : goal.decreases-named
 decreases-named l = 10 * l.depth + 3

@@ -20,3 +20,13 @@ returns-in-Err-proceed-clause-goes g c = λ first unread held p.
 
 pub returns-in-Err-clause-goes : goal.returns-in-Err-clause-goes
 returns-in-Err-clause-goes g c = λ first unread held p. stopped c.args.self.now (read_none c.args.self.now p (c.in-Err.ensures {u = tt}).failed)
+
+pub returns-in-Err-finish-clause-goes : goal.returns-in-Err-finish-clause-goes
+returns-in-Err-finish-clause-goes g c = λ first unread held p.
+    let read = c.in-Ok-Some-eq0.ensures {u = tt} in
+    let end = read_end _ _ c.read.new.buffer c.in-Ok-Some-eq0.field-0 c.in-Ok-Some-eq0.field-0-0 c.in-Ok-Some-eq0.field-0-is c.in-Ok-Some-eq0.field-0-0-test (omega (arith, c.read.auto.buffer)) read.bytes read.end in
+    (c.in-Err-finish.ensures {u = tt}).whole first unread _ held (read_none c.args.self.now p end.0) end.1
+
+pub returns-in-Ok-None-clause-goes : goal.returns-in-Ok-None-clause-goes
+returns-in-Ok-None-clause-goes g c = λ first unread held p.
+    read_none c.args.self.now p (rw c.in-Ok-None.field-0-is at (c.in-Ok-None.ensures {u = tt}).interrupted)

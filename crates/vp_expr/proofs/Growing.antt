@@ -1,0 +1,30 @@
+-- Lists that grow by an item a turn, as a loop goes over others.
+use Rattle.std.proofs.Common.{◌≡◌, ◌∙◌, ℕ, ◌+◌, ◌<◌, List, [], ◌∷◌, ◌++◌, length, map, take, drop, get_or, sym, ap, append_assoc, add-one, drop-cons}
+use Rattle.std.proofs.lemmas.List.{map-append, take_more}
+use Rattle.std.specs.List.{fold}
+
+-- what is left begins with the next item
+next_left : {A : Type 0} (items : List A) (i : ℕ) (d : A) → i < length items → drop i items ≡ get_or items i d ∷ drop (i + 1) items
+next_left items i d h = drop-cons items i d h ∙ ap (λ n. get_or items i d ∷ drop n items) (sym (add-one i))
+
+-- one more item of those that are made, before what is left to make
+pub map_left : {A B : Type 0} (f : A → B) (made : List B) (items : List A) (i : ℕ) (d : A) (x : B) (whole : List B) → i < length items → made ++ map f (drop i items) ≡ whole → x ≡ f (get_or items i d) → (made ++ x ∷ []) ++ map f (drop (i + 1) items) ≡ whole
+map_left f made items i d x whole h so_far is =
+    append_assoc made (x ∷ []) (map f (drop (i + 1) items))
+    ∙ ap (λ y. made ++ (y ∷ map f (drop (i + 1) items))) is
+    ∙ ap (λ l. made ++ map f l) (sym (next_left items i d h))
+    ∙ so_far
+
+-- one more item of those that are made of the first ones
+pub map_taken : {A B : Type 0} (f : A → B) (made : List B) (items : List A) (i : ℕ) (d : A) (x : B) → i < length items → made ≡ map f (take i items) → x ≡ f (get_or items i d) → made ++ x ∷ [] ≡ map f (take (i + 1) items)
+map_taken f made items i d x h so_far is =
+    ap (λ y. made ++ y ∷ []) is
+    ∙ ap (λ l. l ++ f (get_or items i d) ∷ []) so_far
+    ∙ sym (ap (map f) (take_more items i d h) ∙ map-append f (take i items) (get_or items i d ∷ []))
+
+-- one more item of a fold, before those that are left
+pub fold_left : {A B : Type 0} (f : B → A → B) (so_far : B) (items : List A) (i : ℕ) (d : A) (next whole : B) → i < length items → fold f so_far (drop i items) ≡ whole → next ≡ f so_far (get_or items i d) → fold f next (drop (i + 1) items) ≡ whole
+fold_left f so_far items i d next whole h same is =
+    ap (λ b. fold f b (drop (i + 1) items)) is
+    ∙ ap (fold f so_far) (sym (next_left items i d h))
+    ∙ same

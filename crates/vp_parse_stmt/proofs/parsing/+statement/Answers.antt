@@ -1,0 +1,36 @@
+use Rattle.std.proofs.Common.{◌∙◌, sym, arith}
+use Rattle.std.proofs.lemmas.Result.{err_from_is_err_and}
+use Rattle.vp_parse_stmt.specs.Placing.{Made, lists_in, stmt_into}
+use Rattle.vp_parse_stmt.proofs.Loops.{chain_starts, chain_turn, chain_fails, chain_done, stmt_step, stmt_none}
+use Rattle.vp_parse_stmt.proofs.parsing.+statement.Goals as goal
+
+pub list-loop-arena-init : goal.list-loop-arena-init
+list-loop-arena-init t c = record {
+  lighter = omega arith;
+  no_longer = omega arith;
+  goes_on = rw (c.in_ok-so_far.ensures.place, c.in_ok-so_far.ensures.added) (chain_starts (stmt_into c.args.limit c.args.depth) (lists_in c.args.arena.now) c.args.symbols.now);
+}
+
+pub list-returns-in_err-last-clause-read : goal.list-returns-in_err-last-clause-read
+list-returns-in_err-last-clause-read t c =
+    let p = err_from_is_err_and c.from_residual-in_err-last.result c.from_residual-in_err-last.ensures.1 in
+    rw (p.1, p.2) (chain_fails (stmt_into c.args.limit c.args.depth) c.loop-arena.so_far (lists_in c.loop-arena.arena) c.loop-arena.rest.now _ c.in_err-last.field-0.0 (sym c.goes_on.ensures ∙ c.loop-arena-test.true) c.in_err-last.ensures.read c.loop-arena.invariant.goes_on)
+
+pub list-loop-arena-preserved : goal.list-loop-arena-preserved
+list-loop-arena-preserved t c =
+    let e : Made = (c.in_ok-last.last, lists_in c.statement.new.arena, c.in_ok-last.after.now) in
+    record {
+      lighter = omega (arith, c.in_ok-last.ensures.lighter, c.in_ok-so_far-2.ensures.len);
+      no_longer = omega (arith, c.in_ok-last.ensures.shorter);
+      goes_on = rw (c.in_ok-so_far-2.ensures.place, c.in_ok-so_far-2.ensures.added) (chain_turn (stmt_into c.args.limit c.args.depth) c.loop-arena.so_far (lists_in c.loop-arena.arena) c.loop-arena.rest.now _ e (sym c.goes_on.ensures ∙ c.loop-arena-test.true) c.in_ok-last.ensures.read c.in_ok-last.ensures.shorter c.loop-arena.invariant.goes_on);
+    }
+
+pub list-returns-clause-read : goal.list-returns-clause-read
+list-returns-clause-read t c = chain_done (stmt_into c.args.limit c.args.depth) c.loop-arena.so_far (lists_in c.loop-arena.arena) c.loop-arena.rest.now _ (sym c.goes_on.ensures ∙ c.loop-arena-test.false) c.loop-arena.invariant.goes_on
+
+pub statement-returns-then-depth-eq0-clause-read :
+    goal.statement-returns-then-depth-eq0-clause-read
+statement-returns-then-depth-eq0-clause-read t c = stmt_none c.args.limit c.args.depth (lists_in c.args.arena.now) c.args.symbols.now c.if-depth-eq0.true
+
+pub statement-returns-clause-read : goal.statement-returns-clause-read
+statement-returns-clause-read t c = rw (stmt_step c.args.limit c.args.depth (lists_in c.args.arena.now) c.args.symbols.now c.if-depth-eq0.false) c.form.ensures.read

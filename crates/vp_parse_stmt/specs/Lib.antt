@@ -1,0 +1,10 @@
+pub mod Grammar
+pub mod Reading
+pub mod Layout
+pub mod Placing
+pub mod Weight
+pub mod Takes
+pub mod Again
+pub mod Raise
+pub mod Within
+pub mod Placed

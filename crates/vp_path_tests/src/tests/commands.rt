@@ -1,0 +1,51 @@
+//! The command line, and files that are not there.
+
+use std::alloc::Global;
+use vp_command::{Command, Misuse, command};
+use vp_script::run_files;
+
+#[test]
+fn missing_file(rt: HostRuntime) {
+    let code = match run_files(&rt, "no/such/design.v", "no/such/policy.json") {
+        Ok(_) => 0,
+        Err(fault) => fault.code(),
+    };
+    assert_eq!(rt; code, 1602);
+}
+
+/// The words of a command line, as strings.
+fn words(alloc: Global, line: &[&str]) -> Vec<String> {
+    let mut words = Vec::new(alloc);
+    for word in line {
+        let _pushed = words.push(String::from_str(alloc, word).unwrap_or(String::new(alloc)));
+    }
+    words
+}
+
+/// What a command line asks, in a word.
+fn asked(alloc: Global, line: &[&str]) -> &'static str {
+    match command(alloc, &words(alloc, line)) {
+        Ok(Command::Bundle) => "bundle",
+        Ok(Command::Run { design, policy }) if design == "d.v" && policy == "p.json" => "run",
+        Ok(Command::Show(_)) => "show",
+        Err(Misuse::BadWords(_)) => "misuse",
+        _ => "other",
+    }
+}
+
+#[test]
+fn command_lines(rt: HostRuntime) {
+    let rows: [(&[&str], &str); 8] = [
+        (&["vp_served"], "bundle"),
+        (&["vp_served", "run", "d.v", "p.json"], "run"),
+        (&["vp_served", "--help"], "show"),
+        (&["vp_served", "run", "--help"], "show"),
+        (&["vp_served", "--version"], "show"),
+        (&["vp_served", "run", "d.v"], "misuse"),
+        (&["vp_served", "run", "d.v", "p.json", "q"], "misuse"),
+        (&["vp_served", "walk"], "misuse"),
+    ];
+    for (line, want) in rows {
+        assert_eq!(rt; asked(rt.alloc(), line), want);
+    }
+}

@@ -1,0 +1,193 @@
+-- A script: the lines of one session with a world, in which the simulation runs behind each request (profile).
+use Rattle.std.specs.Prelude.{◌≡◌, ◌⊎◌, ◌<◌, IsUtf8, length, ℕ, zero, suc, List, [], ◌∷◌, ◌++◌, Option, Some, None, IsSome, Ok}
+use Rattle.vp_elab.specs.Built.{Elaborated}
+use Rattle.vp_policy.specs.Faults.{Explains}
+use Rattle.vp_policy.specs.File.{file_of}
+use Rattle.vp_policy.specs.Users.{Member}
+use Rattle.vp_sim.specs.declared.fault.SimError.TheVariants.{Idle}
+use Rattle.vp_world.specs.declared.event.Event.{Event}
+use Rattle.vp_world.specs.declared.event.Event.TheVariants as event
+use Rattle.vp_world.specs.declared.event.Request.{Request}
+use Rattle.vp_world.specs.declared.event.Request.TheVariants as request
+use Rattle.vp_world.specs.declared.event.SessionId.{SessionId}
+use Rattle.vp_world.specs.declared.fault.WorldError.{WorldError}
+use Rattle.vp_world.specs.declared.fault.WorldError.TheVariants as error
+use Rattle.vp_world.specs.declared.limits.Limits.{Limits}
+use Rattle.vp_world.specs.declared.reply.Refusal.TheVariants as refusal
+use Rattle.vp_world.specs.declared.reply.Reply.{Reply}
+use Rattle.vp_world.specs.declared.reply.Reply.TheVariants as reply
+use Rattle.vp_world.specs.History.{answer, entry_of, refusal_behind, state_behind}
+use Rattle.vp_world.specs.Refusals.{refusal_of_error}
+use Rattle.vp_world.specs.Worlds.{Logged, Opening}
+use Rattle.vp_wire.specs.declared.fault.WireError.{WireError}
+use Rattle.vp_wire.specs.Dialogue.{Closes, IsWhole, Point, Stops}
+use Rattle.vp_script.specs.Bundles.{cut_of}
+use Rattle.vp_script.specs.declared.fault.ServeFault.{ServeFault}
+use Rattle.vp_script.specs.declared.fault.ServeFault.TheVariants as fault
+use Rattle.vp_script.specs.Designs.{IsDesignOf, IsRefusedBy, text_limit}
+
+-- ---- one event
+
+-- the refusal of an event by a world; none where it is accepted
+abbrev pub refused_by : Logged → Event → Option WorldError
+refused_by w e = refusal_behind w.opening w.log e
+
+-- the world with the entry of an event more
+abbrev pub with_entry : Logged → Event → Logged
+with_entry w e = record w { log = w.log ++ entry_of w.opening (state_behind w.opening w.log) e ∷ [] }
+
+-- what a world does with an event, by its refusal: it answers and logs it, or tells the refusal; or there is no memory, and
+-- nothing happens
+abbrev pub AppliedBy : Option WorldError → Logged → Event → Reply → Logged → Type 0
+AppliedBy (Some e) w happens told v = (told ≡ reply.Error (refusal_of_error e)) × (v ≡ w)
+AppliedBy None w happens told v =
+    ((told ≡ answer w.opening (state_behind w.opening w.log) happens) × (v ≡ with_entry w happens))
+    ⊎ ((told ≡ reply.Error refusal.NoMemory) × (v ≡ w))
+
+-- what a world does with an event, if there is one: a request of a session that was not opened is none
+abbrev pub Applied : Option Event → Logged → Reply → Logged → Type 0
+Applied None w told v = (told ≡ reply.Error refusal.NotOpen) × (v ≡ w)
+Applied (Some e) w told v = AppliedBy (refused_by w e) w e told v
+
+-- ---- the simulation runs
+
+-- the next event of the simulation: the first that a step can take; where a step finds nothing to do at the current time, an advance
+abbrev pub next_event_by : Option WorldError → Event
+next_event_by (Some (error.Sim Idle)) = event.Advance
+next_event_by stepped = event.Step 0
+
+-- the next event of the simulation in a world
+abbrev pub next_event : Logged → Event
+next_event w = next_event_by (refused_by w (event.Step 0))
+
+-- so many events of the simulation happen, each the next
+abbrev pub Happen : ℕ → Logged → Logged → Type 0
+Happen zero w v = v ≡ w
+Happen (suc n) w v = (u : Logged) × Happen n w u × (refused_by u (next_event u) ≡ None) × (v ≡ with_entry u (next_event u))
+
+-- the simulation runs until the world refuses its next event
+abbrev pub Runs : Logged → Logged → Type 0
+Runs w v = (n : ℕ) × Happen n w v × IsSome (refused_by v (next_event v))
+
+-- ---- a script
+
+-- a world, and the session that the script has opened, if it has
+pub record Script : Type 0 where
+  pub world : Logged
+  pub session : Option SessionId
+
+-- the event of a request
+abbrev pub event_of : Option SessionId → Request → Option Event
+event_of session (request.Open user token) = Some (event.Open user token)
+event_of None r = None
+event_of (Some id) request.Close = Some (event.Close id)
+event_of (Some id) r = Some (event.Ask id r)
+
+-- the session of a script behind a reply
+abbrev pub session_behind : Option SessionId → Reply → Option SessionId
+session_behind session (reply.Opened id) = Some id
+session_behind session told = session
+
+-- a script's request is answered by the world, and then the simulation runs
+pub record Serves (before : Script) (r : Request) (told : Reply) (after : Script) : Type 0 where
+  pub asked : Logged
+  pub applied : Applied (event_of before.session r) before.world told asked
+  pub session : after.session ≡ session_behind before.session told
+  pub runs : Runs asked after.world
+
+-- a script in which nothing has happened
+abbrev pub opened : Opening → Script
+opened opening = record { world = record { opening = opening; log = [] }; session = None }
+
+-- ---- a script over a reader and a writer
+
+-- the greatest limits of a world (profile)
+abbrev pub greatest : Limits
+greatest = record { log = 4194304; book = 65536; sessions = 64 }
+
+-- a script is that of a text and a policy file, in a fresh world in which nothing has happened
+pub record IsOpened (text policy : List ℕ) (script : Script) : Type 0 where
+  pub design : Elaborated
+  pub is_design : IsDesignOf text design
+  pub users : List Member
+  pub are_users : file_of (length design.tree.authors) policy ≡ Ok users
+  pub fresh : script ≡ opened (record { design = design; users = users; limits = greatest })
+
+-- a script over an input has read it to the end, so many lines, and each was told what the script answers it
+pub record IsAnswered (script : Script) (unread still_unread held holds : Option (List ℕ)) (lines : ℕ) : Type 0 where
+  pub end : Point Script
+  pub whole : IsWhole Serves unread still_unread held holds script end lines
+  pub behind : Script
+  pub closes : Closes Serves end.stage end.caller behind
+
+-- the script of a text and a policy file over an input
+pub record IsScript (text policy : List ℕ) (unread still_unread held holds : Option (List ℕ)) (lines : ℕ) : Type 0 where
+  pub script : Script
+  pub opened : IsOpened text policy script
+  pub answered : IsAnswered script unread still_unread held holds lines
+
+-- a bundle's design, policy and script: what stands before its first line `%%`, between this and the next, and behind that
+pub record IsBundle (bundle : List ℕ) (held holds : Option (List ℕ)) (lines : ℕ) : Type 0 where
+  pub text : List ℕ
+  pub rest : List ℕ
+  pub first_cut : cut_of bundle ≡ Some (text, rest)
+  pub policy : List ℕ
+  pub input : List ℕ
+  pub second_cut : cut_of rest ≡ Some (policy, input)
+  pub script : IsScript text policy (Some input) (Some []) held holds lines
+
+-- ---- faults
+
+-- a script over an input has stopped by a fault of the reader or the writer, and each line that was answered till then was told what
+-- the script answers it
+pub record IsStopped (e : WireError) (script : Script) (unread still_unread held holds : Option (List ℕ)) : Type 0 where
+  pub end : Point Script
+  pub stops : Stops e Serves unread still_unread held holds script end
+  pub behind : Script
+  pub closes : Closes Serves end.stage end.caller behind
+
+-- a policy file is refused by a fault, behind a text that has this design
+abbrev pub IsPolicyRefusedBy : Elaborated → List ℕ → ServeFault → Type 0
+IsPolicyRefusedBy design policy (fault.Policy e) = Explains (file_of (length design.tree.authors) policy) e
+IsPolicyRefusedBy design policy fault.TooLong = text_limit < length policy
+IsPolicyRefusedBy design policy (fault.World e) = e ≡ error.NoMemory
+IsPolicyRefusedBy design policy fault.NoMemory = Unit {0}
+IsPolicyRefusedBy design policy f = ⊥
+
+-- no script is opened for a text and a policy file, by a fault of the text, or else of the file; or memory is lacking
+abbrev pub IsUnopened : List ℕ → List ℕ → ServeFault → Type 0
+IsUnopened text policy f =
+    IsRefusedBy text f ⊎ ((design : Elaborated) × IsDesignOf text design × IsPolicyRefusedBy design policy f)
+
+-- the fault that ended a script over an input: of the text, then of the policy file, then of the reader or the writer; or memory is
+-- lacking
+abbrev pub EndsBy : List ℕ → List ℕ → (unread still_unread held holds : Option (List ℕ)) → ServeFault → Type 0
+EndsBy text policy unread still_unread held holds (fault.Lines e) =
+    (script : Script) × IsOpened text policy script × IsStopped e script unread still_unread held holds
+EndsBy text policy unread still_unread held holds f = IsUnopened text policy f ⊎ (f ≡ fault.NoMemory)
+
+-- the greatest length of a bundle, in bytes (profile)
+abbrev pub bundle_limit : ℕ
+bundle_limit = 16777216
+
+-- bytes are no bundle: they have no first line `%%`, or none behind that, or what stands before the first is no text
+abbrev pub IsNoBundle : List ℕ → Type 0
+IsNoBundle bundle =
+    (cut_of bundle ≡ None) ⊎ ((text : List ℕ) × (rest : List ℕ) × (cut_of bundle ≡ Some (text, rest)) × ((cut_of rest ≡ None) ⊎ (IsUtf8 text → ⊥)))
+
+-- the fault that ended a bundle by its script
+pub record IsBundleFault (bundle : List ℕ) (held holds : Option (List ℕ)) (f : ServeFault) : Type 0 where
+  pub text : List ℕ
+  pub rest : List ℕ
+  pub first_cut : cut_of bundle ≡ Some (text, rest)
+  pub policy : List ℕ
+  pub input : List ℕ
+  pub second_cut : cut_of rest ≡ Some (policy, input)
+  pub still_unread : Option (List ℕ)
+  pub ends : EndsBy text policy (Some input) still_unread held holds f
+
+-- the fault that ended a bundle: it is too long, or it is none, or its text is too long, or else by its script
+abbrev pub EndsBundleBy : List ℕ → (held holds : Option (List ℕ)) → ServeFault → Type 0
+EndsBundleBy bundle held holds fault.TooLong = (bundle_limit < length bundle) ⊎ ((text : List ℕ) × (rest : List ℕ) × (cut_of bundle ≡ Some (text, rest)) × (text_limit < length text)) ⊎ IsBundleFault bundle held holds fault.TooLong
+EndsBundleBy bundle held holds fault.BadBundle = IsNoBundle bundle
+EndsBundleBy bundle held holds f = IsBundleFault bundle held holds f

@@ -1,0 +1,105 @@
+ghost use Rattle.std.specs.Prelude.{◌≡◌, ◌⊎◌, length, IfErr, IfOk, Ok};
+ghost use Rattle.vp_wire.specs.declared.fault.WireError.{WireError};
+ghost use Rattle.vp_script.specs.declared.fault.ServeFault.TheVariants.{Lines, NoMemory};
+ghost use Rattle.vp_policy.specs.File.{file_of};
+ghost use Rattle.vp_script.specs.Keeping.{script_of};
+ghost use Rattle.vp_script.specs.Designs.{IsDesignOf, IsRefusedBy};
+ghost use Rattle.vp_script.specs.Scripts.{EndsBy, IsAnswered, IsOpened, IsPolicyRefusedBy, IsScript, IsStopped, IsUnopened};
+
+use crate::fault::ServeFault;
+use crate::keeper::Keeper;
+use crate::sources::TEXT_LIMIT;
+use std::alloc::Global;
+use std::io::{Read, Write};
+use std::sync::Arc;
+use vp_elab::{Design, elaborate};
+use vp_expr::{Checked, check};
+use vp_lex::tokens;
+use vp_parse::parse;
+use vp_policy::Policy;
+use vp_pragma::envelopes;
+use vp_wire::{Counted, session};
+use vp_world::{Limits, World};
+
+/// How a script ended: at the end of its input.
+#[derive(Clone, Copy, Debug, PartialEq, Eq)]
+pub struct Ran {
+    /// How many lines were read.
+    pub lines: u64,
+}
+
+/// The checked design of a text; or the first fault of its tokens, its envelopes, its grammar, its names or its
+/// expressions, in this order.
+fn checked(alloc: Global, text: &str) -> Result<Checked, ServeFault>
+    ensures design { IfOk result (λ checked. IsDesignOf text.now checked) }
+    ensures refused { IfErr result (λ fault. IsRefusedBy text.now fault) }
+{
+    if text.len() > TEXT_LIMIT {
+        return Err(ServeFault::TooLong);
+    }
+    let tokens = tokens(alloc, text)?;
+    let envelopes = envelopes(alloc, text, &tokens)?;
+    let source = parse(alloc, text, &tokens)?;
+    let design = elaborate(alloc, source, envelopes)?;
+    Ok(check(alloc, design)?)
+}
+
+/// The policy of a file, for a design.
+fn policy_of(alloc: Global, bytes: &[u8], design: &Design) -> Result<Policy, ServeFault>
+    ensures users { IfOk result (λ policy. file_of (length design.now.tree.authors) bytes.now ≡ Ok policy) }
+    ensures refused { IfErr result (λ fault. IsPolicyRefusedBy design.now bytes.now fault) }
+{
+    if bytes.len() > TEXT_LIMIT {
+        return Err(ServeFault::TooLong);
+    }
+    Ok(Policy::read(alloc, bytes, design)?)
+}
+
+/// A fresh world of a design and a policy, with the greatest limits, whose script has no session yet; or the first fault of the
+/// design, then of the policy.
+fn opened(alloc: Global, design: &str, policy: &[u8]) -> Result<Keeper, ServeFault>
+    ensures script { IfOk result (λ keeper. IsOpened design.now policy.now (script_of keeper)) }
+    ensures refused { IfErr result (λ fault. IsUnopened design.now policy.now fault) }
+{
+    let checked = Arc::new(alloc, checked(alloc, design)?)?;
+    let policy = policy_of(alloc, policy, checked.design())?;
+    let world = World::new(alloc, checked, policy, Limits::GREATEST)?;
+    Ok(Keeper::new(world))
+}
+
+/// Answers the lines of a reader by a script, up to the end of the input; or the fault of the reader or the writer, or want of
+/// memory for the simulation.
+fn answered<R: Read, W: Write>(
+    alloc: Global,
+    keeper: &mut Keeper,
+    reader: &mut Counted<R>,
+    writer: &mut Counted<W>,
+) -> Result<Ran, ServeFault>
+    ensures answered { IfOk result (λ ran. IsAnswered (script_of keeper.old) (R.remaining reader.old.inner) (R.remaining reader.new.inner) (W.contents writer.old.inner) (W.contents writer.new.inner) ran.lines) }
+    ensures stopped { IfErr result (λ fault. (fault ≡ NoMemory) ⊎ ((e : WireError) × (fault ≡ Lines e) × IsStopped e (script_of keeper.old) (R.remaining reader.old.inner) (R.remaining reader.new.inner) (W.contents writer.old.inner) (W.contents writer.new.inner))) }
+{
+    let ended = session(alloc, reader, writer, keeper);
+    if keeper.is_starved() {
+        return Err(ServeFault::NoMemory);
+    }
+    match ended {
+        Ok(ended) => Ok(Ran { lines: ended.lines }),
+        Err(error) => Err(ServeFault::Lines(error)),
+    }
+}
+
+/// Answers the lines of a reader about a design under a policy, up to the end of the input; or the first fault of
+/// the design, then of the policy, then of the reader or the writer; or want of memory (1607).
+pub fn run_script<R: Read, W: Write>(
+    alloc: Global,
+    design: &str,
+    policy: &[u8],
+    reader: &mut Counted<R>,
+    writer: &mut Counted<W>,
+) -> Result<Ran, ServeFault>
+    ensures script { IfOk result (λ ran. IsScript design.now policy.now (R.remaining reader.old.inner) (R.remaining reader.new.inner) (W.contents writer.old.inner) (W.contents writer.new.inner) ran.lines) }
+    ensures fault { IfErr result (λ fault. EndsBy design.now policy.now (R.remaining reader.old.inner) (R.remaining reader.new.inner) (W.contents writer.old.inner) (W.contents writer.new.inner) fault) }
+{
+    let mut keeper = opened(alloc, design, policy)?;
+    answered(alloc, &mut keeper, reader, writer)
+}

@@ -1,0 +1,70 @@
+use std::alloc::{AllocError, Global};
+use std::io;
+use std::io::BufRead;
+use vp_script::run_bundle;
+use vp_wire::Counted;
+
+/// A bundle, and what it must print.
+#[derive(Drop)]
+pub struct Case {
+    pub name: String,
+    bundle: String,
+    pub wanted: String,
+    in_bundle: bool,
+}
+
+impl Case {
+    /// A case of which only the name was read.
+    fn new(alloc: Global, name: &str) -> Result<Case, AllocError> {
+        Ok(Case {
+            name: String::from_str(alloc, name)?,
+            bundle: String::new(alloc),
+            wanted: String::new(alloc),
+            in_bundle: true,
+        })
+    }
+
+    /// Takes the next line of the case.
+    fn add_line(&mut self, line: &str) -> Result<(), AllocError> {
+        if line == "==" {
+            self.in_bundle = false;
+            return Ok(());
+        }
+        let part = if self.in_bundle {
+            &mut self.bundle
+        } else {
+            &mut self.wanted
+        };
+        part.push_str(line)?;
+        part.push('\n')
+    }
+
+    /// What the bundle prints: the replies, and the line of the fault that ends it, if one does.
+    pub fn printed(&self, alloc: Global) -> Result<String, AllocError> {
+        let mut writer = Counted::new(Vec::new(alloc));
+        let ran = run_bundle(alloc, self.bundle.as_bytes(), &mut writer);
+        let replies = String::from_utf8_lossy(alloc, &writer.inner)?;
+        match ran {
+            Ok(_) => Ok(replies),
+            Err(fault) => {
+                let code = fault.code();
+                let line = fault.line();
+                format!(in alloc; "{replies}fault {code} line {line}\n")
+            }
+        }
+    }
+}
+
+/// The cases of a reader; what stands before the first is passed over.
+pub fn read_cases<R: BufRead + Drop>(alloc: Global, reader: R) -> io::Result<Vec<Case>> {
+    let mut cases: Vec<Case> = Vec::new(alloc);
+    for line in reader.lines(alloc) {
+        let line = line?;
+        if let Some(name) = line.strip_prefix("## ") {
+            cases.push(Case::new(alloc, name)?)?;
+        } else if let Some(case) = cases.last_mut() {
+            case.add_line(line.as_str())?;
+        }
+    }
+    Ok(cases)
+}

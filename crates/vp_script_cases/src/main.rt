@@ -1,0 +1,44 @@
+//! Runs the cases of the files that its words name: bundles, each with what it must print. A case is a line `## ` with its
+//! name, the bundle, a line `==`, and the lines that the bundle must print.
+#![tactic(auto)]
+
+mod cases;
+
+use crate::cases::{Case, read_cases};
+use std::io::BufReader;
+use std::rt::Files;
+use std::{env, fs, io};
+
+/// Whether a case prints what it must; what it prints is shown where it does not.
+fn is_as_wanted<R: AllocGlobal + Print>(rt: &R, case: &Case) -> io::Result<bool> {
+    let printed = case.printed(rt.alloc())?;
+    let as_wanted = printed.as_str() == case.wanted.as_str();
+    if !as_wanted {
+        let name = case.name.as_str();
+        let wanted = case.wanted.as_str();
+        println!(rt; "{name}\nwanted:\n{wanted}printed:\n{printed}")?;
+    }
+    Ok(as_wanted)
+}
+
+/// Runs the cases of a file, and tells how many print what they must.
+fn check_file<R: AllocGlobal + Files + Print>(rt: &R, file: &str) -> io::Result<()> {
+    let alloc = rt.alloc();
+    let cases = read_cases(alloc, BufReader::new(alloc, fs::open(rt, file)?)?)?;
+    let mut agreeing = 0u64;
+    for case in &cases {
+        if is_as_wanted(rt, case)? {
+            agreeing = agreeing.saturating_add(1);
+        }
+    }
+    let count = cases.len();
+    println!(rt; "{file}: {count} cases, {agreeing} as wanted")
+}
+
+fn main(rt: HostRuntime) -> io::Result<()> {
+    let words: Vec<String> = env::args(&rt)?.collect(rt.alloc())?;
+    for file in words.iter().skip(1) {
+        check_file(&rt, file.as_str())?;
+    }
+    Ok(())
+}

@@ -1,0 +1,23 @@
+use Rattle.std.proofs.Common.{◌≡◌, ◌∙◌, ap, subst, sym}
+use Rattle.std.specs.Prelude.{IfOk}
+use Rattle.serde_json.specs.View.{view}
+use Rattle.vp_wire.specs.Lines.{request_of_op}
+use Rattle.vp_wire.proofs.requests.request_of_op.Goals as goal
+
+pub returns-in-open : goal.returns-in-open
+returns-in-open c = subst (λ op. IfOk c.open_request.result (λ r. r ≡ request_of_op op (view c.args.value.now))) (sym c.in-open.is) c.open_request.ensures
+
+pub returns-in-close : goal.returns-in-close
+returns-in-close c = c.close_request.ensures ∙ ap (λ op. request_of_op op (view c.args.value.now)) (sym c.in-close.is)
+
+pub returns-in-handle : goal.returns-in-handle
+returns-in-handle c = subst (λ op. IfOk c.handle_request.result (λ r. r ≡ request_of_op op (view c.args.value.now))) (sym c.in-handle.is) c.handle_request.ensures
+
+pub returns-in-value : goal.returns-in-value
+returns-in-value c = c.value_request.ensures ∙ ap (λ op. request_of_op op (view c.args.value.now)) (sym c.in-value.is)
+
+pub returns-in-run : goal.returns-in-run
+returns-in-run c = c.run_request.ensures ∙ ap (λ op. request_of_op op (view c.args.value.now)) (sym c.in-run.is)
+
+pub returns-in-time : goal.returns-in-time
+returns-in-time c = c.time_request.ensures ∙ ap (λ op. request_of_op op (view c.args.value.now)) (sym c.in-time.is)
