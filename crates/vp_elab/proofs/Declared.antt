@@ -12,7 +12,8 @@ use Rattle.vp_parse.specs.declared.source.Module.{Module}
 use Rattle.vp_pragma.specs.declared.envelope.Envelope.{Envelope}
 use Rattle.vp_pragma.specs.Envelopes.{Viewport, envelope_at}
 use Rattle.vp_elab.specs.Tree.{Step, Node, below, declared_in, declares_in, envelopes_in, step_in}
-use Rattle.vp_elab.specs.Elaboration.{item_name, item_place, items_in, step_at, root_step, item_node, module_nodes, tree_of}
+use Rattle.vp_modules.specs.Items.{item_name, item_place, items_in}
+use Rattle.vp_elab.specs.Elaboration.{step_at, root_step, item_node, module_nodes, tree_of}
 use Rattle.vp_elab.specs.Objects.{numbers_of}
 use Rattle.vp_elab.proofs.Distinct.{AllOther, bytes_eq-self}
 use Rattle.vp_elab.proofs.Marks.{filter_below_same}

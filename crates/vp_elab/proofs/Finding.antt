@@ -13,8 +13,10 @@ use Rattle.vp_parse.specs.declared.source.Module.{Module}
 use Rattle.vp_pragma.specs.declared.envelope.Envelope.{Envelope}
 use Rattle.vp_elab.specs.declared.object.ObjectId.{ObjectId}
 use Rattle.vp_elab.specs.Tree.{Node, is_named}
-use Rattle.vp_elab.specs.Elaboration.{item_name, items_in, item_node, module_nodes}
-use Rattle.vp_elab.specs.Objects.{module_names, roots_behind}
+use Rattle.vp_modules.specs.Items.{item_name, items_in}
+use Rattle.vp_elab.specs.Elaboration.{item_node, module_nodes}
+use Rattle.vp_modules.specs.Tables.{module_names}
+use Rattle.vp_elab.specs.Objects.{roots_behind}
 use Rattle.vp_elab.proofs.Zip.{or_else, position_from-append, position_from-shift, position_from-same, position_from-none}
 use Rattle.vp_elab.proofs.Distinct.{AllOther, bytes_eq-self}
 use Rattle.vp_elab.proofs.Preorder.{nodes_in}

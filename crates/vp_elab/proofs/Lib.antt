@@ -1,6 +1,5 @@
 pub mod TreeRows
 pub mod Marks
-pub mod Twice
 pub mod Zip
 pub mod Preorder
 pub mod Authors

@@ -12,13 +12,14 @@ use Rattle.vp_elab.specs.declared.design.Objects.{Objects}
 use Rattle.vp_elab.specs.declared.object.Object.{Object}
 use Rattle.vp_elab.specs.declared.object.ObjectId.{ObjectId}
 use Rattle.vp_elab.specs.declared.scope.Modules.{Modules}
-use Rattle.vp_elab.specs.declared.scope.Scope.{Scope}
 use Rattle.vp_elab.specs.declared.sight.Sight.{Sight}
 use Rattle.vp_elab.specs.Built.{Elaborated, IsBuilt, design_of}
 use Rattle.vp_elab.specs.Tree.{Node, Step, name_at, node_name}
-use Rattle.vp_elab.specs.Elaboration.{item_name, items_in, module_nodes}
-use Rattle.vp_elab.specs.Objects.{objects_behind, scope_in}
+use Rattle.vp_modules.specs.Items.{item_name, items_in}
+use Rattle.vp_elab.specs.Elaboration.{module_nodes}
+use Rattle.vp_elab.specs.Objects.{objects_behind}
 use Rattle.vp_elab.proofs.Preorder.{Beside, Fits, Named, OfChild, OfItem, OfModule, OfTop, Role, all_nodes, beside, nodes_in, root_node, root_there}
+use Rattle.vp_modules.specs.Tables.{scope_in}
 use Rattle.vp_elab.proofs.Scopes.{scope_of_object, scope_there}
 
 -- an item of a list, through a function
@@ -28,15 +29,15 @@ index_map f (y ∷ ys) zero x h = let same : y ≡ x = cc in ap f same
 index_map f (y ∷ ys) (suc k) x h = index_map f ys k x h
 
 -- the name of an object of a scope, by its number behind the scope's
-abbrev pub name_in : ℕ → ℕ → Option Scope → List ℕ
-name_in id object scope = option_map_or (λ (s : Scope). slice_index_or s.names (id - object - 1) []) scope []
+abbrev pub name_in : ℕ → ℕ → Option (List (List ℕ)) → List ℕ
+name_in id object scope = option_map_or (λ (s : List (List ℕ)). slice_index_or s (id - object - 1) []) scope []
 
 module _ (source : Source) (envelopes : List Envelope) where
   abbrev objects : List Object
   objects = objects_behind source envelopes 0 source.modules []
 
-  abbrev scopes : List Scope
-  scopes = map (scope_in source envelopes) source.modules
+  abbrev scopes : List (List (List ℕ))
+  scopes = map (scope_in source) source.modules
 
   abbrev nodes : List Node
   nodes = all_nodes source envelopes
@@ -61,16 +62,16 @@ module _ (source : Source) (envelopes : List Envelope) where
   scope_by_role :
       (base : ℕ) (scope : Option ℕ) (n : Node) (m : Module) (before after : List Module)
       → Role source envelopes base scope n.path → n ≡ root_node source envelopes m → source.modules ≡ before ++ m ∷ after → base ≡ length (nodes_in source envelopes before)
-      → option_and_then (slice_get scopes) scope ≡ Some (scope_in source envelopes m)
+      → option_and_then (slice_get scopes) scope ≡ Some (scope_in source m)
   scope_by_role base scope n m before after (OfItem s t no_scope steps) is e b = absurd cc
   scope_by_role base scope n m before after (OfModule own before_own after_own split number here steps) is e b =
       let same : own ≡ m = same_module before_own before own m after_own after (sym split ∙ e) (sym here ∙ b) in
-      ap (option_and_then (slice_get scopes)) number ∙ scope_there source envelopes own before_own after_own split ∙ ap (λ (x : Module). Some (scope_in source envelopes x)) same
+      ap (option_and_then (slice_get scopes)) number ∙ scope_there source (scope_in source) own before_own after_own split ∙ ap (λ (x : Module). Some (scope_in source x)) same
 
   scope_by :
       (base : ℕ) (found : Option Object) (m : Module) (before after : List Module)
       → Beside source envelopes base found → source.modules ≡ before ++ m ∷ after → base ≡ length (nodes_in source envelopes before)
-      → option_and_then (slice_get scopes) (option_and_then (λ (o : Object). o.scope) found) ≡ Some (scope_in source envelopes m)
+      → option_and_then (slice_get scopes) (option_and_then (λ (o : Object). o.scope) found) ≡ Some (scope_in source m)
   scope_by base None m before after h e b =
       let there : slice_get nodes base ≡ Some (root_node source envelopes m) = ap (slice_get nodes) b ∙ root_there source envelopes m before after e in
       absurd cc
@@ -133,12 +134,12 @@ module _ (source : Source) (protection : Protection) (modules : Modules) (object
 
   -- and its name stands in the module's scope
   pub name_child :
-      (d : Elaborated) → design_of source protection ≡ d → (os : List Object) (ss : List Scope) (id : ℕ) (object : Object) (p : ObjectId) → os ≡ objects.all → ss ≡ modules.scopes
+      (d : Elaborated) → design_of source protection ≡ d → (os : List Object) (ss : List (List (List ℕ))) (id : ℕ) (object : Object) (p : ObjectId) → os ≡ objects.all → ss ≡ modules.tables.scopes
       → Some object ≡ slice_get os id → object.parent ≡ Some p → name_in id p.0 (scope_of_object os ss p.0) ≡ name_at d.tree id
   name_child d view os ss id object p o s h above =
       let beside = beside_built d view os id (Some object) o h in
       ap (λ (x : List Object). name_in id p.0 (scope_of_object x ss p.0)) (o ∙ all_is)
-      ∙ ap (λ (x : List Scope). name_in id p.0 (scope_of_object (objects_behind source protection.envelopes 0 source.modules []) x p.0)) (s ∙ ap (λ (m : Modules). m.scopes) built.tables)
+      ∙ ap (λ (x : List (List (List ℕ))). name_in id p.0 (scope_of_object (objects_behind source protection.envelopes 0 source.modules []) x p.0)) (s ∙ ap (λ (m : Modules). m.tables.scopes) built.tables)
       ∙ name_of_child source protection.envelopes id object beside.0 p beside.2.named above
       ∙ sym (ap (λ (x : Option Node). option_map_or node_name x []) beside.1)
 
@@ -158,13 +159,13 @@ module _ (source : Source) (protection : Protection) (modules : Modules) (object
   -- the definition of an object
   pub definition_is :
       (d : Elaborated) → design_of source protection ≡ d → (os : List Object) (id : ℕ) → os ≡ objects.all
-      → option_and_then (slice_get modules.names) (option_and_then (λ (o : Object). o.scope) (slice_get os id)) ≡ option_and_then (λ (n : Node). n.definition) (slice_get d.tree.nodes id)
+      → option_and_then (slice_get modules.tables.modules) (option_and_then (λ (o : Object). o.scope) (slice_get os id)) ≡ option_and_then (λ (n : Node). n.definition) (slice_get d.tree.nodes id)
   definition_is d view os id o = by (slice_get os id) (beside_built d view os id (slice_get os id) o refl)
     where
       by :
           (found : Option Object) → MatchOption found (slice_get d.tree.nodes id ≡ None) (λ o. (n : Node) × (slice_get d.tree.nodes id ≡ Some n) × Fits source protection.envelopes id o n)
-          → option_and_then (slice_get modules.names) (option_and_then (λ (o : Object). o.scope) found) ≡ option_and_then (λ (n : Node). n.definition) (slice_get d.tree.nodes id)
+          → option_and_then (slice_get modules.tables.modules) (option_and_then (λ (o : Object). o.scope) found) ≡ option_and_then (λ (n : Node). n.definition) (slice_get d.tree.nodes id)
       by None h = sym (ap (option_and_then (λ (n : Node). n.definition)) h)
       by (Some object) h =
-          ap (λ (m : Modules). option_and_then (slice_get m.names) object.scope) built.tables
+          ap (λ (m : Modules). option_and_then (slice_get m.tables.modules) object.scope) built.tables
           ∙ h.2.definition ∙ sym (ap (option_and_then (λ (n : Node). n.definition)) h.1)

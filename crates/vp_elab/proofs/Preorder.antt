@@ -10,20 +10,41 @@ use Rattle.vp_elab.specs.declared.object.Kind.TheVariants as kind
 use Rattle.vp_parse_expr.specs.declared.node.Range.{Range}
 use Rattle.vp_parse.specs.Places.{line_at, word_at}
 use Rattle.vp_parse.specs.declared.source.Source.{Source}
+use Rattle.vp_parse_expr.specs.declared.node.Expression.{Expression}
+use Rattle.vp_parse_expr.specs.declared.node.Expression.TheVariants as expression
+use Rattle.vp_parse.specs.declared.source.DeclaredRange.{DeclaredRange}
+use Rattle.vp_parse.specs.declared.source.Item.TheVariants as item
 use Rattle.vp_parse.specs.declared.source.Item.{Item}
 use Rattle.vp_parse.specs.declared.source.Module.{Module}
 use Rattle.vp_pragma.specs.declared.envelope.Envelope.{Envelope}
 use Rattle.vp_elab.specs.declared.object.Object.{Object}
 use Rattle.vp_elab.specs.declared.object.ObjectId.{ObjectId}
 use Rattle.vp_elab.specs.Tree.{Step, Node, path_of}
-use Rattle.vp_elab.specs.Elaboration.{item_name, item_place, item_range, width_of, items_in, step_at, root_step, item_node, module_nodes}
-use Rattle.vp_elab.specs.Objects.{AreObjects, StandsFor, item_object, module_name_at, module_names, module_objects, objects_behind}
+use Rattle.vp_modules.specs.Items.{item_name, item_place, items_in}
+use Rattle.vp_elab.specs.Elaboration.{literal_width, width_of, item_width, step_at, root_step, item_node, module_nodes}
+use Rattle.vp_modules.specs.Tables.{module_names}
+use Rattle.vp_elab.specs.Objects.{AreObjects, StandsFor, item_object, module_name_at, module_objects, objects_behind}
 use Rattle.vp_elab.proofs.Zip.{Zip, zip_append, zip_at, zip_all, zip_map, slice_get_behind}
 
 -- a range has a bit
 range_some : (range : Option Range) → 1 ≤ width_of range
 range_some None = omega arith
 range_some (Some range) = omega arith
+
+literal_some : (e : Option Expression) → 1 ≤ option_map_or literal_width e 1
+literal_some None = omega arith
+literal_some (Some (expression.Literal place size digits)) = omega arith
+literal_some (Some e) = omega arith
+
+-- what an item declares has a bit
+width_some : (source : Source) (i : Item) → 1 ≤ item_width source i
+width_some source (item.LocalParameter name value) = literal_some (slice_get source.expressions value)
+width_some source (item.Port name direction range) = range_some (option_map (λ (d : DeclaredRange). d.range) range)
+width_some source (item.Net name range) = range_some (option_map (λ (d : DeclaredRange). d.range) range)
+width_some source (item.Reg name range) = range_some (option_map (λ (d : DeclaredRange). d.range) range)
+width_some source (item.Assignment target value) = omega arith
+width_some source (item.Instance name definition first end) = omega arith
+width_some source (item.Initial keyword body) = omega arith
 
 module _ (source : Source) (envelopes : List Envelope) where
   -- the nodes of these modules
@@ -77,7 +98,7 @@ module _ (source : Source) (envelopes : List Envelope) where
       ap (λ (ns : List Node). slice_get ns (length (nodes_in before))) all ∙ slice_get_behind (nodes_in before) (root_node m) behind
 
   -- the objects of items, behind their module's and those of the items before them
-  items_fit : (m : Module) (before after : List Module) (base n : ℕ) (done is : List Item) → source.modules ≡ before ++ m ∷ after → base ≡ length (nodes_in before) → n ≡ (base + 1) + length done → items_in source m ≡ done ++ is → slice_get all_nodes base ≡ Some (root_node m) → Zip Fits n (map (item_node source envelopes m.name) is) (map (item_object envelopes base) is)
+  items_fit : (m : Module) (before after : List Module) (base n : ℕ) (done is : List Item) → source.modules ≡ before ++ m ∷ after → base ≡ length (nodes_in before) → n ≡ (base + 1) + length done → items_in source m ≡ done ++ is → slice_get all_nodes base ≡ Some (root_node m) → Zip Fits n (map (item_node source envelopes m.name) is) (map (item_object source envelopes base) is)
   items_fit m before after base n done [] e b l s h = tt
   items_fit m before after base n done (i ∷ is) e b l s h =
       let own : Step = step_at envelopes (Some (word_at source m.name)) (item_name source i) (item_place i) in (
@@ -85,7 +106,7 @@ module _ (source : Source) (envelopes : List Envelope) where
           step = own;
           kind = refl;
           width = refl;
-          some = range_some (item_range i);
+          some = width_some source i;
           lowest = refl;
           path = ap (λ (o : Option Node). option_map_or (λ n. n.path) o [] ++ own ∷ []) (sym h);
           place = refl;
@@ -137,7 +158,7 @@ module _ (source : Source) (envelopes : List Envelope) where
       let more : length (before ++ m ∷ []) ≡ length before + 1 = length-append before (m ∷ []) in
       let long : length (os ++ own) ≡ length (nodes_in (before ++ m ∷ [])) =
       length-append os own
-      ∙ (let a = length-map (items_in source m) (item_object envelopes (length os)) in
+      ∙ (let a = length-map (items_in source m) (item_object source envelopes (length os)) in
       let b = length-map (items_in source m) (item_node source envelopes m.name) in
       let c = length-append (nodes_in before) (module_nodes source envelopes m) in
       let d = ap length nodes in

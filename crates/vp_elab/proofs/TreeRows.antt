@@ -34,7 +34,8 @@ abbrev source : Source
 source = record {
   text = text;
   tokens = tokens_in (tokens_of text);
-  modules = record { name = 1; first = 0; end = 3 } ∷ [];
+  modules = record { name = 1; items = record { first = 0; end = 3 }; ports = 0; statements = record { first = 0; end = 0 }; expressions = record { first = 0; end = 0 } } ∷ [];
+  connections = [];
   items = item.Reg 4 None ∷ item.Reg 14 None ∷ item.Initial 19 0 ∷ [];
   statements = [];
   expressions = [];

@@ -12,11 +12,12 @@ use Rattle.vp_parse.specs.declared.source.Item.{Item}
 use Rattle.vp_parse.specs.declared.source.Module.{Module}
 use Rattle.vp_pragma.specs.declared.envelope.Envelope.{Envelope}
 use Rattle.vp_pragma.specs.Envelopes.{Viewport, envelope_at}
-use Rattle.vp_elab.specs.declared.fault.ElabError.TheVariants.{Duplicate}
-use Rattle.vp_elab.specs.declared.scope.Scope.{Scope}
+use Rattle.vp_modules.specs.declared.fault.ElabError.TheVariants.{Duplicate}
 use Rattle.vp_elab.specs.Tree.{fits_module, matches, matches_node, step_named}
-use Rattle.vp_elab.specs.Elaboration.{item_name, item_node, item_place, items_in, module_nodes}
-use Rattle.vp_elab.specs.Refusals.{first_of_two, is_among, twice, twice_in}
+use Rattle.vp_modules.specs.Items.{item_name, item_place, items_in}
+use Rattle.vp_elab.specs.Elaboration.{item_node, module_nodes}
+use Rattle.vp_modules.specs.Items.{is_among}
+use Rattle.vp_modules.specs.Refusals.{first_of_two, twice, twice_in}
 use Rattle.vp_elab.proofs.Distinct.{accepted, bytes_eq-swap, neither, new_by, not_there}
 use Rattle.vp_elab.proofs.Sights.{none_at_root}
 use Rattle.vp_elab.proofs.Zip.{position_is}
@@ -114,12 +115,3 @@ once_each source names (m ∷ ms) zero d l h =
     (neither (twice source [] (items_in source m)) (twice_in source (names ++ word_at source m.name ∷ []) ms)
     (new_by (is_among names (word_at source m.name)) (Duplicate (line_at source m.name)) (first_of_two (twice source [] (items_in source m)) (twice_in source (names ++ word_at source m.name ∷ []) ms)) h).1).0
 once_each source names (m ∷ ms) (suc i) d l h = once_each source (names ++ word_at source m.name ∷ []) ms i d (omega arith) (accepted source names m ms h).1
-
--- the names in the table of a module are those of its items
-pub names_at : (source : Source) (scopes : List Scope) (ms : List Module) (i : ℕ) (s : Scope) (d : Module) → i < length ms → map (λ s. s.names) scopes ≡ map (λ m. map (item_name source) (items_in source m)) ms → (get_or scopes i s).names ≡ map (item_name source) (items_in source (get_or ms i d))
-names_at source scopes [] i s d l h = absurd (omega arith)
-names_at source [] (m ∷ ms) i s d l h = absurd cc
-names_at source (x ∷ xs) (m ∷ ms) zero s d l h = cc
-names_at source (x ∷ xs) (m ∷ ms) (suc i) s d l h =
-    let rest : map (λ s. s.names) xs ≡ map (λ m. map (item_name source) (items_in source m)) ms = cc in
-    names_at source xs ms i s d (omega arith) rest

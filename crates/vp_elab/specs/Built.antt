@@ -10,7 +10,7 @@ use Rattle.vp_elab.specs.declared.sight.Sight.{Sight}
 use Rattle.vp_elab.specs.Tree.{Tree, sight_in}
 use Rattle.vp_elab.specs.Elaboration.{nodes_of, tree_of}
 use Rattle.vp_elab.specs.Objects.{modules_in, objects_in}
-use Rattle.vp_elab.specs.Refusals.{twice_in}
+use Rattle.vp_modules.specs.Refusals.{twice_in}
 
 -- a design: a source, and its tree
 pub record Elaborated : Type 0 where

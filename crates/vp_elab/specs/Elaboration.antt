@@ -1,26 +1,25 @@
 -- The tree of a source: what its modules declare, in preorder.
-use Rattle.std.specs.Prelude.{ℕ, ◌+◌, ◌-◌, List, [], ◌∷◌, ◌++◌, map, Option, Some, None, option_map, codes, decimal}
+use Rattle.std.specs.Prelude.{ℕ, ◌+◌, ◌-◌, List, [], ◌∷◌, map, Option, Some, None, option_map, slice_get}
 use Rattle.std.specs.List.{flat_map}
 use Rattle.std.specs.Option.{option_map_or}
-use Rattle.vp_list.specs.Lists.{range_of}
+use Rattle.vp_parse_expr.specs.declared.node.Expression.{Expression}
+use Rattle.vp_parse_expr.specs.declared.node.Expression.TheVariants as expression
 use Rattle.vp_parse_expr.specs.declared.node.Range.{Range}
-use Rattle.vp_parse.specs.Places.{column_at, line_at, word_at}
+use Rattle.vp_parse.specs.Places.{line_at, word_at}
+use Rattle.vp_parse.specs.declared.source.DeclaredRange.{DeclaredRange}
+use Rattle.vp_parse.specs.declared.source.Direction.TheVariants as direction
 use Rattle.vp_parse.specs.declared.source.Source.{Source}
 use Rattle.vp_parse.specs.declared.source.Module as declared
 use Rattle.vp_parse.specs.declared.source.Item.{Item}
 use Rattle.vp_parse.specs.declared.source.Item.TheVariants as item
 use Rattle.vp_pragma.specs.declared.envelope.Envelope.{Envelope}
 use Rattle.vp_pragma.specs.Envelopes.{Protection, envelope_at}
+use Rattle.vp_modules.specs.Items.{item_name, item_place, items_in}
 use Rattle.vp_elab.specs.declared.object.Kind.{Kind}
 use Rattle.vp_elab.specs.declared.object.Kind.TheVariants as kind
 use Rattle.vp_elab.specs.Tree.{Step, Node, Tree}
 
 -- ---- items
-
--- the place of a declaration: of its name, or of the keyword of a process (profile)
-abbrev pub item_place : Item → ℕ
-item_place (item.Reg name declared) = name
-item_place (item.Initial keyword body) = keyword
 
 -- how many bits a range has (clause 4.3.1)
 abbrev pub range_width : Range → ℕ
@@ -28,8 +27,15 @@ range_width range = range.msb - range.lsb + 1
 
 -- the range of what an item declares; a scalar has none (clause 4.3.1)
 abbrev pub item_range : Item → Option Range
-item_range (item.Reg name declared) = option_map (λ d. d.range) declared
-item_range (item.Initial keyword body) = None
+item_range (item.Port name direction range) = option_map (λ (d : DeclaredRange). d.range) range
+item_range (item.Net name range) = option_map (λ (d : DeclaredRange). d.range) range
+item_range (item.Reg name range) = option_map (λ (d : DeclaredRange). d.range) range
+item_range _ = None
+
+-- how many bits a literal with a size has, those of [size - 1:0] (profile)
+abbrev pub literal_width : Expression → ℕ
+literal_width (expression.Literal place size digits) = size - 1 + 1
+literal_width _ = 1
 
 -- how many bits what has a range or none has: a scalar has one (clause 4.3.1)
 abbrev pub width_of : Option Range → ℕ
@@ -39,20 +45,26 @@ width_of range = option_map_or range_width range 1
 abbrev pub lowest_of : Option Range → Option ℕ
 lowest_of range = option_map (λ r. r.lsb) range
 
--- the kind of what an item declares (clause 26.6)
+-- how many bits what an item declares has: a local parameter has those of its literal (clause 4.10.2)
+abbrev pub item_width : Source → Item → ℕ
+item_width source (item.LocalParameter name value) = option_map_or literal_width (slice_get source.expressions value) 1
+item_width source i = width_of (item_range i)
+
+-- the index of the least significant bit of what an item declares; a scalar has none
+abbrev pub item_lowest : Item → Option ℕ
+item_lowest (item.LocalParameter name value) = Some 0
+item_lowest i = lowest_of (item_range i)
+
+-- the kind of what an item declares: a port is a net, or a reg (clauses 12.3.3 and 26.6)
 abbrev pub item_kind : Item → Kind
-item_kind (item.Reg name declared) = kind.Reg
+item_kind (item.Port name direction.OutputReg range) = kind.Reg
+item_kind (item.Port name _ range) = kind.Net
+item_kind (item.Net name range) = kind.Net
+item_kind (item.Reg name range) = kind.Reg
+item_kind (item.LocalParameter name value) = kind.Parameter
+item_kind (item.Assignment target value) = kind.Assign
+item_kind (item.Instance name definition first end) = kind.Module
 item_kind (item.Initial keyword body) = kind.Initial
-
--- the name of a process: its keyword, its line and its column (profile)
-abbrev pub process_name : List ℕ → Source → ℕ → List ℕ
-process_name keyword source place =
-    keyword ++ (codes "@" ++ (decimal (line_at source place) ++ (codes ":" ++ decimal (column_at source place))))
-
--- the name of what an item declares
-abbrev pub item_name : Source → Item → List ℕ
-item_name source (item.Reg name declared) = word_at source name
-item_name source (item.Initial keyword body) = process_name (codes "initial") source keyword
 
 -- ---- nodes
 
@@ -69,10 +81,6 @@ step_at envelopes in_module name place = record {
 abbrev pub root_step : Source → List Envelope → ℕ → Step
 root_step source envelopes name = step_at envelopes None (word_at source name) name
 
--- the items of a module, in the order of the text
-abbrev pub items_in : Source → declared.Module → List Item
-items_in source m = range_of source.items m.first m.end
-
 -- the node of an item of a top module
 abbrev pub item_node : Source → List Envelope → ℕ → Item → Node
 item_node source envelopes module_name i = record {
@@ -81,8 +89,8 @@ item_node source envelopes module_name i = record {
       ∷ step_at envelopes (Some (word_at source module_name)) (item_name source i) (item_place i)
       ∷ [];
   kind = item_kind i;
-  width = width_of (item_range i);
-  lowest = lowest_of (item_range i);
+  width = item_width source i;
+  lowest = item_lowest i;
   line = line_at source (item_place i);
   definition = None;
 }

@@ -1,6 +1,5 @@
 pub use Rattle.vp_pragma.specs.Rights
 pub use Rattle.vp_pragma.specs.Envelopes
-pub mod Faults
 pub mod Objects
 pub mod Tree
 pub mod Elaboration

@@ -1,7 +1,6 @@
 -- The objects of a design, in preorder, and how each belongs to its node of the tree.
 use Rattle.std.specs.Prelude.{◌≡◌, ℕ, suc, ◌+◌, ◌<◌, ◌==◌, List, [], ◌∷◌, ◌++◌, length, map, filter, slice_get, Option, Some, None, option_and_then, option_map, IfSome, MatchOption}
 use Rattle.std.specs.List.{list_any}
-use Rattle.vp_parse.specs.Places.{word_at}
 use Rattle.vp_parse.specs.declared.source.Source.{Source}
 use Rattle.vp_parse.specs.declared.source.Item.{Item}
 use Rattle.vp_parse.specs.declared.source.Module as declared
@@ -10,11 +9,12 @@ use Rattle.vp_pragma.specs.Envelopes.{envelope_at}
 use Rattle.vp_elab.specs.declared.object.Kind.TheVariants as kind
 use Rattle.vp_elab.specs.declared.object.Object.{Object}
 use Rattle.vp_elab.specs.declared.object.ObjectId.{ObjectId}
-use Rattle.vp_elab.specs.declared.scope.Scope.{Scope}
 use Rattle.vp_elab.specs.declared.scope.Modules.{Modules}
 use Rattle.vp_elab.specs.declared.design.Objects.{Objects}
 use Rattle.vp_elab.specs.Tree.{Step, Node, below, path_of}
-use Rattle.vp_elab.specs.Elaboration.{item_kind, item_name, item_place, item_range, items_in, lowest_of, width_of}
+use Rattle.vp_modules.specs.Items.{item_place, items_in}
+use Rattle.vp_modules.specs.Tables.{module_names, tables_in}
+use Rattle.vp_elab.specs.Elaboration.{item_kind, item_lowest, item_width}
 
 -- ---- what modules declare
 
@@ -23,26 +23,19 @@ abbrev pub numbers_of : List Envelope → List ℕ → List ℕ
 numbers_of envelopes places =
     filter (λ e. list_any (λ place. envelope_at envelopes place == e) places) (below (suc (length envelopes)))
 
--- what a module declares: the names of its items, and the envelopes of their places
-abbrev pub scope_in : Source → List Envelope → declared.Module → Scope
-scope_in source envelopes m = record {
-  names = map (item_name source) (items_in source m);
-  envelopes = numbers_of envelopes (map item_place (items_in source m));
-}
-
--- the names of modules
-abbrev pub module_names : Source → List declared.Module → List (List ℕ)
-module_names source ms = map (λ m. word_at source m.name) ms
+-- the numbers of the envelopes of what a module declares
+abbrev pub numbers_in : Source → List Envelope → declared.Module → List ℕ
+numbers_in source envelopes m = numbers_of envelopes (map item_place (items_in source m))
 
 -- the name of the module that has this number in the text
 abbrev pub module_name_at : Source → Option ℕ → Option (List ℕ)
 module_name_at source number = option_and_then (slice_get (module_names source source.modules)) number
 
--- the modules of a text, by their names, with what each declares
+-- the modules of a text: the names of what each declares, and the numbers of the envelopes
 abbrev pub modules_in : Source → List Envelope → Modules
 modules_in source envelopes = record {
-  names = module_names source source.modules;
-  scopes = map (scope_in source envelopes) source.modules;
+  tables = tables_in source;
+  envelopes = map (numbers_in source envelopes) source.modules;
 }
 
 -- ---- objects
@@ -60,21 +53,21 @@ root_object envelopes number m = record {
 }
 
 -- the object of an item of the module whose object has this number
-abbrev pub item_object : List Envelope → ℕ → Item → Object
-item_object envelopes root i = record {
+abbrev pub item_object : Source → List Envelope → ℕ → Item → Object
+item_object source envelopes root i = record {
   kind = item_kind i;
   parent = Some (record { 0 = root });
   scope = None;
   place = item_place i;
   envelope = envelope_at envelopes (item_place i);
-  width = width_of (item_range i);
-  lowest = lowest_of (item_range i);
+  width = item_width source i;
+  lowest = item_lowest i;
 }
 
 -- the objects of a top module behind so many others: its own, and those of its items
 abbrev pub module_objects : Source → List Envelope → ℕ → ℕ → declared.Module → List Object
 module_objects source envelopes number before m =
-    root_object envelopes number m ∷ map (item_object envelopes before) (items_in source m)
+    root_object envelopes number m ∷ map (item_object source envelopes before) (items_in source m)
 
 -- the objects of top modules, of which the first has this number, behind these objects
 abbrev pub objects_behind : Source → List Envelope → ℕ → List declared.Module → List Object → List Object

@@ -1,5 +1,5 @@
 ghost use Rattle.std.specs.Prelude.{◌≡◌, ◌<◌, ◌≤◌, ◌-◌, [], None, All, map, option_and_then, option_map, length, position, slice_get, slice_index_or, IfSome, MatchOption};
-ghost use Rattle.std.specs.Option.{option_copied, option_map_or};
+ghost use Rattle.std.specs.Option.{option_map_or};
 ghost use Rattle.vp_pragma.specs.Rights.{nothing};
 ghost use Rattle.std.specs.Str.{bytes_eq};
 ghost use Rattle.vp_elab.specs.Tree.{author_in, declared_envelopes, find_in, matches_at, name_at, sight_at};
@@ -7,12 +7,12 @@ ghost use Rattle.vp_elab.specs.Objects.{AreObjects, StandsFor, module_name_at};
 ghost use Rattle.vp_pragma.specs.Reading.{viewport_of};
 ghost use Rattle.vp_elab.specs.Built.{IsBuilt, design_of, shown};
 
-use crate::names::Names;
 use crate::object::{Object, ObjectId};
-use crate::scope::{Modules, Scope};
+use crate::scope::Modules;
 use crate::sight::{Sight, is_on};
 use std::marker::Model;
 use vp_list::Sequence;
+use vp_modules::Names;
 use vp_parse::Source;
 use vp_pragma::{Envelopes, Viewport};
 
@@ -66,33 +66,45 @@ fn sight_at(sights: &[Sight], id: ObjectId) -> Sight
     }
 }
 
-/// The scope of a module's object; none of any other object.
-fn scope_at<'a>(objects: &'a [Object], scopes: &'a [Scope], object: ObjectId) -> Option<&'a Scope>
-    ensures { option_copied result ≡ option_and_then (slice_get scopes.now) (option_and_then (λ o. o.scope) (slice_get objects.now object.0)) }
+/// The names of what is declared in a module's object; none of any other object.
+fn names_at<'a>(objects: &'a [Object], scopes: &'a [Names], object: ObjectId) -> Option<&'a Names>
+    ensures { option_map (λ n. n.now) result ≡ option_and_then (slice_get scopes.now) (option_and_then (λ o. o.scope) (slice_get objects.now object.0)) }
 {
     let number = object_at(objects, object)?.scope?;
     scopes.get(number)
 }
 
-/// The index of a name that is declared in a module's object.
-fn index_at(objects: &[Object], scopes: &[Scope], object: ObjectId, name: &str) -> Option<usize>
-    ensures { result ≡ option_and_then (λ s. position (bytes_eq name.now) s.names) (option_and_then (slice_get scopes.now) (option_and_then (λ o. o.scope) (slice_get objects.now object.0))) }
+/// The numbers of the envelopes of what is declared in a module's object; none of any other object.
+fn numbers_at<'a>(
+    objects: &'a [Object],
+    envelopes: &'a [Sequence<u8>],
+    object: ObjectId,
+) -> Option<&'a Sequence<u8>>
+    ensures { option_map (λ n. n.now) result ≡ option_and_then (slice_get envelopes.now) (option_and_then (λ o. o.scope) (slice_get objects.now object.0)) }
 {
-    scope_at(objects, scopes, object)?.names.find(name)
+    let number = object_at(objects, object)?.scope?;
+    envelopes.get(number)
+}
+
+/// The index of a name that is declared in a module's object.
+fn index_at(objects: &[Object], scopes: &[Names], object: ObjectId, name: &str) -> Option<usize>
+    ensures { result ≡ option_and_then (λ s. position (bytes_eq name.now) s) (option_and_then (slice_get scopes.now) (option_and_then (λ o. o.scope) (slice_get objects.now object.0))) }
+{
+    names_at(objects, scopes, object)?.find(name)
 }
 
 /// The name of the object of a number, which is declared in a module's object.
 fn child_name<'a>(
     objects: &'a [Object],
-    scopes: &'a [Scope],
+    scopes: &'a [Names],
     object: ObjectId,
     id: ObjectId,
 ) -> &'a str
     requires { object.0 < id.0 }
-    ensures { result.now ≡ option_map_or (λ s. slice_index_or s.names (id.0 - object.0 - 1) []) (option_and_then (slice_get scopes.now) (option_and_then (λ o. o.scope) (slice_get objects.now object.0))) [] }
+    ensures { result.now ≡ option_map_or (λ s. slice_index_or s (id.0 - object.0 - 1) []) (option_and_then (slice_get scopes.now) (option_and_then (λ o. o.scope) (slice_get objects.now object.0))) [] }
 {
-    match scope_at(objects, scopes, object) {
-        Some(scope) => scope.names.at((id.0 - object.0 - 1) as usize),
+    match names_at(objects, scopes, object) {
+        Some(names) => names.at((id.0 - object.0 - 1) as usize),
         None => "",
     }
 }
@@ -183,7 +195,7 @@ impl Design {
             return "";
         };
         match object.parent {
-            Some(module) => child_name(objects, self.modules.scopes.as_slice(), module, id),
+            Some(module) => child_name(objects, self.modules.tables.scopes.as_slice(), module, id),
             None => self.source.word(object.place),
         }
     }
@@ -202,7 +214,11 @@ impl Design {
     pub fn definition(&self, id: ObjectId) -> Option<&str>
         ensures { option_map (λ d. d.now) result ≡ option_and_then (λ n. n.definition) (slice_get self.now.tree.nodes id.0) }
     {
-        module_name(&self.modules.names, self.objects.all.as_slice(), id)
+        module_name(
+            &self.modules.tables.modules,
+            self.objects.all.as_slice(),
+            id,
+        )
     }
 
     /// What the viewports that match the object of a number open of it; nothing behind the end.
@@ -260,14 +276,18 @@ impl Design {
     fn root(&self, name: &str) -> Option<ObjectId>
         ensures { option_map (λ o. o.0) result ≡ find_in self.now.tree.nodes None name.now }
     {
-        root_at(&self.modules.names, self.objects.roots.as_slice(), name)
+        root_at(
+            &self.modules.tables.modules,
+            self.objects.roots.as_slice(),
+            name,
+        )
     }
 
     fn child(&self, object: ObjectId, name: &str) -> Option<ObjectId>
         ensures { option_map (λ o. o.0) result ≡ find_in self.now.tree.nodes (Some object.0) name.now }
     {
         let objects = self.objects.all.as_slice();
-        match index_at(objects, self.modules.scopes.as_slice(), object, name) {
+        match index_at(objects, self.modules.tables.scopes.as_slice(), object, name) {
             Some(index) => Some(ObjectId(object.0 + 1 + index as u32)),
             None => None,
         }
@@ -288,8 +308,8 @@ impl Design {
         ensures { result.now ≡ declared_envelopes self.now.tree (Some object.0) }
     {
         let objects = self.objects.all.as_slice();
-        match scope_at(objects, self.modules.scopes.as_slice(), object) {
-            Some(scope) => scope.envelopes.as_slice(),
+        match numbers_at(objects, self.modules.envelopes.as_slice(), object) {
+            Some(numbers) => numbers.as_slice(),
             None => &[],
         }
     }

@@ -1,98 +1,74 @@
-ghost use Rattle.std.specs.Prelude.{◌≡◌, ◌+◌, ◌≤◌, [], ◌∷◌, ◌++◌, IfErr, IfOk, MatchResult, OnOk, length, map};
+ghost use Rattle.std.specs.Prelude.{◌≡◌, ◌+◌, ◌≤◌, [], ◌∷◌, ◌++◌, IfErr, IfOk, MatchResult, OnOk, length};
 ghost use Rattle.vp_parse.specs.Places.{earliest};
-ghost use Rattle.vp_elab.specs.Elaboration.{item_kind, item_name, item_range, items_in, lowest_of, range_width, width_of};
+ghost use Rattle.vp_modules.specs.Items.{items_in};
+ghost use Rattle.vp_modules.specs.Refusals.{Explains, refused_at};
+ghost use Rattle.vp_modules.specs.declared.fault.ElabError.TheVariants.{LeftOut};
+ghost use Rattle.vp_elab.specs.Elaboration.{item_kind, item_lowest, item_range, item_width, literal_width, lowest_of, range_width, width_of};
 ghost use Rattle.vp_elab.specs.Built.{design_of};
 ghost use Rattle.vp_elab.specs.Objects.{item_object, module_objects, objects_in, root_object};
-ghost use Rattle.vp_elab.specs.Refusals.{Explains, first_unknown, name_in, object_count, refusal_of, target_of, too_many, undeclared_at, undeclared_in, unknown};
+ghost use Rattle.vp_elab.specs.Refusals.{is_simulated, left_out, left_out_item, object_count, refusal_of, too_many};
 
 use crate::design::{Design, Objects};
-use crate::fault::ElabError;
-use crate::names::Names;
 use crate::object::{Kind, Object, ObjectId};
-use crate::scope::{Scope, items_of, modules_of, place_of, root_envelopes_of};
+use crate::scope::{Modules, envelopes_of, root_envelopes_of};
 use crate::sight::{check_viewports, sights_of};
 use std::alloc::Global;
 use vp_list::Sequence;
-use vp_parse::{Expression, Item, Module, Range, Source, Statement, earlier};
+use vp_modules::{ElabError, Resolved, check_modules, items_of, place_of};
+use vp_parse::{Direction, Expression, Item, Module, Range, Source, earlier};
 use vp_pragma::Envelopes;
 
 /// The greatest number of objects of a design.
 pub const OBJECT_LIMIT: usize = 65_536;
 
-/// The place of a name that is not declared in a module.
-fn unknown(source: &Source, names: &Names, place: Option<u32>) -> Option<u32>
-    ensures { result ≡ unknown source.now names.now place }
+/// An item is simulated: a reg, or a procedure.
+fn is_simulated(item: Item) -> bool
+    ensures { result ≡ is_simulated item }
 {
-    let place = place?;
-    if names.has(source.word(place)) {
+    matches!(item, Item::Reg { .. } | Item::Initial { .. })
+}
+
+/// The place of an item that is not simulated.
+fn left_out_item(item: Item) -> Option<u32>
+    ensures { result ≡ left_out_item item }
+{
+    if is_simulated(item) {
         None
     } else {
-        Some(place)
+        Some(place_of(item))
     }
 }
 
-/// The place of the name in an expression that is one, or is selected from one.
-fn name_in(expression: Expression) -> Option<u32>
-    ensures { result ≡ name_in expression }
-{
-    match expression {
-        Expression::Name { name, .. } => Some(name),
-        _ => None,
-    }
-}
-
-/// The place of the name to which a statement assigns.
-fn target_of(statement: Statement) -> Option<u32>
-    ensures { result ≡ target_of statement }
-{
-    match statement {
-        Statement::Assign { target, .. } => Some(target),
-        Statement::Empty | Statement::Then { .. } => None,
-    }
-}
-
-/// The first place of a target that is not declared in a module.
-fn unknown_target(source: &Source, names: &Names) -> Option<u32>
-    ensures { result ≡ earliest (λ s. unknown source.now names.now (target_of s)) source.now.statements }
+/// The first place of an item that is not simulated.
+fn first_left_out(items: &[Item]) -> Option<u32>
+    ensures { result ≡ earliest left_out_item items.now }
 {
     let mut first = None;
-    for statement in source.statements.as_slice() {
-        first = earlier(first, unknown(source, names, target_of(*statement)));
+    for item in items {
+        first = earlier(first, left_out_item(*item));
     }
     first
 }
 
-/// The first place of a name in an expression that is not declared in a module.
-fn unknown_operand(source: &Source, names: &Names) -> Option<u32>
-    ensures { result ≡ earliest (λ e. unknown source.now names.now (name_in e)) source.now.expressions }
+/// The first place of what is not simulated yet: an item, or the name of a second module.
+fn left_out(source: &Source) -> Option<u32>
+    ensures { result ≡ left_out source.now }
 {
-    let mut first = None;
-    for expression in source.expressions.as_slice() {
-        first = earlier(first, unknown(source, names, name_in(*expression)));
+    let items = first_left_out(source.items.as_slice());
+    match source.modules.as_slice().get(1) {
+        Some(module) => earlier(Some(module.name), items),
+        None => earlier(None, items),
     }
-    first
 }
 
-/// The names of a source are declared in its module; else the line of the first that is not.
-fn declared(source: &Source, names: &Names) -> Result<(), ElabError>
-    ensures { MatchResult result (λ _. undeclared_at source.now (first_unknown source.now names.now) ≡ None) (λ e. Explains (undeclared_at source.now (first_unknown source.now names.now)) e) }
+/// All of a source is simulated; else refused at the first that is not (402).
+fn check_simulated(source: &Source) -> Result<(), ElabError>
+    ensures { MatchResult result (λ _. refused_at source.now LeftOut (left_out source.now) ≡ None) (λ e. Explains (refused_at source.now LeftOut (left_out source.now)) e) }
 {
-    let target = unknown_target(source, names);
-    match earlier(target, unknown_operand(source, names)) {
-        Some(place) => Err(ElabError::Undeclared {
+    match left_out(source) {
+        Some(place) => Err(ElabError::LeftOut {
             line: source.line(place),
         }),
-        None => Ok(()),
-    }
-}
-
-/// The same of a text, which has at most one module, so that all its names are in the first.
-fn check_names(source: &Source, scopes: &[Scope]) -> Result<(), ElabError>
-    requires { map (λ s. s.names) scopes.now ≡ map (λ m. map (item_name source.now) (items_in source.now m)) source.now.modules }
-    ensures { MatchResult result (λ _. undeclared_in source.now source.now.modules ≡ None) (λ e. Explains (undeclared_in source.now source.now.modules) e) }
-{
-    match scopes.first() {
-        Some(scope) => declared(source, &scope.names),
         None => Ok(()),
     }
 }
@@ -102,18 +78,38 @@ fn kind_of(item: Item) -> Kind
     ensures { result ≡ item_kind item }
 {
     match item {
-        Item::Reg { .. } => Kind::Reg,
+        Item::Port {
+            direction: Direction::OutputReg,
+            ..
+        }
+        | Item::Reg { .. } => Kind::Reg,
+        Item::Port { .. } | Item::Net { .. } => Kind::Net,
+        Item::LocalParameter { .. } => Kind::Parameter,
+        Item::Assignment { .. } => Kind::Assign,
+        Item::Instance { .. } => Kind::Module,
         Item::Initial { .. } => Kind::Initial,
     }
 }
 
-/// The range of the bits of what an item declares.
+/// The range of the bits of what an item declares; a scalar has none.
 fn range_of(item: Item) -> Option<Range>
     ensures { result ≡ item_range item }
 {
     match item {
-        Item::Reg { range, .. } => Some(range?.range),
-        Item::Initial { .. } => None,
+        Item::Port { range, .. } | Item::Net { range, .. } | Item::Reg { range, .. } => {
+            Some(range?.range)
+        }
+        _ => None,
+    }
+}
+
+/// How many bits a literal with a size has; another expression is taken for one of 1.
+fn literal_width(expression: Expression) -> u32
+    ensures { result ≡ literal_width expression }
+{
+    match expression {
+        Expression::Literal { size, .. } => size.saturating_sub(1) + 1,
+        _ => 1,
     }
 }
 
@@ -144,6 +140,29 @@ fn lowest_of(range: Option<Range>) -> Option<u16>
     }
 }
 
+/// How many bits what an item declares has.
+fn item_width(source: &Source, item: Item) -> u32
+    ensures { result ≡ item_width source.now item }
+{
+    let Item::LocalParameter { value, .. } = item else {
+        return width_of(range_of(item));
+    };
+    match source.expressions.as_slice().get(value as usize) {
+        Some(literal) => literal_width(*literal),
+        None => 1,
+    }
+}
+
+/// The index of the least significant bit of what an item declares; a scalar has none.
+fn item_lowest(item: Item) -> Option<u16>
+    ensures { result ≡ item_lowest item }
+{
+    match item {
+        Item::LocalParameter { .. } => Some(0),
+        _ => lowest_of(range_of(item)),
+    }
+}
+
 /// The object of a top module, by the number of its module.
 fn root_of(envelopes: &Envelopes, number: usize, module: Module) -> Object
     ensures { result ≡ root_object envelopes.now.envelopes number «module» }
@@ -160,19 +179,18 @@ fn root_of(envelopes: &Envelopes, number: usize, module: Module) -> Object
 }
 
 /// The object of what an item of a module declares.
-fn object_of(envelopes: &Envelopes, module: ObjectId, item: Item) -> Object
-    ensures { result ≡ item_object envelopes.now.envelopes «module».0 item }
+fn object_of(source: &Source, envelopes: &Envelopes, module: ObjectId, item: Item) -> Object
+    ensures { result ≡ item_object source.now envelopes.now.envelopes «module».0 item }
 {
     let place = place_of(item);
-    let range = range_of(item);
     Object {
         kind: kind_of(item),
         parent: Some(module),
         scope: None,
         place,
         envelope: envelopes.of(place),
-        width: width_of(range),
-        lowest: lowest_of(range),
+        width: item_width(source, item),
+        lowest: item_lowest(item),
     }
 }
 
@@ -207,7 +225,7 @@ fn add_root(
     let root = ObjectId(objects.len() as u32);
     add_object(objects, root_of(envelopes, number, module))?;
     for item in items_of(source, module) {
-        add_object(objects, object_of(envelopes, root, *item))?;
+        add_object(objects, object_of(source, envelopes, root, *item))?;
     }
     Ok(root)
 }
@@ -233,18 +251,22 @@ fn objects_of(alloc: Global, source: &Source, envelopes: &Envelopes) -> Result<O
     })
 }
 
-/// The design of a source; or the first refusal that holds (501, 502, 507, 508), or want of memory (510).
-/// The source and the envelopes are of one text; on a refusal both are dropped.
+/// The design of a source; or the first refusal that holds (501, 503, 504, 502, 509, 506, 505, 402, 507, 508), or want of
+/// memory (510). The source and the envelopes are of one text; on a refusal both are dropped.
 pub fn elaborate(alloc: Global, source: Source, envelopes: Envelopes) -> Result<Design, ElabError>
     ensures design { IfOk result (λ design. design ≡ design_of source envelopes) }
     ensures accepted { IfOk result (λ design. refusal_of source envelopes ≡ None) }
     ensures refused { IfErr result (λ e. Explains (refusal_of source envelopes) e) }
 {
-    let modules = modules_of(alloc, &source, &envelopes)?;
-    let scopes = modules.scopes.as_slice();
-    check_names(&source, scopes)?;
+    let Resolved { tables, .. } = check_modules(alloc, &source)?;
+    check_simulated(&source)?;
+    let scopes = tables.scopes.as_slice();
     let objects = objects_of(alloc, &source, &envelopes)?;
     check_viewports(&source, &envelopes, scopes)?;
     let sights = sights_of(alloc, &source, &envelopes, scopes)?;
+    let modules = Modules {
+        envelopes: envelopes_of(alloc, &source, &envelopes)?,
+        tables,
+    };
     Ok(Design::new(source, envelopes, modules, objects, sights))
 }

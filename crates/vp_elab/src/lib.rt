@@ -3,14 +3,11 @@
 
 mod design;
 mod elaboration;
-mod fault;
-mod names;
 mod object;
 mod scope;
 mod sight;
 
 pub use design::Design;
 pub use elaboration::{OBJECT_LIMIT, elaborate, range_width};
-pub use fault::ElabError;
 pub use object::{Kind, Object, ObjectId};
 pub use sight::Sight;

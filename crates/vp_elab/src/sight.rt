@@ -5,15 +5,15 @@ ghost use Rattle.std.specs.Option.{option_or};
 ghost use Rattle.vp_pragma.specs.Reading.{viewport_of};
 ghost use Rattle.vp_pragma.specs.Rights.{either, nothing, set_of};
 ghost use Rattle.vp_elab.specs.Tree.{matches, matches_node, sight_in, sight_of, step_named};
-ghost use Rattle.vp_elab.specs.Elaboration.{item_name, item_node, items_in, module_nodes, nodes_of};
+ghost use Rattle.vp_modules.specs.Items.{item_name, items_in};
+ghost use Rattle.vp_elab.specs.Elaboration.{item_node, module_nodes, nodes_of};
 ghost use Rattle.vp_elab.specs.Built.{shown};
-ghost use Rattle.vp_elab.specs.Refusals.{Explains, twice, twice_in, unmatched_in};
+ghost use Rattle.vp_modules.specs.Refusals.{Explains, twice, twice_in};
+ghost use Rattle.vp_elab.specs.Refusals.{unmatched_in};
 
-use crate::fault::ElabError;
-use crate::names::Names;
-use crate::scope::{Modules, Scope, items_of, place_of};
 use std::alloc::{AllocError, Global};
 use vp_list::Sequence;
+use vp_modules::{ElabError, Names, items_of, place_of};
 use vp_parse::{Item, Module, Source};
 use vp_pragma::{Envelopes, Rights, Viewport};
 
@@ -117,20 +117,14 @@ pub fn sights_of(
     alloc: Global,
     source: &Source,
     envelopes: &Envelopes,
-    scopes: &[Scope],
+    scopes: &[Names],
 ) -> Result<Sequence<Sight>, AllocError>
-    requires { map (λ s. s.names) scopes.now ≡ map (λ m. map (item_name source.now) (items_in source.now m)) source.now.modules }
+    requires { scopes.now ≡ map (λ m. map (item_name source.now) (items_in source.now m)) source.now.modules }
     ensures { IfOk result (λ sights. map shown sights ≡ map (sight_in envelopes.now.viewports) (nodes_of source.now envelopes.now.envelopes)) }
 {
     let mut sights = Vec::new(alloc);
     for (number, module) in source.modules.as_slice().iter().enumerate() {
-        add_sights(
-            &mut sights,
-            source,
-            envelopes,
-            &scopes[number].names,
-            *module,
-        )?;
+        add_sights(&mut sights, source, envelopes, &scopes[number], *module)?;
     }
     Ok(Sequence::from_vec(sights))
 }
@@ -159,13 +153,13 @@ fn is_on_item(
 }
 
 /// A viewport is on an item of a text.
-fn is_on_any(source: &Source, envelopes: &Envelopes, scopes: &[Scope], viewport: &Viewport) -> bool
-    requires names { map (λ s. s.names) scopes.now ≡ map (λ m. map (item_name source.now) (items_in source.now m)) source.now.modules }
+fn is_on_any(source: &Source, envelopes: &Envelopes, scopes: &[Names], viewport: &Viewport) -> bool
+    requires names { scopes.now ≡ map (λ m. map (item_name source.now) (items_in source.now m)) source.now.modules }
     requires once { twice_in source.now [] source.now.modules ≡ None }
     ensures { result ≡ list_any (matches_node (viewport_of viewport.now)) (nodes_of source.now envelopes.now.envelopes) }
 {
     for (number, module) in source.modules.as_slice().iter().enumerate() {
-        if is_on_item(source, envelopes, &scopes[number].names, *module, viewport) {
+        if is_on_item(source, envelopes, &scopes[number], *module, viewport) {
             return true;
         }
     }
@@ -176,9 +170,9 @@ fn is_on_any(source: &Source, envelopes: &Envelopes, scopes: &[Scope], viewport:
 pub fn check_viewports(
     source: &Source,
     envelopes: &Envelopes,
-    scopes: &[Scope],
+    scopes: &[Names],
 ) -> Result<(), ElabError>
-    requires names { map (λ s. s.names) scopes.now ≡ map (λ m. map (item_name source.now) (items_in source.now m)) source.now.modules }
+    requires names { scopes.now ≡ map (λ m. map (item_name source.now) (items_in source.now m)) source.now.modules }
     requires once { twice_in source.now [] source.now.modules ≡ None }
     ensures { MatchResult result (λ _. unmatched_in source.now envelopes.now ≡ None) (λ e. Explains (unmatched_in source.now envelopes.now) e) }
 {

@@ -13,7 +13,7 @@ use Rattle.vp_expr.specs.declared.operand.Infix.TheVariants as pair
 use Rattle.vp_expr.specs.declared.operand.Operand.{Operand}
 use Rattle.vp_expr.specs.declared.operand.Operand.TheVariants as operand
 use Rattle.vp_expr.specs.Terms.{Term, size}
-use Rattle.vp_expr.specs.Arena.{blank, term_below, term_made, IsSized, fitting, is_width, operand_size, part_in, sizes_in, term_from, terms_of, width_in, with_term}
+use Rattle.vp_expr.specs.Arena.{blank, term_below, term_made, IsSized, fitting, is_width, operand_size, part_in, sizes_in, term_from, terms_of, with_term}
 
 -- what is computed of a part, among what is computed of terms
 part_map : {X : Type 0} (f : Term → X) (terms : List Term) (place : ℕ) → get_or (map f terms) place (f blank) ≡ f (part_in terms place)
@@ -22,33 +22,33 @@ part_map f (t ∷ ts) zero = refl
 part_map f (t ∷ ts) (suc place) = part_map f ts place
 
 -- the size of an operand is that of its term
-pub size_from : (widths : List ℕ) (terms : List Term) (o : Operand) → operand_size widths (map (size (width_in widths)) terms) o ≡ size (width_in widths) (term_from terms o)
-size_from widths terms (operand.Object object) = refl
-size_from widths terms (operand.Constant bits s) = refl
-size_from widths terms (operand.BitSelect object lowest index) = refl
-size_from widths terms (operand.PartSelect object place width) = refl
-size_from widths terms (operand.Applied o a) = part_map (size (width_in widths)) terms a
-size_from widths terms (operand.Reduced o a) = refl
-size_from widths terms (operand.Paired (pair.Combined o) a b) = rw (part_map (size (width_in widths)) terms a, part_map (size (width_in widths)) terms b) refl
-size_from widths terms (operand.Paired (pair.Shifted o) a b) = part_map (size (width_in widths)) terms a
-size_from widths terms (operand.Paired (pair.Compared o) a b) = refl
-size_from widths terms (operand.Paired (pair.Joined o) a b) = refl
-size_from widths terms (operand.Conditional c a b) = rw (part_map (size (width_in widths)) terms a, part_map (size (width_in widths)) terms b) refl
-size_from widths terms (operand.Concatenated a) = part_map (size (width_in widths)) terms a
-size_from widths terms (operand.Appended list a) = rw (part_map (size (width_in widths)) terms list, part_map (size (width_in widths)) terms a) refl
-size_from widths terms (operand.Replicated count list) = rw (part_map (size (width_in widths)) terms list) refl
+pub size_from : (terms : List Term) (o : Operand) → operand_size (map size terms) o ≡ size (term_from terms o)
+size_from terms (operand.Object slot width) = refl
+size_from terms (operand.Constant bits s) = refl
+size_from terms (operand.BitSelect slot lowest index) = refl
+size_from terms (operand.PartSelect slot place width) = refl
+size_from terms (operand.Applied o a) = part_map size terms a
+size_from terms (operand.Reduced o a) = refl
+size_from terms (operand.Paired (pair.Combined o) a b) = rw (part_map size terms a, part_map size terms b) refl
+size_from terms (operand.Paired (pair.Shifted o) a b) = part_map size terms a
+size_from terms (operand.Paired (pair.Compared o) a b) = refl
+size_from terms (operand.Paired (pair.Joined o) a b) = refl
+size_from terms (operand.Conditional c a b) = rw (part_map size terms a, part_map size terms b) refl
+size_from terms (operand.Concatenated a) = part_map size terms a
+size_from terms (operand.Appended list a) = rw (part_map size terms list, part_map size terms a) refl
+size_from terms (operand.Replicated count list) = rw (part_map size terms list) refl
 
 -- one more operand, from the left
-next_size : (widths : List ℕ) (terms : List Term) (o : Operand) → map (size (width_in widths)) terms ++ operand_size widths (map (size (width_in widths)) terms) o ∷ [] ≡ map (size (width_in widths)) (with_term terms o)
-next_size widths terms o =
-    ap (λ n. map (size (width_in widths)) terms ++ n ∷ []) (size_from widths terms o)
-    ∙ sym (map-append (size (width_in widths)) terms (term_from terms o ∷ []))
+next_size : (terms : List Term) (o : Operand) → map size terms ++ operand_size (map size terms) o ∷ [] ≡ map size (with_term terms o)
+next_size terms o =
+    ap (λ n. map size terms ++ n ∷ []) (size_from terms o)
+    ∙ sym (map-append size terms (term_from terms o ∷ []))
 
-sizes_more : (widths : List ℕ) (os : List Operand) (i : ℕ) (o : Operand) → i < length os → o ≡ get_or os i o → map (size (width_in widths)) (terms_of (take i os)) ++ operand_size widths (map (size (width_in widths)) (terms_of (take i os))) o ∷ [] ≡ map (size (width_in widths)) (terms_of (take (i + 1) os))
-sizes_more widths os i o h at =
-    next_size widths (terms_of (take i os)) o
-    ∙ ap (λ x. map (size (width_in widths)) (with_term (terms_of (take i os)) x)) at
-    ∙ sym (ap (map (size (width_in widths))) (fold_more with_term [] os i o h))
+sizes_more : (os : List Operand) (i : ℕ) (o : Operand) → i < length os → o ≡ get_or os i o → map size (terms_of (take i os)) ++ operand_size (map size (terms_of (take i os))) o ∷ [] ≡ map size (terms_of (take (i + 1) os))
+sizes_more os i o h at =
+    next_size (terms_of (take i os)) o
+    ∙ ap (λ x. map size (with_term (terms_of (take i os)) x)) at
+    ∙ sym (ap (map size) (fold_more with_term [] os i o h))
 
 -- ---- sizes that fit
 
@@ -96,41 +96,41 @@ fitted true n m h = (refl, cc)
 fitted false n m h = absurd cc
 
 -- an operand whose size does not fit
-pub refuses : (widths : List ℕ) (os : List Operand) (i : ℕ) (o : Operand) (sizes : List ℕ) (found : Option ℕ) → i < length os → o ≡ get_or os i o → sizes ≡ map (size (width_in widths)) (terms_of (take i os)) → found ≡ cond (is_width (operand_size widths sizes o)) (Some (operand_size widths sizes o)) None → found ≡ None → fitting (sizes_in widths os) ≡ None
+pub refuses : (os : List Operand) (i : ℕ) (o : Operand) (sizes : List ℕ) (found : Option ℕ) → i < length os → o ≡ get_or os i o → sizes ≡ map size (terms_of (take i os)) → found ≡ cond (is_width (operand_size sizes o)) (Some (operand_size sizes o)) None → found ≡ None → fitting (sizes_in os) ≡ None
 unfolding sizes_in
-refuses widths os i o sizes found h at is tested none =
-    let n = operand_size widths sizes o in
-    let here = map (size (width_in widths)) (terms_of (take (i + 1) os)) in
+refuses os i o sizes found h at is tested none =
+    let n = operand_size sizes o in
+    let here = map size (terms_of (take (i + 1) os)) in
     let fails : is_width n ≡ false = not_fitted (is_width n) n (sym none ∙ tested) in
-    let more : sizes ++ n ∷ [] ≡ here = ap (λ s. s ++ operand_size widths s o ∷ []) is ∙ sizes_more widths os i o h at in
+    let more : sizes ++ n ∷ [] ≡ here = ap (λ s. s ++ operand_size s o ∷ []) is ∙ sizes_more os i o h at in
     let bad : list_all is_width here ≡ false = ap (list_all is_width) (sym more) ∙ last_fails sizes n fails in
-    none_fits (sizes_in widths os)
-    (ap (λ ts. list_all is_width (map (size (width_in widths)) ts)) (terms_split os (i + 1))
-    ∙ stays (size (width_in widths)) (terms_of (take (i + 1) os)) (drop (i + 1) os) bad)
+    none_fits (sizes_in os)
+    (ap (λ ts. list_all is_width (map size ts)) (terms_split os (i + 1))
+    ∙ stays size (terms_of (take (i + 1) os)) (drop (i + 1) os) bad)
 
 -- the sizes of the first operands, which fit
-pub record AreFirst (widths : List ℕ) (os : List Operand) (i : ℕ) (sizes : List ℕ) : Type 0 where
-  pub are : sizes ≡ map (size (width_in widths)) (terms_of (take i os))
+pub record AreFirst (os : List Operand) (i : ℕ) (sizes : List ℕ) : Type 0 where
+  pub are : sizes ≡ map size (terms_of (take i os))
   pub fit : list_all is_width sizes ≡ true
 
 -- and those of one more operand, whose size fits
-pub first_more : (widths : List ℕ) (os : List Operand) (i : ℕ) (o : Operand) (sizes : List ℕ) (found : Option ℕ) (n : ℕ) → i < length os → o ≡ get_or os i o → AreFirst widths os i sizes → found ≡ cond (is_width (operand_size widths sizes o)) (Some (operand_size widths sizes o)) None → found ≡ Some n → AreFirst widths os (i + 1) (sizes ++ n ∷ [])
-first_more widths os i o sizes found n h at first tested there =
-    let own = fitted (is_width (operand_size widths sizes o)) (operand_size widths sizes o) n (sym there ∙ tested) in
+pub first_more : (os : List Operand) (i : ℕ) (o : Operand) (sizes : List ℕ) (found : Option ℕ) (n : ℕ) → i < length os → o ≡ get_or os i o → AreFirst os i sizes → found ≡ cond (is_width (operand_size sizes o)) (Some (operand_size sizes o)) None → found ≡ Some n → AreFirst os (i + 1) (sizes ++ n ∷ [])
+first_more os i o sizes found n h at first tested there =
+    let own = fitted (is_width (operand_size sizes o)) (operand_size sizes o) n (sym there ∙ tested) in
     record {
       are =
           ap (λ m. sizes ++ m ∷ []) own.1
-          ∙ ap (λ s. s ++ operand_size widths s o ∷ []) first.are
-          ∙ sizes_more widths os i o h at;
+          ∙ ap (λ s. s ++ operand_size s o ∷ []) first.are
+          ∙ sizes_more os i o h at;
       fit = last_fits sizes n first.fit (ap is_width own.1 ∙ own.0);
     }
 
 -- and those of all operands
-pub first_all : (widths : List ℕ) (os : List Operand) (i : ℕ) (sizes : List ℕ) → length os ≤ i → AreFirst widths os i sizes → Some sizes ≡ fitting (sizes_in widths os)
+pub first_all : (os : List Operand) (i : ℕ) (sizes : List ℕ) → length os ≤ i → AreFirst os i sizes → Some sizes ≡ fitting (sizes_in os)
 unfolding sizes_in
-first_all widths os i sizes h first =
+first_all os i sizes h first =
     sym (all_fit sizes first.fit)
-    ∙ ap fitting (first.are ∙ ap (λ l. map (size (width_in widths)) (terms_of l)) (take_all i os h))
+    ∙ ap fitting (first.are ∙ ap (λ l. map size (terms_of l)) (take_all i os h))
 
 -- ---- terms by place
 
@@ -186,20 +186,20 @@ each_fits (n ∷ ns) (suc k) h = each_fits ns k (and_parts (is_width n) (list_al
 pub width_from : (n : ℕ) → is_width n ≡ true → IsWidth n
 width_from n h = let p = and_parts (leb 1 n) (leb n 64) h in (leb-true 1 n p.0, leb-true n 64 p.1)
 
-pub size_there : (widths : List ℕ) (os : List Operand) (sizes : List ℕ) (place : ℕ) → IsSized widths os sizes → get_or sizes place 1 ≡ size (width_in widths) (part_in (terms_of os) place)
+pub size_there : (os : List Operand) (sizes : List ℕ) (place : ℕ) → IsSized os sizes → get_or sizes place 1 ≡ size (part_in (terms_of os) place)
 unfolding sizes_in
-size_there widths os sizes place sized =
-    ap (λ s. get_or s place 1) sized.are_sizes ∙ part_map (size (width_in widths)) (terms_of os) place
+size_there os sizes place sized =
+    ap (λ s. get_or s place 1) sized.are_sizes ∙ part_map size (terms_of os) place
 
-pub size_before : (widths : List ℕ) (os : List Operand) (sizes : List ℕ) (end place : ℕ) → IsSized widths os sizes → place < end → get_or sizes place 1 ≡ size (width_in widths) (term_below os end place)
-size_before widths os sizes end place sized h =
-    size_there widths os sizes place sized ∙ ap (size (width_in widths)) (sym (part_before (terms_of os) end place h))
+pub size_before : (os : List Operand) (sizes : List ℕ) (end place : ℕ) → IsSized os sizes → place < end → get_or sizes place 1 ≡ size (term_below os end place)
+size_before os sizes end place sized h =
+    size_there os sizes place sized ∙ ap size (sym (part_before (terms_of os) end place h))
 
-pub size_behind : (widths : List ℕ) (os : List Operand) (end place : ℕ) → end ≤ place → 1 ≡ size (width_in widths) (term_below os end place)
-size_behind widths os end place h = ap (size (width_in widths)) (sym (part_past (terms_of os) end place h))
+pub size_behind : (os : List Operand) (end place : ℕ) → end ≤ place → 1 ≡ size (term_below os end place)
+size_behind os end place h = ap size (sym (part_past (terms_of os) end place h))
 
-pub size_fits : (widths : List ℕ) (os : List Operand) (sizes : List ℕ) (place : ℕ) → IsSized widths os sizes → IsWidth (get_or sizes place 1)
-size_fits widths os sizes place sized = width_from (get_or sizes place 1) (each_fits sizes place sized.fit)
+pub size_fits : (os : List Operand) (sizes : List ℕ) (place : ℕ) → IsSized os sizes → IsWidth (get_or sizes place 1)
+size_fits os sizes place sized = width_from (get_or sizes place 1) (each_fits sizes place sized.fit)
 
 past_end : {X : Type 0} (xs : List X) (k : ℕ) → None ≡ slice_get xs k → length xs ≤ k
 past_end [] k h = omega arith
@@ -212,11 +212,11 @@ found_term os end place (Some o) h at =
     part_before (terms_of os) end place h
     ∙ term_there os place o (slice_get_within os place o (sym at)) (sym (get_or_from_slice_get os place o o (sym at)))
 
-pub found_fits : (widths : List ℕ) (os : List Operand) (sizes : List ℕ) (place : ℕ) (found : Option Operand) → IsSized widths os sizes → found ≡ slice_get os place → IfSome found (λ o. IsWidth (size (width_in widths) (term_made os place o)))
-found_fits widths os sizes place None sized at = tt
-found_fits widths os sizes place (Some o) sized at =
+pub found_fits : (os : List Operand) (sizes : List ℕ) (place : ℕ) (found : Option Operand) → IsSized os sizes → found ≡ slice_get os place → IfSome found (λ o. IsWidth (size (term_made os place o)))
+found_fits os sizes place None sized at = tt
+found_fits os sizes place (Some o) sized at =
     let is : part_in (terms_of os) place ≡ term_made os place o = term_there os place o (slice_get_within os place o (sym at)) (sym (get_or_from_slice_get os place o o (sym at))) in
-    subst (λ (n : ℕ). IsWidth n) (size_there widths os sizes place sized ∙ ap (size (width_in widths)) is) (size_fits widths os sizes place sized)
+    subst (λ (n : ℕ). IsWidth n) (size_there os sizes place sized ∙ ap size is) (size_fits os sizes place sized)
 
 -- below the end of all operands stand all of them
 pub term_whole : (os : List Operand) (place : ℕ) → term_below os (length os) place ≡ part_in (terms_of os) place

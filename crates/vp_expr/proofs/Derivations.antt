@@ -1,5 +1,5 @@
 -- The terms of the parts of a derivation that is laid out in a list are those of the derivation.
-use Rattle.std.proofs.Common.{◌≡◌, ◌∙◌, ℕ, ◌<◌, Bool, true, false, cond, List, [], ◌∷◌, ◌++◌, length, map, Option, Some, None, refl, sym, ap, append_assoc, arith}
+use Rattle.std.proofs.Common.{◌≡◌, ◌∙◌, ℕ, ◌-◌, ◌<◌, Bool, true, false, cond, List, [], ◌∷◌, ◌++◌, length, map, Option, Some, None, refl, sym, ap, append_assoc, arith}
 use Rattle.std.proofs.lemmas.List.{get_or_append_left, get_or_push, length-map, length_push, map-append, append-nil}
 use Rattle.std.proofs.lemmas.List.Sums.{fold-append}
 use Rattle.vp_bits.specs.declared.bit.Bit as bits
@@ -19,33 +19,33 @@ use Rattle.vp_expr.specs.declared.operand.Reduction.TheVariants as reduction
 use Rattle.vp_expr.specs.declared.operand.Unary.TheVariants as unary
 use Rattle.vp_expr.specs.declared.operand.Operand.{Operand}
 use Rattle.vp_expr.specs.declared.operand.Operand.TheVariants as operand
-use Rattle.vp_expr.specs.Arena.{blank, is_width, part_in, term_at, term_from, terms_of, value_in, width_in, with_term}
+use Rattle.vp_expr.specs.Arena.{blank, is_width, part_in, term_at, term_from, terms_of, value_in, with_term}
 use Rattle.vp_expr.specs.Derived.{StandsAt, derived_value, expr_term, named_term, parts_term}
-use Rattle.vp_expr.specs.Tables.{infix_of, lowest_in, named_operand, object_named, operand_of, operands_of, tables_of, unary_operand, widths_of}
+use Rattle.vp_expr.specs.Tables.{first_module, infix_of, lowest_in, named_operand, object_named, operand_of, operands_of, tables_of, unary_operand, width_in}
 use Rattle.vp_expr.specs.Terms as term
 use Rattle.vp_expr.specs.Terms.{Term, value}
 use Rattle.vp_expr.specs.Evaluation.{eval}
 use Rattle.vp_expr.specs.Ids as ids
 use Rattle.vp_expr.proofs.Arenas.{grows_at, length-terms}
 
--- the terms of expressions in a list
-abbrev terms_in : Elaborated → List node.Expression → List Term
-terms_in d nodes = terms_of (map (operand_of d) nodes)
+-- the terms of expressions in a list, by the object of their module
+abbrev terms_in : Elaborated → (scope : ℕ) → List node.Expression → List Term
+terms_in d m nodes = terms_of (map (operand_of d m) nodes)
 
-terms_more : (d : Elaborated) (nodes : List node.Expression) (n : node.Expression) → terms_in d (nodes ++ n ∷ []) ≡ terms_in d nodes ++ term_from (terms_in d nodes) (operand_of d n) ∷ []
-terms_more d nodes n =
-    ap terms_of (map-append (operand_of d) nodes (n ∷ []))
-    ∙ fold-append with_term [] (map (operand_of d) nodes) (operand_of d n ∷ [])
+terms_more : (d : Elaborated) (m : ℕ) (nodes : List node.Expression) (n : node.Expression) → terms_in d m (nodes ++ n ∷ []) ≡ terms_in d m nodes ++ term_from (terms_in d m nodes) (operand_of d m n) ∷ []
+terms_more d m nodes n =
+    ap terms_of (map-append (operand_of d m) nodes (n ∷ []))
+    ∙ fold-append with_term [] (map (operand_of d m) nodes) (operand_of d m n ∷ [])
 
-count : (d : Elaborated) (nodes : List node.Expression) → length (terms_in d nodes) ≡ length nodes
-count d nodes = omega (arith, length-terms [] (map (operand_of d) nodes), length-map nodes (operand_of d))
+count : (d : Elaborated) (m : ℕ) (nodes : List node.Expression) → length (terms_in d m nodes) ≡ length nodes
+count d m nodes = omega (arith, length-terms [] (map (operand_of d m) nodes), length-map nodes (operand_of d m))
 
 -- a term stands at a place of a list that grew from another
-record Stands (d : Elaborated) (first : List node.Expression) (x : ℕ × List node.Expression) (t : Term) : Type 0 where
+record Stands (d : Elaborated) (m : ℕ) (first : List node.Expression) (x : ℕ × List node.Expression) (t : Term) : Type 0 where
   more : List Term
-  grown : terms_in d x.1 ≡ terms_in d first ++ more
-  inside : x.0 < length (terms_in d x.1)
-  is : part_in (terms_in d x.1) x.0 ≡ t
+  grown : terms_in d m x.1 ≡ terms_in d m first ++ more
+  inside : x.0 < length (terms_in d m x.1)
+  is : part_in (terms_in d m x.1) x.0 ≡ t
 
 -- and still stands there when the list has grown
 later : (ts more all : List Term) (place : ℕ) (t : Term) → all ≡ ts ++ more → place < length ts → part_in ts place ≡ t → part_in all place ≡ t
@@ -56,23 +56,23 @@ grown_twice : (a b c x y : List Term) → b ≡ a ++ x → c ≡ b ++ y → c �
 grown_twice a b c x y h k = k ∙ ap (λ (l : List Term). l ++ y) h ∙ append_assoc a x y
 
 -- one more part, made of those before it
-placed : (d : Elaborated) (first nodes : List node.Expression) (more : List Term) (n : node.Expression) (t : Term) → terms_in d nodes ≡ terms_in d first ++ more → term_from (terms_in d nodes) (operand_of d n) ≡ t → Stands d first (with_node n nodes) t
-placed d first nodes more n t grown is =
-    let u = term_from (terms_in d nodes) (operand_of d n) in
-    let one = terms_more d nodes n in
+placed : (d : Elaborated) (m : ℕ) (first nodes : List node.Expression) (more : List Term) (n : node.Expression) (t : Term) → terms_in d m nodes ≡ terms_in d m first ++ more → term_from (terms_in d m nodes) (operand_of d m n) ≡ t → Stands d m first (with_node n nodes) t
+placed d m first nodes more n t grown is =
+    let u = term_from (terms_in d m nodes) (operand_of d m n) in
+    let one = terms_more d m nodes n in
     record {
       more = more ++ u ∷ [];
-      grown = grown_twice (terms_in d first) (terms_in d nodes) (terms_in d (nodes ++ n ∷ [])) more (u ∷ []) grown one;
-      inside = omega (arith, count d (nodes ++ n ∷ []), length_push nodes n);
+      grown = grown_twice (terms_in d m first) (terms_in d m nodes) (terms_in d m (nodes ++ n ∷ [])) more (u ∷ []) grown one;
+      inside = omega (arith, count d m (nodes ++ n ∷ []), length_push nodes n);
       is =
           ap (λ (l : List Term). part_in l (length nodes)) one
-          ∙ get_or_push (terms_in d nodes) u blank (length nodes) (count d nodes)
+          ∙ get_or_push (terms_in d m nodes) u blank (length nodes) (count d m nodes)
           ∙ is;
     }
 
 -- a leaf
-leaf : (d : Elaborated) (nodes : List node.Expression) (n : node.Expression) (t : Term) → term_from (terms_in d nodes) (operand_of d n) ≡ t → Stands d nodes (with_node n nodes) t
-leaf d nodes n t is = placed d nodes nodes [] n t (sym (append-nil (terms_in d nodes))) is
+leaf : (d : Elaborated) (m : ℕ) (nodes : List node.Expression) (n : node.Expression) (t : Term) → term_from (terms_in d m nodes) (operand_of d m n) ≡ t → Stands d m nodes (with_node n nodes) t
+leaf d m nodes n t is = placed d m nodes nodes [] n t (sym (append-nil (terms_in d m nodes))) is
 
 -- ---- operators
 
@@ -110,113 +110,113 @@ term_from_if ts false one other = refl
 -- ---- derivations
 
 -- what is selected stands in a list that grew from another
-record Selects (d : Elaborated) (first : List node.Expression) (x : selection.Selection × List node.Expression) (s : Selection) : Type 0 where
+record Selects (d : Elaborated) (m : ℕ) (first : List node.Expression) (x : selection.Selection × List node.Expression) (s : Selection) : Type 0 where
   more : List Term
-  grown : terms_in d x.1 ≡ terms_in d first ++ more
-  is : (object : Option ℕ) → term_from (terms_in d x.1) (named_operand d object x.0) ≡ named_term d object s
+  grown : terms_in d m x.1 ≡ terms_in d m first ++ more
+  is : (object : Option ℕ) → term_from (terms_in d m x.1) (named_operand d m object x.0) ≡ named_term d m object s
 
-whole_named : (d : Elaborated) (ts : List Term) (object : Option ℕ) → term_from ts (named_operand d object (put_selection Whole []).0) ≡ named_term d object Whole
-whole_named d ts None = refl
-whole_named d ts (Some object) = refl
+whole_named : (d : Elaborated) (m : ℕ) (ts : List Term) (object : Option ℕ) → term_from ts (named_operand d m object (put_selection Whole []).0) ≡ named_term d m object Whole
+whole_named d m ts None = refl
+whole_named d m ts (Some object) = term_from_if ts (is_width (width_in d object)) _ _
 
-bit_named : (d : Elaborated) (ts : List Term) (place opening closing : ℕ) (e : Expr) (object : Option ℕ) → part_in ts place ≡ expr_term d e → term_from ts (named_operand d object (selected_as.Bit place)) ≡ named_term d object (Bit opening e closing)
-bit_named d ts place opening closing e None h = refl
-bit_named d ts place opening closing e (Some object) h = ap (term.BitSelect object (lowest_in d object)) h
+bit_named : (d : Elaborated) (m : ℕ) (ts : List Term) (place opening closing : ℕ) (e : Expr) (object : Option ℕ) → part_in ts place ≡ expr_term d m e → term_from ts (named_operand d m object (selected_as.Bit place)) ≡ named_term d m object (Bit opening e closing)
+bit_named d m ts place opening closing e None h = refl
+bit_named d m ts place opening closing e (Some object) h = ap (term.BitSelect (object - m) (lowest_in d object)) h
 
-part_named : (d : Elaborated) (ts : List Term) (r : Range) (object : Option ℕ) → term_from ts (named_operand d object (put_selection (Part r) []).0) ≡ named_term d object (Part r)
-part_named d ts r None = refl
-part_named d ts r (Some object) = term_from_if ts (is_width (range_width (put_range r))) _ _
+part_named : (d : Elaborated) (m : ℕ) (ts : List Term) (r : Range) (object : Option ℕ) → term_from ts (named_operand d m object (put_selection (Part r) []).0) ≡ named_term d m object (Part r)
+part_named d m ts r None = refl
+part_named d m ts r (Some object) = term_from_if ts (is_width (range_width (put_range r))) _ _
 
 mutual
-  expr_stands : (d : Elaborated) (e : Expr) (nodes : List node.Expression) → Stands d nodes (put_expr e nodes) (expr_term d e)
-  expr_stands d (Name place s) nodes =
+  expr_stands : (d : Elaborated) (m : ℕ) (e : Expr) (nodes : List node.Expression) → Stands d m nodes (put_expr e nodes) (expr_term d m e)
+  expr_stands d m (Name place s) nodes =
       let x = put_selection s nodes in
-      let h = selection_stands d s nodes in
-      placed d nodes x.1 h.more (node_of.Name place x.0) _ h.grown (h.is (object_named d place))
-  expr_stands d (Sized place size kind digits) nodes = leaf d nodes (node_of.Literal place size digits) _ refl
-  expr_stands d (Based digits) nodes = leaf d nodes (node_of.Based digits) _ refl
-  expr_stands d (Number place number) nodes = leaf d nodes (node_of.Number place number) _ refl
-  expr_stands d (Group opening e closing) nodes = expr_stands d e nodes
-  expr_stands d (Unary o place e) nodes =
+      let h = selection_stands d m s nodes in
+      placed d m nodes x.1 h.more (node_of.Name place x.0) _ h.grown (h.is (object_named d m place))
+  expr_stands d m (Sized place size kind digits) nodes = leaf d m nodes (node_of.Literal place size digits) _ refl
+  expr_stands d m (Based digits) nodes = leaf d m nodes (node_of.Based digits) _ refl
+  expr_stands d m (Number place number) nodes = leaf d m nodes (node_of.Number place number) _ refl
+  expr_stands d m (Group opening e closing) nodes = expr_stands d m e nodes
+  expr_stands d m (Unary o place e) nodes =
       let x = put_expr e nodes in
-      let h = expr_stands d e nodes in
-      placed d nodes x.1 h.more (node_of.Unary o place x.0) _ h.grown (unary_made o (terms_in d x.1) x.0 (expr_term d e) h.is)
-  expr_stands d (Binary o a place b) nodes =
+      let h = expr_stands d m e nodes in
+      placed d m nodes x.1 h.more (node_of.Unary o place x.0) _ h.grown (unary_made o (terms_in d m x.1) x.0 (expr_term d m e) h.is)
+  expr_stands d m (Binary o a place b) nodes =
       let x = put_expr a nodes in
       let y = put_expr b x.1 in
-      let h = expr_stands d a nodes in
-      let k = expr_stands d b x.1 in
-      let ts = terms_in d y.1 in
-      placed d nodes y.1 (h.more ++ k.more) (node_of.Binary o place x.0 y.0) _
-      (grown_twice (terms_in d nodes) (terms_in d x.1) ts h.more k.more h.grown k.grown)
-      (pair_made (infix_of o) ts x.0 y.0 (expr_term d a) (expr_term d b) (later (terms_in d x.1) k.more ts x.0 (expr_term d a) k.grown h.inside h.is) k.is)
-  expr_stands d (Conditional c question a colon b) nodes =
+      let h = expr_stands d m a nodes in
+      let k = expr_stands d m b x.1 in
+      let ts = terms_in d m y.1 in
+      placed d m nodes y.1 (h.more ++ k.more) (node_of.Binary o place x.0 y.0) _
+      (grown_twice (terms_in d m nodes) (terms_in d m x.1) ts h.more k.more h.grown k.grown)
+      (pair_made (infix_of o) ts x.0 y.0 (expr_term d m a) (expr_term d m b) (later (terms_in d m x.1) k.more ts x.0 (expr_term d m a) k.grown h.inside h.is) k.is)
+  expr_stands d m (Conditional c question a colon b) nodes =
       let x = put_expr c nodes in
       let y = put_expr a x.1 in
       let z = put_expr b y.1 in
-      let h = expr_stands d c nodes in
-      let k = expr_stands d a x.1 in
-      let l = expr_stands d b y.1 in
-      let ts = terms_in d z.1 in
-      let twice = grown_twice (terms_in d nodes) (terms_in d x.1) (terms_in d y.1) h.more k.more h.grown k.grown in
-      let behind = grown_twice (terms_in d x.1) (terms_in d y.1) ts k.more l.more k.grown l.grown in
-      placed d nodes z.1 (h.more ++ k.more ++ l.more) (node_of.Conditional x.0 y.0 z.0) _
-      (grown_twice (terms_in d nodes) (terms_in d y.1) ts (h.more ++ k.more) l.more twice l.grown)
-      (choice_made ts x.0 y.0 z.0 (expr_term d c) (expr_term d a) (expr_term d b)
-      (later (terms_in d x.1) (k.more ++ l.more) ts x.0 (expr_term d c) behind h.inside h.is)
-      (later (terms_in d y.1) l.more ts y.0 (expr_term d a) l.grown k.inside k.is)
+      let h = expr_stands d m c nodes in
+      let k = expr_stands d m a x.1 in
+      let l = expr_stands d m b y.1 in
+      let ts = terms_in d m z.1 in
+      let twice = grown_twice (terms_in d m nodes) (terms_in d m x.1) (terms_in d m y.1) h.more k.more h.grown k.grown in
+      let behind = grown_twice (terms_in d m x.1) (terms_in d m y.1) ts k.more l.more k.grown l.grown in
+      placed d m nodes z.1 (h.more ++ k.more ++ l.more) (node_of.Conditional x.0 y.0 z.0) _
+      (grown_twice (terms_in d m nodes) (terms_in d m y.1) ts (h.more ++ k.more) l.more twice l.grown)
+      (choice_made ts x.0 y.0 z.0 (expr_term d m c) (expr_term d m a) (expr_term d m b)
+      (later (terms_in d m x.1) (k.more ++ l.more) ts x.0 (expr_term d m c) behind h.inside h.is)
+      (later (terms_in d m y.1) l.more ts y.0 (expr_term d m a) l.grown k.inside k.is)
       l.is)
-  expr_stands d (Concatenation opening l closing) nodes = parts_stand d opening l nodes
-  expr_stands d (Replication opening count_place n inner_opening l inner_closing closing) nodes =
+  expr_stands d m (Concatenation opening l closing) nodes = parts_stand d m opening l nodes
+  expr_stands d m (Replication opening count_place n inner_opening l inner_closing closing) nodes =
       let x = put_parts inner_opening l nodes in
-      let h = parts_stand d inner_opening l nodes in
-      placed d nodes x.1 h.more (node_of.Replication opening n x.0) _ h.grown (ap (term.Replicated n) h.is)
+      let h = parts_stand d m inner_opening l nodes in
+      placed d m nodes x.1 h.more (node_of.Replication opening n x.0) _ h.grown (ap (term.Replicated n) h.is)
 
-  selection_stands : (d : Elaborated) (s : Selection) (nodes : List node.Expression) → Selects d nodes (put_selection s nodes) s
-  selection_stands d Whole nodes = record {
+  selection_stands : (d : Elaborated) (m : ℕ) (s : Selection) (nodes : List node.Expression) → Selects d m nodes (put_selection s nodes) s
+  selection_stands d m Whole nodes = record {
     more = [];
-    grown = sym (append-nil (terms_in d nodes));
-    is = whole_named d (terms_in d nodes);
+    grown = sym (append-nil (terms_in d m nodes));
+    is = whole_named d m (terms_in d m nodes);
   }
-  selection_stands d (Bit opening e closing) nodes =
+  selection_stands d m (Bit opening e closing) nodes =
       let x = put_expr e nodes in
-      let h = expr_stands d e nodes in
-      record { more = h.more; grown = h.grown; is = λ object. bit_named d (terms_in d x.1) x.0 opening closing e object h.is }
-  selection_stands d (Part r) nodes = record {
+      let h = expr_stands d m e nodes in
+      record { more = h.more; grown = h.grown; is = λ object. bit_named d m (terms_in d m x.1) x.0 opening closing e object h.is }
+  selection_stands d m (Part r) nodes = record {
     more = [];
-    grown = sym (append-nil (terms_in d nodes));
-    is = part_named d (terms_in d nodes) r;
+    grown = sym (append-nil (terms_in d m nodes));
+    is = part_named d m (terms_in d m nodes) r;
   }
 
-  parts_stand : (d : Elaborated) (opening : ℕ) (l : Parts) (nodes : List node.Expression) → Stands d nodes (put_parts opening l nodes) (parts_term d l)
-  parts_stand d opening (First e) nodes =
+  parts_stand : (d : Elaborated) (m : ℕ) (opening : ℕ) (l : Parts) (nodes : List node.Expression) → Stands d m nodes (put_parts opening l nodes) (parts_term d m l)
+  parts_stand d m opening (First e) nodes =
       let x = put_expr e nodes in
-      let h = expr_stands d e nodes in
-      placed d nodes x.1 h.more (node_of.Concatenation opening x.0) _ h.grown (ap (λ (t : Term). term.Concatenated t) h.is)
-  parts_stand d opening (More l comma e) nodes =
+      let h = expr_stands d m e nodes in
+      placed d m nodes x.1 h.more (node_of.Concatenation opening x.0) _ h.grown (ap (λ (t : Term). term.Concatenated t) h.is)
+  parts_stand d m opening (More l comma e) nodes =
       let x = put_parts opening l nodes in
       let y = put_expr e x.1 in
-      let h = parts_stand d opening l nodes in
-      let k = expr_stands d e x.1 in
-      let ts = terms_in d y.1 in
-      placed d nodes y.1 (h.more ++ k.more) (node_of.Appended opening x.0 y.0) _
-      (grown_twice (terms_in d nodes) (terms_in d x.1) ts h.more k.more h.grown k.grown)
-      (appended_made ts x.0 y.0 (parts_term d l) (expr_term d e) (later (terms_in d x.1) k.more ts x.0 (parts_term d l) k.grown h.inside h.is) k.is)
+      let h = parts_stand d m opening l nodes in
+      let k = expr_stands d m e x.1 in
+      let ts = terms_in d m y.1 in
+      placed d m nodes y.1 (h.more ++ k.more) (node_of.Appended opening x.0 y.0) _
+      (grown_twice (terms_in d m nodes) (terms_in d m x.1) ts h.more k.more h.grown k.grown)
+      (appended_made ts x.0 y.0 (parts_term d m l) (expr_term d m e) (later (terms_in d m x.1) k.more ts x.0 (parts_term d m l) k.grown h.inside h.is) k.is)
 
 -- the term of an expression of a design is that of the derivation that stands there
-pub term_derived : (d : Elaborated) (place : ℕ) (e : Expr) → StandsAt d place e → term_at (operands_of d) place ≡ expr_term d e
+pub term_derived : (d : Elaborated) (place : ℕ) (e : Expr) → StandsAt d place e → term_at (operands_of d) place ≡ expr_term d first_module e
 term_derived d place e s =
     let x = put_expr e s.before in
-    let h = expr_stands d e s.before in
+    let h = expr_stands d first_module e s.before in
     ap (λ (p : ℕ). term_at (operands_of d) p) s.there
-    ∙ ap (λ (es : List node.Expression). part_in (terms_in d es) x.0) s.laid
-    ∙ ap (λ (os : List Operand). part_in (terms_of os) x.0) (map-append (operand_of d) x.1 s.behind)
-    ∙ ap (λ (ts : List Term). part_in ts x.0) (fold-append with_term [] (map (operand_of d) x.1) (map (operand_of d) s.behind))
-    ∙ grows_at (terms_in d x.1) (map (operand_of d) s.behind) x.0 blank h.inside
+    ∙ ap (λ (es : List node.Expression). part_in (terms_in d first_module es) x.0) s.laid
+    ∙ ap (λ (os : List Operand). part_in (terms_of os) x.0) (map-append (operand_of d first_module) x.1 s.behind)
+    ∙ ap (λ (ts : List Term). part_in ts x.0) (fold-append with_term [] (map (operand_of d first_module) x.1) (map (operand_of d first_module) s.behind))
+    ∙ grows_at (terms_in d first_module x.1) (map (operand_of d first_module) s.behind) x.0 blank h.inside
     ∙ h.is
 
 -- and its value is the derivation's
-pub value_derived : (d : Elaborated) (values : List (List bits.Bit)) (id : ids.Sized) (e : Expr) → StandsAt d id.place e → eval (tables_of d) values id ≡ derived_value d values id.size e
+pub value_derived : (d : Elaborated) (values : List (List bits.Bit)) (id : ids.Sized) (e : Expr) → StandsAt d id.place e → eval (tables_of d) values id ≡ derived_value d first_module values id.size e
 unfolding tables_of
 value_derived d values id e s =
-    ap (value (width_in (widths_of d)) (value_in values) id.size) (term_derived d id.place e s)
+    ap (value (value_in values) id.size) (term_derived d id.place e s)

@@ -6,6 +6,7 @@ mod ArenaRows
 mod LiteralRows
 mod TermRows
 mod DerivedRows
+mod ReadRows
 pub mod Processes
 pub mod Fitting
 pub mod Named

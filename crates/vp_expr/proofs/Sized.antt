@@ -8,12 +8,12 @@ use Rattle.vp_expr.specs.declared.tables.Process.{Process}
 use Rattle.vp_expr.specs.declared.tables.Tables.{Tables}
 use Rattle.vp_expr.specs.Arena.{IsSized, fitting, is_width, sizes_in}
 use Rattle.vp_expr.specs.Checks.{IsChecked}
-use Rattle.vp_expr.specs.Tables.{action_of, all_fit, operands_of, processes_of, sizes_of, tables_of, widths_of}
+use Rattle.vp_expr.specs.Tables.{action_of, all_fit, first_module, operands_of, processes_of, sizes_of, tables_of, widths_of}
 
-pub tables_sized : (design : Elaborated) (t : Tables) → t ≡ tables_of design → list_all is_width t.sizes ≡ true → IsSized t.widths t.operands t.sizes
+pub tables_sized : (design : Elaborated) (t : Tables) → t ≡ tables_of design → list_all is_width t.sizes ≡ true → IsSized t.operands t.sizes
 unfolding tables_of
 tables_sized design t is fit = record {
-  are_sizes = ap (λ (s : Tables). s.sizes) is ∙ sym (ap (λ (s : Tables). sizes_in s.widths s.operands) is);
+  are_sizes = ap (λ (s : Tables). s.sizes) is ∙ sym (ap (λ (s : Tables). sizes_in s.operands) is);
   fit = fit;
 }
 
@@ -23,15 +23,15 @@ fits true ns ms h = (refl, cc)
 fits false ns ms h = absurd cc
 
 -- widths and sizes that were found to fit
-module _ (d : Elaborated) (operands : List Operand) (widths sizes : List ℕ) (are : operands ≡ operands_of d) (wide : fitting (widths_of d) ≡ Some widths) (fit : fitting (sizes_in widths operands) ≡ Some sizes) where
+module _ (d : Elaborated) (operands : List Operand) (widths sizes : List ℕ) (are : operands ≡ operands_of d) (wide : fitting (widths_of d) ≡ Some widths) (fit : fitting (sizes_in operands) ≡ Some sizes) where
   widths_fit : (list_all is_width (widths_of d) ≡ true) × (widths ≡ widths_of d)
   widths_fit = fits (list_all is_width (widths_of d)) (widths_of d) widths wide
 
-  sizes_fit : (list_all is_width (sizes_in widths operands) ≡ true) × (sizes ≡ sizes_in widths operands)
-  sizes_fit = fits (list_all is_width (sizes_in widths operands)) (sizes_in widths operands) sizes fit
+  sizes_fit : (list_all is_width (sizes_in operands) ≡ true) × (sizes ≡ sizes_in operands)
+  sizes_fit = fits (list_all is_width (sizes_in operands)) (sizes_in operands) sizes fit
 
   sizes_are : sizes ≡ sizes_of d
-  sizes_are = sizes_fit.1 ∙ ap (λ ws. sizes_in ws operands) widths_fit.1 ∙ ap (sizes_in (widths_of d)) are
+  sizes_are = sizes_fit.1 ∙ ap sizes_in are
 
   -- each of the design's fits
   pub design_fits : all_fit d ≡ true
@@ -41,13 +41,11 @@ module _ (d : Elaborated) (operands : List Operand) (widths sizes : List ℕ) (a
       ∙ sizes_fit.0
 
   -- and the tables that are made of them are the design's
-  pub tables_checked : (actions : List Action) (processes : List Process) → actions ≡ map (action_of d widths sizes) d.source.statements → processes ≡ processes_of d → IsChecked d (record { operands = operands; widths = widths; sizes = sizes; actions = actions; processes = processes })
+  pub tables_checked : (actions : List Action) (processes : List Process) → actions ≡ map (action_of d first_module sizes) d.source.statements → processes ≡ processes_of d → IsChecked d (record { operands = operands; widths = widths; sizes = sizes; actions = actions; processes = processes })
   unfolding tables_of
   tables_checked actions processes acts runs =
-      let all : actions ≡ map (action_of d (widths_of d) (sizes_of d)) d.source.statements =
-      acts
-      ∙ ap (λ ws. map (action_of d ws sizes) d.source.statements) widths_fit.1
-      ∙ ap (λ ns. map (action_of d (widths_of d) ns) d.source.statements) sizes_are in
+      let all : actions ≡ map (action_of d first_module (sizes_of d)) d.source.statements =
+      acts ∙ ap (λ ns. map (action_of d first_module ns) d.source.statements) sizes_are in
       record {
         tables_are = rw (are, widths_fit.1, sizes_are, all, runs) refl;
         wide = ap (list_all is_width) widths_fit.1 ∙ widths_fit.0;

@@ -19,10 +19,10 @@ part_in terms place = slice_index_or terms place blank
 
 -- the term of an operand, by the terms of those before it
 abbrev pub term_from : List Term → Operand → Term
-term_from terms (operand.Object object) = Object object.0
+term_from terms (operand.Object slot width) = Object slot.0 width
 term_from terms (operand.Constant bits s) = Constant bits s
-term_from terms (operand.BitSelect object lowest index) = BitSelect object.0 lowest (part_in terms index)
-term_from terms (operand.PartSelect object place width) = PartSelect object.0 place width
+term_from terms (operand.BitSelect slot lowest index) = BitSelect slot.0 lowest (part_in terms index)
+term_from terms (operand.PartSelect slot place width) = PartSelect slot.0 place width
 term_from terms (operand.Applied o a) = Applied o (part_in terms a)
 term_from terms (operand.Reduced o a) = Reduced o (part_in terms a)
 term_from terms (operand.Paired (pair.Combined o) a b) = Combined o (part_in terms a) (part_in terms b)
@@ -54,17 +54,14 @@ term_below operands end place = part_in (take end (terms_of operands)) place
 abbrev pub term_made : List Operand → (place : ℕ) → Operand → Term
 term_made operands place o = term_from (take place (terms_of operands)) o
 
--- the width of an object by its number; 1 for a number that is not there
-abbrev pub width_in : List ℕ → ℕ → ℕ
-width_in widths object = slice_index_or widths object 1
-
--- the value of an object by its number; one unknown bit for a number that is not there
+-- the value of an object by its slot, from the values of an instance and of the objects behind it; one unknown bit for one that
+-- is not there
 abbrev pub value_in : List (List Bit) → ℕ → List Bit
-value_in values object = slice_index_or values object no_value
+value_in values slot = slice_index_or values slot no_value
 
--- the sizes of operands, by the widths of objects
-unfoldable pub sizes_in : List ℕ → List Operand → List ℕ
-sizes_in widths operands = map (size (width_in widths)) (terms_of operands)
+-- the sizes of operands
+unfoldable pub sizes_in : List Operand → List ℕ
+sizes_in operands = map size (terms_of operands)
 
 -- which operands are signed
 abbrev pub signs_in : List Operand → List Bool
@@ -77,19 +74,19 @@ pair_size sizes (pair.Shifted o) a b = slice_index_or sizes a 1
 pair_size sizes (pair.Compared o) a b = 1
 pair_size sizes (pair.Joined o) a b = 1
 
--- the size of an operand, by the widths of objects and the sizes of those before it (IEEE Std 1364-2005, 5.4.1)
-abbrev pub operand_size : List ℕ → List ℕ → Operand → ℕ
-operand_size widths sizes (operand.Object object) = width_in widths object.0
-operand_size widths sizes (operand.Constant bits s) = length bits
-operand_size widths sizes (operand.BitSelect object lowest index) = 1
-operand_size widths sizes (operand.PartSelect object place width) = width
-operand_size widths sizes (operand.Applied o a) = slice_index_or sizes a 1
-operand_size widths sizes (operand.Reduced o a) = 1
-operand_size widths sizes (operand.Paired o a b) = pair_size sizes o a b
-operand_size widths sizes (operand.Conditional c a b) = max (slice_index_or sizes a 1) (slice_index_or sizes b 1)
-operand_size widths sizes (operand.Concatenated a) = slice_index_or sizes a 1
-operand_size widths sizes (operand.Appended list a) = slice_index_or sizes list 1 + slice_index_or sizes a 1
-operand_size widths sizes (operand.Replicated count list) = count * slice_index_or sizes list 1
+-- the size of an operand, by the sizes of those before it (IEEE Std 1364-2005, 5.4.1)
+abbrev pub operand_size : List ℕ → Operand → ℕ
+operand_size sizes (operand.Object slot width) = width
+operand_size sizes (operand.Constant bits s) = length bits
+operand_size sizes (operand.BitSelect slot lowest index) = 1
+operand_size sizes (operand.PartSelect slot place width) = width
+operand_size sizes (operand.Applied o a) = slice_index_or sizes a 1
+operand_size sizes (operand.Reduced o a) = 1
+operand_size sizes (operand.Paired o a b) = pair_size sizes o a b
+operand_size sizes (operand.Conditional c a b) = max (slice_index_or sizes a 1) (slice_index_or sizes b 1)
+operand_size sizes (operand.Concatenated a) = slice_index_or sizes a 1
+operand_size sizes (operand.Appended list a) = slice_index_or sizes list 1 + slice_index_or sizes a 1
+operand_size sizes (operand.Replicated count list) = count * slice_index_or sizes list 1
 
 -- an operator between operands is signed, by the signs of those before it (IEEE Std 1364-2005, 5.5.1)
 abbrev pub pair_sign : List Bool → Infix → (left right : ℕ) → Bool
@@ -100,10 +97,10 @@ pair_sign signs (pair.Joined o) a b = false
 
 -- an operand is signed, by the signs of those before it (IEEE Std 1364-2005, 5.5.1)
 abbrev pub operand_sign : List Bool → Operand → Bool
-operand_sign signs (operand.Object object) = false
+operand_sign signs (operand.Object slot width) = false
 operand_sign signs (operand.Constant bits s) = s
-operand_sign signs (operand.BitSelect object lowest index) = false
-operand_sign signs (operand.PartSelect object place width) = false
+operand_sign signs (operand.BitSelect slot lowest index) = false
+operand_sign signs (operand.PartSelect slot place width) = false
 operand_sign signs (operand.Applied o a) = slice_index_or signs a false
 operand_sign signs (operand.Reduced o a) = false
 operand_sign signs (operand.Paired o a b) = pair_sign signs o a b
@@ -120,11 +117,11 @@ is_width n = nat_le 1 n && nat_le n 64
 abbrev pub fitting : List ℕ → Option (List ℕ)
 fitting sizes = if list_all is_width sizes then Some sizes else None
 
--- the value of the operand at a place in a context of a size, by the widths and the values of objects
-abbrev pub value_at : List ℕ → List Operand → List (List Bit) → (place n : ℕ) → List Bit
-value_at widths operands values place n = value (width_in widths) (value_in values) n (term_at operands place)
+-- the value of the operand at a place in a context of a size, by the values of objects
+abbrev pub value_at : List Operand → List (List Bit) → (place n : ℕ) → List Bit
+value_at operands values place n = value (value_in values) n (term_at operands place)
 
--- sizes are those of operands, by the widths of objects, and each is that of a vector
-pub record IsSized (widths : List ℕ) (operands : List Operand) (sizes : List ℕ) : Type 0 where
-  pub are_sizes : sizes ≡ sizes_in widths operands
+-- sizes are those of operands, and each is that of a vector
+pub record IsSized (operands : List Operand) (sizes : List ℕ) : Type 0 where
+  pub are_sizes : sizes ≡ sizes_in operands
   pub fit : list_all is_width sizes ≡ true

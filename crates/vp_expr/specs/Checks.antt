@@ -9,6 +9,7 @@ use Rattle.vp_parse_expr.specs.declared.operator.BinaryOperator.{BinaryOperator}
 use Rattle.vp_parse_expr.specs.declared.operator.BinaryOperator.TheVariants as binary
 use Rattle.vp_parse.specs.Places.{earlier, earliest, line_at}
 use Rattle.vp_parse.specs.declared.source.Source.{Source}
+use Rattle.vp_parse.specs.declared.source.DeclaredRange.{DeclaredRange}
 use Rattle.vp_parse.specs.declared.source.Item.{Item}
 use Rattle.vp_parse.specs.declared.source.Item.TheVariants as item
 use Rattle.vp_parse_stmt.specs.declared.arena.Statement.{Statement}
@@ -20,7 +21,7 @@ use Rattle.vp_expr.specs.declared.fault.ExprError.{ExprError}
 use Rattle.vp_expr.specs.declared.fault.ExprError.TheVariants.{TooWide, SignedCompare, BadSelect, NoMemory}
 use Rattle.vp_expr.specs.declared.tables.Tables.{Tables}
 use Rattle.vp_expr.specs.Arena.{is_width, operand_size, signs_in}
-use Rattle.vp_expr.specs.Tables.{all_fit, node_named, operand_of, operands_of, tables_of}
+use Rattle.vp_expr.specs.Tables.{all_fit, first_module, node_named, operand_of, operands_of, tables_of}
 
 -- a place, where something is so
 abbrev pub place_if : Bool → ℕ → Option ℕ
@@ -37,8 +38,8 @@ abbrev pub counted : ℕ → ℕ
 counted size = min size 65
 
 -- the bits of the name at a place: how many, and the lowest index, if there is one (clause 4.3.1)
-abbrev pub bits_named : Elaborated → ℕ → Option (ℕ × Option ℕ)
-bits_named design name = option_map (λ n. (n.width, n.lowest)) (node_named design name)
+abbrev pub bits_named : Elaborated → (scope name : ℕ) → Option (ℕ × Option ℕ)
+bits_named design scope name = option_map (λ n. (n.width, n.lowest)) (node_named design scope name)
 
 -- how many of so many bits are selected (clause 5.2.1)
 abbrev pub selected_width : Selection → ℕ → ℕ
@@ -52,22 +53,22 @@ size_of_bits s None = 1
 size_of_bits s (Some bits) = selected_width s bits.0
 
 -- how many bits are selected of the name at a place; 1 where there is no such object
-abbrev pub node_size : Elaborated → ℕ → Selection → ℕ
-node_size design name s = size_of_bits s (bits_named design name)
+abbrev pub node_size : Elaborated → (scope name : ℕ) → Selection → ℕ
+node_size design scope name s = size_of_bits s (bits_named design scope name)
 
 -- the size of an expression as it is counted, by the sizes of those before it (clause 5.4.1)
-abbrev pub counted_size : Elaborated → List ℕ → Expression → ℕ
-counted_size design sizes (expression.Name name s) = counted (node_size design name s)
-counted_size design sizes (expression.Literal place size digits) = counted size
-counted_size design sizes e = counted (operand_size [] sizes (operand_of design e))
+abbrev pub counted_size : Elaborated → (scope : ℕ) → List ℕ → Expression → ℕ
+counted_size design scope sizes (expression.Name name s) = counted (node_size design scope name s)
+counted_size design scope sizes (expression.Literal place size digits) = counted size
+counted_size design scope sizes e = counted (operand_size sizes (operand_of design scope e))
 
 -- sizes, and behind them that of one more expression
-abbrev pub with_size : Elaborated → List ℕ → Expression → List ℕ
-with_size design sizes e = sizes ++ counted_size design sizes e ∷ []
+abbrev pub with_size : Elaborated → (scope : ℕ) → List ℕ → Expression → List ℕ
+with_size design scope sizes e = sizes ++ counted_size design scope sizes e ∷ []
 
 -- the sizes of the expressions of a design, as they are counted
 abbrev pub counted_sizes : Elaborated → List ℕ
-counted_sizes design = fold (with_size design) [] design.source.expressions
+counted_sizes design = fold (with_size design first_module) [] design.source.expressions
 
 -- a selection of a part is too wide (clause 5.2.1)
 abbrev pub is_wide_part : Selection → Bool
@@ -83,11 +84,20 @@ wide_at size (expression.Appended brace list part) = place_if (is_wide size) bra
 wide_at size (expression.Replication brace count list) = place_if (is_wide size) brace
 wide_at size _ = None
 
+-- the range of a declaration
+abbrev pub range_in : Item → Option DeclaredRange
+range_in (item.Port name direction range) = range
+range_in (item.Net name range) = range
+range_in (item.Reg name range) = range
+range_in _ = None
+
+-- the bracket of a range that is too wide
+abbrev pub wide_range : DeclaredRange → Option ℕ
+wide_range declared = place_if (is_wide (range_width declared.range)) declared.bracket
+
 -- a declaration whose range is too wide, by its bracket (clause 4.3.1)
 abbrev pub wide_item : Item → Option ℕ
-wide_item (item.Reg name None) = None
-wide_item (item.Reg name (Some declared)) = place_if (is_wide (range_width declared.range)) declared.bracket
-wide_item (item.Initial keyword body) = None
+wide_item i = option_and_then wide_range (range_in i)
 
 -- an assignment to a part that is too wide (clause 5.2.1)
 abbrev pub wide_target : Statement → Option ℕ
@@ -125,19 +135,19 @@ bad_bits name s None = None
 bad_bits name s (Some bits) = place_if (is_bad bits.1 bits.0 s) name
 
 -- the name at a place, where the selection of its bits is bad
-abbrev pub bad_name : Elaborated → ℕ → Selection → Option ℕ
-bad_name design name s = bad_bits name s (bits_named design name)
+abbrev pub bad_name : Elaborated → (scope name : ℕ) → Selection → Option ℕ
+bad_name design scope name s = bad_bits name s (bits_named design scope name)
 
 -- a bad selection in an expression; a replication of 0
-abbrev pub bad_at : Elaborated → Expression → Option ℕ
-bad_at design (expression.Name name s) = bad_name design name s
-bad_at design (expression.Replication brace count list) = place_if (count == 0) brace
-bad_at design _ = None
+abbrev pub bad_at : Elaborated → (scope : ℕ) → Expression → Option ℕ
+bad_at design scope (expression.Name name s) = bad_name design scope name s
+bad_at design scope (expression.Replication brace count list) = place_if (count == 0) brace
+bad_at design scope _ = None
 
 -- a bad selection before the equals sign of an assignment
-abbrev pub bad_target : Elaborated → Statement → Option ℕ
-bad_target design (statement.Assign target s value) = bad_name design target s
-bad_target design _ = None
+abbrev pub bad_target : Elaborated → (scope : ℕ) → Statement → Option ℕ
+bad_target design scope (statement.Assign target s value) = bad_name design scope target s
+bad_target design scope _ = None
 
 -- ---- all of them
 
@@ -161,7 +171,9 @@ first_signed design = earliest (signed_at (signs_in (operands_of design))) desig
 
 -- the first bad selection
 unfoldable pub first_bad : Elaborated → Option ℕ
-first_bad design = earlier (earliest (bad_target design) design.source.statements) (earliest (bad_at design) design.source.expressions)
+first_bad design =
+    earlier (earliest (bad_target design first_module) design.source.statements)
+    (earliest (bad_at design first_module) design.source.expressions)
 
 -- a refusal by the line of the place that is at fault, if one is; else another
 abbrev pub refused_at : Source → (ℕ → ExprError) → Option ℕ → Option ExprError → Option ExprError

@@ -11,9 +11,9 @@ use Rattle.vp_parse.specs.Places.{word_at}
 use Rattle.vp_elab.specs.Built.{Elaborated}
 use Rattle.vp_elab.specs.Elaboration.{range_width}
 use Rattle.vp_expr.specs.declared.operand.Operand.TheVariants as operand
-use Rattle.vp_expr.specs.Arena.{blank, is_width, term_from, value_in, width_in}
+use Rattle.vp_expr.specs.Arena.{blank, is_width, term_from, value_in}
 use Rattle.vp_expr.specs.Literals.{based_bits, literal_bits, number_bits}
-use Rattle.vp_expr.specs.Tables.{infix_of, lowest_in, object_named, unary_operand, widths_of}
+use Rattle.vp_expr.specs.Tables.{infix_of, lowest_in, object_named, unary_operand, width_in}
 use Rattle.vp_expr.specs.Terms as term
 use Rattle.vp_expr.specs.Terms.{Term, value}
 
@@ -25,40 +25,52 @@ unary_term o a = term_from (a ∷ []) (unary_operand o 0)
 abbrev pub binary_term : BinaryOperator → Term → Term → Term
 binary_term o a b = term_from (a ∷ b ∷ []) (operand.Paired (infix_of o) 0 1)
 
+-- an object of an instance, by the module's object; one unknown bit in place of one that is no vector (clause 4.3)
+abbrev pub object_term : Elaborated → (scope object : ℕ) → Term
+object_term design scope object =
+    if is_width (width_in design object) then term.Object (object - scope) (width_in design object) else blank
+
 -- a part of an object, by its range; one unknown bit in place of one that no vector can be (clause 5.2.1)
-abbrev pub part_term : Elaborated → (object : ℕ) → Range → Term
-part_term design object r =
-    if is_width (range_width r) then term.PartSelect object (r.lsb - lowest_in design object) (range_width r) else blank
+abbrev pub part_term : Elaborated → (scope object : ℕ) → Range → Term
+part_term design scope object r =
+    if is_width (range_width r)
+    then term.PartSelect (object - scope) (r.lsb - lowest_in design object) (range_width r)
+    else blank
 
 abbrev mutual
-  -- an expression over the objects of a design: each name is its object, and each literal its value (clause 5)
-  pub expr_term : Elaborated → Expr → Term
-  expr_term design (Name place s) = named_term design (object_named design place) s
-  expr_term design (Sized place size kind digits) = term.Constant (literal_bits size (word_at design.source digits)) false
-  expr_term design (Based digits) = term.Constant (based_bits (word_at design.source digits)) false
-  expr_term design (Number place number) = term.Constant (number_bits number) true
-  expr_term design (Group opening e closing) = expr_term design e
-  expr_term design (Unary o place e) = unary_term o (expr_term design e)
-  expr_term design (Binary o a place b) = binary_term o (expr_term design a) (expr_term design b)
-  expr_term design (Conditional c question a colon b) = term.Conditional (expr_term design c) (expr_term design a) (expr_term design b)
-  expr_term design (Concatenation opening l closing) = parts_term design l
-  expr_term design (Replication opening count_place count inner_opening l inner_closing closing) = term.Replicated count (parts_term design l)
+  -- an expression over the objects of an instance, by the object of its module: each name is the slot of its object, and each
+  -- literal its value (clause 5)
+  pub expr_term : Elaborated → (scope : ℕ) → Expr → Term
+  expr_term design scope (Name place s) = named_term design scope (object_named design scope place) s
+  expr_term design scope (Sized place size kind digits) = term.Constant (literal_bits size (word_at design.source digits)) false
+  expr_term design scope (Based digits) = term.Constant (based_bits (word_at design.source digits)) false
+  expr_term design scope (Number place number) = term.Constant (number_bits number) true
+  expr_term design scope (Group opening e closing) = expr_term design scope e
+  expr_term design scope (Unary o place e) = unary_term o (expr_term design scope e)
+  expr_term design scope (Binary o a place b) = binary_term o (expr_term design scope a) (expr_term design scope b)
+  expr_term design scope (Conditional c question a colon b) =
+      term.Conditional (expr_term design scope c) (expr_term design scope a) (expr_term design scope b)
+  expr_term design scope (Concatenation opening l closing) = parts_term design scope l
+  expr_term design scope (Replication opening count_place count inner_opening l inner_closing closing) =
+      term.Replicated count (parts_term design scope l)
 
   -- what is selected of the object of a name; one unknown bit where there is none (clause 5.2.1)
-  pub named_term : Elaborated → Option ℕ → Selection → Term
-  named_term design None s = blank
-  named_term design (Some object) Whole = term.Object object
-  named_term design (Some object) (Bit opening e closing) = term.BitSelect object (lowest_in design object) (expr_term design e)
-  named_term design (Some object) (Part r) = part_term design object (put_range r)
+  pub named_term : Elaborated → (scope : ℕ) → Option ℕ → Selection → Term
+  named_term design scope None s = blank
+  named_term design scope (Some object) Whole = object_term design scope object
+  named_term design scope (Some object) (Bit opening e closing) =
+      term.BitSelect (object - scope) (lowest_in design object) (expr_term design scope e)
+  named_term design scope (Some object) (Part r) = part_term design scope object (put_range r)
 
   -- the expressions in braces, one behind the other (clause 5.1.14)
-  pub parts_term : Elaborated → Parts → Term
-  parts_term design (First e) = term.Concatenated (expr_term design e)
-  parts_term design (More l comma e) = term.Appended (parts_term design l) (expr_term design e)
+  pub parts_term : Elaborated → (scope : ℕ) → Parts → Term
+  parts_term design scope (First e) = term.Concatenated (expr_term design scope e)
+  parts_term design scope (More l comma e) = term.Appended (parts_term design scope l) (expr_term design scope e)
 
--- the value of an expression in a context of a size, by the values of the objects (clause 5.4)
-abbrev pub derived_value : Elaborated → List (List bits.Bit) → ℕ → Expr → List bits.Bit
-derived_value design values n e = value (width_in (widths_of design)) (value_in values) n (expr_term design e)
+-- the value of an expression in a context of a size, by the object of the module in which it stands and the values of the objects
+-- of an instance of that (clause 5.4)
+abbrev pub derived_value : Elaborated → (scope : ℕ) → List (List bits.Bit) → ℕ → Expr → List bits.Bit
+derived_value design scope values n e = value (value_in values) n (expr_term design scope e)
 
 -- a derivation stands at a place of a design: its parts are laid out behind others, and the whole has this place
 pub record StandsAt (design : Elaborated) (place : ℕ) (e : Expr) : Type 0 where

@@ -1,31 +1,32 @@
--- The value of an expression of a design, from the values of the objects.
+-- The value of an expression of a design in an instance, from the values of the instance's objects: those of all objects from the
+-- instance on.
 use Rattle.std.specs.Prelude.{ℕ, List}
 use Rattle.vp_bits.specs.declared.bit.Bit.{Bit}
 use Rattle.vp_bits.specs.Arithmetic.{number_of}
 use Rattle.vp_expr.specs.declared.tables.Tables.{Tables}
 use Rattle.vp_expr.specs.declared.tables.Target.{Target}
 use Rattle.vp_expr.specs.declared.tables.Target.TheVariants as target
-use Rattle.vp_expr.specs.Arena.{term_at, value_at, value_in, width_in}
+use Rattle.vp_expr.specs.Arena.{term_at, value_at, value_in}
 use Rattle.vp_expr.specs.Terms.{own_value, with_bit_at, with_part_at}
 use Rattle.vp_expr.specs.Ids.{Sized}
 
 -- the value of an expression, by its place and the size of its context (clause 5.4); one unknown bit behind the end
 abbrev pub eval : Tables → List (List Bit) → Sized → List Bit
-eval tables values e = value_at tables.widths tables.operands values e.place e.size
+eval tables values e = value_at tables.operands values e.place e.size
 
 -- the value of an expression that sizes itself, by its place (clause 5.4)
 abbrev pub own_eval : Tables → List (List Bit) → ℕ → List Bit
-own_eval tables values place = own_value (width_in tables.widths) (value_in values) (term_at tables.operands place)
+own_eval tables values place = own_value (value_in values) (term_at tables.operands place)
 
--- the object of a target
-abbrev pub object_of : Target → ℕ
-object_of (target.Whole object) = object.0
-object_of (target.Bit object lowest index) = object.0
-object_of (target.Part object place width) = object.0
+-- the slot of the object of a target
+abbrev pub slot_of : Target → ℕ
+slot_of (target.Whole slot width) = slot.0
+slot_of (target.Bit slot lowest index) = slot.0
+slot_of (target.Part slot place width) = slot.0
 
 -- what an assignment of a value gives the object of its target: all of it, or its value with a bit or a part set (clause 5.2.1)
 abbrev pub given_to : Tables → List (List Bit) → Target → List Bit → List Bit
-given_to tables values (target.Whole object) value = value
-given_to tables values (target.Bit object lowest index) value =
-    with_bit_at (value_in values object.0) lowest (number_of (own_eval tables values index)) value
-given_to tables values (target.Part object place width) value = with_part_at (value_in values object.0) place width value
+given_to tables values (target.Whole slot width) value = value
+given_to tables values (target.Bit slot lowest index) value =
+    with_bit_at (value_in values slot.0) lowest (number_of (own_eval tables values index)) value
+given_to tables values (target.Part slot place width) value = with_part_at (value_in values slot.0) place width value

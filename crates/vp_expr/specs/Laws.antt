@@ -76,19 +76,19 @@ length-chosen Unknown n a b h k = length-bitwise _ n a b h k
 length-chosen HighImpedance n a b h k = length-bitwise _ n a b h k
 
 -- the value of a term in a context has the context's size
-pub length-value : (width : ℕ → ℕ) (at : ℕ → List Bit) (n : ℕ) (t : Term) → length (value width at n t) ≡ n
-length-value width at n (Object object) = length-resized n _
-length-value width at n (Constant bits s) = length-resized n _
-length-value width at n (BitSelect object lowest i) = length-resized n _
-length-value width at n (PartSelect object place part) = length-resized n _
-length-value width at n (Applied o a) = length-applied o n _ (length-value width at n a)
-length-value width at n (Reduced o a) = length-resized n _
-length-value width at n (Combined o a b) = length-combined o n _ _ (length-value width at n a) (length-value width at n b)
-length-value width at n (Shifted o a b) = length-shifted_by o n _ _ (length-value width at n a)
-length-value width at n (Compared o a b) = length-resized n _
-length-value width at n (Joined o a b) = length-resized n _
-length-value width at n (Conditional c a b) =
-    length-chosen _ n _ _ (length-value width at n a) (length-value width at n b)
-length-value width at n (Concatenated a) = length-resized n _
-length-value width at n (Appended list a) = length-resized n _
-length-value width at n (Replicated count list) = length-resized n _
+pub length-value : (at : ℕ → List Bit) (n : ℕ) (t : Term) → length (value at n t) ≡ n
+length-value at n (Object slot width) = length-resized n _
+length-value at n (Constant bits s) = length-resized n _
+length-value at n (BitSelect slot lowest i) = length-resized n _
+length-value at n (PartSelect slot place width) = length-resized n _
+length-value at n (Applied o a) = length-applied o n _ (length-value at n a)
+length-value at n (Reduced o a) = length-resized n _
+length-value at n (Combined o a b) = length-combined o n _ _ (length-value at n a) (length-value at n b)
+length-value at n (Shifted o a b) = length-shifted_by o n _ _ (length-value at n a)
+length-value at n (Compared o a b) = length-resized n _
+length-value at n (Joined o a b) = length-resized n _
+length-value at n (Conditional c a b) =
+    length-chosen _ n _ _ (length-value at n a) (length-value at n b)
+length-value at n (Concatenated a) = length-resized n _
+length-value at n (Appended list a) = length-resized n _
+length-value at n (Replicated count list) = length-resized n _

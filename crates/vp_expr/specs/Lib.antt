@@ -9,5 +9,6 @@ pub mod Literals
 pub mod LiteralSteps
 pub mod Tables
 pub mod Evaluation
+pub mod Reads
 pub mod Derived
 pub mod Checks

@@ -1,7 +1,7 @@
--- The tables that a simulator runs: the expressions and statements of a design, with objects in place of names.
+-- The tables that a simulator runs: the expressions and statements of a design, with slots in place of names.
 use Rattle.std.specs.Prelude.{ℕ, zero, suc, ◌-◌, ◌&&◌, max, Bool, false, true, if◌then◌else◌, List, map, length, slice_get, slice_index_or, Option, Some, None, option_map, option_and_then}
 use Rattle.std.specs.List.{filter_map, list_all}
-use Rattle.std.specs.Option.{unwrap_or}
+use Rattle.std.specs.Option.{option_map_or, unwrap_or}
 use Rattle.vp_parse_expr.specs.declared.node.Expression.{Expression}
 use Rattle.vp_parse_expr.specs.declared.node.Expression.TheVariants as expression
 use Rattle.vp_parse_expr.specs.declared.node.Selection.{Selection}
@@ -18,6 +18,8 @@ use Rattle.vp_parse.specs.declared.source.Item.TheVariants as item
 use Rattle.vp_elab.specs.Built.{Elaborated}
 use Rattle.vp_elab.specs.Elaboration.{range_width}
 use Rattle.vp_elab.specs.Tree.{Node, below, find_in}
+use Rattle.vp_elab.specs.declared.object.ObjectId.{ObjectId}
+use Rattle.vp_expr.specs.declared.operand.Slot.{Slot}
 use Rattle.vp_expr.specs.declared.operand.Operand.{Operand}
 use Rattle.vp_expr.specs.declared.operand.Operand.TheVariants as operand
 use Rattle.vp_expr.specs.declared.operand.Infix.{Infix}
@@ -34,20 +36,33 @@ use Rattle.vp_expr.specs.declared.tables.Target.{Target}
 use Rattle.vp_expr.specs.declared.tables.Target.TheVariants as target
 use Rattle.vp_expr.specs.Ids.{Sized}
 use Rattle.vp_expr.specs.declared.tables.Process.{Process}
+use Rattle.vp_expr.specs.declared.tables.Process.TheVariants as process
 use Rattle.vp_expr.specs.declared.tables.Tables.{Tables}
-use Rattle.vp_expr.specs.Arena.{is_width, sizes_in, width_in}
+use Rattle.vp_expr.specs.Arena.{is_width, sizes_in}
 use Rattle.vp_expr.specs.Literals.{based_bits, literal_bits, number_bits}
 use Rattle.vp_expr.specs.Values.{no_value}
 
 -- ---- names
 
--- the object of the name at a place; a text has at most one module, whose object is the first (clause 12.5)
-abbrev pub object_named : Elaborated → ℕ → Option ℕ
-object_named design place = find_in design.tree.nodes (Some 0) (word_at design.source place)
+-- the object of the module of a text, which has at most one: the first (clause 12.5)
+abbrev pub first_module : ℕ
+first_module = 0
+
+-- the object of the name at a place, by the object of the module in which it stands (clause 12.5)
+abbrev pub object_named : Elaborated → (scope place : ℕ) → Option ℕ
+object_named design scope place = find_in design.tree.nodes (Some scope) (word_at design.source place)
 
 -- the node of the name at a place
-abbrev pub node_named : Elaborated → ℕ → Option Node
-node_named design place = option_and_then (slice_get design.tree.nodes) (object_named design place)
+abbrev pub node_named : Elaborated → (scope place : ℕ) → Option Node
+node_named design scope place = option_and_then (slice_get design.tree.nodes) (object_named design scope place)
+
+-- how far an object stands behind the object of its module: in each instance of the module as far (clause 12.1.2)
+abbrev pub slot_in : (scope object : ℕ) → Slot
+slot_in scope object = record { 0 = object - scope }
+
+-- how many bits an object has; 0 where there is none
+abbrev pub width_in : Elaborated → ℕ → ℕ
+width_in design object = option_map_or (λ (n : Node). n.width) (slice_get design.tree.nodes object) 0
 
 -- the index of the least significant bit of an object; 0 where it has none
 abbrev pub lowest_in : Elaborated → ℕ → ℕ
@@ -55,19 +70,22 @@ lowest_in design object = unwrap_or (option_and_then (λ (n : Node). n.lowest) (
 
 -- ---- expressions
 
--- what is selected of an object as an operand; one unknown bit in place of a part that no vector can be (clause 5.2.1)
-abbrev pub selected_operand : Elaborated → ℕ → Selection → Operand
-selected_operand design object selection.Whole = operand.Object (record { 0 = object })
-selected_operand design object (selection.Bit index) = operand.BitSelect (record { 0 = object }) (lowest_in design object) index
-selected_operand design object (selection.Part r) =
+-- what is selected of an object as an operand; one unknown bit in place of an object or a part that no vector can be (clause 5.2.1)
+abbrev pub selected_operand : Elaborated → (scope object : ℕ) → Selection → Operand
+selected_operand design scope object selection.Whole =
+    if is_width (width_in design object)
+    then operand.Object (slot_in scope object) (width_in design object)
+    else operand.Constant no_value false
+selected_operand design scope object (selection.Bit index) = operand.BitSelect (slot_in scope object) (lowest_in design object) index
+selected_operand design scope object (selection.Part r) =
     if is_width (range_width r)
-    then operand.PartSelect (record { 0 = object }) (r.lsb - lowest_in design object) (range_width r)
+    then operand.PartSelect (slot_in scope object) (r.lsb - lowest_in design object) (range_width r)
     else operand.Constant no_value false
 
 -- what is selected of a name as an operand; one unknown bit where there is no such object
-abbrev pub named_operand : Elaborated → Option ℕ → Selection → Operand
-named_operand design None s = operand.Constant no_value false
-named_operand design (Some object) s = selected_operand design object s
+abbrev pub named_operand : Elaborated → (scope : ℕ) → Option ℕ → Selection → Operand
+named_operand design scope None s = operand.Constant no_value false
+named_operand design scope (Some object) s = selected_operand design scope object s
 
 -- an operator of one operand (table 5-1)
 abbrev pub unary_operand : UnaryOperator → ℕ → Operand
@@ -104,22 +122,22 @@ infix_of between.CaseUnequal = pair.Compared comparison.CaseUnequal
 infix_of between.LogicalAnd = pair.Joined logical.And
 infix_of between.LogicalOr = pair.Joined logical.Or
 
--- an expression with an object in place of its name, and the value of its literal (clause 5)
-abbrev pub operand_of : Elaborated → Expression → Operand
-operand_of design (expression.Name name s) = named_operand design (object_named design name) s
-operand_of design (expression.Literal place size digits) = operand.Constant (literal_bits size (word_at design.source digits)) false
-operand_of design (expression.Based digits) = operand.Constant (based_bits (word_at design.source digits)) false
-operand_of design (expression.Number place number) = operand.Constant (number_bits number) true
-operand_of design (expression.Unary operator place a) = unary_operand operator a
-operand_of design (expression.Binary operator place a b) = operand.Paired (infix_of operator) a b
-operand_of design (expression.Conditional c a b) = operand.Conditional c a b
-operand_of design (expression.Concatenation brace part) = operand.Concatenated part
-operand_of design (expression.Appended brace list part) = operand.Appended list part
-operand_of design (expression.Replication brace count list) = operand.Replicated count list
+-- an expression of a module, by its object: with a slot in place of its name, and the value of its literal (clause 5)
+abbrev pub operand_of : Elaborated → (scope : ℕ) → Expression → Operand
+operand_of design scope (expression.Name name s) = named_operand design scope (object_named design scope name) s
+operand_of design scope (expression.Literal place size digits) = operand.Constant (literal_bits size (word_at design.source digits)) false
+operand_of design scope (expression.Based digits) = operand.Constant (based_bits (word_at design.source digits)) false
+operand_of design scope (expression.Number place number) = operand.Constant (number_bits number) true
+operand_of design scope (expression.Unary operator place a) = unary_operand operator a
+operand_of design scope (expression.Binary operator place a b) = operand.Paired (infix_of operator) a b
+operand_of design scope (expression.Conditional c a b) = operand.Conditional c a b
+operand_of design scope (expression.Concatenation brace part) = operand.Concatenated part
+operand_of design scope (expression.Appended brace list part) = operand.Appended list part
+operand_of design scope (expression.Replication brace count list) = operand.Replicated count list
 
 -- the expressions of a design as operands
 abbrev pub operands_of : Elaborated → List Operand
-operands_of design = map (operand_of design) design.source.expressions
+operands_of design = map (operand_of design first_module) design.source.expressions
 
 -- the widths of the objects of a design
 abbrev pub widths_of : Elaborated → List ℕ
@@ -127,7 +145,7 @@ widths_of design = map (λ n. n.width) design.tree.nodes
 
 -- the sizes of the expressions of a design (clause 5.4.1)
 abbrev pub sizes_of : Elaborated → List ℕ
-sizes_of design = sizes_in (widths_of design) (operands_of design)
+sizes_of design = sizes_in (operands_of design)
 
 -- ---- statements
 
@@ -135,20 +153,22 @@ sizes_of design = sizes_in (widths_of design) (operands_of design)
 abbrev pub sized_at : (place size : ℕ) → Option Sized
 sized_at place size = if is_width size then Some (record { place = place; size = size }) else None
 
--- what is selected of an object as a target; none where it is a part that no vector can be (clause 5.2.1)
-abbrev pub selected_target : Elaborated → ℕ → Selection → Option Target
-selected_target design object selection.Whole = Some (target.Whole (record { 0 = object }))
-selected_target design object (selection.Bit index) = Some (target.Bit (record { 0 = object }) (lowest_in design object) index)
-selected_target design object (selection.Part r) =
+-- what is selected of an object as a target; none where it is an object or a part that no vector can be (clause 5.2.1)
+abbrev pub selected_target : Elaborated → (scope object : ℕ) → Selection → Option Target
+selected_target design scope object selection.Whole =
+    if is_width (width_in design object) then Some (target.Whole (slot_in scope object) (width_in design object)) else None
+selected_target design scope object (selection.Bit index) =
+    Some (target.Bit (slot_in scope object) (lowest_in design object) index)
+selected_target design scope object (selection.Part r) =
     if is_width (range_width r)
-    then Some (target.Part (record { 0 = object }) (r.lsb - lowest_in design object) (range_width r))
+    then Some (target.Part (slot_in scope object) (r.lsb - lowest_in design object) (range_width r))
     else None
 
--- how many bits a target has, by the widths of objects
-abbrev pub target_width : (widths : List ℕ) → Target → ℕ
-target_width widths (target.Whole object) = width_in widths object.0
-target_width widths (target.Bit object lowest index) = 1
-target_width widths (target.Part object place width) = width
+-- how many bits a target has
+abbrev pub target_width : Target → ℕ
+target_width (target.Whole slot width) = width
+target_width (target.Bit slot lowest index) = 1
+target_width (target.Part slot place width) = width
 
 -- an assignment of a value to a target; nothing where there is none
 abbrev pub assign_value : Target → Option Sized → Action
@@ -156,39 +176,46 @@ assign_value t None = action.Nothing
 assign_value t (Some value) = action.Assign t value
 
 -- an assignment to a target: the value has the greater of its size and the target's width as its context (clause 5.4.1)
-abbrev pub assign_target : (widths sizes : List ℕ) → (value : ℕ) → Target → Action
-assign_target widths sizes value t = assign_value t (sized_at value (max (target_width widths t) (slice_index_or sizes value 1)))
+abbrev pub assign_target : (sizes : List ℕ) → (value : ℕ) → Target → Action
+assign_target sizes value t = assign_value t (sized_at value (max (target_width t) (slice_index_or sizes value 1)))
 
 -- an assignment to a target, if there is one
-abbrev pub assign_to : (widths sizes : List ℕ) → (value : ℕ) → Option Target → Action
-assign_to widths sizes value None = action.Nothing
-assign_to widths sizes value (Some t) = assign_target widths sizes value t
+abbrev pub assign_to : (sizes : List ℕ) → (value : ℕ) → Option Target → Action
+assign_to sizes value None = action.Nothing
+assign_to sizes value (Some t) = assign_target sizes value t
 
 -- what is selected of an object, if there is one, as a target
-abbrev pub named_target : Elaborated → Option ℕ → Selection → Option Target
-named_target design None s = None
-named_target design (Some object) s = selected_target design object s
+abbrev pub named_target : Elaborated → (scope : ℕ) → Option ℕ → Selection → Option Target
+named_target design scope None s = None
+named_target design scope (Some object) s = selected_target design scope object s
 
--- a statement with an object in place of its name (clauses 9.2.1 and 9.8.1)
-abbrev pub action_of : Elaborated → (widths sizes : List ℕ) → Statement → Action
-action_of design widths sizes statement.Empty = action.Nothing
-action_of design widths sizes (statement.Then list last) = action.Then list last
-action_of design widths sizes (statement.Assign name s value) =
-    assign_to widths sizes value (named_target design (object_named design name) s)
+-- a statement of a module, by its object: with a slot in place of its name (clauses 9.2.1 and 9.8.1)
+abbrev pub action_of : Elaborated → (scope : ℕ) → (sizes : List ℕ) → Statement → Action
+action_of design scope sizes statement.Empty = action.Nothing
+action_of design scope sizes (statement.Then list last) = action.Then list last
+action_of design scope sizes (statement.Assign name s value) =
+    assign_to sizes value (named_target design scope (object_named design scope name) s)
 
 -- the statement of an item that is a process (clause 9.9)
 abbrev pub body_of : Item → Option ℕ
-body_of (item.Reg name declared) = None
 body_of (item.Initial keyword body) = Some body
+body_of _ = None
 
 -- the statement of an object that is a process; the objects of a module stand behind it in the order of its items
 abbrev pub body_at : List Item → ℕ → Option ℕ
 body_at items zero = None
 body_at items (suc n) = option_and_then body_of (slice_get items n)
 
--- the object of a number as a process, if it is one
+-- the object of a number as a process of the text's module, if it is one
 abbrev pub process_at : List Item → ℕ → Option Process
-process_at items object = option_map (λ body. record { object = record { 0 = object }; body = body }) (body_at items object)
+process_at items object =
+    option_map (λ body. process.Procedure (record { 0 = object }) (record { 0 = first_module }) body) (body_at items object)
+
+-- the object of a process; of a connection the port
+abbrev pub process_object : Process → ObjectId
+process_object (process.Procedure object instance body) = object
+process_object (process.Assignment object net instance value) = object
+process_object (process.Connection port net) = port
 
 -- the processes of a design, in the order of their objects
 abbrev pub processes_of : Elaborated → List Process
@@ -200,7 +227,7 @@ tables_of design = record {
   operands = operands_of design;
   widths = widths_of design;
   sizes = sizes_of design;
-  actions = map (action_of design (widths_of design) (sizes_of design)) design.source.statements;
+  actions = map (action_of design first_module (sizes_of design)) design.source.statements;
   processes = processes_of design;
 }
 

@@ -20,13 +20,14 @@ use Rattle.vp_expr.specs.declared.operand.Comparison.TheVariants as comparison
 use Rattle.vp_expr.specs.declared.operand.Logical.{Logical}
 use Rattle.vp_expr.specs.declared.operand.Logical.TheVariants as logical
 
--- an expression over objects by number: an object; a constant with its sign; a bit of an object by its index, where the least
--- significant bit has the lowest; a part of an object from a place on; operators; concatenations (IEEE Std 1364-2005, 5)
+-- an expression over the objects of an instance, each by its slot, how far it stands behind the instance: an object, which has a
+-- width; a constant with its sign; a bit of an object by its index, where the least significant bit has the lowest; a part of an
+-- object from a place on; operators; concatenations (IEEE Std 1364-2005, 5)
 pub data Term : Type 0 where
-  Object : (object : ℕ) → Term
+  Object : (slot width : ℕ) → Term
   Constant : (bits : List Bit) → (is_signed : Bool) → Term
-  BitSelect : (object lowest : ℕ) → Term → Term
-  PartSelect : (object place width : ℕ) → Term
+  BitSelect : (slot lowest : ℕ) → Term → Term
+  PartSelect : (slot place width : ℕ) → Term
   Applied : Unary → Term → Term
   Reduced : Reduction → Term → Term
   Combined : Binary → Term → Term → Term
@@ -40,31 +41,31 @@ pub data Term : Type 0 where
 
 -- ---- sizes
 
--- the size of a term in bits, by the widths of objects (IEEE Std 1364-2005, 5.4.1, table 5-22)
-abbrev pub size : (ℕ → ℕ) → Term → ℕ
-size width (Object object) = width object
-size width (Constant bits is_signed) = length bits
-size width (BitSelect object lowest index) = 1
-size width (PartSelect object place part) = part
-size width (Applied o a) = size width a
-size width (Reduced o a) = 1
-size width (Combined o a b) = max (size width a) (size width b)
-size width (Shifted o a b) = size width a
-size width (Compared o a b) = 1
-size width (Joined o a b) = 1
-size width (Conditional c a b) = max (size width a) (size width b)
-size width (Concatenated a) = size width a
-size width (Appended list a) = size width list + size width a
-size width (Replicated count list) = count * size width list
+-- the size of a term in bits (IEEE Std 1364-2005, 5.4.1, table 5-22)
+abbrev pub size : Term → ℕ
+size (Object slot width) = width
+size (Constant bits is_signed) = length bits
+size (BitSelect slot lowest index) = 1
+size (PartSelect slot place width) = width
+size (Applied o a) = size a
+size (Reduced o a) = 1
+size (Combined o a b) = max (size a) (size b)
+size (Shifted o a b) = size a
+size (Compared o a b) = 1
+size (Joined o a b) = 1
+size (Conditional c a b) = max (size a) (size b)
+size (Concatenated a) = size a
+size (Appended list a) = size list + size a
+size (Replicated count list) = count * size list
 
 -- ---- signs
 
 -- a term is signed where each operand is that its context sizes (IEEE Std 1364-2005, 5.5.1)
 abbrev pub is_signed : Term → Bool
-is_signed (Object object) = false
+is_signed (Object slot width) = false
 is_signed (Constant bits s) = s
-is_signed (BitSelect object lowest index) = false
-is_signed (PartSelect object place part) = false
+is_signed (BitSelect slot lowest index) = false
+is_signed (PartSelect slot place width) = false
 is_signed (Applied o a) = is_signed a
 is_signed (Reduced o a) = false
 is_signed (Combined o a b) = is_signed a && is_signed b
@@ -148,38 +149,38 @@ part_at bits place width = if nat_le (place + width) (length bits) then selected
 
 -- ---- values
 
--- the value of a term in a context of a size, by the widths and the values of objects: what the context sizes is extended by
--- zeros before its operator is applied, and what sizes itself behind it (IEEE Std 1364-2005, 5.4 and 5.5)
-abbrev pub value : (ℕ → ℕ) → (ℕ → List Bit) → ℕ → Term → List Bit
-value width at n (Object object) = resized n (at object)
-value width at n (Constant bits s) = resized n bits
-value width at n (BitSelect object lowest i) = resized n (bit_at (at object) lowest (number_of (value width at (size width i) i)))
-value width at n (PartSelect object place part) = resized n (part_at (at object) place part)
-value width at n (Applied o a) = applied o (value width at n a)
-value width at n (Reduced o a) = resized n (reduced o (value width at (size width a) a))
-value width at n (Combined o a b) = combined o (value width at n a) (value width at n b)
-value width at n (Shifted o a b) = shifted_by o (value width at n a) (value width at (size width b) b)
-value width at n (Compared o a b) =
-    resized n (compared o (value width at (max (size width a) (size width b)) a) (value width at (max (size width a) (size width b)) b))
-value width at n (Joined o a b) =
-    resized n (joined o (truth (value width at (size width a) a)) (truth (value width at (size width b) b)) ∷ [])
-value width at n (Conditional c a b) =
-    chosen (truth (value width at (size width c) c)) (value width at n a) (value width at n b)
-value width at n (Concatenated a) = resized n (value width at (size width a) a)
-value width at n (Appended list a) =
-    resized n (concatenated (value width at (size width list) list) (value width at (size width a) a))
-value width at n (Replicated count list) = resized n (repeated count (value width at (size width list) list))
+-- the value of a term in a context of a size, by the values of objects: what the context sizes is extended by zeros before its
+-- operator is applied, and what sizes itself behind it (IEEE Std 1364-2005, 5.4 and 5.5)
+abbrev pub value : (ℕ → List Bit) → ℕ → Term → List Bit
+value at n (Object slot width) = resized n (at slot)
+value at n (Constant bits s) = resized n bits
+value at n (BitSelect slot lowest i) = resized n (bit_at (at slot) lowest (number_of (value at (size i) i)))
+value at n (PartSelect slot place width) = resized n (part_at (at slot) place width)
+value at n (Applied o a) = applied o (value at n a)
+value at n (Reduced o a) = resized n (reduced o (value at (size a) a))
+value at n (Combined o a b) = combined o (value at n a) (value at n b)
+value at n (Shifted o a b) = shifted_by o (value at n a) (value at (size b) b)
+value at n (Compared o a b) =
+    resized n (compared o (value at (max (size a) (size b)) a) (value at (max (size a) (size b)) b))
+value at n (Joined o a b) =
+    resized n (joined o (truth (value at (size a) a)) (truth (value at (size b) b)) ∷ [])
+value at n (Conditional c a b) =
+    chosen (truth (value at (size c) c)) (value at n a) (value at n b)
+value at n (Concatenated a) = resized n (value at (size a) a)
+value at n (Appended list a) =
+    resized n (concatenated (value at (size list) list) (value at (size a) a))
+value at n (Replicated count list) = resized n (repeated count (value at (size list) list))
 
 -- the value of a term that sizes itself (IEEE Std 1364-2005, 5.4.1)
-abbrev pub own_value : (ℕ → ℕ) → (ℕ → List Bit) → Term → List Bit
-own_value width at t = value width at (size width t) t
+abbrev pub own_value : (ℕ → List Bit) → Term → List Bit
+own_value at t = value at (size t) t
 
 -- ---- assignments
 
 -- the value that an assignment gives its target: the right side at the greater of both sizes, cut on the left (IEEE Std 1364-2005,
 -- 5.4.1 and 5.6)
-abbrev pub assigned : (ℕ → ℕ) → (ℕ → List Bit) → (target : ℕ) → Term → List Bit
-assigned width at target t = resized target (value width at (max target (size width t)) t)
+abbrev pub assigned : (ℕ → List Bit) → (target : ℕ) → Term → List Bit
+assigned at target t = resized target (value at (max target (size t)) t)
 
 -- what an assignment to the bit at an index leaves of a vector; the vector itself where the index is unknown or out of range
 -- (IEEE Std 1364-2005, 5.2.1)

@@ -1,15 +1,17 @@
 // What is refused of a design's expressions, by the place of each fault.
 ghost use Rattle.std.specs.Prelude.{◌≡◌, ◌++◌, ◌∷◌, [], false, slice_index_or, IfOk};
 ghost use Rattle.vp_parse.specs.Places.{earliest};
-ghost use Rattle.vp_expr.specs.Checks.{bad_at, bad_name, bad_target, bits_named, counted, counted_size, counted_sizes, first_bad, first_signed, first_wide, first_wide_of, is_bad, is_relational, is_wide, is_wide_part, node_size, signed_at, wide_among, wide_at, wide_item, wide_target};
-ghost use Rattle.vp_expr.specs.Tables.{operands_of};
+ghost use Rattle.vp_expr.specs.Checks.{bad_at, bad_name, bad_target, bits_named, counted, counted_size, counted_sizes, first_bad, first_signed, first_wide, first_wide_of, is_bad, is_relational, is_wide, is_wide_part, node_size, range_in, signed_at, wide_among, wide_at, wide_item, wide_target};
+ghost use Rattle.vp_expr.specs.Tables.{first_module, operands_of};
 
 use crate::operand::Operand;
-use crate::resolving::{object_named, operand_of};
+use crate::resolving::{FIRST_MODULE, object_named, operand_of};
 use crate::sizes::{operand_size, sign_at, signs_of};
 use std::alloc::{AllocError, Global};
-use vp_elab::{Design, range_width};
-use vp_parse::{BinaryOperator, Expression, Item, Selection, Source, Statement, earlier};
+use vp_elab::{Design, ObjectId, range_width};
+use vp_parse::{
+    BinaryOperator, DeclaredRange, Expression, Item, Selection, Source, Statement, earlier,
+};
 
 /// The greatest width of a vector, in bits.
 const WIDTH_LIMIT: u64 = 64;
@@ -30,19 +32,19 @@ fn is_wide(size: u64) -> bool
 
 /// The bits of the name at a place: how many, and the lowest index, if there is one.
 #[tactic(auto, using(crate::proofs::Named::bits_there))]
-fn bits_named(design: &Design, name: u32) -> Option<(u32, Option<u16>)>
-    ensures { result ≡ bits_named design.now name }
+fn bits_named(design: &Design, scope: ObjectId, name: u32) -> Option<(u32, Option<u16>)>
+    ensures { result ≡ bits_named design.now scope.0 name }
 {
-    let object = object_named(design, name)?;
+    let object = object_named(design, scope, name)?;
     let object = design.object(object)?;
     Some((object.width, object.lowest))
 }
 
 /// How many bits are selected of the name at a place; 1 where there is no such object.
-fn named_size(design: &Design, name: u32, selection: Selection) -> u64
-    ensures { result ≡ node_size design.now name selection }
+fn named_size(design: &Design, scope: ObjectId, name: u32, selection: Selection) -> u64
+    ensures { result ≡ node_size design.now scope.0 name selection }
 {
-    let Some((width, _lowest)) = bits_named(design, name) else {
+    let Some((width, _lowest)) = bits_named(design, scope, name) else {
         return 1;
     };
     match selection {
@@ -53,13 +55,13 @@ fn named_size(design: &Design, name: u32, selection: Selection) -> u64
 }
 
 /// The size of an expression as it is counted, in bits, by the sizes of those before it.
-fn counted_size(design: &Design, sizes: &[u8], expression: Expression) -> u8
-    ensures { result ≡ counted_size design.now sizes.now expression }
+fn counted_size(design: &Design, scope: ObjectId, sizes: &[u8], expression: Expression) -> u8
+    ensures { result ≡ counted_size design.now scope.0 sizes.now expression }
 {
     counted(match expression {
-        Expression::Name { name, selection } => named_size(design, name, selection),
+        Expression::Name { name, selection } => named_size(design, scope, name, selection),
         Expression::Literal { size, .. } => u64::from(size),
-        _ => operand_size(&[], sizes, operand_of(design, expression)),
+        _ => operand_size(sizes, operand_of(design, scope, expression)),
     })
 }
 
@@ -69,7 +71,7 @@ fn counted_sizes(alloc: Global, design: &Design) -> Result<Vec<u8>, AllocError>
 {
     let mut sizes: Vec<u8> = Vec::new(alloc);
     for expression in design.source().expressions.as_slice() {
-        sizes.push(counted_size(design, &sizes, *expression))?;
+        sizes.push(counted_size(design, FIRST_MODULE, &sizes, *expression))?;
     }
     Ok(sizes)
 }
@@ -99,16 +101,25 @@ fn wide_at(size: u8, expression: Expression) -> Option<u32>
     }
 }
 
+/// The range of a declaration.
+fn range_in(item: Item) -> Option<DeclaredRange>
+    ensures { result ≡ range_in item }
+{
+    match item {
+        Item::Port { range, .. } | Item::Net { range, .. } | Item::Reg { range, .. } => range,
+        _ => None,
+    }
+}
+
 /// The bracket of a declaration whose range is too wide.
 fn wide_item(item: Item) -> Option<u32>
     ensures { result ≡ wide_item item }
 {
-    match item {
-        Item::Reg {
-            range: Some(declared),
-            ..
-        } if is_wide(u64::from(range_width(declared.range))) => Some(declared.bracket),
-        _ => None,
+    let declared = range_in(item)?;
+    if is_wide(u64::from(range_width(declared.range))) {
+        Some(declared.bracket)
+    } else {
+        None
     }
 }
 
@@ -257,10 +268,10 @@ fn is_bad(lowest: Option<u16>, width: u32, selection: Selection) -> bool
 }
 
 /// The name at a place, where the selection of its bits is bad.
-fn bad_name(design: &Design, name: u32, selection: Selection) -> Option<u32>
-    ensures { result ≡ bad_name design.now name selection }
+fn bad_name(design: &Design, scope: ObjectId, name: u32, selection: Selection) -> Option<u32>
+    ensures { result ≡ bad_name design.now scope.0 name selection }
 {
-    let (width, lowest) = bits_named(design, name)?;
+    let (width, lowest) = bits_named(design, scope, name)?;
     if is_bad(lowest, width, selection) {
         Some(name)
     } else {
@@ -269,46 +280,46 @@ fn bad_name(design: &Design, name: u32, selection: Selection) -> Option<u32>
 }
 
 /// The place of a bad selection in an expression, or of a replication of 0.
-fn bad_at(design: &Design, expression: Expression) -> Option<u32>
-    ensures { result ≡ bad_at design.now expression }
+fn bad_at(design: &Design, scope: ObjectId, expression: Expression) -> Option<u32>
+    ensures { result ≡ bad_at design.now scope.0 expression }
 {
     match expression {
-        Expression::Name { name, selection } => bad_name(design, name, selection),
+        Expression::Name { name, selection } => bad_name(design, scope, name, selection),
         Expression::Replication { open, count: 0, .. } => Some(open),
         _ => None,
     }
 }
 
 /// The name of an assignment's target whose selection is bad.
-fn bad_target(design: &Design, statement: Statement) -> Option<u32>
-    ensures { result ≡ bad_target design.now statement }
+fn bad_target(design: &Design, scope: ObjectId, statement: Statement) -> Option<u32>
+    ensures { result ≡ bad_target design.now scope.0 statement }
 {
     match statement {
         Statement::Assign {
             target,
             selection,
             ..
-        } => bad_name(design, target, selection),
+        } => bad_name(design, scope, target, selection),
         Statement::Empty | Statement::Then { .. } => None,
     }
 }
 
 fn first_bad_target(design: &Design) -> Option<u32>
-    ensures { result ≡ earliest (bad_target design.now) design.now.source.statements }
+    ensures { result ≡ earliest (bad_target design.now first_module) design.now.source.statements }
 {
     let mut first = None;
     for statement in design.source().statements.as_slice() {
-        first = earlier(first, bad_target(design, *statement));
+        first = earlier(first, bad_target(design, FIRST_MODULE, *statement));
     }
     first
 }
 
 fn first_bad_operand(design: &Design) -> Option<u32>
-    ensures { result ≡ earliest (bad_at design.now) design.now.source.expressions }
+    ensures { result ≡ earliest (bad_at design.now first_module) design.now.source.expressions }
 {
     let mut first = None;
     for expression in design.source().expressions.as_slice() {
-        first = earlier(first, bad_at(design, *expression));
+        first = earlier(first, bad_at(design, FIRST_MODULE, *expression));
     }
     first
 }

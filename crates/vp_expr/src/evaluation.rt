@@ -1,10 +1,10 @@
-ghost use Rattle.std.specs.Prelude.{◌≡◌, ◌<◌, length, slice_get, IfSome, MatchOption, OnSome};
+ghost use Rattle.std.specs.Prelude.{◌≡◌, ◌<◌, drop, length, slice_get, IfSome, MatchOption, OnSome};
 ghost use Rattle.vp_bits.specs.Vector.{IsWidth};
-ghost use Rattle.vp_expr.specs.Arena.{blank, term_below, term_made, value_in, width_in, IsSized};
+ghost use Rattle.vp_expr.specs.Arena.{blank, term_below, term_made, value_in, IsSized};
 ghost use Rattle.vp_parse_expr.specs.Grammar.{Expr};
 ghost use Rattle.vp_expr.specs.Derived.{StandsAt, derived_value};
 ghost use Rattle.vp_expr.specs.Evaluation.{eval, given_to, own_eval};
-ghost use Rattle.vp_expr.specs.Tables.{tables_of};
+ghost use Rattle.vp_expr.specs.Tables.{first_module, tables_of};
 ghost use Rattle.vp_expr.specs.Terms.{size, value};
 
 use crate::checked::Checked;
@@ -16,8 +16,9 @@ use crate::operators::{
 };
 use crate::sizes::size_at;
 use crate::tables::{Tables, Target};
-use crate::values::Values;
+use crate::values::{Values, value_in};
 use vp_bits::{Bit, Bits};
+use vp_elab::ObjectId;
 
 /// The operand at a place; none behind the end.
 fn operand_at(operands: &[Operand], place: u32) -> Option<Operand>
@@ -27,11 +28,11 @@ fn operand_at(operands: &[Operand], place: u32) -> Option<Operand>
 }
 
 /// The operand at a place before an end; none elsewhere.
-fn operand_below(tables: &Tables, end: usize, place: u32) -> Option<Operand>
-    requires { IsSized tables.now.widths tables.now.operands tables.now.sizes }
+pub fn operand_below(tables: &Tables, end: usize, place: u32) -> Option<Operand>
+    requires { IsSized tables.now.operands tables.now.sizes }
     ensures below { OnSome result (place < end) }
     ensures term { MatchOption result (term_below tables.now.operands end place ≡ blank) (λ o. term_below tables.now.operands end place ≡ term_made tables.now.operands place o) }
-    ensures fits { IfSome result (λ o. IsWidth (size (width_in tables.now.widths) (term_made tables.now.operands place o))) }
+    ensures fits { IfSome result (λ o. IsWidth (size (term_made tables.now.operands place o))) }
 {
     if place as usize >= end {
         return None;
@@ -41,8 +42,8 @@ fn operand_below(tables: &Tables, end: usize, place: u32) -> Option<Operand>
 
 /// The size of the operand at a place before an end, in bits; 1 elsewhere.
 fn size_below(tables: &Tables, end: usize, place: u32) -> u8
-    requires { IsSized tables.now.widths tables.now.operands tables.now.sizes }
-    ensures size { result ≡ size (width_in tables.now.widths) (term_below tables.now.operands end place) }
+    requires { IsSized tables.now.operands tables.now.sizes }
+    ensures size { result ≡ size (term_below tables.now.operands end place) }
     ensures fits { IsWidth result }
 {
     if place as usize >= end {
@@ -53,10 +54,10 @@ fn size_below(tables: &Tables, end: usize, place: u32) -> u8
 
 /// The value of the operand at a place before an end in a context of a size, in bits; of one unknown bit elsewhere.
 #[cycle(evaluation)]
-fn value_below(tables: &Tables, values: &Values, end: usize, place: u32, context: u8) -> Bits
-    requires sized { IsSized tables.now.widths tables.now.operands tables.now.sizes }
+fn value_below(tables: &Tables, values: &[Bits], end: usize, place: u32, context: u8) -> Bits
+    requires sized { IsSized tables.now.operands tables.now.sizes }
     requires fits { IsWidth context }
-    ensures value { result ≡ value (width_in tables.now.widths) (value_in values.now) context (term_below tables.now.operands end place) }
+    ensures value { result ≡ value (value_in values.now) context (term_below tables.now.operands end place) }
     ensures width { length result ≡ context }
 {
     match operand_below(tables, end, place) {
@@ -67,10 +68,10 @@ fn value_below(tables: &Tables, values: &Values, end: usize, place: u32, context
 
 /// The value of the operand at a place before an end, at its own size.
 #[cycle(evaluation)]
-fn own_value(tables: &Tables, values: &Values, end: usize, place: u32) -> Bits
-    requires { IsSized tables.now.widths tables.now.operands tables.now.sizes }
-    ensures value { let term = term_below tables.now.operands end place in result ≡ value (width_in tables.now.widths) (value_in values.now) (size (width_in tables.now.widths) term) term }
-    ensures width { length result ≡ size (width_in tables.now.widths) (term_below tables.now.operands end place) }
+fn own_value(tables: &Tables, values: &[Bits], end: usize, place: u32) -> Bits
+    requires { IsSized tables.now.operands tables.now.sizes }
+    ensures value { let term = term_below tables.now.operands end place in result ≡ value (value_in values.now) (size term) term }
+    ensures width { length result ≡ size (term_below tables.now.operands end place) }
 {
     value_below(tables, values, end, place, size_below(tables, end, place))
 }
@@ -79,16 +80,16 @@ fn own_value(tables: &Tables, values: &Values, end: usize, place: u32) -> Bits
 #[cycle(evaluation)]
 fn value_of_pair(
     tables: &Tables,
-    values: &Values,
+    values: &[Bits],
     place: usize,
     operator: Infix,
     left: u32,
     right: u32,
     context: u8,
 ) -> Bits
-    requires sized { IsSized tables.now.widths tables.now.operands tables.now.sizes }
+    requires sized { IsSized tables.now.operands tables.now.sizes }
     requires fits { IsWidth context }
-    ensures { result ≡ value (width_in tables.now.widths) (value_in values.now) context (term_made tables.now.operands place (Operand.Paired operator left right)) }
+    ensures { result ≡ value (value_in values.now) context (term_made tables.now.operands place (Operand.Paired operator left right)) }
 {
     match operator {
         Infix::Combined(operator) => {
@@ -118,16 +119,16 @@ fn value_of_pair(
 #[cycle(evaluation)]
 fn value_of_choice(
     tables: &Tables,
-    values: &Values,
+    values: &[Bits],
     place: usize,
     condition: u32,
     first: u32,
     second: u32,
     context: u8,
 ) -> Bits
-    requires sized { IsSized tables.now.widths tables.now.operands tables.now.sizes }
+    requires sized { IsSized tables.now.operands tables.now.sizes }
     requires fits { IsWidth context }
-    ensures { result ≡ value (width_in tables.now.widths) (value_in values.now) context (term_made tables.now.operands place (Operand.Conditional condition first second)) }
+    ensures { result ≡ value (value_in values.now) context (term_made tables.now.operands place (Operand.Conditional condition first second)) }
 {
     match own_value(tables, values, place, condition).truth() {
         Bit::One => value_below(tables, values, place, first, context),
@@ -141,22 +142,28 @@ fn value_of_choice(
 
 /// The value of an operand at a place in a context of a size, in bits.
 #[cycle(evaluation)]
-fn value_of(tables: &Tables, values: &Values, place: usize, operand: Operand, context: u8) -> Bits
-    requires sized { IsSized tables.now.widths tables.now.operands tables.now.sizes }
-    requires own { IsWidth (size (width_in tables.now.widths) (term_made tables.now.operands place operand)) }
+fn value_of(tables: &Tables, values: &[Bits], place: usize, operand: Operand, context: u8) -> Bits
+    requires sized { IsSized tables.now.operands tables.now.sizes }
+    requires own { IsWidth (size (term_made tables.now.operands place operand)) }
     requires fits { IsWidth context }
-    ensures { result ≡ value (width_in tables.now.widths) (value_in values.now) context (term_made tables.now.operands place operand) }
+    ensures { result ≡ value (value_in values.now) context (term_made tables.now.operands place operand) }
 {
     match operand {
-        Operand::Object(object) => values.get(object).resize(context),
+        Operand::Object { slot, .. } => value_in(values, slot.0).resize(context),
         Operand::Constant { bits, .. } => bits.resize(context),
-        Operand::BitSelect(object, lowest, index) => {
+        Operand::BitSelect {
+            slot,
+            lowest,
+            index,
+        } => {
             let index = own_value(tables, values, place, index).number();
-            bit_at(values.get(object), lowest, index).resize(context)
+            bit_at(value_in(values, slot.0), lowest, index).resize(context)
         }
-        Operand::PartSelect(object, low, width) => {
-            part_at(values.get(object), low, width).resize(context)
-        }
+        Operand::PartSelect {
+            slot,
+            place: low,
+            width,
+        } => { part_at(value_in(values, slot.0), low, width).resize(context) }
         Operand::Applied(operator, part) => {
             let part = value_below(tables, values, place, part, context);
             applied(operator, part)
@@ -183,43 +190,50 @@ fn value_of(tables: &Tables, values: &Values, place: usize, operand: Operand, co
     }
 }
 
-/// The value of an expression of a design in its context, from the values of the objects (IEEE Std 1364-2005, 5.4): that of the
-/// derivation that stands at its place; one unknown bit, extended by zeros, behind the end.
-pub fn eval(checked: &Checked, values: &Values, id: ExprId) -> Bits
-    ensures value { result ≡ eval (tables_of checked.now) values.now id }
-    ensures derived { (e : Expr) → StandsAt checked.now id.place e → result ≡ derived_value checked.now values.now id.size e }
+/// The value of an expression of a design in its context, for an instance of the module in which it stands, from the values of
+/// the objects (IEEE Std 1364-2005, 5.4): that of the derivation that stands at its place; one unknown bit, extended by zeros,
+/// behind the end.
+pub fn eval(checked: &Checked, values: &Values, instance: ObjectId, id: ExprId) -> Bits
+    ensures value { result ≡ eval (tables_of checked.now) (drop instance.0 values.now) id }
+    ensures derived { (e : Expr) → StandsAt checked.now id.place e → result ≡ derived_value checked.now first_module (drop instance.0 values.now) id.size e }
 {
     let tables = checked.tables();
+    let values = values.of_instance(instance);
     value_below(tables, values, tables.operands.len(), id.place(), id.size())
 }
 
-/// The value of the expression at a place, which sizes itself.
-fn own_eval(checked: &Checked, values: &Values, place: u32) -> Bits
+/// The value of the expression at a place, which sizes itself, from the values of an instance on.
+fn own_eval(checked: &Checked, values: &[Bits], place: u32) -> Bits
     ensures { result ≡ own_eval (tables_of checked.now) values.now place }
 {
     let tables = checked.tables();
     own_value(tables, values, tables.operands.len(), place)
 }
 
-/// What an assignment of a value gives the object of its target, from the values of the objects: the value itself, or the
-/// object's own with a bit or a part set (IEEE Std 1364-2005, 5.2.1).
-pub fn given_to(checked: &Checked, values: &Values, target: Target, value: Bits) -> Bits
-    ensures { result ≡ given_to (tables_of checked.now) values.now target value }
+/// What an assignment of a value gives the object of its target in an instance, from the values of the objects: the value itself,
+/// or the object's own with a bit or a part set (IEEE Std 1364-2005, 5.2.1).
+pub fn given_to(
+    checked: &Checked,
+    values: &Values,
+    instance: ObjectId,
+    target: Target,
+    value: Bits,
+) -> Bits
+    ensures { result ≡ given_to (tables_of checked.now) (drop instance.0 values.now) target value }
 {
+    let values = values.of_instance(instance);
     match target {
-        Target::Whole(_) => value,
+        Target::Whole { .. } => value,
         Target::Bit {
-            object,
+            slot,
             lowest,
             index,
         } => {
             let index = own_eval(checked, values, index).number();
-            with_bit_at(values.get(object), lowest, index, value)
+            with_bit_at(value_in(values, slot.0), lowest, index, value)
         }
-        Target::Part {
-            object,
-            place,
-            width,
-        } => with_part_at(values.get(object), place, width, value),
+        Target::Part { slot, place, width } => {
+            with_part_at(value_in(values, slot.0), place, width, value)
+        }
     }
 }

@@ -1,5 +1,9 @@
 use vp_bits::Bits;
-use vp_elab::ObjectId;
+
+/// How far an object stands behind the object of the module in which it is declared. In each instance of a module its objects
+/// stand as far behind the instance, so that a slot names one of them for all instances.
+#[derive(Clone, Copy, Debug, PartialEq, Eq)]
+pub struct Slot(pub u32);
 
 /// An operator of one operand whose value is as wide as its context (IEEE Std 1364-2005, 5.1.5 and 5.1.10).
 #[derive(Clone, Copy)]
@@ -102,20 +106,19 @@ pub enum Infix {
     Joined(Logical),
 }
 
-/// An expression (IEEE Std 1364-2005, 5) over objects. It names its parts by their places in the list of
+/// An expression (IEEE Std 1364-2005, 5) over the objects of an instance. It names its parts by their places in the list of
 /// operands; a part stands before the whole.
 #[derive(Clone, Copy)]
 pub enum Operand {
-    /// The value of an object.
-    Object(ObjectId),
+    /// The value of an object, which has so many bits.
+    Object { slot: Slot, width: u8 },
     /// The value of a literal, and whether it is signed.
     Constant { bits: Bits, is_signed: bool },
-    /// The bit of an object at an index: the object, the index of its least significant bit, and the place
-    /// of the index.
-    BitSelect(ObjectId, u32, u32),
-    /// Bits of an object: the object, from which place on, where its least significant bit has place 0, and
-    /// how many.
-    PartSelect(ObjectId, u32, u8),
+    /// The bit of an object at an index, by the place of that, which sizes itself; `lowest` is the index of the least
+    /// significant bit.
+    BitSelect { slot: Slot, lowest: u32, index: u32 },
+    /// So many bits of an object from a place on; the least significant bit has place 0.
+    PartSelect { slot: Slot, place: u32, width: u8 },
     /// `+ - ~` before an operand.
     Applied(Unary, u32),
     /// `!` or a reduction before an operand.

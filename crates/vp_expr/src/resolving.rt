@@ -1,20 +1,40 @@
-// Expressions with objects in place of names.
+// Expressions with slots in place of names.
 ghost use Rattle.std.specs.Prelude.{◌≡◌, ◌-◌, false, option_map};
 ghost use Rattle.vp_expr.specs.Values.{no_value};
-ghost use Rattle.vp_expr.specs.Tables.{infix_of, lowest_in, named_operand, object_named, operand_of, selected_operand, unary_operand};
+ghost use Rattle.vp_expr.specs.Tables.{first_module, infix_of, lowest_in, named_operand, object_named, operand_of, selected_operand, slot_in, unary_operand, width_in};
 
 use crate::literal::{based_bits, literal_bits, number_bits};
-use crate::operand::{Binary, Comparison, Infix, Logical, Operand, Reduction, Shift, Unary};
+use crate::operand::{Binary, Comparison, Infix, Logical, Operand, Reduction, Shift, Slot, Unary};
 use crate::sizes::fitted;
 use vp_bits::Bits;
 use vp_elab::{Design, ObjectId, range_width};
 use vp_parse::{BinaryOperator, Expression, Range, Selection, UnaryOperator};
 
-/// The object of the name at a place.
-pub fn object_named(design: &Design, place: u32) -> Option<ObjectId>
-    ensures { option_map (λ o. o.0) result ≡ object_named design.now place }
+/// The object of the module of a text, which has at most one: the first.
+pub const FIRST_MODULE: ObjectId = ObjectId(0);
+
+/// The object of the name at a place, by the object of the module in which it stands.
+pub fn object_named(design: &Design, scope: ObjectId, place: u32) -> Option<ObjectId>
+    ensures { option_map (λ o. o.0) result ≡ object_named design.now scope.0 place }
 {
-    design.find(Some(ObjectId(0)), design.source().word(place))
+    design.find(Some(scope), design.source().word(place))
+}
+
+/// How far an object stands behind the object of its module.
+pub fn slot_in(scope: ObjectId, object: ObjectId) -> Slot
+    ensures { result ≡ slot_in scope.0 object.0 }
+{
+    Slot(object.0.saturating_sub(scope.0))
+}
+
+/// How many bits an object has; 0 where there is none.
+pub fn width_in(design: &Design, object: ObjectId) -> u32
+    ensures { result ≡ width_in design.now object.0 }
+{
+    match design.object(object) {
+        Some(object) => object.width,
+        None => 0,
+    }
 }
 
 /// The index of the least significant bit of an object; 0 where it has none.
@@ -47,26 +67,43 @@ fn unknown_bit() -> Operand
     }
 }
 
-/// What is selected of an object as an operand; one unknown bit in place of a part that no vector can be.
-fn selected_operand(design: &Design, object: ObjectId, selection: Selection) -> Operand
-    ensures { result ≡ selected_operand design.now object.0 selection }
+/// What is selected of an object as an operand; one unknown bit in place of an object or a part that no vector can be.
+fn selected_operand(
+    design: &Design,
+    scope: ObjectId,
+    object: ObjectId,
+    selection: Selection,
+) -> Operand
+    ensures { result ≡ selected_operand design.now scope.0 object.0 selection }
 {
+    let slot = slot_in(scope, object);
     match selection {
-        Selection::Whole => Operand::Object(object),
-        Selection::Bit { index } => Operand::BitSelect(object, lowest_in(design, object), index),
+        Selection::Whole => match fitted(u64::from(width_in(design, object))) {
+            Some(width) => Operand::Object { slot, width },
+            None => unknown_bit(),
+        },
+        Selection::Bit { index } => Operand::BitSelect {
+            slot,
+            lowest: lowest_in(design, object),
+            index,
+        },
         Selection::Part(range) => match fitted(u64::from(range_width(range))) {
-            Some(width) => Operand::PartSelect(object, part_place(design, object, range), width),
+            Some(width) => Operand::PartSelect {
+                slot,
+                place: part_place(design, object, range),
+                width,
+            },
             None => unknown_bit(),
         },
     }
 }
 
 /// What is selected of a name as an operand; one unknown bit where there is no such object.
-fn named_operand(design: &Design, name: u32, selection: Selection) -> Operand
-    ensures { result ≡ named_operand design.now (object_named design.now name) selection }
+fn named_operand(design: &Design, scope: ObjectId, name: u32, selection: Selection) -> Operand
+    ensures { result ≡ named_operand design.now scope.0 (object_named design.now scope.0 name) selection }
 {
-    match object_named(design, name) {
-        Some(object) => selected_operand(design, object, selection),
+    match object_named(design, scope, name) {
+        Some(object) => selected_operand(design, scope, object, selection),
         None => unknown_bit(),
     }
 }
@@ -123,12 +160,12 @@ fn constant(bits: Bits, is_signed: bool) -> Operand
     Operand::Constant { bits, is_signed }
 }
 
-/// An expression as an operand: an object in place of a name, its value in place of a literal.
-pub fn operand_of(design: &Design, expression: Expression) -> Operand
-    ensures { result ≡ operand_of design.now expression }
+/// An expression of a module as an operand, by the module's object: a slot in place of a name, its value in place of a literal.
+pub fn operand_of(design: &Design, scope: ObjectId, expression: Expression) -> Operand
+    ensures { result ≡ operand_of design.now scope.0 expression }
 {
     match expression {
-        Expression::Name { name, selection } => named_operand(design, name, selection),
+        Expression::Name { name, selection } => named_operand(design, scope, name, selection),
         Expression::Literal { size, digits, .. } => {
             constant(literal_bits(size, design.source().word(digits)), false)
         }

@@ -1,23 +1,12 @@
 ghost use Rattle.std.specs.Prelude.{◌≡◌, ◌<◌, ◌^◌, false, if◌then◌else◌, None, Some, slice_index_or, IfOk};
-ghost use Rattle.vp_expr.specs.Arena.{fitting, is_width, operand_sign, operand_size, pair_sign, pair_size, signs_in, sizes_in, width_in};
+ghost use Rattle.vp_expr.specs.Arena.{fitting, is_width, operand_sign, operand_size, pair_sign, pair_size, signs_in, sizes_in};
 
 use crate::operand::{Infix, Operand};
 use std::alloc::{AllocError, Global};
-use vp_elab::ObjectId;
 use vp_list::Sequence;
 
 /// The greatest size of a vector, in bits.
 const SIZE_LIMIT: u64 = 64;
-
-/// The width of an object, in bits; 1 for a number that is not there.
-pub fn width_of(widths: &[u8], object: ObjectId) -> u8
-    ensures { result ≡ width_in widths.now object.0 }
-{
-    match widths.get(object.0 as usize) {
-        Some(width) => *width,
-        None => 1,
-    }
-}
 
 /// The size of the operand at a place, in bits; 1 behind the end.
 pub fn size_at(sizes: &[u8], place: u32) -> u8
@@ -43,16 +32,14 @@ fn pair_size(sizes: &[u8], operator: Infix, left: u32, right: u32) -> u8
     }
 }
 
-/// The size of an operand in bits, by the widths of objects and the sizes of the operands before it (IEEE Std
-/// 1364-2005, 5.4.1).
-pub fn operand_size(widths: &[u8], sizes: &[u8], operand: Operand) -> u64
-    ensures { result ≡ operand_size widths.now sizes.now operand }
+/// The size of an operand in bits, by the sizes of the operands before it (IEEE Std 1364-2005, 5.4.1).
+pub fn operand_size(sizes: &[u8], operand: Operand) -> u64
+    ensures { result ≡ operand_size sizes.now operand }
 {
     match operand {
-        Operand::Object(object) => u64::from(width_of(widths, object)),
         Operand::Constant { bits, .. } => u64::from(bits.width()),
-        Operand::PartSelect(_, _, width) => u64::from(width),
-        Operand::BitSelect(_, _, _) | Operand::Reduced(_, _) => 1,
+        Operand::Object { width, .. } | Operand::PartSelect { width, .. } => u64::from(width),
+        Operand::BitSelect { .. } | Operand::Reduced(_, _) => 1,
         Operand::Applied(_, part) => u64::from(size_at(sizes, part)),
         Operand::Concatenated(part) => u64::from(size_at(sizes, part)),
         Operand::Paired(operator, left, right) => {
@@ -78,17 +65,13 @@ pub fn fitted(size: u64) -> Option<u8>
     None
 }
 
-/// The sizes of operands, in bits, by the widths of objects; none where one is not 1 to 64. Takes memory.
-pub fn sizes_of(
-    alloc: Global,
-    widths: &[u8],
-    operands: &[Operand],
-) -> Result<Option<Sequence<u8>>, AllocError>
-    ensures { IfOk result (λ sizes. sizes ≡ fitting (sizes_in widths.now operands.now)) }
+/// The sizes of operands, in bits; none where one is not 1 to 64. Takes memory.
+pub fn sizes_of(alloc: Global, operands: &[Operand]) -> Result<Option<Sequence<u8>>, AllocError>
+    ensures { IfOk result (λ sizes. sizes ≡ fitting (sizes_in operands.now)) }
 {
     let mut sizes: Vec<u8> = Vec::new(alloc);
     for operand in operands {
-        let Some(size) = fitted(operand_size(widths, &sizes, *operand)) else {
+        let Some(size) = fitted(operand_size(&sizes, *operand)) else {
             return Ok(None);
         };
         sizes.push(size)?;

@@ -3,50 +3,45 @@ ghost use Rattle.std.specs.List.{filter_map};
 ghost use Rattle.vp_elab.specs.Tree.{below};
 ghost use Rattle.vp_expr.specs.Arena.{fitting};
 ghost use Rattle.vp_expr.specs.Checks.{IsChecked};
-ghost use Rattle.vp_expr.specs.Tables.{action_of, all_fit, assign_target, assign_value, body_at, body_of, named_target, object_named, operands_of, processes_of, selected_target, sized_at, target_width, widths_of};
+ghost use Rattle.vp_expr.specs.Tables.{action_of, all_fit, assign_target, assign_value, body_at, body_of, first_module, named_target, object_named, operands_of, processes_of, selected_target, sized_at, target_width, widths_of};
 
 use crate::id::ExprId;
-use crate::operand::Operand;
-use crate::resolving::{lowest_in, object_named, operand_of, part_place};
-use crate::sizes::{fitted, size_at, sizes_of, width_of};
+use crate::operand::{Operand, Slot};
+use crate::resolving::{
+    FIRST_MODULE, lowest_in, object_named, operand_of, part_place, slot_in, width_in,
+};
+use crate::sizes::{fitted, size_at, sizes_of};
 use std::alloc::{AllocError, Global};
 use vp_elab::{Design, ObjectId, range_width};
 use vp_list::Sequence;
 use vp_parse::{Item, Selection, Statement};
 
-/// What of an object an assignment sets (clause 5.2.1).
+/// What of an object of an instance an assignment sets (clause 5.2.1).
 #[derive(Clone, Copy)]
 pub enum Target {
-    Whole(ObjectId),
+    /// The object, which has so many bits.
+    Whole { slot: Slot, width: u8 },
     /// The bit at an index, by the place of that, which sizes itself; `lowest` is the index of the least significant bit.
-    Bit {
-        object: ObjectId,
-        lowest: u32,
-        index: u32,
-    },
+    Bit { slot: Slot, lowest: u32, index: u32 },
     /// So many bits from a place on; the least significant bit has place 0.
-    Part {
-        object: ObjectId,
-        place: u32,
-        width: u8,
-    },
+    Part { slot: Slot, place: u32, width: u8 },
 }
 
 impl Target {
-    ghost use Rattle.vp_expr.specs.Evaluation.{object_of};
+    ghost use Rattle.vp_expr.specs.Evaluation.{slot_of};
 
-    /// The object of which something is set.
-    pub fn object(self) -> ObjectId
-        ensures { result.0 ≡ object_of self }
+    /// The slot of the object of which something is set.
+    pub fn slot(self) -> Slot
+        ensures { result.0 ≡ slot_of self }
     {
         match self {
-            Target::Whole(object) | Target::Bit { object, .. } | Target::Part { object, .. } =>
-                object,
+            Target::Whole { slot, .. } | Target::Bit { slot, .. } | Target::Part { slot, .. } =>
+                slot,
         }
     }
 }
 
-/// A statement (clause 9), with an object in place of a name. It names its parts by their places in the list of
+/// A statement (clause 9), with a slot in place of a name. It names its parts by their places in the list of
 /// actions or of operands.
 #[derive(Clone, Copy)]
 pub enum Action {
@@ -58,11 +53,43 @@ pub enum Action {
     Assign { target: Target, value: ExprId },
 }
 
-/// A process: its object, and its statement by its place in the list of actions.
+/// What goes on by itself.
 #[derive(Clone, Copy)]
-pub struct Process {
-    pub object: ObjectId,
-    pub body: u32,
+pub enum Process {
+    /// A procedure (clause 9.9): its object, the instance in which it stands, and its statement by its place in the list of
+    /// actions.
+    Procedure {
+        object: ObjectId,
+        instance: ObjectId,
+        body: u32,
+    },
+    /// A continuous assignment (clause 6.1), or a connection of a port inwards (clause 12.3.9.2): its object (the port's, for a
+    /// connection), the net that it drives, and the value, an expression that is evaluated for an instance.
+    Assignment {
+        object: ObjectId,
+        net: ObjectId,
+        instance: ObjectId,
+        value: ExprId,
+    },
+    /// A connection of a port outwards: the port, whose value the net outside gets (clause 12.3.9.2).
+    Connection {
+        port: ObjectId,
+        net: ObjectId,
+    },
+}
+
+impl Process {
+    ghost use Rattle.vp_expr.specs.Tables.{process_object};
+
+    /// The object of the process; of a connection the port.
+    pub fn object(self) -> ObjectId
+        ensures { result ≡ process_object self }
+    {
+        match self {
+            Process::Procedure { object, .. } | Process::Assignment { object, .. } => object,
+            Process::Connection { port, .. } => port,
+        }
+    }
 }
 
 /// What a simulator runs: a design's expressions and statements, by the places that they have in its source, and its processes
@@ -85,19 +112,28 @@ fn sized_at(place: u32, size: u8) -> Option<ExprId>
     Some(ExprId::new(place, fitted(u64::from(size))?))
 }
 
-/// What is selected of an object as a target; none where it is a part that no vector can be.
-fn selected_target(design: &Design, object: ObjectId, selection: Selection) -> Option<Target>
-    ensures { result ≡ selected_target design.now object.0 selection }
+/// What is selected of an object as a target; none where it is an object or a part that no vector can be.
+fn selected_target(
+    design: &Design,
+    scope: ObjectId,
+    object: ObjectId,
+    selection: Selection,
+) -> Option<Target>
+    ensures { result ≡ selected_target design.now scope.0 object.0 selection }
 {
+    let slot = slot_in(scope, object);
     match selection {
-        Selection::Whole => Some(Target::Whole(object)),
+        Selection::Whole => Some(Target::Whole {
+            slot,
+            width: fitted(u64::from(width_in(design, object)))?,
+        }),
         Selection::Bit { index } => Some(Target::Bit {
-            object,
+            slot,
             lowest: lowest_in(design, object),
             index,
         }),
         Selection::Part(range) => Some(Target::Part {
-            object,
+            slot,
             place: part_place(design, object, range),
             width: fitted(u64::from(range_width(range)))?,
         }),
@@ -105,23 +141,22 @@ fn selected_target(design: &Design, object: ObjectId, selection: Selection) -> O
 }
 
 /// What is selected of a name as a target; none where there is no such object.
-fn named_target(design: &Design, name: u32, selection: Selection) -> Option<Target>
-    ensures { result ≡ named_target design.now (object_named design.now name) selection }
+fn named_target(design: &Design, scope: ObjectId, name: u32, selection: Selection) -> Option<Target>
+    ensures { result ≡ named_target design.now scope.0 (object_named design.now scope.0 name) selection }
 {
-    match object_named(design, name) {
-        Some(object) => selected_target(design, object, selection),
+    match object_named(design, scope, name) {
+        Some(object) => selected_target(design, scope, object, selection),
         None => None,
     }
 }
 
-/// How many bits a target has, by the widths of objects.
-fn target_width(widths: &[u8], target: Target) -> u8
-    ensures { result ≡ target_width widths.now target }
+/// How many bits a target has.
+fn target_width(target: Target) -> u8
+    ensures { result ≡ target_width target }
 {
     match target {
-        Target::Whole(object) => width_of(widths, object),
+        Target::Whole { width, .. } | Target::Part { width, .. } => width,
         Target::Bit { .. } => 1,
-        Target::Part { width, .. } => width,
     }
 }
 
@@ -136,16 +171,16 @@ fn assign_value(target: Target, value: Option<ExprId>) -> Action
 }
 
 /// An assignment of the value at a place to a target, at the greater of the target's width and its own size.
-fn assign_target(widths: &[u8], sizes: &[u8], value: u32, target: Target) -> Action
-    ensures { result ≡ assign_target widths.now sizes.now value target }
+fn assign_target(sizes: &[u8], value: u32, target: Target) -> Action
+    ensures { result ≡ assign_target sizes.now value target }
 {
-    let size = target_width(widths, target).max(size_at(sizes, value));
+    let size = target_width(target).max(size_at(sizes, value));
     assign_value(target, sized_at(value, size))
 }
 
-/// A statement as an action.
-fn action_of(design: &Design, widths: &[u8], sizes: &[u8], statement: Statement) -> Action
-    ensures { result ≡ action_of design.now widths.now sizes.now statement }
+/// A statement of a module as an action, by the module's object.
+fn action_of(design: &Design, scope: ObjectId, sizes: &[u8], statement: Statement) -> Action
+    ensures { result ≡ action_of design.now scope.0 sizes.now statement }
 {
     match statement {
         Statement::Empty => Action::Nothing,
@@ -154,8 +189,8 @@ fn action_of(design: &Design, widths: &[u8], sizes: &[u8], statement: Statement)
             target,
             selection,
             value,
-        } => match named_target(design, target, selection) {
-            Some(target) => assign_target(widths, sizes, value, target),
+        } => match named_target(design, scope, target, selection) {
+            Some(target) => assign_target(sizes, value, target),
             None => Action::Nothing,
         },
     }
@@ -167,7 +202,7 @@ fn body_of(item: Item) -> Option<u32>
 {
     match item {
         Item::Initial { body, .. } => Some(body),
-        Item::Reg { .. } => None,
+        _ => None,
     }
 }
 
@@ -186,22 +221,17 @@ pub fn operands_of(alloc: Global, design: &Design) -> Result<Sequence<Operand>, 
 {
     let mut operands = Vec::new(alloc);
     for expression in design.source().expressions.as_slice() {
-        operands.push(operand_of(design, *expression))?;
+        operands.push(operand_of(design, FIRST_MODULE, *expression))?;
     }
     Ok(Sequence::from_vec(operands))
 }
 
-fn actions_of(
-    alloc: Global,
-    design: &Design,
-    widths: &[u8],
-    sizes: &[u8],
-) -> Result<Sequence<Action>, AllocError>
-    ensures { IfOk result (λ actions. actions ≡ map (action_of design.now widths.now sizes.now) design.now.source.statements) }
+fn actions_of(alloc: Global, design: &Design, sizes: &[u8]) -> Result<Sequence<Action>, AllocError>
+    ensures { IfOk result (λ actions. actions ≡ map (action_of design.now first_module sizes.now) design.now.source.statements) }
 {
     let mut actions = Vec::new(alloc);
     for statement in design.source().statements.as_slice() {
-        actions.push(action_of(design, widths, sizes, *statement))?;
+        actions.push(action_of(design, FIRST_MODULE, sizes, *statement))?;
     }
     Ok(Sequence::from_vec(actions))
 }
@@ -213,8 +243,11 @@ fn processes_of(alloc: Global, design: &Design) -> Result<Sequence<Process>, All
     let mut processes = Vec::new(alloc);
     for number in 0..design.count() {
         if let Some(body) = body_at(items, number) {
-            let object = ObjectId(number);
-            processes.push(Process { object, body })?;
+            processes.push(Process::Procedure {
+                object: ObjectId(number),
+                instance: FIRST_MODULE,
+                body,
+            })?;
         }
     }
     Ok(Sequence::from_vec(processes))
@@ -248,10 +281,10 @@ pub fn tables_of(
     let Some(widths) = widths_of(alloc, design)? else {
         return Ok(None);
     };
-    let Some(sizes) = sizes_of(alloc, widths.as_slice(), operands.as_slice())? else {
+    let Some(sizes) = sizes_of(alloc, operands.as_slice())? else {
         return Ok(None);
     };
-    let actions = actions_of(alloc, design, widths.as_slice(), sizes.as_slice())?;
+    let actions = actions_of(alloc, design, sizes.as_slice())?;
     Ok(Some(Tables {
         operands,
         widths,

@@ -1,5 +1,6 @@
-ghost use Rattle.std.specs.Prelude.{◌≡◌, ◌≤◌, ◌<◌, replicate, length, map, slice_get, slice_index_or, slice_set, IfOk, IsOkUnless};
+ghost use Rattle.std.specs.Prelude.{◌≡◌, ◌≤◌, ◌<◌, drop, replicate, length, map, slice_get, slice_index_or, slice_set, IfOk, IsOkUnless};
 ghost use Rattle.vp_bits.specs.declared.bit.Bit.TheVariants.{Unknown};
+ghost use Rattle.vp_expr.specs.Arena.{value_in};
 ghost use Rattle.vp_expr.specs.Start.{start_value};
 ghost use Rattle.vp_expr.specs.Values.{start_of, no_value};
 
@@ -37,6 +38,16 @@ fn start(object: Object) -> Bits
     }
 }
 
+/// The value at a place of a list; one unknown bit behind the end.
+pub fn value_in(values: &[Bits], place: u32) -> Bits
+    ensures { result ≡ value_in values.now place }
+{
+    match values.get(place as usize) {
+        Some(value) => *value,
+        None => Bits::unknown(1),
+    }
+}
+
 impl Values {
     /// The values before anything has happened; takes memory (604).
     pub fn new(alloc: Global, checked: &Checked) -> Result<Values, ExprError>
@@ -54,9 +65,18 @@ impl Values {
     pub fn get(&self, id: ObjectId) -> Bits
         ensures { result ≡ slice_index_or self.now id.0 no_value }
     {
-        match self.values.get(id.0 as usize) {
-            Some(value) => *value,
-            None => Bits::unknown(1),
+        value_in(&self.values, id.0)
+    }
+
+    /// The values of an instance and of the objects behind it: that of an object of the instance stands at its slot.
+    pub fn of_instance(&self, instance: ObjectId) -> &[Bits]
+        ensures { result.now ≡ drop instance.0 self.now }
+    {
+        let from = instance.0 as usize;
+        if from <= self.values.len() {
+            &self.values[from..]
+        } else {
+            &[]
         }
     }
 

@@ -1,5 +1,5 @@
 -- The public contract of parsing, from the laws of reading and from what reading into lists gives.
-use Rattle.std.proofs.Common.{◌≡◌, ℕ, List, ◌⊎◌, inl, inr, Result, Ok, Err, refl, sym, ap, ◌∙◌}
+use Rattle.std.proofs.Common.{◌≡◌, ℕ, ◌<◌, List, [], length, arith, ◌⊎◌, inl, inr, Result, Ok, Err, refl, sym, ap, ◌∙◌}
 use Rattle.std.specs.Prelude.{IfOk}
 use Rattle.vp_lex.specs.declared.token.Token.{Token}
 use Rattle.vp_parse.specs.declared.fault.ParseError.{ParseError}
@@ -20,6 +20,9 @@ use Rattle.vp_parse.specs.Told.{Tells}
 use Rattle.vp_parse.proofs.Laws.{read_derives, refused_has_none}
 use Rattle.vp_parse.proofs.Placed.{source_seen}
 
+limit_above : 0 < DEPTH_LIMIT
+limit_above = omega arith
+
 -- a stop of reading derivations
 abbrev stopped : Stop → Result Derivation Stop
 stopped s = Err s
@@ -33,7 +36,7 @@ stopped_as (Ok d) s e = absurd cc
 stopped_as (Err t) s e = let h : t ≡ s = cc in ap stopped h
 
 -- where reading into lists stops, reading stops
-pub stops_alike : (symbols : List Symbol) (e : stop.Stop) → Fails e (modules_into DEPTH_LIMIT no_parts symbols) → Fails e (read symbols)
+pub stops_alike : (symbols : List Symbol) (e : stop.Stop) → Fails e (modules_into DEPTH_LIMIT (length symbols) [] no_parts symbols) → Fails e (read symbols)
 stops_alike symbols (stop_of.Syntax n) h = stopped_as (read symbols) (Unexpected n) (sym (source_seen DEPTH_LIMIT symbols) ∙ h)
 stops_alike symbols (stop_of.LeftOut n) h = stopped_as (read symbols) (Unexpected n) (sym (source_seen DEPTH_LIMIT symbols) ∙ h)
 stops_alike symbols (stop_of.TooDeep n) h = stopped_as (read symbols) (TooDeep n) (sym (source_seen DEPTH_LIMIT symbols) ∙ h)
@@ -48,10 +51,10 @@ tells_none tokens symbols error.NoMemory t = inl refl
 
 -- a source with what reading into lists gives is the source of a derivation of the symbols
 pub found_by : (text : List ℕ) (tokens : List Token) (symbols : List Symbol) (x : List module_of.Module × Lists) (r : Result Source ParseError)
-    → modules_into DEPTH_LIMIT no_parts symbols ≡ Ok x
+    → modules_into DEPTH_LIMIT (length symbols) [] no_parts symbols ≡ Ok x
     → IfOk r (λ s. s.text ≡ text) → IfOk r (λ s. s.tokens ≡ tokens) → IfOk r (λ s. s.modules ≡ x.0) → IfOk r (λ s. lists_of s ≡ x.1)
     → IfOk r (λ s. (d : Derivation) × IsDerivation d symbols × IsSourceOf text tokens d s)
 found_by text tokens symbols x (Err e) h of_text of_tokens of_modules of_lists = tt
 found_by text tokens symbols x (Ok s) h of_text of_tokens of_modules of_lists =
     let f = read_as (read symbols) x (sym (source_seen DEPTH_LIMIT symbols) ∙ h) in
-    (f.0, read_derives DEPTH_LIMIT symbols f.0 f.1, record { of_text = of_text; of_tokens = of_tokens; parts = rw (of_modules, of_lists) (sym f.2) })
+    (f.0, read_derives DEPTH_LIMIT limit_above symbols f.0 f.1, record { of_text = of_text; of_tokens = of_tokens; parts = rw (of_modules, of_lists) (sym f.2) })

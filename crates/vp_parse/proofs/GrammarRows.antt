@@ -8,11 +8,11 @@ use Rattle.vp_parse_expr.specs.declared.symbol.SymbolKind.TheVariants as symbol
 use Rattle.vp_parse_expr.specs.Kinds.{symbol_at}
 use Rattle.vp_parse_expr.specs.Grammar.{Name, Sized, Whole, Part}
 use Rattle.vp_parse_expr.specs.Stopping.{Stop, Unexpected, TooDeep, terminal}
-use Rattle.vp_parse_expr.specs.Reading.{bound_by, bound_at, range_at, sized_at, number_at, bit_at, part_select_at, select_at, name_at, group_at, unary_at, part_at, further_part_at, further_parts_at, parts_at, concatenation_at, replication_at, braces_at, operand_by, operand_at, binary_at, more_at, conditional_at, choice_at, chain_at, expr_at}
+use Rattle.vp_parse_expr.specs.Reading.{bound_by, bound_at, range_at, sized_at, number_at, bit_at, part_select_at, select_at, name_at, group_at, unary_at, part_at, further_part_at, further_parts_at, parts_at, concatenation_at, replication_at, braces_at, operand_by, operand_at, binary_at, more_at, conditional_at, choice_at, chain_at, expr_at, literal_by, literal_at}
 use Rattle.vp_parse_stmt.specs.Grammar.{Stmt, Assign, Block, Empty, Then}
-use Rattle.vp_parse.specs.Grammar.{Reg, Initial, Derivation}
+use Rattle.vp_parse.specs.Grammar.{Ordered, Named, Unconnected, Connected, Nets, Regs, LocalParameters, Instances, Plain, Valued, Instance, Item, Declares, Initial, Input, Declared, Bare, NoHeader, Ports, Derivation}
 use Rattle.vp_parse_stmt.specs.Reading.{stmts_at, assign_at, block_at, stmt_by, form_at, stmt_at}
-use Rattle.vp_parse.specs.Reading.{width_at, further_at, regs_at, initial_at, item_by, item_at, items_at, module_at, only, source_at, read}
+use Rattle.vp_parse.specs.Reading.{further_at, width_at, value_at, ordered_at, named_at, connection_at, connected_at, connections_at, valued_at, net_at, instance_at, declarator_by, declarator_at, declarators_at, ranged_at, initial_at, item_by, item_at, items_at, wire_at, output_at, direction_by, direction_at, declared_at, port_at, ports_at, listed_at, parentheses_at, header_at, module_at, modules_at, source_at, read}
 
 -- ---- symbols
 
@@ -60,7 +60,7 @@ semicolon = symbol.Punctuator punctuator.Semicolon
 
 -- what is read from symbols of these kinds, placed from 0 on
 unfoldable read_kinds : List SymbolKind → Result Derivation Stop
-unfolding terminal bound_by bound_at range_at sized_at number_at bit_at part_select_at select_at name_at group_at unary_at part_at further_part_at further_parts_at parts_at concatenation_at replication_at braces_at operand_by operand_at binary_at more_at conditional_at choice_at chain_at expr_at width_at stmts_at assign_at block_at stmt_by form_at stmt_at further_at regs_at initial_at item_by item_at items_at module_at only source_at
+unfolding terminal bound_by bound_at range_at sized_at number_at bit_at part_select_at select_at name_at group_at unary_at part_at further_part_at further_parts_at parts_at concatenation_at replication_at braces_at operand_by operand_at binary_at more_at conditional_at choice_at chain_at expr_at literal_by literal_at stmts_at assign_at block_at stmt_by form_at stmt_at further_at width_at value_at ordered_at named_at connection_at connected_at connections_at valued_at net_at instance_at declarator_by declarator_at declarators_at ranged_at initial_at item_by item_at items_at wire_at output_at direction_by direction_at declared_at port_at ports_at listed_at parentheses_at header_at module_at modules_at source_at
 read_kinds kinds = read (placed 0 kinds)
 
 -- so many kinds of one sort
@@ -75,30 +75,31 @@ nested n = head ++ initial ∷ times n begin ++ symbol.Name ∷ equals ∷ symbo
 -- ---- what is read
 
 -- no symbols
-row_nothing : read_kinds [] ≡ Ok None
+row_nothing : read_kinds [] ≡ Ok []
 unfolding read_kinds
 row_nothing = refl
 
 -- module m; endmodule
-row_module : read_kinds (head ++ endmodule ∷ []) ≡ Ok (Some (record { keyword = 0; name = 1; semicolon = 2; items = []; endmodule = 3 }))
+row_module : read_kinds (head ++ endmodule ∷ []) ≡ Ok (record { keyword = 0; name = 1; header = NoHeader; semicolon = 2; items = []; endmodule = 3 } ∷ [])
 unfolding read_kinds
 row_module = refl
 
 -- module m; reg a, b; initial begin a = 1'b1; end endmodule
 row_items : read_kinds (head ++ reg ∷ symbol.Name ∷ comma ∷ symbol.Name ∷ semicolon ∷ initial ∷ begin ∷ symbol.Name ∷ equals ∷ symbol.Number 1 ∷ symbol.Base ∷ semicolon ∷ end ∷ endmodule ∷ [])
-    ≡ Ok (Some (record {
+    ≡ Ok (record {
       keyword = 0;
       name = 1;
+      header = NoHeader;
       semicolon = 2;
-      items = Reg 3 None 4 (record { comma = 5; name = 6 } ∷ []) 7 ∷ Initial 8 (Block 9 (Then (Assign 10 Whole 11 (Sized 12 1 symbol.Base 13) 14) Empty) 15) ∷ [];
+      items = Declares (Regs 3 None) (Plain 4) (record { comma = 5; part = Plain 6 } ∷ []) 7 ∷ Initial 8 (Block 9 (Then (Assign 10 Whole 11 (Sized 12 1 symbol.Base 13) 14) Empty) 15) ∷ [];
       endmodule = 16;
-    }))
+    } ∷ [])
 unfolding read_kinds
 row_items = refl
 
 -- module m; initial a = b; endmodule
 row_name : read_kinds (head ++ initial ∷ symbol.Name ∷ equals ∷ symbol.Name ∷ semicolon ∷ endmodule ∷ [])
-    ≡ Ok (Some (record { keyword = 0; name = 1; semicolon = 2; items = Initial 3 (Assign 4 Whole 5 (Name 6 Whole) 7) ∷ []; endmodule = 8 }))
+    ≡ Ok (record { keyword = 0; name = 1; header = NoHeader; semicolon = 2; items = Initial 3 (Assign 4 Whole 5 (Name 6 Whole) 7) ∷ []; endmodule = 8 } ∷ [])
 unfolding read_kinds
 row_name = refl
 
@@ -108,26 +109,99 @@ blocks zero first last = Assign first Whole (first + 1) (Name (first + 2) Whole)
 blocks (suc n) first last = Block first (Then (blocks n (first + 1) (last - 1)) Empty) last
 
 -- 63 blocks: the statement within them has depth 64
-row_deep : read_kinds (nested 63) ≡ Ok (Some (record { keyword = 0; name = 1; semicolon = 2; items = Initial 3 (blocks 63 4 133) ∷ []; endmodule = 134 }))
+row_deep : read_kinds (nested 63) ≡ Ok (record { keyword = 0; name = 1; header = NoHeader; semicolon = 2; items = Initial 3 (blocks 63 4 133) ∷ []; endmodule = 134 } ∷ [])
 unfolding read_kinds
 row_deep = refl
 
 -- module m; reg [7:0] a; initial a[3:0] = b; endmodule
 row_range : read_kinds (head ++ reg ∷ left ∷ symbol.Number 7 ∷ colon ∷ symbol.Number 0 ∷ right ∷ symbol.Name ∷ semicolon ∷ initial ∷ symbol.Name ∷ left ∷ symbol.Number 3 ∷ colon ∷ symbol.Number 0 ∷ right ∷ equals ∷ symbol.Name ∷ semicolon ∷ endmodule ∷ [])
-    ≡ Ok (Some (record {
+    ≡ Ok (record {
       keyword = 0;
       name = 1;
+      header = NoHeader;
       semicolon = 2;
       items =
-          Reg 3 (Some (record { opening = 4; msb_place = 5; msb = 7; colon = 6; lsb_place = 7; lsb = 0; closing = 8 })) 9 [] 10
+          Declares (Regs 3 (Some (record { opening = 4; msb_place = 5; msb = 7; colon = 6; lsb_place = 7; lsb = 0; closing = 8 }))) (Plain 9) [] 10
           ∷ Initial 11 (Assign 12 (Part (record { opening = 13; msb_place = 14; msb = 3; colon = 15; lsb_place = 16; lsb = 0; closing = 17 })) 18 (Name 19 Whole) 20)
           ∷ [];
       endmodule = 21;
-    }))
+    } ∷ [])
 unfolding read_kinds
 row_range = refl
 
+-- module m; endmodule module n; endmodule
+row_second : read_kinds (head ++ endmodule ∷ head ++ endmodule ∷ [])
+    ≡ Ok (record { keyword = 0; name = 1; header = NoHeader; semicolon = 2; items = []; endmodule = 3 }
+    ∷ record { keyword = 4; name = 5; header = NoHeader; semicolon = 6; items = []; endmodule = 7 } ∷ [])
+unfolding read_kinds
+row_second = refl
+
+abbrev opening : SymbolKind
+opening = symbol.Punctuator punctuator.LeftParenthesis
+
+abbrev closing : SymbolKind
+closing = symbol.Punctuator punctuator.RightParenthesis
+
+-- a module with this item alone
+abbrev only_item : Item → (endmodule : ℕ) → Derivation
+only_item i last = record { keyword = 0; name = 1; header = NoHeader; semicolon = 2; items = i ∷ []; endmodule = last } ∷ []
+
+-- module m(input a, b); endmodule
+row_ports : read_kinds (symbol.Keyword keyword.Module ∷ symbol.Name ∷ opening ∷ symbol.Keyword keyword.Input ∷ symbol.Name ∷ comma ∷ symbol.Name ∷ closing ∷ semicolon ∷ endmodule ∷ [])
+    ≡ Ok (record {
+      keyword = 0;
+      name = 1;
+      header = Ports 2 (Some (record { first = Declared (Input 3 None) None 4; further = record { comma = 5; part = Bare 6 } ∷ [] })) 7;
+      semicolon = 8;
+      items = [];
+      endmodule = 9;
+    } ∷ [])
+unfolding read_kinds
+row_ports = refl
+
+-- module m; wire w = a; endmodule
+row_wire : read_kinds (head ++ symbol.Keyword keyword.Wire ∷ symbol.Name ∷ equals ∷ symbol.Name ∷ semicolon ∷ endmodule ∷ [])
+    ≡ Ok (only_item (Declares (Nets 3 None) (Valued 4 5 (Name 6 Whole)) [] 7) 8)
+unfolding read_kinds
+row_wire = refl
+
+-- module m; localparam p = 1'b1; endmodule
+row_localparam : read_kinds (head ++ symbol.Keyword keyword.Localparam ∷ symbol.Name ∷ equals ∷ symbol.Number 1 ∷ symbol.Base ∷ semicolon ∷ endmodule ∷ [])
+    ≡ Ok (only_item (Declares (LocalParameters 3) (Valued 4 5 (Sized 6 1 symbol.Base 7)) [] 8) 9)
+unfolding read_kinds
+row_localparam = refl
+
+-- module m; n u(), v(.p(a), .q()), w(, a); endmodule
+row_instances : read_kinds (head ++ symbol.Name ∷ symbol.Name ∷ opening ∷ closing ∷ comma
+    ∷ symbol.Name ∷ opening ∷ symbol.Punctuator punctuator.Period ∷ symbol.Name ∷ opening ∷ symbol.Name ∷ closing ∷ comma ∷ symbol.Punctuator punctuator.Period ∷ symbol.Name ∷ opening ∷ closing ∷ closing ∷ comma
+    ∷ symbol.Name ∷ opening ∷ comma ∷ symbol.Name ∷ closing ∷ semicolon ∷ endmodule ∷ [])
+    ≡ Ok (only_item (Declares (Instances 3) (Instance 4 5 Unconnected 6)
+    (record { comma = 7; part = Instance 8 9 (Connected (Named 10 11 12 (Some (Name 13 Whole)) 14) (record { comma = 15; part = Named 16 17 18 None 19 } ∷ [])) 20 }
+    ∷ record { comma = 21; part = Instance 22 23 (Connected (Ordered None) (record { comma = 24; part = Ordered (Some (Name 25 Whole)) } ∷ [])) 26 } ∷ []) 27) 28)
+unfolding read_kinds
+row_instances = refl
+
 -- ---- what is refused, with the number of symbols left
+
+-- module m(a); endmodule
+row_bare_port : read_kinds (symbol.Keyword keyword.Module ∷ symbol.Name ∷ opening ∷ symbol.Name ∷ closing ∷ semicolon ∷ endmodule ∷ []) ≡ Err (Unexpected 4)
+unfolding read_kinds
+row_bare_port = refl
+
+-- module m; localparam p = 3; endmodule
+row_no_sized : read_kinds (head ++ symbol.Keyword keyword.Localparam ∷ symbol.Name ∷ equals ∷ symbol.Number 3 ∷ semicolon ∷ endmodule ∷ []) ≡ Err (Unexpected 3)
+unfolding read_kinds
+row_no_sized = refl
+
+-- module m; reg r = a; endmodule
+row_reg_value : read_kinds (head ++ reg ∷ symbol.Name ∷ equals ∷ symbol.Name ∷ semicolon ∷ endmodule ∷ []) ≡ Err (Unexpected 4)
+unfolding read_kinds
+row_reg_value = refl
+
+-- module m; n u(a, .p(b)); endmodule
+row_mixed : read_kinds (head ++ symbol.Name ∷ symbol.Name ∷ opening ∷ symbol.Name ∷ comma ∷ symbol.Punctuator punctuator.Period ∷ symbol.Name ∷ opening ∷ symbol.Name ∷ closing ∷ closing ∷ semicolon ∷ endmodule ∷ []) ≡ Err (Unexpected 8)
+unfolding read_kinds
+row_mixed = refl
 
 -- module m; initial a = 'b1; endmodule
 row_no_size : read_kinds (head ++ initial ∷ symbol.Name ∷ equals ∷ symbol.Base ∷ semicolon ∷ endmodule ∷ []) ≡ Err (Unexpected 3)
@@ -158,11 +232,6 @@ row_no_comma = refl
 row_behind : read_kinds (head ++ endmodule ∷ semicolon ∷ []) ≡ Err (Unexpected 1)
 unfolding read_kinds
 row_behind = refl
-
--- module m; endmodule module n; endmodule
-row_second : read_kinds (head ++ endmodule ∷ head ++ endmodule ∷ []) ≡ Err (Unexpected 4)
-unfolding read_kinds
-row_second = refl
 
 -- module m;
 row_no_endmodule : read_kinds head ≡ Err (Unexpected 0)

@@ -1,5 +1,5 @@
 -- The laws of reading: what is read is derived, what is derived is read, and no symbols have two derivations.
-use Rattle.std.proofs.Common.{◌≡◌, ℕ, ◌+◌, List, Result, Ok, Err, length, ◌≤◌, refl, sym, ap, subst, ◌∙◌, arith}
+use Rattle.std.proofs.Common.{◌≡◌, ℕ, ◌+◌, List, Result, Ok, Err, length, ◌≤◌, ◌<◌, refl, sym, ap, subst, ◌∙◌, arith}
 use Rattle.vp_parse_expr.specs.declared.symbol.Symbol.{Symbol}
 use Rattle.vp_parse_expr.specs.Stopping.{Stop, Unexpected, left_of}
 use Rattle.vp_parse_expr.specs.Takes.{Holds}
@@ -12,8 +12,8 @@ use Rattle.vp_parse.proofs.Raise.{source_raise}
 use Rattle.vp_parse.proofs.Within.{StopsWithin, source_within}
 
 -- what is read from symbols derives them
-pub read_derives : (limit : ℕ) (symbols : List Symbol) (d : Derivation) → source_at limit symbols ≡ Ok d → Derives limit d symbols
-read_derives limit symbols d e = subst (λ (r : Result Derivation Stop). Holds (λ d. Derives limit d symbols) r) e (source_takes limit symbols)
+pub read_derives : (limit : ℕ) → 0 < limit → (symbols : List Symbol) (d : Derivation) → source_at limit symbols ≡ Ok d → Derives limit d symbols
+read_derives limit lt symbols d e = subst (λ (r : Result Derivation Stop). Holds (λ (d : Derivation). Derives limit d symbols) r) e (source_takes limit lt symbols)
 
 -- what derives symbols is read from them
 pub derived_read : (limit : ℕ) (symbols : List Symbol) (d : Derivation) → Derives limit d symbols → source_at limit symbols ≡ Ok d
@@ -47,5 +47,5 @@ unexpected_has_none limit symbols d left e is spelled =
     absurd cc
 
 -- where reading stops, at most all symbols are left
-pub left_within : (limit : ℕ) (symbols : List Symbol) (s : Stop) → source_at limit symbols ≡ Err s → left_of s ≤ length symbols
-left_within limit symbols s e = subst (λ (r : Result Derivation Stop). StopsWithin (length symbols) r) e (source_within limit symbols)
+pub left_within : (limit : ℕ) → 0 < limit → (symbols : List Symbol) (s : Stop) → source_at limit symbols ≡ Err s → left_of s ≤ length symbols
+left_within limit lt symbols s e = subst (λ (r : Result Derivation Stop). StopsWithin (length symbols) r) e (source_within limit lt symbols)

@@ -6,7 +6,8 @@ use Rattle.vp_parse_stmt.specs.declared.arena.Statement.TheVariants as statement
 use Rattle.vp_parse.specs.declared.source.Item.TheVariants as item_of
 use Rattle.vp_parse_expr.specs.Grammar.{Name, Sized, Whole}
 use Rattle.vp_parse_stmt.specs.Grammar.{Assign, Block, Empty, Then}
-use Rattle.vp_parse.specs.Grammar.{Reg, Initial, Derivation}
+use Rattle.vp_parse.specs.declared.source.Direction.TheVariants as direction_of
+use Rattle.vp_parse.specs.Grammar.{Ordered, Connected, Nets, Regs, Instances, Plain, Valued, Instance, Declares, Initial, OutputReg, Declared, Bare, NoHeader, Ports, Derivation}
 use Rattle.vp_parse.specs.Layout.{put_source}
 use Rattle.vp_parse_expr.specs.declared.symbol.Symbol.{Symbol}
 use Rattle.vp_parse_expr.specs.declared.symbol.SymbolKind.TheVariants as symbol
@@ -15,25 +16,27 @@ use Rattle.vp_parse.specs.Told.{place_told}
 
 -- the derivation of `module t ; reg a , b ; initial begin a = 1 'b1 ; begin end b = a ; end endmodule`
 abbrev example : Derivation
-example = Some (
+example =
     record {
       keyword = 0;
       name = 1;
+      header = NoHeader;
       semicolon = 2;
       items =
-          Reg 3 None 4 (record { comma = 5; name = 6 } ∷ []) 7
+          Declares (Regs 3 None) (Plain 4) (record { comma = 5; part = Plain 6 } ∷ []) 7
           ∷ Initial 8 (Block 9 (Then (Assign 10 Whole 11 (Sized 12 1 symbol.Base 13) 14)
           (Then (Block 15 Empty 16) (Then (Assign 17 Whole 18 (Name 19 Whole) 20) Empty))) 21)
           ∷ [];
       endmodule = 22;
     }
-    )
+    ∷ []
 
 -- three items; the block's chain begins at statement 0 and ends at statement 6
 lists_of_example : put_source example ≡ (
-  record { name = 1; first = 0; end = 3 } ∷ [],
+  record { name = 1; items = record { first = 0; end = 3 }; ports = 0; statements = record { first = 0; end = 7 }; expressions = record { first = 0; end = 2 } } ∷ [],
   record {
     items = item_of.Reg 4 None ∷ item_of.Reg 6 None ∷ item_of.Initial 8 6 ∷ [];
+    connections = [];
     parts = record {
       statements =
           statement_of.Empty ∷ statement_of.Assign 10 selection_of.Whole 0 ∷ statement_of.Then 0 1
@@ -44,6 +47,52 @@ lists_of_example : put_source example ≡ (
   },
 )
 lists_of_example = refl
+
+-- the derivation of `module n ( output reg [ 1 : 0 ] q , p ) ; endmodule module m ; wire w = a ; n u ( , a ) ; endmodule`
+abbrev hierarchy : Derivation
+hierarchy =
+    record {
+      keyword = 0;
+      name = 1;
+      header = Ports 2 (Some (record {
+        first = Declared (OutputReg 3 4) (Some (record { opening = 5; msb_place = 6; msb = 1; colon = 7; lsb_place = 8; lsb = 0; closing = 9 })) 10;
+        further = record { comma = 11; part = Bare 12 } ∷ [];
+      })) 13;
+      semicolon = 14;
+      items = [];
+      endmodule = 15;
+    }
+    ∷ record {
+      keyword = 16;
+      name = 17;
+      header = NoHeader;
+      semicolon = 18;
+      items =
+          Declares (Nets 19 None) (Valued 20 21 (Name 22 Whole)) [] 23
+          ∷ Declares (Instances 24) (Instance 25 26 (Connected (Ordered None) (record { comma = 27; part = Ordered (Some (Name 28 Whole)) } ∷ [])) 29) [] 30
+          ∷ [];
+      endmodule = 31;
+    }
+    ∷ []
+
+-- both ports have the range of the first; the net is followed by its assignment; the blank connection begins at the comma behind it
+lists_of_hierarchy : put_source hierarchy ≡ (
+  record { name = 1; items = record { first = 0; end = 2 }; ports = 2; statements = record { first = 0; end = 0 }; expressions = record { first = 0; end = 0 } }
+      ∷ record { name = 17; items = record { first = 2; end = 5 }; ports = 2; statements = record { first = 0; end = 0 }; expressions = record { first = 0; end = 2 } } ∷ [],
+  record {
+    items =
+        item_of.Port 10 direction_of.OutputReg (Some (record { bracket = 5; range = record { msb = 1; lsb = 0 } }))
+        ∷ item_of.Port 12 direction_of.OutputReg (Some (record { bracket = 5; range = record { msb = 1; lsb = 0 } }))
+        ∷ item_of.Net 20 None ∷ item_of.Assignment 20 0 ∷ item_of.Instance 25 24 0 2 ∷ [];
+    connections =
+        record { place = 27; port = None; value = None } ∷ record { place = 28; port = None; value = Some 1 } ∷ [];
+    parts = record {
+      statements = [];
+      expressions = expression_of.Name 22 selection_of.Whole ∷ expression_of.Name 28 selection_of.Whole ∷ [];
+    };
+  },
+)
+lists_of_hierarchy = refl
 
 -- ---- where an error is told
 

@@ -1,10 +1,10 @@
 pub mod Again
+pub mod Found
 pub mod GrammarRows
 pub mod Laws
-pub mod Raise
-pub mod Takes
-pub mod Within
 pub mod LayoutRows
 pub mod Loops
 pub mod Placed
-pub mod Found
+pub mod Raise
+pub mod Takes
+pub mod Within

@@ -4,7 +4,6 @@ use Rattle.vp_parse.specs.declared.source.Arena.{Arena}
 use Rattle.vp_parse_expr.specs.declared.symbol.Symbol.{Symbol}
 use Rattle.vp_parse_stmt.specs.Weight.{weight as weight_of}
 
--- the items in the arena, and its other parts with two for each symbol that is left
+-- the items and the connections in the arena, and its other parts with two for each symbol that is left
 abbrev pub weight : Arena → List Symbol → ℕ
-weight arena symbols =
-    vec_len arena.items + weight_of arena.parts symbols
+weight arena symbols = vec_len arena.items + vec_len arena.connections + weight_of arena.parts symbols

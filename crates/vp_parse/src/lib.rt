@@ -2,11 +2,13 @@
 #![tactic(auto)]
 
 mod fault;
+mod items;
 mod parsing;
+mod ports;
 mod source;
 
 pub use fault::ParseError;
 pub use parsing::{DEPTH_LIMIT, parse};
-pub use source::{DeclaredRange, Item, Module, Source, earlier};
+pub use source::{Connection, DeclaredRange, Direction, Item, Module, Source, Span, earlier};
 pub use vp_parse_expr::{BinaryOperator, Expression, Range, Selection, UnaryOperator};
 pub use vp_parse_stmt::Statement;

@@ -1,4 +1,4 @@
-ghost use Rattle.std.specs.Prelude.{◌≡◌, vec_len};
+ghost use Rattle.std.specs.Prelude.{◌≡◌, ◌+◌, ◌<◌, ◌^◌, length, vec_len};
 ghost use Rattle.vp_parse.specs.Places.{earlier};
 
 use std::alloc::Global;
@@ -14,27 +14,85 @@ pub struct DeclaredRange {
     pub range: Range,
 }
 
+/// The direction of a port, and whether it declares a net or a reg (clause 12.3.3).
+#[derive(Clone, Copy, PartialEq, Eq)]
+pub enum Direction {
+    Input,
+    Output,
+    /// An output that declares a reg.
+    OutputReg,
+}
+
+/// A connection of a port of an instance (clauses 12.3.5 and 12.3.6).
+#[derive(Clone, Copy)]
+pub struct Connection {
+    /// The token at which its expression begins; where it has none, the token behind it.
+    pub place: u32,
+    /// The token of the port's name; none where the connection is by position.
+    pub port: Option<u32>,
+    /// The place of its expression; none where the port is left open.
+    pub value: Option<u32>,
+}
+
 /// An item of a module, by the place of its declaration.
 #[derive(Clone, Copy)]
 pub enum Item {
-    /// A reg, by its name, with the range of its bits; a scalar has none.
+    /// A port, by its name (clause 12.3.3).
+    Port {
+        name: u32,
+        direction: Direction,
+        range: Option<DeclaredRange>,
+    },
+    /// A net, by its name, with the range of its bits; a scalar has none (clause 4.2.1).
+    Net {
+        name: u32,
+        range: Option<DeclaredRange>,
+    },
+    /// A reg, by its name, with the range of its bits; a scalar has none (clause 4.2.2).
     Reg {
         name: u32,
         range: Option<DeclaredRange>,
     },
-    /// An `initial`, by its keyword, and its statement.
+    /// A local parameter, by its name, with its literal (clause 4.10.2).
+    LocalParameter {
+        name: u32,
+        value: u32,
+    },
+    /// A continuous assignment, by the name to which it assigns (clause 6.1).
+    Assignment {
+        target: u32,
+        value: u32,
+    },
+    /// An instance, by its name, with the name of its module, and its connections from `first` up to `end` (clause 12.1.2).
+    Instance {
+        name: u32,
+        definition: u32,
+        first: u32,
+        end: u32,
+    },
+    /// An `initial`, by its keyword, and its statement (clause 9.9.1).
     Initial {
         keyword: u32,
         body: u32,
     },
 }
 
-/// A module: the token of its name, and its items from `first` up to `end`.
+/// The places of a list from `first` up to `end`.
+#[derive(Clone, Copy, PartialEq, Eq)]
+pub struct Span {
+    pub first: u32,
+    pub end: u32,
+}
+
+/// A module: the token of its name, its items, of which those up to `ports` are its ports, and its statements and
+/// expressions.
 #[derive(Clone, Copy, PartialEq, Eq)]
 pub struct Module {
     pub name: u32,
-    pub first: u32,
-    pub end: u32,
+    pub items: Span,
+    pub ports: u32,
+    pub statements: Span,
+    pub expressions: Span,
 }
 
 /// What a text says: its modules, in order, with the lists that they name, its tokens and itself.
@@ -45,6 +103,7 @@ pub struct Source {
     pub tokens: Sequence<Token>,
     pub modules: Sequence<Module>,
     pub items: Sequence<Item>,
+    pub connections: Sequence<Connection>,
     pub statements: Sequence<Statement>,
     pub expressions: Sequence<Expression>,
 }
@@ -94,6 +153,7 @@ pub fn earlier(one: Option<u32>, other: Option<u32>) -> Option<u32>
 #[derive(Drop)]
 pub struct Arena {
     pub items: Vec<Item>,
+    pub connections: Vec<Connection>,
     pub parts: vp_parse_stmt::Arena,
 }
 
@@ -105,12 +165,24 @@ impl Arena {
     pub fn new(alloc: Global) -> Arena
         ensures none { lists_in result ≡ no_parts }
         ensures items { vec_len result.items ≡ 0 }
+        ensures connections { vec_len result.connections ≡ 0 }
         ensures statements { vec_len result.parts.statements ≡ 0 }
         ensures expressions { vec_len result.parts.expressions ≡ 0 }
     {
         Arena {
             items: Vec::new(alloc),
+            connections: Vec::new(alloc),
             parts: vp_parse_stmt::Arena::new(alloc),
         }
+    }
+
+    /// Where its items, statements and expressions end.
+    pub fn ends(&self) -> (u32, u32, u32)
+        requires { vec_len self.now.items + vec_len self.now.parts.statements + vec_len self.now.parts.expressions < 2 ^ 32 }
+        ensures { result ≡ (length (lists_in self.now).items, length (lists_in self.now).parts.statements, length (lists_in self.now).parts.expressions) }
+    {
+        let items = self.items.len() as u32;
+        let statements = self.parts.statements.len() as u32;
+        (items, statements, self.parts.expressions.len() as u32)
     }
 }

@@ -16,8 +16,8 @@ use Rattle.vp_parse_expr.specs.Kinds.{same_kind, symbol_at}
 use Rattle.vp_parse_expr.specs.Operators.{unary_sign, binary_sign, level, binds}
 use Rattle.vp_parse_expr.specs.Binding.{level_above, level_below, binds-sign, binds-loose, binds-more, binds-none}
 use Rattle.vp_parse_expr.specs.Stopping.{Stop, ◌>>=◌, Reader, is_next, terminal}
-use Rattle.vp_parse_expr.specs.Grammar.{Range, Expr, Name, Sized, Based, Number, Group, Unary, Binary, Conditional, Concatenation, Replication, Selection, Whole, Bit, Part, Parts, First, More, range_text, expr_text, selection_text, parts_text, tightness, is_unsized, is_sized_base, IsRange, IsExpr, IsSelection, AreParts, expr_depth, selection_depth, parts_depth}
-use Rattle.vp_parse_expr.specs.Reading.{is_alone, is_base_next, is_number_before, is_bare, bound_by, bound_at, range_at, sized_at, number_at, bit_at, part_select_at, select_at, name_at, group_at, unary_at, part_at, further_part_at, further_parts_at, parts_at, concatenation_at, replication_at, braces_at, operand_by, operand_at, binary_at, more_at, conditional_at, is_choice, choice_at, chain_at, expr_at}
+use Rattle.vp_parse_expr.specs.Grammar.{Range, Expr, Name, Sized, Based, Number, Group, Unary, Binary, Conditional, Concatenation, Replication, Selection, Whole, Bit, Part, Parts, First, More, range_text, expr_text, selection_text, parts_text, tightness, is_unsized, is_sized, is_sized_base, IsRange, IsExpr, IsSelection, AreParts, expr_depth, selection_depth, parts_depth}
+use Rattle.vp_parse_expr.specs.Reading.{is_alone, is_base_next, is_number_before, is_bare, bound_by, bound_at, range_at, sized_at, number_at, literal_by, literal_at, bit_at, part_select_at, select_at, name_at, group_at, unary_at, part_at, further_part_at, further_parts_at, parts_at, concatenation_at, replication_at, braces_at, operand_by, operand_at, binary_at, more_at, conditional_at, is_choice, choice_at, chain_at, expr_at}
 use Rattle.vp_parse_expr.specs.Takes.{before, expr_longer}
 
 -- ---- what follows an expression
@@ -140,6 +140,24 @@ sized_again size place _ digits rest least most is = absurd cc
 number_again : (value place : ℕ) (rest : List Symbol) → value < NUMBER_LIMIT → is_base_next rest ≡ false → number_at value place rest ≡ Ok (Number place value, rest)
 unfolding number_at
 number_again value place rest fits stops = rw (stops, nat_lt-of value NUMBER_LIMIT fits) refl
+
+sized_base_next : (kind : SymbolKind) (digits : ℕ) (rest : List Symbol) → is_sized_base kind ≡ true → is_base_next (symbol_at kind digits ∷ rest) ≡ true
+sized_base_next symbol.ShortBase digits rest is = refl
+sized_base_next symbol.Base digits rest is = refl
+sized_base_next _ digits rest is = absurd cc
+
+sized_read : (size place : ℕ) (kind : SymbolKind) (digits : ℕ) (rest : List Symbol) → is_base_next (symbol_at kind digits ∷ rest) ≡ true → number_at size place (symbol_at kind digits ∷ rest) ≡ Ok (Sized place size kind digits, rest) → sized_at size place (symbol_at kind digits ∷ rest) ≡ Ok (Sized place size kind digits, rest)
+unfolding number_at
+sized_read size place kind digits rest b h = rw b at h
+
+-- what is spelled as a literal with a size is read as that literal
+pub literal_again : (e : Expr) (rest : List Symbol) → IsExpr e → is_sized e ≡ true → literal_at (expr_text e rest) ≡ Ok (e, rest)
+unfolding literal_at literal_by
+literal_again (Sized place size kind digits) rest is sized =
+    let h = sized_again size place kind digits rest is.0 is.1 is.2 in
+    let b = sized_base_next kind digits rest is.2 in
+    rw b (sized_read size place kind digits rest b h)
+literal_again _ rest is sized = absurd cc
 
 longer_not_bare : (ts rest : List Symbol) → length rest + 1 < length ts → is_bare ts rest ≡ false
 longer_not_bare [] rest h = refl

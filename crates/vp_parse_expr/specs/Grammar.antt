@@ -108,6 +108,11 @@ is_unsized (Based digits) = true
 is_unsized (Number place value) = true
 is_unsized _ = false
 
+-- a literal with a size (3.5.1)
+abbrev pub is_sized : Expr → Bool
+is_sized (Sized place size kind digits) = true
+is_sized _ = false
+
 -- a base part of this kind may stand behind a size (profile)
 abbrev pub is_sized_base : SymbolKind → Bool
 is_sized_base symbol.ShortBase = true

@@ -16,8 +16,8 @@ use Rattle.vp_parse_expr.specs.Operators.{unary_of, level, binds}
 use Rattle.vp_parse_expr.specs.Stopping.{Stop, ◌>>=◌, Reader, refused, is_next, terminal, behind}
 use Rattle.vp_parse_expr.specs.Grammar.{Range, Expr, Selection, Parts, First, expr_depth, selection_depth, parts_depth}
 use Rattle.vp_parse_expr.specs.Layout.{put_range, put_expr, put_selection, put_parts}
-use Rattle.vp_parse_expr.specs.Reading.{is_base_next, is_number_before, is_part, is_bare, bound_by, bound_at, range_at, is_size_of, sized_at, number_at, bit_at, part_select_at, select_at, name_at, group_at, unary_at, part_at, further_part_at, further_parts_at, parts_at, concatenation_at, replication_at, braces_at, operand_by, operand_at, on_operator, binary_at, more_at, conditional_at, is_choice, choice_at, chain_at, expr_at}
-use Rattle.vp_parse_expr.specs.Placing.{Made, made as made_node, Placer, MadeSelection, Selector, bound_by_into, bound_into, range_into, sized_into, number_into, based_into, bit_into, part_select_into, select_into, name_into, group_into, unary_into, part_into, further_part_into, further_parts_into, first_part_into, parts_into, concatenation_into, replication_into, braces_into, operand_by_into, operand_into, binary_into, more_into, conditional_into, choice_into, chain_into, expr_into}
+use Rattle.vp_parse_expr.specs.Reading.{is_base_next, is_number_before, is_part, is_bare, bound_by, bound_at, range_at, is_size_of, sized_at, number_at, literal_by, literal_at, bit_at, part_select_at, select_at, name_at, group_at, unary_at, part_at, further_part_at, further_parts_at, parts_at, concatenation_at, replication_at, braces_at, operand_by, operand_at, on_operator, binary_at, more_at, conditional_at, is_choice, choice_at, chain_at, expr_at}
+use Rattle.vp_parse_expr.specs.Placing.{Made, made as made_node, Placer, MadeSelection, Selector, bound_by_into, bound_into, range_into, sized_into, number_into, literal_by_into, literal_into, based_into, bit_into, part_select_into, select_into, name_into, group_into, unary_into, part_into, further_part_into, further_parts_into, first_part_into, parts_into, concatenation_into, replication_into, braces_into, operand_by_into, operand_into, binary_into, more_into, conditional_into, choice_into, chain_into, expr_into}
 
 -- ---- what is read, seen by a view
 
@@ -125,6 +125,17 @@ number_seen : (value place : ℕ) → Places (number_into value place) (number_a
 unfolding number_into number_at
 number_seen value place nodes ts =
     if_seen (made nodes) (is_base_next ts) _ _ _ _ (sized_seen value place nodes ts) (if_seen (made nodes) (nat_lt value NUMBER_LIMIT) _ _ _ _ refl refl)
+
+literal_by_seen : (kind : SymbolKind) (place : ℕ) → Places (literal_by_into kind place) (literal_by kind place)
+unfolding literal_by_into literal_by
+literal_by_seen (symbol.Number size) place nodes ts = if_seen (made nodes) (is_base_next ts) _ _ _ _ (sized_seen size place nodes ts) refl
+literal_by_seen _ place nodes ts = refl
+
+-- a literal
+pub literal_seen : Places literal_into literal_at
+unfolding literal_into literal_at
+literal_seen nodes [] = refl
+literal_seen nodes (s ∷ ts) = literal_by_seen s.kind s.place nodes ts
 
 bit_seen : (placer : Placer) (reader : Reader Expr) → Places placer reader → Selects (bit_into placer) (bit_at reader)
 unfolding bit_into bit_at

@@ -73,6 +73,17 @@ number_into value place nodes ts =
     then sized_into value place nodes ts
     else (if nat_lt value NUMBER_LIMIT then Ok (made (node_of.Number place value) 1 nodes ts) else Err (Unexpected (length ts + 1)))
 
+-- a literal with a size, by its first symbol's kind and place (3.5.1)
+unfoldable pub literal_by_into : SymbolKind → ℕ → Placer
+literal_by_into (symbol.Number size) place nodes ts =
+    if is_base_next ts then sized_into size place nodes ts else Err (Unexpected (length ts + 1))
+literal_by_into _ place nodes ts = Err (Unexpected (length ts + 1))
+
+-- a literal with a size (3.5.1)
+unfoldable pub literal_into : Placer
+literal_into nodes [] = refused []
+literal_into nodes (s ∷ ts) = literal_by_into s.kind s.place nodes ts
+
 -- a literal without a size, from behind it (3.5.1)
 unfoldable pub based_into : (digits : ℕ) → Placer
 based_into digits nodes ts = Ok (made (node_of.Based digits) 1 nodes ts)

@@ -104,6 +104,16 @@ number_at value place ts =
     then sized_at value place ts
     else (if nat_lt value NUMBER_LIMIT then Ok (Number place value, ts) else Err (Unexpected (length ts + 1)))
 
+-- a literal with a size, by its first symbol's kind and place (3.5.1)
+unfoldable pub literal_by : SymbolKind → ℕ → Reader Expr
+literal_by (symbol.Number size) place ts = if is_base_next ts then sized_at size place ts else Err (Unexpected (length ts + 1))
+literal_by _ place ts = Err (Unexpected (length ts + 1))
+
+-- a literal with a size (3.5.1)
+unfoldable pub literal_at : Reader Expr
+literal_at [] = refused []
+literal_at (s ∷ ts) = literal_by s.kind s.place ts
+
 -- ---- selections
 
 -- a bit of a named object, with the reader of its index (5.2.1)

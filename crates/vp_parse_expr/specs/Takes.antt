@@ -16,8 +16,8 @@ use Rattle.vp_parse_expr.specs.Kinds.{keyword_number, punctuator_number, sort_nu
 use Rattle.vp_parse_expr.specs.Operators.{unary_of, unary_sign, binary_sign, level, binds}
 use Rattle.vp_parse_expr.specs.Binding.{unary_is, level_above, level_below, binds_is, binds_below, binds-none}
 use Rattle.vp_parse_expr.specs.Stopping.{Stop, ◌>>=◌, Reader, is_next, terminal}
-use Rattle.vp_parse_expr.specs.Grammar.{Range, Expr, Name, Sized, Based, Number, Group, Unary, Binary, Conditional, Concatenation, Replication, Selection, Whole, Bit, Part, Parts, First, More, range_text, expr_text, selection_text, parts_text, tightness, is_unsized, is_sized_base, IsRange, IsExpr, IsSelection, AreParts, expr_depth, selection_depth, parts_depth}
-use Rattle.vp_parse_expr.specs.Reading.{is_base_next, is_number_before, is_part, is_bare, bound_by, bound_at, range_at, is_size_of, sized_at, number_at, bit_at, part_select_at, select_at, name_at, group_at, unary_at, part_at, further_part_at, further_parts_at, parts_at, concatenation_at, replication_at, braces_at, operand_by, operand_at, on_operator, binary_at, more_at, conditional_at, is_choice, choice_at, chain_at, expr_at}
+use Rattle.vp_parse_expr.specs.Grammar.{Range, Expr, Name, Sized, Based, Number, Group, Unary, Binary, Conditional, Concatenation, Replication, Selection, Whole, Bit, Part, Parts, First, More, range_text, expr_text, selection_text, parts_text, tightness, is_unsized, is_sized, is_sized_base, IsRange, IsExpr, IsSelection, AreParts, expr_depth, selection_depth, parts_depth}
+use Rattle.vp_parse_expr.specs.Reading.{is_base_next, is_number_before, is_part, is_bare, bound_by, bound_at, range_at, is_size_of, sized_at, number_at, literal_by, literal_at, bit_at, part_select_at, select_at, name_at, group_at, unary_at, part_at, further_part_at, further_parts_at, parts_at, concatenation_at, replication_at, braces_at, operand_by, operand_at, on_operator, binary_at, more_at, conditional_at, is_choice, choice_at, chain_at, expr_at}
 
 -- ---- tools
 
@@ -205,6 +205,36 @@ number_takes d value place ts =
     Holds-if all (is_base_next ts) _ _
     (λ e. sized_takes d value place ts)
     (λ e. Holds-if all (nat_lt value NUMBER_LIMIT) _ _ (λ f. record { text = refl; is = lt_of value NUMBER_LIMIT f; fits = omega arith; tight = refl }) (λ f. tt))
+
+-- what is read is a literal with a size, of these symbols
+pub record IsLiteralTaken (ts : List Symbol) (x : Expr × List Symbol) : Type 0 where
+  pub text : ts ≡ expr_text x.0 x.1
+  pub is : IsExpr x.0
+  pub sized : is_sized x.0 ≡ true
+  pub fits : expr_depth x.0 ≤ 1
+
+literal_takes_by : (size place : ℕ) (ts : List Symbol) → Holds (IsLiteralTaken (symbol_at (symbol.Number size) place ∷ ts)) (sized_at size place ts)
+unfolding sized_at
+literal_takes_by size place [] = tt
+literal_takes_by size place (s ∷ ts) =
+    Holds-if (IsLiteralTaken (symbol_at (symbol.Number size) place ∷ s ∷ ts)) (is_size_of size s.kind) _ _
+    (λ e.
+    let h = both_true (is_sized_base s.kind) (nat_le 1 size && nat_le size 65535) e in
+    let i = both_true (nat_le 1 size) (nat_le size 65535) h.1 in
+    record { text = refl; is = (le_of 1 size i.0, le_of size 65535 i.1, h.0); sized = refl; fits = omega arith })
+    (λ e. tt)
+
+literal_by_takes : (kind : SymbolKind) (place : ℕ) (ts : List Symbol) → Holds (IsLiteralTaken (symbol_at kind place ∷ ts)) (literal_by kind place ts)
+unfolding literal_by
+literal_by_takes (symbol.Number size) place ts =
+    Holds-if (IsLiteralTaken (symbol_at (symbol.Number size) place ∷ ts)) (is_base_next ts) _ _ (λ e. literal_takes_by size place ts) (λ e. tt)
+literal_by_takes _ place ts = tt
+
+-- what is read as a literal is spelled so, and has a size
+pub literal_takes : (ts : List Symbol) → Holds (IsLiteralTaken ts) (literal_at ts)
+unfolding literal_at
+literal_takes [] = tt
+literal_takes (s ∷ ts) = literal_by_takes s.kind s.place ts
 
 -- ---- selections
 

@@ -12,7 +12,7 @@ use Rattle.vp_parse_expr.specs.Kinds.{same_kind}
 use Rattle.vp_parse_expr.specs.Operators.{unary_of, level, binds}
 use Rattle.vp_parse_expr.specs.Stopping.{Stop, Unexpected, left_of, ◌>>=◌, Reader, refused, is_next, terminal}
 use Rattle.vp_parse_expr.specs.Grammar.{Expr, Number, Parts, First, expr_depth}
-use Rattle.vp_parse_expr.specs.Reading.{is_base_next, is_number_before, is_part, is_bare, bound_by, bound_at, range_at, is_size_of, sized_at, number_at, bit_at, part_select_at, select_at, name_at, group_at, unary_at, part_at, further_part_at, further_parts_at, parts_at, concatenation_at, replication_at, braces_at, operand_by, operand_at, on_operator, binary_at, more_at, conditional_at, is_choice, choice_at, chain_at, expr_at}
+use Rattle.vp_parse_expr.specs.Reading.{is_base_next, is_number_before, is_part, is_bare, bound_by, bound_at, range_at, is_size_of, sized_at, number_at, literal_by, literal_at, bit_at, part_select_at, select_at, name_at, group_at, unary_at, part_at, further_part_at, further_parts_at, parts_at, concatenation_at, replication_at, braces_at, operand_by, operand_at, on_operator, binary_at, more_at, conditional_at, is_choice, choice_at, chain_at, expr_at}
 use Rattle.vp_parse_expr.specs.Takes.{Holds, IsWholeTaken, whole_takes, expr_longer}
 
 -- at most so many symbols are left
@@ -94,6 +94,17 @@ number_within : (value place n : ℕ) (ts : List Symbol) → suc (length ts) ≤
 unfolding number_at
 number_within value place n ts le =
     Within-if n (is_base_next ts) _ _ (sized_within value place n ts le) (Within-if {A = Expr} n (nat_lt value NUMBER_LIMIT) (Ok (Number place value, ts)) (Err (Unexpected (length ts + 1))) (omega arith) (omega arith))
+
+literal_by_within : (kind : SymbolKind) (place n : ℕ) (ts : List Symbol) → suc (length ts) ≤ n → Within n (literal_by kind place ts)
+unfolding literal_by
+literal_by_within (symbol.Number size) place n ts le = Within-if {A = Expr} n (is_base_next ts) _ (Err (Unexpected (length ts + 1))) (sized_within size place n ts le) (omega arith)
+literal_by_within _ place n ts le = omega arith
+
+-- a literal leaves no more symbols than there are, also where it stops
+pub literal_within : IsWithin literal_at
+unfolding literal_at
+literal_within n [] le = le
+literal_within n (s ∷ ts) le = literal_by_within s.kind s.place n ts le
 
 -- a reader behind a symbol leaves no more symbols than there are with that
 abbrev pub IsBehind : {A : Type 0} → Reader A → Type 0

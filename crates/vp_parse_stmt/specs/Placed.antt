@@ -29,7 +29,7 @@ viewed : {X Y B : Type 0} (h : Y → X) (g : X → B) (r : Result X Stop) (s : R
 viewed {X} {Y} {B} h g r (Ok y) e = ap (λ (r : Result X Stop). (let b : Result B Stop = r >>= λ x. Ok (g x) in b)) e
 viewed {X} {Y} {B} h g r (Err s) e = ap (λ (r : Result X Stop). (let b : Result B Stop = r >>= λ x. Ok (g x) in b)) e
 
-value_seen : (limit : ℕ) → Places put_value (value_into limit) (expr_at limit 0)
+pub value_seen : (limit : ℕ) → Places put_value (value_into limit) (expr_at limit 0)
 unfolding value_into
 value_seen limit lists ts =
     viewed (made_expr lists.expressions) (λ (e : Placed). (let x : Made = (e.0, record lists { expressions = e.2 }, e.3) in x)) (expr_into limit 0 lists.expressions ts) (expr_at limit 0 ts) (expr_seen limit 0 lists.expressions ts)

@@ -5,4 +5,4 @@ mod arena;
 mod parsing;
 
 pub use arena::{Arena, Statement};
-pub use parsing::statement;
+pub use parsing::{statement, value};

@@ -9,9 +9,10 @@ use crate::arena::{Arena, Statement, add_statement};
 use vp_lex::{Keyword, Punctuator};
 use vp_parse_expr::{Stop, Symbol, SymbolKind, expression, is_kind, selection, skip, unexpected};
 
-/// An expression that nests at most so deep.
+/// The expression with which symbols begin, which nests at most so deep, laid out behind the parts of an arena: its place,
+/// and what follows it.
 #[tactic(auto, unfolding(crate::specs::Placing::value_into))]
-fn value<'a>(
+pub fn value<'a>(
     arena: &mut Arena,
     limit: u32,
     symbols: &'a [Symbol],

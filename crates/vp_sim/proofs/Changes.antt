@@ -8,7 +8,7 @@ use Rattle.vp_expr.specs.declared.tables.Action.{Action}
 use Rattle.vp_expr.specs.declared.tables.Action.TheVariants.{Assign}
 use Rattle.vp_elab.specs.Built.{Elaborated}
 use Rattle.vp_expr.specs.declared.tables.Target.{Target}
-use Rattle.vp_expr.specs.Evaluation.{eval, given_to, object_of}
+use Rattle.vp_expr.specs.Evaluation.{eval, given_to, slot_of}
 use Rattle.vp_expr.specs.Ids.{Sized}
 use Rattle.vp_expr.specs.Tables.{tables_of}
 use Rattle.vp_sim.specs.declared.change.Change.{Change}
@@ -16,7 +16,7 @@ use Rattle.vp_sim.specs.States.{State, change_of, changed_by}
 
 -- an assignment
 pub by_assignment : (s : State) (action : Action) (t : Target) (value : Sized) (object : ℕ) (found : Option (List Bit)) (v given : List Bit) (first second : Elaborated)
-    → action ≡ Assign t value → object ≡ object_of t → found ≡ slice_get s.values object → v ≡ eval (tables_of first) s.values value → given ≡ given_to (tables_of second) s.values t v → first ≡ s.design → second ≡ s.design
+    → action ≡ Assign t value → object ≡ slot_of t → found ≡ slice_get s.values object → v ≡ eval (tables_of first) s.values value → given ≡ given_to (tables_of second) s.values t v → first ≡ s.design → second ≡ s.design
     → change_of object found given ≡ changed_by s action
 by_assignment s action t value object found v given first second is of at evaluated gives of_first of_second =
     let right = λ (d : Elaborated). eval (tables_of d) s.values value in
@@ -24,7 +24,7 @@ by_assignment s action t value object found v given first second is of at evalua
     let whole : given ≡ all s.design = gives ∙ ap (given_to (tables_of second) s.values t) (evaluated ∙ ap right of_first) ∙ ap all of_second in
     ap (λ (f : Option (List Bit)). change_of object f given) at
     ∙ ap (λ (o : ℕ). change_of o (slice_get s.values o) given) of
-    ∙ ap (change_of (object_of t) (slice_get s.values (object_of t))) whole
+    ∙ ap (change_of (slot_of t) (slice_get s.values (slot_of t))) whole
     ∙ ap (changed_by s) (sym is)
 
 fits_at : (values : List (List Bit)) (change : Change) (target : ObjectId) (found : Option (List Bit)) → found ≡ slice_get values target.0 → IsSomeAnd found (λ (o : List Bit). length o ≡ length change.value) → change.object ≡ target → length (get_or values change.object.0 change.value) ≡ length change.value

@@ -45,6 +45,7 @@ design = record {
     text = codes "a b 'b1";
     tokens = word 0 1 ∷ word 2 3 ∷ word 4 7 ∷ [];
     modules = [];
+    connections = [];
     items = item.Reg 0 None ∷ item.Reg 1 None ∷ item.Initial 9 6 ∷ [];
     statements =
         statement.Empty ∷ statement.Assign 0 selection.Whole 0 ∷ statement.Then 0 1

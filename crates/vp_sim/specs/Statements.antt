@@ -2,6 +2,8 @@
 use Rattle.std.specs.Prelude.{ℕ, zero, suc, ◌-◌, Bool, true, false, if◌then◌else◌, List, [], ◌∷◌, ◌++◌, length, take, slice_index, slice_index_or, Option, Some, None}
 use Rattle.vp_expr.specs.declared.tables.Action.{Action}
 use Rattle.vp_expr.specs.declared.tables.Action.TheVariants.{Nothing, Then, Assign}
+use Rattle.vp_expr.specs.declared.tables.Process.{Process}
+use Rattle.vp_expr.specs.declared.tables.Process.TheVariants.{Procedure, Assignment, Connection}
 
 -- the statement at a place; nothing behind the end
 abbrev pub action_at : List Action → ℕ → Action
@@ -45,6 +47,12 @@ abbrev pub left_behind : List Action → ℕ → ℕ → List ℕ
 left_behind actions zero place = []
 left_behind actions (suc n) place =
     left_in (left_behind actions n) (other_parts actions (action_at actions place)) (first_part actions (action_at actions place))
+
+-- what a process does: the statement of a procedure, and no statement of another (clause 9.9)
+abbrev pub whole_of : Process → List ℕ
+whole_of (Procedure object instance body) = body ∷ []
+whole_of (Assignment object net instance value) = []
+whole_of (Connection port net) = []
 
 -- the next statement of a process: the last of those that remain
 abbrev pub next_of : List ℕ → ℕ

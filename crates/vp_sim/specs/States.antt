@@ -9,13 +9,13 @@ use Rattle.vp_elab.specs.Built.{Elaborated}
 use Rattle.vp_elab.specs.Tree.{below}
 use Rattle.vp_expr.specs.declared.tables.Action.{Action}
 use Rattle.vp_expr.specs.declared.tables.Action.TheVariants.{Nothing, Then, Assign}
-use Rattle.vp_expr.specs.Evaluation.{eval, given_to, object_of}
-use Rattle.vp_expr.specs.Tables.{tables_of}
+use Rattle.vp_expr.specs.Evaluation.{eval, given_to, slot_of}
+use Rattle.vp_expr.specs.Tables.{process_object, tables_of}
 use Rattle.vp_expr.specs.Values.{start_of}
 use Rattle.vp_sim.specs.declared.change.Change.{Change}
 use Rattle.vp_sim.specs.declared.fault.SimError.{SimError}
 use Rattle.vp_sim.specs.declared.fault.SimError.TheVariants.{Finished, Idle, SlotNotDone, NoSuchChoice, NoMemory}
-use Rattle.vp_sim.specs.Statements.{behind_event, next_event}
+use Rattle.vp_sim.specs.Statements.{behind_event, next_event, whole_of}
 
 -- a state: the design, the time, whether $finish was executed, the value of each object, what remains of each process, and the
 -- active events, each by the number of its process
@@ -57,7 +57,7 @@ abbrev pub changed_by : State → Action → Option Change
 changed_by s Nothing = None
 changed_by s (Then list last) = None
 changed_by s (Assign t value) =
-    change_of (object_of t) (slice_get s.values (object_of t))
+    change_of (slot_of t) (slice_get s.values (slot_of t))
     (given_to (tables_of s.design) s.values t (eval (tables_of s.design) s.values value))
 
 -- ---- steps
@@ -114,7 +114,7 @@ start design = record {
   time = 0;
   finished = false;
   values = map start_of design.tree.nodes;
-  remaining = map (λ p. p.body ∷ []) (tables_of design).processes;
+  remaining = map whole_of (tables_of design).processes;
   active = below (length (tables_of design).processes);
 }
 
@@ -131,7 +131,7 @@ next_time s = None
 -- the object of the process whose event is the k-th; the first object where there is none
 abbrev pub source_of : State → ℕ → ObjectId
 source_of s k =
-    option_map_or (λ p. p.object) (slice_get (tables_of s.design).processes (slice_index s.active k)) (record { 0 = 0 })
+    option_map_or process_object (slice_get (tables_of s.design).processes (slice_index s.active k)) (record { 0 = 0 })
 
 -- an outcome goes on
 abbrev pub IsStep : Outcome → Type 0

@@ -180,7 +180,7 @@ impl Sim {
             .as_slice()
             .get(self.active[k])
         {
-            Some(process) => process.object,
+            Some(process) => process.object(),
             None => ObjectId(0),
         }
     }
@@ -263,9 +263,9 @@ impl Sim {
         let Action::Assign { target, value } = action else {
             return None;
         };
-        let value = eval(&self.checked, &self.values, value);
-        let value = given_to(&self.checked, &self.values, target, value);
-        let object = target.object();
+        let value = eval(&self.checked, &self.values, ObjectId(0), value);
+        let value = given_to(&self.checked, &self.values, ObjectId(0), target, value);
+        let object = ObjectId(target.slot().0);
         change_of(object, self.values.find(object), value)
     }
 

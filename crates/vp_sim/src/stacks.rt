@@ -1,5 +1,6 @@
 ghost use Rattle.std.specs.Prelude.{◌≡◌, ◌++◌, ◌-◌, ◌<◌, [], ◌∷◌, length, map, slice_index_or, slice_set, take, option_map, IfOk, IfSome, OnErr, OnOk};
 ghost use Rattle.std.specs.Option.{option_map_or};
+ghost use Rattle.vp_sim.specs.Statements.{whole_of};
 
 use std::alloc::{AllocError, Global};
 use std::marker::Model;
@@ -19,6 +20,16 @@ impl Model for Stacks {
     ghost view = { λ s. map (λ v. v.items) s.stacks.items };
 }
 
+/// What a process does: the statement of a procedure, and no statement of another.
+fn whole_of(alloc: Global, process: Process) -> Result<Vec<u32>, AllocError>
+    ensures { IfOk result (λ stack. stack.items ≡ whole_of process) }
+{
+    match process {
+        Process::Procedure { body, .. } => Ok(vec![in alloc; body]?),
+        Process::Assignment { .. } | Process::Connection { .. } => Ok(Vec::new(alloc)),
+    }
+}
+
 /// Puts other places in place of the last of a stack.
 fn replace_last(stack: &mut Vec<u32>, places: &[u32]) -> Result<(), AllocError>
     ensures ok { OnOk result (stack.new.items ≡ take (length stack.old.items - 1) stack.old.items ++ places.now) }
@@ -35,12 +46,11 @@ fn replace_last(stack: &mut Vec<u32>, places: &[u32]) -> Result<(), AllocError>
 impl Stacks {
     /// Of each process its whole statement remains.
     pub fn new(alloc: Global, processes: &[Process]) -> Result<Stacks, AllocError>
-        ensures { IfOk result (λ s. s ≡ map (λ p. p.body ∷ []) processes.now) }
+        ensures { IfOk result (λ s. s ≡ map whole_of processes.now) }
     {
         let mut stacks = Vec::new(alloc);
         for process in processes {
-            let stack = vec![in alloc; process.body]?;
-            stacks.push(stack)?;
+            stacks.push(whole_of(alloc, *process)?)?;
         }
         Ok(Stacks { stacks })
     }

@@ -77,6 +77,7 @@ source = record {
   text = codes "a k 'b1";
   tokens = word 0 1 ∷ word 2 3 ∷ word 4 7 ∷ [];
   modules = [];
+  connections = [];
   items = item.Reg 0 None ∷ item.Reg 1 None ∷ item.Initial 9 4 ∷ [];
   statements =
       statement.Empty ∷ statement.Assign 0 selection.Whole 0 ∷ statement.Then 0 1 ∷ statement.Assign 1 selection.Whole 1 ∷ statement.Then 2 3 ∷ [];

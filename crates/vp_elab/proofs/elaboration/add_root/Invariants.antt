@@ -7,6 +7,6 @@ abbrev pub invariant-loop-item : goal.invariant-loop-item
 invariant-loop-item l = record {
   objects :
       l.objects.items
-      ≡ l.fn.objects.items ++ root_object l.envelopes.envelopes l.number l.fn.module ∷ map (item_object l.envelopes.envelopes l.root.0) (take l.item-index l.item-items);
+      ≡ l.fn.objects.items ++ root_object l.envelopes.envelopes l.number l.fn.module ∷ map (item_object l.source l.envelopes.envelopes l.root.0) (take l.item-index l.item-items);
   few : length l.objects.items ≤ OBJECT_LIMIT;
 }

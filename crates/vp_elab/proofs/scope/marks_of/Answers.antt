@@ -1,8 +1,9 @@
 use Rattle.std.proofs.Common.{◌∙◌, ap, true, false, None, arith}
 use Rattle.std.proofs.lemmas.List.{get_or-replicate, length-replicate, length-set}
-use Rattle.vp_parse.specs.declared.source.Item.TheVariants.{Reg}
+use Rattle.vp_parse.specs.declared.source.Direction.TheVariants.{Input}
+use Rattle.vp_parse.specs.declared.source.Item.TheVariants.{Port}
 use Rattle.vp_pragma.specs.Envelopes.{envelope_at}
-use Rattle.vp_elab.specs.Elaboration.{item_place}
+use Rattle.vp_modules.specs.Items.{item_place}
 use Rattle.vp_elab.proofs.Marks.{mark_next}
 use Rattle.vp_elab.proofs.scope.marks_of.Goals as goal
 
@@ -13,6 +14,6 @@ pub loop-item-preserved : goal.loop-item-preserved
 loop-item-preserved c = record {
   long = length-set c.loop-item.marks c.of.result true ∙ c.loop-item.invariant.long;
   marked = λ e l.
-      mark_next c.args.envelopes.now.envelopes item_place c.loop-item.marks c.args.items.now c.loop-item.item-index (Reg 0 None) c.of.result e
+      mark_next c.args.envelopes.now.envelopes item_place c.loop-item.marks c.args.items.now c.loop-item.item-index (Port 0 Input None) c.of.result e
       c.loop-item-test.true (let long = c.loop-item.invariant.long in omega arith) (c.of.ensures ∙ ap (envelope_at c.args.envelopes.now.envelopes) c.place_of.ensures) (c.loop-item.invariant.marked e l);
 }

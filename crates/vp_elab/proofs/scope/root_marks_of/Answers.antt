@@ -10,6 +10,6 @@ pub loop-module-preserved : goal.loop-module-preserved
 loop-module-preserved c = record {
   long = length-set c.loop-module.marks c.of.result true ∙ c.loop-module.invariant.long;
   marked = λ e l.
-      mark_next c.args.envelopes.now.envelopes (λ m. m.name) c.loop-module.marks c.args.modules.now c.loop-module.module-index (record { name = 0; first = 0; end = 0 })
+      mark_next c.args.envelopes.now.envelopes (λ m. m.name) c.loop-module.marks c.args.modules.now c.loop-module.module-index (record { name = 0; items = record { first = 0; end = 0 }; ports = 0; statements = record { first = 0; end = 0 }; expressions = record { first = 0; end = 0 } })
       c.of.result e c.loop-module-test.true (let long = c.loop-module.invariant.long in omega arith) c.of.ensures (c.loop-module.invariant.marked e l);
 }

@@ -5,7 +5,8 @@ use Rattle.vp_parse.specs.declared.source.Item.{Item}
 use Rattle.vp_pragma.specs.Envelopes.{Viewport, envelope_at}
 use Rattle.vp_pragma.specs.Rights.{RightSet, nothing}
 use Rattle.vp_elab.specs.Tree.{Node, sight_in, sight_of}
-use Rattle.vp_elab.specs.Elaboration.{item_node, items_in, root_step}
+use Rattle.vp_modules.specs.Items.{items_in}
+use Rattle.vp_elab.specs.Elaboration.{item_node, root_step}
 use Rattle.vp_elab.specs.Built.{shown}
 use Rattle.vp_elab.proofs.Sights.{map_map, nothing_at_root}
 use Rattle.vp_elab.proofs.sight.add_sights.Goals as goal

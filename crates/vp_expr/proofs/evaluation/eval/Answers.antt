@@ -1,7 +1,9 @@
-use Rattle.std.proofs.Common.{◌∙◌, ℕ, ap}
+use Rattle.std.proofs.Common.{◌∙◌, ℕ, List, ap, drop}
+use Rattle.vp_bits.specs.declared.bit.Bit.{Bit}
 use Rattle.vp_expr.specs.declared.tables.Tables.{Tables}
-use Rattle.vp_expr.specs.Arena.{term_below, value_at, value_in, width_in}
+use Rattle.vp_expr.specs.Arena.{term_below, value_at, value_in}
 use Rattle.vp_expr.specs.Evaluation.{eval}
+use Rattle.vp_expr.specs.Tables.{tables_of}
 use Rattle.vp_expr.specs.Terms.{Term, value}
 use Rattle.vp_expr.proofs.Arenas.{term_whole}
 use Rattle.vp_expr.proofs.Derivations.{value_derived}
@@ -11,18 +13,19 @@ use Rattle.vp_expr.proofs.evaluation.eval.Goals as goal
 pub returns-clause-value : goal.returns-clause-value
 returns-clause-value c =
     let t = c.tables-tables.result.now in
-    let v = c.args.values.now in
+    let v = c.of_instance-values.result.now in
     let e = c.args.id in
     c.value_below.ensures.value
-    ∙ ap (λ (n : ℕ). value (width_in t.widths) (value_in v) c.size.result (term_below t.operands n c.place.result)) c.len.ensures
-    ∙ ap (λ (x : Term). value (width_in t.widths) (value_in v) c.size.result x) (term_whole t.operands c.place.result)
-    ∙ ap (λ (p : ℕ). value_at t.widths t.operands v p c.size.result) c.place.ensures
-    ∙ ap (λ (n : ℕ). value_at t.widths t.operands v e.place n) c.size.ensures.size
+    ∙ ap (λ (n : ℕ). value (value_in v) c.size.result (term_below t.operands n c.place.result)) c.len.ensures
+    ∙ ap (λ (x : Term). value (value_in v) c.size.result x) (term_whole t.operands c.place.result)
+    ∙ ap (λ (p : ℕ). value_at t.operands v p c.size.result) c.place.ensures
+    ∙ ap (λ (n : ℕ). value_at t.operands v e.place n) c.size.ensures.size
     ∙ ap (λ (x : Tables). eval x v e) c.tables-tables.ensures.tables
+    ∙ ap (λ (l : List (List Bit)). eval (tables_of c.args.checked.now) l e) c.of_instance-values.ensures
 
 pub value_below-requires-clause-sized : goal.value_below-requires-clause-sized
 value_below-requires-clause-sized c =
     tables_sized c.args.checked.now c.tables-tables.result.now c.tables-tables.ensures.tables c.tables-tables.ensures.fit
 
 pub returns-clause-derived : goal.returns-clause-derived
-returns-clause-derived c = λ e s. returns-clause-value c ∙ value_derived c.args.checked.now c.args.values.now c.args.id e s
+returns-clause-derived c = λ e s. returns-clause-value c ∙ value_derived c.args.checked.now (drop c.args.instance.0 c.args.values.now) c.args.id e s

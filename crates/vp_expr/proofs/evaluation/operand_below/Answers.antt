@@ -12,5 +12,5 @@ returns-clause-term c =
 pub returns-clause-fits : goal.returns-clause-fits
 returns-clause-fits c =
     let t = c.args.tables.now in
-    found_fits t.widths t.operands t.sizes c.args.place c.operand_at.result c.requires
+    found_fits t.operands t.sizes c.args.place c.operand_at.result c.requires
     (c.operand_at.ensures ∙ ap (λ os. slice_get os c.args.place) c.as_slice.ensures)

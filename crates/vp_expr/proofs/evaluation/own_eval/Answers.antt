@@ -1,6 +1,6 @@
 use Rattle.std.proofs.Common.{◌∙◌, ℕ, ap}
 use Rattle.vp_expr.specs.declared.tables.Tables.{Tables}
-use Rattle.vp_expr.specs.Arena.{term_below, value_in, width_in}
+use Rattle.vp_expr.specs.Arena.{term_below, value_in}
 use Rattle.vp_expr.specs.Evaluation.{own_eval}
 use Rattle.vp_expr.specs.Terms.{Term, own_value}
 use Rattle.vp_expr.proofs.Arenas.{term_whole}
@@ -12,8 +12,8 @@ returns c =
     let t = c.tables-tables.result.now in
     let v = c.args.values.now in
     c.own_value.ensures.value
-    ∙ ap (λ (n : ℕ). own_value (width_in t.widths) (value_in v) (term_below t.operands n c.args.place)) c.len.ensures
-    ∙ ap (λ (x : Term). own_value (width_in t.widths) (value_in v) x) (term_whole t.operands c.args.place)
+    ∙ ap (λ (n : ℕ). own_value (value_in v) (term_below t.operands n c.args.place)) c.len.ensures
+    ∙ ap (λ (x : Term). own_value (value_in v) x) (term_whole t.operands c.args.place)
     ∙ ap (λ (x : Tables). own_eval x v c.args.place) c.tables-tables.ensures.tables
 
 pub own_value-requires : goal.own_value-requires

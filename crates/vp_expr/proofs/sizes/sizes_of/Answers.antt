@@ -5,18 +5,16 @@ use Rattle.vp_expr.proofs.sizes.sizes_of.Goals as goal
 
 pub returns-in_default : goal.returns-in_default
 returns-in_default c =
-    let w = c.args.widths.now in
-    let tested = c.fitted.ensures ∙ ap (λ n. cond (is_width n) (Some n) None) (c.operand_size.ensures ∙ ap (λ s. operand_size w s c.operand-item.result) c.deref.ensures.value) in
-    sym (refuses w c.args.operands.now c.loop-operand.operand-index c.operand-item.result c.loop-operand.sizes.items c.fitted.result c.loop-operand-test.true c.operand-item.is c.loop-operand.invariant.are tested c.in_default.is)
+    let tested = c.fitted.ensures ∙ ap (λ n. cond (is_width n) (Some n) None) (c.operand_size.ensures ∙ ap (λ s. operand_size s c.operand-item.result) c.deref.ensures.value) in
+    sym (refuses c.args.operands.now c.loop-operand.operand-index c.operand-item.result c.loop-operand.sizes.items c.fitted.result c.loop-operand-test.true c.operand-item.is c.loop-operand.invariant.are tested c.in_default.is)
 
 pub loop-operand-preserved : goal.loop-operand-preserved
 loop-operand-preserved c =
-    let w = c.args.widths.now in
-    let tested = c.fitted.ensures ∙ ap (λ n. cond (is_width n) (Some n) None) (c.operand_size.ensures ∙ ap (λ s. operand_size w s c.operand-item.result) c.deref.ensures.value) in
+    let tested = c.fitted.ensures ∙ ap (λ n. cond (is_width n) (Some n) None) (c.operand_size.ensures ∙ ap (λ s. operand_size s c.operand-item.result) c.deref.ensures.value) in
     rw c.in_ok-push.ensures.items
-    (first_more w c.args.operands.now c.loop-operand.operand-index c.operand-item.result c.loop-operand.sizes.items c.fitted.result c.in-Some.size c.loop-operand-test.true c.operand-item.is c.loop-operand.invariant tested c.in-Some.is)
+    (first_more c.args.operands.now c.loop-operand.operand-index c.operand-item.result c.loop-operand.sizes.items c.fitted.result c.in-Some.size c.loop-operand-test.true c.operand-item.is c.loop-operand.invariant tested c.in-Some.is)
 
 pub returns : goal.returns
 returns c =
     ap Some c.from_vec.ensures
-    ∙ first_all c.args.widths.now c.args.operands.now c.loop-operand.operand-index c.loop-operand.sizes.items c.loop-operand-test.false c.loop-operand.invariant
+    ∙ first_all c.args.operands.now c.loop-operand.operand-index c.loop-operand.sizes.items c.loop-operand-test.false c.loop-operand.invariant

@@ -3,4 +3,4 @@ use Rattle.vp_expr.proofs.sizes.sizes_of.Given as goal
 
 -- the sizes of the operands so far
 abbrev pub invariant-loop-operand : goal.invariant-loop-operand
-invariant-loop-operand l = AreFirst l.widths l.operands l.operand-index l.sizes.items
+invariant-loop-operand l = AreFirst l.operands l.operand-index l.sizes.items

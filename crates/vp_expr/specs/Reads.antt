@@ -1,0 +1,25 @@
+-- What an expression reads.
+use Rattle.std.specs.Prelude.{ℕ, List, [], ◌∷◌, ◌++◌}
+use Rattle.vp_expr.specs.declared.operand.Slot.{Slot}
+use Rattle.vp_expr.specs.Terms.{Term, Object, Constant, BitSelect, PartSelect, Applied, Reduced, Combined, Shifted, Compared, Joined, Conditional, Concatenated, Appended, Replicated}
+
+-- the slots of the names of a term, those of indexes too, in the order of the text (clause 9.7.5)
+abbrev pub reads : Term → List ℕ
+reads (Object slot width) = slot ∷ []
+reads (Constant bits s) = []
+reads (BitSelect slot lowest index) = slot ∷ reads index
+reads (PartSelect slot place width) = slot ∷ []
+reads (Applied o a) = reads a
+reads (Reduced o a) = reads a
+reads (Combined o a b) = reads a ++ reads b
+reads (Shifted o a b) = reads a ++ reads b
+reads (Compared o a b) = reads a ++ reads b
+reads (Joined o a b) = reads a ++ reads b
+reads (Conditional c a b) = reads c ++ reads a ++ reads b
+reads (Concatenated a) = reads a
+reads (Appended list a) = reads list ++ reads a
+reads (Replicated count list) = reads list
+
+-- the slot of a number
+abbrev pub slot_at : ℕ → Slot
+slot_at number = record { 0 = number }

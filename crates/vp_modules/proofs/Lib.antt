@@ -1,0 +1,6 @@
+pub mod Twice
+pub mod Looked
+pub mod Numbers
+pub mod Graph
+pub mod Hierarchy
+pub mod RefusalRows

@@ -1,0 +1,8 @@
+use Rattle.std.proofs.Common.{◌≡◌, drop}
+use Rattle.vp_parse.specs.Places.{earlier, earliest}
+use Rattle.vp_modules.specs.Refusals.{bad_connection}
+use Rattle.vp_modules.proofs.checks.first_bad_connection.Given as goal
+
+abbrev pub invariant-loop-number : goal.invariant-loop-number
+invariant-loop-number l =
+    earlier l.first (earliest (bad_connection l.source) (drop l.number l.source.modules)) ≡ earliest (bad_connection l.source) l.source.modules

@@ -1,0 +1,6 @@
+pub mod Faults
+pub mod Items
+pub mod Definitions
+pub mod Tables
+pub mod Refusals
+pub mod Purposes
