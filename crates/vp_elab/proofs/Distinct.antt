@@ -8,8 +8,7 @@ use Rattle.vp_parse.specs.declared.source.Source.{Source}
 use Rattle.vp_parse.specs.declared.source.Module.{Module}
 use Rattle.vp_modules.specs.declared.fault.ElabError.{ElabError}
 use Rattle.vp_modules.specs.declared.fault.ElabError.TheVariants.{Duplicate}
-use Rattle.vp_modules.specs.Items.{items_in}
-use Rattle.vp_modules.specs.Items.{is_among}
+use Rattle.vp_modules.specs.Items.{is_among, items_in}
 use Rattle.vp_modules.specs.Refusals.{first_of_two, twice, twice_in}
 
 -- a text is itself

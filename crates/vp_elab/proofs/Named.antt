@@ -1,171 +1,216 @@
--- The names of objects, from the tables and from the tree.
-use Rattle.std.proofs.Common.{◌≡◌, ℕ, zero, suc, ◌-◌, ◌<◌, List, [], ◌∷◌, ◌++◌, length, map, slice_get, slice_index_or, Option, Some, None, refl, sym, ap, subst, ◌∙◌, arith}
-use Rattle.std.specs.Prelude.{IfSome, MatchOption, option_and_then}
-use Rattle.std.specs.Option.{option_map_or}
-use Rattle.std.proofs.lemmas.List.{length-append}
-use Rattle.vp_parse.specs.Places.{line_at, word_at}
+-- Names of modules and of their items stand for one each, in a text that is accepted.
+use Rattle.std.proofs.Common.{◌≡◌, ℕ, zero, suc, ◌+◌, ◌-◌, ◌<◌, Bool, true, false, cond, ◌||◌, List, [], ◌∷◌, ◌++◌, length, take, drop, map, position, get_or, slice_get, Option, Some, None, refl, sym, ap, subst, ◌∙◌, arith}
+use Rattle.std.specs.Prelude.{option_map}
+use Rattle.std.specs.List.{position_from}
+use Rattle.std.specs.Option.{option_and_then, option_map_or}
+use Rattle.std.specs.Str.{bytes_eq}
+use Rattle.std.proofs.lemmas.List.Folds.{list_any-append}
+use Rattle.std.proofs.lemmas.List.Quantifiers.{position-Some}
+use Rattle.std.proofs.lemmas.Option.{get_or_from_slice_get}
+use Rattle.std.proofs.lemmas.Slice.Eq.{bytes_eq-Decides}
+use Rattle.vp_list.specs.Lists.{has_range}
+use Rattle.vp_parse.specs.Places.{earlier, earliest, line_at, word_at}
 use Rattle.vp_parse.specs.declared.source.Source.{Source}
 use Rattle.vp_parse.specs.declared.source.Module.{Module}
-use Rattle.vp_pragma.specs.declared.envelope.Envelope.{Envelope}
-use Rattle.vp_pragma.specs.Envelopes.{Protection}
-use Rattle.vp_elab.specs.declared.design.Objects.{Objects}
-use Rattle.vp_elab.specs.declared.object.Object.{Object}
-use Rattle.vp_elab.specs.declared.object.ObjectId.{ObjectId}
-use Rattle.vp_elab.specs.declared.scope.Modules.{Modules}
-use Rattle.vp_elab.specs.declared.sight.Sight.{Sight}
-use Rattle.vp_elab.specs.Built.{Elaborated, IsBuilt, design_of}
-use Rattle.vp_elab.specs.Tree.{Node, Step, name_at, node_name}
-use Rattle.vp_modules.specs.Items.{item_name, items_in}
-use Rattle.vp_elab.specs.Elaboration.{module_nodes}
-use Rattle.vp_elab.specs.Objects.{objects_behind}
-use Rattle.vp_elab.proofs.Preorder.{Beside, Fits, Named, OfChild, OfItem, OfModule, OfTop, Role, all_nodes, beside, nodes_in, root_node, root_there}
-use Rattle.vp_modules.specs.Tables.{scope_in}
-use Rattle.vp_elab.proofs.Scopes.{scope_of_object, scope_there}
+use Rattle.vp_parse.specs.declared.source.Item.{Item}
+use Rattle.vp_parse.specs.declared.source.Item.TheVariants as item
+use Rattle.vp_modules.specs.declared.fault.ElabError.{ElabError}
+use Rattle.vp_modules.specs.declared.fault.ElabError.TheVariants.{Duplicate, UnknownModule, Recursive}
+use Rattle.vp_modules.specs.Items.{definition_number, definition_of, instantiated, is_among, item_name, item_place, items_in, module_named, module_number}
+use Rattle.vp_modules.specs.Refusals.{first_in, first_of_two, missing_module, recursive, refusal_of, refusal_of_instances, refusal_of_uses, refused_at, twice, twice_in}
+use Rattle.vp_elab.proofs.Distinct.{accepted, bytes_eq-self, neither, new_by}
+use Rattle.vp_elab.proofs.Parts.{definition_at, nowhere, some_same}
+use Rattle.vp_elab.specs.Positions.{position_is}
 
--- an item of a list, through a function
-index_map : {A : Type 0} (f : A → List ℕ) (xs : List A) (k : ℕ) (x : A) → slice_get xs k ≡ Some x → slice_index_or (map f xs) k [] ≡ f x
-index_map f [] k x h = absurd cc
-index_map f (y ∷ ys) zero x h = let same : y ≡ x = cc in ap f same
-index_map f (y ∷ ys) (suc k) x h = index_map f ys k x h
+pub either_false : (a b : Bool) → (a || b) ≡ false → (a ≡ false) × (b ≡ false)
+either_false true b h = absurd cc
+either_false false b h = (refl, h)
 
--- the name of an object of a scope, by its number behind the scope's
-abbrev pub name_in : ℕ → ℕ → Option (List (List ℕ)) → List ℕ
-name_in id object scope = option_map_or (λ (s : List (List ℕ)). slice_index_or s (id - object - 1) []) scope []
+-- a name that is among none of these names and one more is none of these, and is not the one
+split_among : (names : List (List ℕ)) (x n : List ℕ) → is_among (names ++ x ∷ []) n ≡ false → (is_among names n ≡ false) × (bytes_eq n x ≡ false)
+split_among names x n h =
+    let parts = either_false (is_among names n) (bytes_eq n x || false) (sym (list_any-append (bytes_eq n) names (x ∷ [])) ∙ h) in
+    (parts.0, (either_false (bytes_eq n x) false parts.1).0)
 
-module _ (source : Source) (envelopes : List Envelope) where
-  abbrev objects : List Object
-  objects = objects_behind source envelopes 0 source.modules []
+-- ---- parts of lists
 
-  abbrev scopes : List (List (List ℕ))
-  scopes = map (scope_in source) source.modules
+at_take : {X : Type 0} (n k : ℕ) (xs : List X) (x : X) → slice_get (take n xs) k ≡ Some x → slice_get xs k ≡ Some x
+at_take zero k xs x h = absurd cc
+at_take (suc n) k [] x h = absurd cc
+at_take (suc n) zero (y ∷ ys) x h = h
+at_take (suc n) (suc k) (y ∷ ys) x h = at_take n k ys x h
 
-  abbrev nodes : List Node
-  nodes = all_nodes source envelopes
+at_drop : {X : Type 0} (n k : ℕ) (xs : List X) (x : X) → slice_get (drop n xs) k ≡ Some x → (j : ℕ) × (slice_get xs j ≡ Some x)
+at_drop zero k xs x h = (k, h)
+at_drop (suc n) k [] x h = absurd cc
+at_drop (suc n) k (y ∷ ys) x h = let found = at_drop n k ys x h in (suc found.0, found.1)
 
-  -- modules behind as many objects are the same
-  same_module :
-      (before others : List Module) (m n : Module) (after rest : List Module)
-      → before ++ m ∷ after ≡ others ++ n ∷ rest → length (nodes_in source envelopes before) ≡ length (nodes_in source envelopes others) → m ≡ n
-  same_module [] [] m n after rest e l = cc
-  same_module [] (y ∷ ys) m n after rest e l = absurd (omega arith)
-  same_module (x ∷ xs) [] m n after rest e l = absurd (omega arith)
-  same_module (x ∷ xs) (y ∷ ys) m n after rest e l =
-      let same : x ≡ y = cc in
-      let others : xs ++ m ∷ after ≡ ys ++ n ∷ rest = cc in
-      let a = length-append (module_nodes source envelopes x) (nodes_in source envelopes xs) in
-      let b = length-append (module_nodes source envelopes y) (nodes_in source envelopes ys) in
-      let c = ap (λ z. length (module_nodes source envelopes z)) same in
-      same_module xs ys m n after rest others (omega arith)
+at_part : {X : Type 0} (there : Bool) (a b k : ℕ) (xs : List X) (x : X) → slice_get (cond there (take (b - a) (drop a xs)) []) k ≡ Some x → (j : ℕ) × (slice_get xs j ≡ Some x)
+at_part true a b k xs x h = at_drop a k xs x (at_take (b - a) k (drop a xs) x h)
+at_part false a b k xs x h = absurd cc
 
-  -- ---- what is declared in a module
+-- a place with an option that is there
+pub some_of : {A B : Type 0} (f : A → Option B) (o : Option A) (b : B) → option_and_then f o ≡ Some b → (a : A) × (o ≡ Some a) × (f a ≡ Some b)
+some_of f None b h = absurd cc
+some_of f (Some a) b h = (a, refl, h)
 
-  scope_by_role :
-      (base : ℕ) (scope : Option ℕ) (n : Node) (m : Module) (before after : List Module)
-      → Role source envelopes base scope n.path → n ≡ root_node source envelopes m → source.modules ≡ before ++ m ∷ after → base ≡ length (nodes_in source envelopes before)
-      → option_and_then (slice_get scopes) scope ≡ Some (scope_in source m)
-  scope_by_role base scope n m before after (OfItem s t no_scope steps) is e b = absurd cc
-  scope_by_role base scope n m before after (OfModule own before_own after_own split number here steps) is e b =
-      let same : own ≡ m = same_module before_own before own m after_own after (sym split ∙ e) (sym here ∙ b) in
-      ap (option_and_then (slice_get scopes)) number ∙ scope_there source (scope_in source) own before_own after_own split ∙ ap (λ (x : Module). Some (scope_in source x)) same
+module _ (source : Source) where
+  -- an item of a module is one of the text
+  pub item_in_text : (m : Module) (k : ℕ) (i : Item) → slice_get (items_in source m) k ≡ Some i → (j : ℕ) × (slice_get source.items j ≡ Some i)
+  item_in_text m k i h = at_part (has_range source.items m.items.first m.items.end) m.items.first m.items.end k source.items i h
 
-  scope_by :
-      (base : ℕ) (found : Option Object) (m : Module) (before after : List Module)
-      → Beside source envelopes base found → source.modules ≡ before ++ m ∷ after → base ≡ length (nodes_in source envelopes before)
-      → option_and_then (slice_get scopes) (option_and_then (λ (o : Object). o.scope) found) ≡ Some (scope_in source m)
-  scope_by base None m before after h e b =
-      let there : slice_get nodes base ≡ Some (root_node source envelopes m) = ap (slice_get nodes) b ∙ root_there source envelopes m before after e in
-      absurd cc
-  scope_by base (Some o) m before after h e b =
-      let there : slice_get nodes base ≡ Some (root_node source envelopes m) = ap (slice_get nodes) b ∙ root_there source envelopes m before after e in
-      let same : h.0 ≡ root_node source envelopes m = cc (h.1, there) in
-      scope_by_role base o.scope h.0 m before after h.2.role same e b
+  -- ---- items
 
-  name_of_child :
-      (id : ℕ) (o : Object) (n : Node) (p : ObjectId) → Named source envelopes id o n → o.parent ≡ Some p
-      → name_in id p.0 (scope_of_object objects scopes p.0) ≡ node_name n
-  name_of_child id o n p (OfTop top steps) h = absurd cc
-  name_of_child id o n p (OfChild m before after base k i e b above at there is) h =
-      let same : base ≡ p.0 = ap (λ (x : Option ObjectId). option_map_or (λ (q : ObjectId). q.0) x 0) (sym above ∙ h) in
-      let behind : id - p.0 - 1 ≡ k = omega arith in
-      ap (λ (q : ℕ). name_in id p.0 (scope_of_object objects scopes q)) (sym same)
-      ∙ ap (name_in id p.0) (scope_by base (slice_get objects base) m before after (beside source envelopes base) e b)
-      ∙ ap (λ (x : ℕ). slice_index_or (map (item_name source) (items_in source m)) x []) behind
-      ∙ index_map (item_name source) (items_in source m) k i there ∙ sym (ap node_name is)
+  fresh_item : (names : List (List ℕ)) (is : List Item) (k : ℕ) (i : Item) → twice source names is ≡ None → slice_get is k ≡ Some i → is_among names (item_name source i) ≡ false
+  fresh_item names [] k i once at = absurd cc
+  fresh_item names (x ∷ is) zero i once at =
+      let same : x ≡ i = cc in
+      subst (λ (y : Item). is_among names (item_name source y) ≡ false) same
+      (new_by (is_among names (item_name source x)) (Duplicate (line_at source (item_place x))) (twice source (names ++ item_name source x ∷ []) is) once).0
+  fresh_item names (x ∷ is) (suc k) i once at =
+      let rest = (new_by (is_among names (item_name source x)) (Duplicate (line_at source (item_place x))) (twice source (names ++ item_name source x ∷ []) is) once).1 in
+      (split_among names (item_name source x) (item_name source i) (fresh_item (names ++ item_name source x ∷ []) is k i rest at)).0
 
-  name_of_top : (id : ℕ) (o : Object) (n : Node) → Named source envelopes id o n → o.parent ≡ None → word_at source o.place ≡ node_name n
-  name_of_top id o n (OfTop top steps) h = sym (ap (λ (path : List Step). node_name (record n { path = path })) steps)
-  name_of_top id o n (OfChild m before after base k i e b above at there is) h = absurd cc
+  item_from : (names : List (List ℕ)) (n : ℕ) (is : List Item) (k : ℕ) (i : Item) → twice source names is ≡ None → slice_get is k ≡ Some i → position_from (bytes_eq (item_name source i)) n (map (item_name source) is) ≡ Some (n + k)
+  item_from names n [] k i once at = absurd cc
+  item_from names n (x ∷ is) zero i once at =
+      let same : x ≡ i = cc in
+      let sum : n ≡ n + 0 = omega arith in
+      ap (λ (y : Item). cond (bytes_eq (item_name source i) (item_name source y)) (Some n) (position_from (bytes_eq (item_name source i)) (n + 1) (map (item_name source) is))) same
+      ∙ ap (λ (b : Bool). cond b (Some n) (position_from (bytes_eq (item_name source i)) (n + 1) (map (item_name source) is))) (bytes_eq-self (item_name source i))
+      ∙ some_same _ _ sum
+  item_from names n (x ∷ is) (suc k) i once at =
+      let rest = (new_by (is_among names (item_name source x)) (Duplicate (line_at source (item_place x))) (twice source (names ++ item_name source x ∷ []) is) once).1 in
+      let differs = (split_among names (item_name source x) (item_name source i) (fresh_item (names ++ item_name source x ∷ []) is k i rest at)).1 in
+      let sum : (n + 1) + k ≡ n + suc k = omega arith in
+      ap (λ (b : Bool). cond b (Some n) (position_from (bytes_eq (item_name source i)) (n + 1) (map (item_name source) is))) differs
+      ∙ item_from (names ++ item_name source x ∷ []) (n + 1) is k i rest at ∙ some_same _ _ sum
 
--- ---- in a design that is built
+  -- the name of an item is found at its index
+  pub item_position : (is : List Item) (k : ℕ) (i : Item) → twice source [] is ≡ None → slice_get is k ≡ Some i → position (bytes_eq (item_name source i)) (map (item_name source) is) ≡ Some k
+  item_position is k i once at = position_is (bytes_eq (item_name source i)) (map (item_name source) is) ∙ item_from [] 0 is k i once at ∙ some_same (0 + k) k (omega arith)
 
-module _ (source : Source) (protection : Protection) (modules : Modules) (objects : Objects) (sights : List Sight) (built : IsBuilt source protection modules objects sights) where
-  all_is : objects.all ≡ objects_behind source protection.envelopes 0 source.modules []
-  all_is = ap (λ (o : Objects). o.all) built.flat
+  -- items of one name are at one index
+  pub item_index : (is : List Item) (j k : ℕ) (a b : Item) → twice source [] is ≡ None → slice_get is j ≡ Some a → slice_get is k ≡ Some b → item_name source a ≡ item_name source b → j ≡ k
+  item_index is j k a b once at_a at_b same =
+      let first = item_position is j a once at_a in
+      let second = ap (λ (n : List ℕ). position (bytes_eq n) (map (item_name source) is)) same ∙ item_position is k b once at_b in
+      cc (first, second)
 
-  -- an object that was found in the table belongs to a node of the design's tree
-  pub beside_built :
-      (d : Elaborated) → design_of source protection ≡ d → (os : List Object) (id : ℕ) (found : Option Object) → os ≡ objects.all → found ≡ slice_get os id
-      → MatchOption found (slice_get d.tree.nodes id ≡ None) (λ o. (n : Node) × (slice_get d.tree.nodes id ≡ Some n) × Fits source protection.envelopes id o n)
-  beside_built d view os id found o h =
-      let there : slice_get (objects_behind source protection.envelopes 0 source.modules []) id ≡ found =
-      sym (h ∙ ap (λ (x : List Object). slice_get x id) (o ∙ all_is)) in
-      let Fit : Elaborated → Option Object → Type 0 = λ d found. MatchOption found (slice_get d.tree.nodes id ≡ None) (λ o. (n : Node) × (slice_get d.tree.nodes id ≡ Some n) × Fits source protection.envelopes id o n) in
-      subst (λ (x : Elaborated). Fit x found) view (subst (Fit (design_of source protection)) there (beside source protection.envelopes id))
+  at_map : {X : Type 0} (f : X → List ℕ) (xs : List X) (k : ℕ) → k < length (map f xs) → (x : X) × (slice_get xs k ≡ Some x) × (get_or (map f xs) k [] ≡ f x)
+  at_map f [] k l = absurd (omega arith)
+  at_map f (x ∷ xs) zero l = (x, refl, refl)
+  at_map f (x ∷ xs) (suc k) l = at_map f xs k (omega arith)
 
-  -- no object has the number
-  pub name_none : (d : Elaborated) → design_of source protection ≡ d → (os : List Object) (id : ℕ) → os ≡ objects.all → None ≡ slice_get os id → [] ≡ name_at d.tree id
-  name_none d view os id o h = sym (ap (λ (x : Option Node). option_map_or node_name x []) (beside_built d view os id None o h))
+  -- where a name is found, there is one of the name
+  pub found_at : {X : Type 0} (f : X → List ℕ) (xs : List X) (name : List ℕ) (k : ℕ) → position (bytes_eq name) (map f xs) ≡ Some k → (x : X) × (slice_get xs k ≡ Some x) × (f x ≡ name)
+  found_at f xs name k found =
+      let there = position-Some (bytes_eq name) (map f xs) k [] found in
+      let it = at_map f xs k there.0 in
+      (it.0, it.1, sym it.2 ∙ sym ((bytes_eq-Decides name (get_or (map f xs) k [])).0 there.1))
 
-  -- a top module's name is its word
-  pub name_top :
-      (d : Elaborated) → design_of source protection ≡ d → (os : List Object) (id : ℕ) (object : Object) → os ≡ objects.all → Some object ≡ slice_get os id
-      → object.parent ≡ None → word_at source object.place ≡ name_at d.tree id
-  name_top d view os id object o h top =
-      let beside = beside_built d view os id (Some object) o h in
-      name_of_top source protection.envelopes id object beside.0 beside.2.named top ∙ sym (ap (λ (x : Option Node). option_map_or node_name x []) beside.1)
+  -- ---- modules
 
-  -- what is declared in a module has a number behind it
-  pub child_behind :
-      (d : Elaborated) → design_of source protection ≡ d → (os : List Object) (id : ℕ) (object : Object) (p : ObjectId) → os ≡ objects.all → Some object ≡ slice_get os id
-      → object.parent ≡ Some p → p.0 < id
-  child_behind d view os id object p o h above =
-      let beside = beside_built d view os id (Some object) o h in
-      subst (λ (x : Option ObjectId). IfSome x (λ p. p.0 < id)) above beside.2.behind
+  fresh_module : (names : List (List ℕ)) (ms : List Module) (k : ℕ) (m : Module) → twice_in source names ms ≡ None → slice_get ms k ≡ Some m → is_among names (word_at source m.name) ≡ false
+  fresh_module names [] k m once at = absurd cc
+  fresh_module names (x ∷ ms) zero m once at =
+      let same : x ≡ m = cc in
+      subst (λ (y : Module). is_among names (word_at source y.name) ≡ false) same (accepted source names x ms once).0
+  fresh_module names (x ∷ ms) (suc k) m once at =
+      (split_among names (word_at source x.name) (word_at source m.name) (fresh_module (names ++ word_at source x.name ∷ []) ms k m (accepted source names x ms once).1 at)).0
 
-  -- and its name stands in the module's scope
-  pub name_child :
-      (d : Elaborated) → design_of source protection ≡ d → (os : List Object) (ss : List (List (List ℕ))) (id : ℕ) (object : Object) (p : ObjectId) → os ≡ objects.all → ss ≡ modules.tables.scopes
-      → Some object ≡ slice_get os id → object.parent ≡ Some p → name_in id p.0 (scope_of_object os ss p.0) ≡ name_at d.tree id
-  name_child d view os ss id object p o s h above =
-      let beside = beside_built d view os id (Some object) o h in
-      ap (λ (x : List Object). name_in id p.0 (scope_of_object x ss p.0)) (o ∙ all_is)
-      ∙ ap (λ (x : List (List (List ℕ))). name_in id p.0 (scope_of_object (objects_behind source protection.envelopes 0 source.modules []) x p.0)) (s ∙ ap (λ (m : Modules). m.tables.scopes) built.tables)
-      ∙ name_of_child source protection.envelopes id object beside.0 p beside.2.named above
-      ∙ sym (ap (λ (x : Option Node). option_map_or node_name x []) beside.1)
+  module_from : (names : List (List ℕ)) (n : ℕ) (ms : List Module) (k : ℕ) (m : Module) → twice_in source names ms ≡ None → slice_get ms k ≡ Some m → position_from (bytes_eq (word_at source m.name)) n (map (λ (x : Module). word_at source x.name) ms) ≡ Some (n + k)
+  module_from names n [] k m once at = absurd cc
+  module_from names n (x ∷ ms) zero m once at =
+      let same : x ≡ m = cc in
+      let sum : n ≡ n + 0 = omega arith in
+      let w : List ℕ = word_at source m.name in
+      ap (λ (y : Module). cond (bytes_eq w (word_at source y.name)) (Some n) (position_from (bytes_eq w) (n + 1) (map (λ (x : Module). word_at source x.name) ms))) same
+      ∙ ap (λ (b : Bool). cond b (Some n) (position_from (bytes_eq w) (n + 1) (map (λ (x : Module). word_at source x.name) ms))) (bytes_eq-self w)
+      ∙ some_same _ _ sum
+  module_from names n (x ∷ ms) (suc k) m once at =
+      let rest = (accepted source names x ms once).1 in
+      let w : List ℕ = word_at source m.name in
+      let differs = (split_among names (word_at source x.name) w (fresh_module (names ++ word_at source x.name ∷ []) ms k m rest at)).1 in
+      let sum : (n + 1) + k ≡ n + suc k = omega arith in
+      ap (λ (b : Bool). cond b (Some n) (position_from (bytes_eq w) (n + 1) (map (λ (x : Module). word_at source x.name) ms))) differs
+      ∙ module_from (names ++ word_at source x.name ∷ []) (n + 1) ms k m rest at ∙ some_same _ _ sum
 
-  -- the line of an object
-  pub line_some :
-      (d : Elaborated) → design_of source protection ≡ d → (os : List Object) (id : ℕ) (object : Object) → os ≡ objects.all → Some object ≡ slice_get os id
-      → line_at source object.place ≡ option_map_or (λ (n : Node). n.line) (slice_get d.tree.nodes id) 0
-  line_some d view os id object o h =
-      let beside = beside_built d view os id (Some object) o h in
-      beside.2.line ∙ sym (ap (λ (x : Option Node). option_map_or (λ (n : Node). n.line) x 0) beside.1)
+  -- the name of a module is found at its number
+  pub module_position : (k : ℕ) (m : Module) → twice_in source [] source.modules ≡ None → slice_get source.modules k ≡ Some m → position (bytes_eq (word_at source m.name)) (map (λ (x : Module). word_at source x.name) source.modules) ≡ Some k
+  module_position k m once at =
+      position_is (bytes_eq (word_at source m.name)) (map (λ (x : Module). word_at source x.name) source.modules) ∙ module_from [] 0 source.modules k m once at ∙ some_same (0 + k) k (omega arith)
 
-  pub line_none :
-      (d : Elaborated) → design_of source protection ≡ d → (os : List Object) (id : ℕ) → os ≡ objects.all → None ≡ slice_get os id
-      → 0 ≡ option_map_or (λ (n : Node). n.line) (slice_get d.tree.nodes id) 0
-  line_none d view os id o h = sym (ap (λ (x : Option Node). option_map_or (λ (n : Node). n.line) x 0) (beside_built d view os id None o h))
+  -- modules of one name have one number
+  pub module_index : (j k : ℕ) (a b : Module) → twice_in source [] source.modules ≡ None → slice_get source.modules j ≡ Some a → slice_get source.modules k ≡ Some b → word_at source a.name ≡ word_at source b.name → j ≡ k
+  module_index j k a b once at_a at_b same =
+      let first = module_position j a once at_a in
+      let second = ap (λ (n : List ℕ). position (bytes_eq n) (map (λ (x : Module). word_at source x.name) source.modules)) same ∙ module_position k b once at_b in
+      cc (first, second)
 
-  -- the definition of an object
-  pub definition_is :
-      (d : Elaborated) → design_of source protection ≡ d → (os : List Object) (id : ℕ) → os ≡ objects.all
-      → option_and_then (slice_get modules.tables.modules) (option_and_then (λ (o : Object). o.scope) (slice_get os id)) ≡ option_and_then (λ (n : Node). n.definition) (slice_get d.tree.nodes id)
-  definition_is d view os id o = by (slice_get os id) (beside_built d view os id (slice_get os id) o refl)
-    where
-      by :
-          (found : Option Object) → MatchOption found (slice_get d.tree.nodes id ≡ None) (λ o. (n : Node) × (slice_get d.tree.nodes id ≡ Some n) × Fits source protection.envelopes id o n)
-          → option_and_then (slice_get modules.tables.modules) (option_and_then (λ (o : Object). o.scope) found) ≡ option_and_then (λ (n : Node). n.definition) (slice_get d.tree.nodes id)
-      by None h = sym (ap (option_and_then (λ (n : Node). n.definition)) h)
-      by (Some object) h =
-          ap (λ (m : Modules). option_and_then (slice_get m.tables.modules) object.scope) built.tables
-          ∙ h.2.definition ∙ sym (ap (option_and_then (λ (n : Node). n.definition)) h.1)
+  once_from : (names : List (List ℕ)) (ms : List Module) (k : ℕ) (m : Module) → twice_in source names ms ≡ None → slice_get ms k ≡ Some m → twice source [] (items_in source m) ≡ None
+  once_from names [] k m once at = absurd cc
+  once_from names (x ∷ ms) zero m once at =
+      let same : x ≡ m = cc in
+      subst (λ (y : Module). twice source [] (items_in source y) ≡ None) same
+      (neither (twice source [] (items_in source x)) (twice_in source (names ++ word_at source x.name ∷ []) ms)
+      (new_by (is_among names (word_at source x.name)) (Duplicate (line_at source x.name)) (first_of_two (twice source [] (items_in source x)) (twice_in source (names ++ word_at source x.name ∷ []) ms)) once).1).0
+  once_from names (x ∷ ms) (suc k) m once at = once_from (names ++ word_at source x.name ∷ []) ms k m (accepted source names x ms once).1 at
+
+  -- no module declares a name twice
+  pub once_in : (k : ℕ) (m : Module) → twice_in source [] source.modules ≡ None → slice_get source.modules k ≡ Some m → twice source [] (items_in source m) ≡ None
+  once_in k m once at = once_from [] source.modules k m once at
+
+  -- ---- what items instantiate
+
+  -- the module that an item instantiates is one of the text
+  pub definition_there : (i : Item) (m : Module) → definition_of source i ≡ Some m → (k : ℕ) × (definition_number source i ≡ Some k) × (slice_get source.modules k ≡ Some m)
+  definition_there i m h = some_of (slice_get source.modules) (definition_number source i) m (definition_at source i ∙ h)
+
+  named_module : (name : List ℕ) (m : Module) → module_named source name ≡ Some m → word_at source m.name ≡ name
+  named_module name m h =
+      let there = some_of (slice_get source.modules) (module_number source name) m h in
+      let found = position-Some (λ (x : Module). bytes_eq name (word_at source x.name)) source.modules there.0 nowhere there.1 in
+      ap (λ (x : Module). word_at source x.name) (sym (get_or_from_slice_get source.modules there.0 m nowhere there.2)) ∙ sym ((bytes_eq-Decides name (word_at source (get_or source.modules there.0 nowhere).name)).0 found.1)
+
+  -- and has the name that stands there
+  pub definition_named : (i : Item) (m : Module) → definition_of source i ≡ Some m → instantiated source i ≡ Some (word_at source m.name)
+  definition_named i m h =
+      let there = some_of (module_named source) (instantiated source i) m h in
+      there.1 ∙ ap (λ (n : List ℕ). (let o : Option (List ℕ) = Some n in o)) (sym (named_module there.0 m there.2))
+
+  known_by : (o : Option Module) (name : List ℕ) (place : ℕ) → module_named source name ≡ o → option_map_or (λ m. None) o (Some place) ≡ None → option_map (λ (m : Module). word_at source m.name) o ≡ Some name
+  known_by None name place is h = absurd cc
+  known_by (Some m) name place is h = ap (λ (n : List ℕ). (let o : Option (List ℕ) = Some n in o)) (named_module name m is)
+
+  known_item : (i : Item) → missing_module source i ≡ None → option_map (λ (m : Module). word_at source m.name) (definition_of source i) ≡ instantiated source i
+  known_item (item.Instance name definition first end) h = known_by (module_named source (word_at source definition)) (word_at source definition) definition refl h
+  known_item _ h = refl
+
+  no_earlier : (a b : Option ℕ) → earlier a b ≡ None → (a ≡ None) × (b ≡ None)
+  no_earlier None b h = (refl, h)
+  no_earlier (Some a) None h = absurd cc
+  no_earlier (Some a) (Some b) h = absurd cc
+
+  none_missing : (is : List Item) (j : ℕ) (i : Item) → earliest (missing_module source) is ≡ None → slice_get is j ≡ Some i → missing_module source i ≡ None
+  none_missing [] j i h at = absurd cc
+  none_missing (x ∷ is) zero i h at =
+      let same : x ≡ i = cc in
+      subst (λ (y : Item). missing_module source y ≡ None) same (no_earlier (missing_module source x) (earliest (missing_module source) is) h).0
+  none_missing (x ∷ is) (suc j) i h at = none_missing is j i (no_earlier (missing_module source x) (earliest (missing_module source) is) h).1 at
+
+  none_refused : (because : ℕ → ElabError) (place : Option ℕ) → refused_at source because place ≡ None → place ≡ None
+  none_refused because None h = refl
+  none_refused because (Some p) h = absurd cc
+
+  -- no name is declared twice, where the modules are right
+  pub right_once : refusal_of source ≡ None → twice_in source [] source.modules ≡ None
+  right_once right = (neither (twice_in source [] source.modules) (first_of_two (refusal_of_instances source) (refusal_of_uses source)) right).0
+
+  -- the name that stands in an item is that of the module that it instantiates
+  pub right_definition : refusal_of source ≡ None → (m : Module) (k : ℕ) (i : Item) → slice_get (items_in source m) k ≡ Some i → option_map (λ (m : Module). word_at source m.name) (definition_of source i) ≡ instantiated source i
+  right_definition right m k i at =
+      let instances = (neither (refusal_of_instances source) (refusal_of_uses source) (neither (twice_in source [] source.modules) (first_of_two (refusal_of_instances source) (refusal_of_uses source)) right).1).0 in
+      let none = none_refused UnknownModule (earliest (missing_module source) source.items) (neither (refused_at source UnknownModule (earliest (missing_module source) source.items)) (refused_at source Recursive (first_in source (recursive source))) instances).0 in
+      let there = item_in_text m k i at in
+      known_item i (none_missing source.items there.0 i none there.1)

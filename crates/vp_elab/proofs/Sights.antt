@@ -1,5 +1,5 @@
 -- What viewports open, one after the other.
-use Rattle.std.proofs.Common.{◌≡◌, ℕ, suc, ◌+◌, ◌<◌, Bool, true, false, cond, ◌&&◌, ◌||◌, ◌==◌, List, [], ◌∷◌, length, drop, map, get_or, slice_get, Option, Some, None, refl, sym, ap, ◌∙◌, arith}
+use Rattle.std.proofs.Common.{◌≡◌, ℕ, suc, ◌+◌, ◌<◌, Bool, true, false, cond, ◌&&◌, ◌==◌, List, [], ◌∷◌, length, drop, map, get_or, slice_get, Option, Some, None, refl, sym, ap, ◌∙◌, arith}
 use Rattle.std.specs.Prelude.{option_map}
 use Rattle.std.specs.List.{position_from}
 use Rattle.std.specs.Option.{option_map_or, option_or}
@@ -15,7 +15,7 @@ use Rattle.vp_pragma.specs.Rights.{RightSet, either, nothing, set_of}
 use Rattle.vp_elab.specs.Tree.{Node, Step, fits_module, matches, sight_in, sight_of, step_named, viewed}
 use Rattle.vp_elab.specs.declared.sight.Sight.{Sight}
 use Rattle.vp_elab.specs.Built.{shown}
-use Rattle.vp_elab.proofs.Zip.{position_is}
+use Rattle.vp_elab.specs.Positions.{position_is}
 
 -- ---- sets of rights
 

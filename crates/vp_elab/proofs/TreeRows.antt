@@ -8,6 +8,7 @@ use Rattle.vp_lex.specs.declared.fault.LexError.{LexError}
 use Rattle.vp_lex.specs.declared.token.Token.{Token}
 use Rattle.vp_lex.specs.Tokens.{tokens_of}
 use Rattle.vp_parse.specs.declared.source.Source.{Source}
+use Rattle.vp_parse.specs.declared.source.Span.{Span}
 use Rattle.vp_parse.specs.declared.source.Item.TheVariants as item
 use Rattle.vp_pragma.specs.declared.fault.PragmaError.{PragmaError}
 use Rattle.vp_pragma.specs.Envelopes.{Protection}
@@ -16,7 +17,7 @@ use Rattle.vp_pragma.specs.Pragmas.{value_at}
 use Rattle.vp_elab.specs.declared.object.Kind.{Kind}
 use Rattle.vp_elab.specs.declared.object.Kind.TheVariants.{Module, Reg, Initial}
 use Rattle.vp_elab.specs.Tree.{Step, Node, Tree}
-use Rattle.vp_elab.specs.Elaboration.{tree_of}
+use Rattle.vp_elab.specs.Elaboration.{further_limit, tree_of}
 
 abbrev text : List ℕ
 text = codes "module top;\n  reg a;\n`pragma protect author=\"acme\", begin\n  reg k;\n`pragma protect end\n  initial begin end\nendmodule\n"
@@ -29,14 +30,17 @@ abbrev protection_in : Result Protection PragmaError → Protection
 protection_in (Ok protection) = protection
 protection_in (Err e) = record { envelopes = []; viewports = [] }
 
+abbrev span : ℕ → ℕ → Span
+span first end = record { first = first; end = end }
+
 -- the source of the text: its statements name nothing
 abbrev source : Source
 source = record {
   text = text;
   tokens = tokens_in (tokens_of text);
-  modules = record { name = 1; items = record { first = 0; end = 3 }; ports = 0; statements = record { first = 0; end = 0 }; expressions = record { first = 0; end = 0 } } ∷ [];
-  connections = [];
+  modules = record { name = 1; items = span 0 3; ports = 0; statements = span 0 0; expressions = span 0 0 } ∷ [];
   items = item.Reg 4 None ∷ item.Reg 14 None ∷ item.Initial 19 0 ∷ [];
+  connections = [];
   statements = [];
   expressions = [];
 }
@@ -64,7 +68,7 @@ nodes_of_text :
     ∷ declared (codes "k") 14 1 Reg 4
     ∷ declared (codes "initial@6:3") 19 0 Initial 6
     ∷ []
-unfolding digits is_utf8 chars encode_utf8 value_at
+unfolding digits is_utf8 chars encode_utf8 value_at further_limit
 nodes_of_text = refl
 
 authors_of_text : tree.authors ≡ codes "acme" ∷ []

@@ -1,7 +1,10 @@
 pub use Rattle.vp_pragma.specs.Rights
 pub use Rattle.vp_pragma.specs.Envelopes
-pub mod Objects
 pub mod Tree
 pub mod Elaboration
+pub mod Sizes
+pub mod Objects
 pub mod Refusals
 pub mod Built
+pub mod Items
+pub mod Positions

@@ -1,5 +1,5 @@
 -- A design as a list of nodes in preorder, each with the steps of its path.
-use Rattle.std.specs.Prelude.{ℕ, zero, suc, ◌==◌, ◌&&◌, Bool, true, false, if◌then◌else◌, List, [], ◌∷◌, ◌++◌, length, map, filter, slice_get, slice_index_or, Option, Some, None, is_some, option_map, option_and_then}
+use Rattle.std.specs.Prelude.{◌≡◌, ℕ, zero, suc, ◌-◌, ◌==◌, ◌&&◌, Bool, true, false, if◌then◌else◌, List, [], ◌∷◌, ◌++◌, length, map, filter, slice_get, slice_index_or, Option, Some, None, is_some, option_map, option_and_then}
 use Rattle.std.specs.List.{filter_map, list_any, position}
 use Rattle.std.specs.Option.{option_map_or}
 use Rattle.std.specs.Str.{bytes_eq}
@@ -138,6 +138,14 @@ names_of path = map (λ s. s.name) path
 abbrev pub find_named : List Node → List (List ℕ) → Option ℕ
 find_named nodes names = position (λ node. is_named names node.path) nodes
 
+-- an object is a module of this definition (clause 12.1)
+abbrev pub is_module_of : List ℕ → Node → Bool
+is_module_of name node = option_map_or (bytes_eq name) node.definition false
+
+-- the number of the first object of a definition
+abbrev pub first_of : List Node → List ℕ → Option ℕ
+first_of nodes name = position (is_module_of name) nodes
+
 -- ---- envelopes of a scope
 
 -- the numbers below this one, rising
@@ -164,6 +172,34 @@ scope_names nodes (Some id) = option_map (λ n. names_of n.path) (slice_get node
 abbrev pub find_in : List Node → Option ℕ → List ℕ → Option ℕ
 find_in nodes scope name = option_and_then (λ names. find_named nodes (names ++ name ∷ [])) (scope_names nodes scope)
 
+-- an object is declared in the scope of these names
+abbrev pub is_in : List (List ℕ) → Node → Bool
+is_in scope node = is_some (step_in scope node.path)
+
+-- the numbers of the objects that are declared in the scope of these names, rising
+abbrev pub children_named : List Node → List (List ℕ) → List ℕ
+children_named nodes scope = filter (λ id. option_map_or (is_in scope) (slice_get nodes id) false) (below (length nodes))
+
+-- the numbers of the objects that are declared in a scope, rising; none where the object is not there (clauses 12.5 and 26.6.1)
+abbrev pub children_of : List Node → Option ℕ → List ℕ
+children_of nodes scope = option_map_or (children_named nodes) (scope_names nodes scope) []
+
 -- the numbers of the envelopes of what is declared in a scope, rising, each once; none where the object is not there
 abbrev pub declared_envelopes : Tree → Option ℕ → List ℕ
 declared_envelopes tree scope = option_map_or (envelopes_in tree) (scope_names tree.nodes scope) []
+
+-- ---- instances
+
+-- the definition of the object of a number; none where it is no module
+abbrev pub definition_at : List Node → ℕ → Option (List ℕ)
+definition_at nodes id = option_and_then (λ n. n.definition) (slice_get nodes id)
+
+-- how far what a name names in an object stands behind the object
+abbrev pub distance_in : List Node → ℕ → List ℕ → Option ℕ
+distance_in nodes id name = option_map (λ i. i - id) (find_in nodes (Some id) name)
+
+-- the instances of a module are alike: what a name names stands as far behind one as behind another (clause 12.1.2)
+abbrev pub AreAlike : List Node → Type 0
+AreAlike nodes =
+    (a b : ℕ) (definition name : List ℕ) → definition_at nodes a ≡ Some definition → definition_at nodes b ≡ Some definition
+    → distance_in nodes a name ≡ distance_in nodes b name

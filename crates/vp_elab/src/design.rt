@@ -1,19 +1,25 @@
-ghost use Rattle.std.specs.Prelude.{◌≡◌, ◌<◌, ◌≤◌, ◌-◌, [], None, All, map, option_and_then, option_map, length, position, slice_get, slice_index_or, IfSome, MatchOption};
+ghost use Rattle.std.specs.Prelude.{◌≡◌, ◌≤◌, [], None, Some, All, map, option_and_then, option_map, length, position, slice_get, slice_index_or, IfOk, IfSome, MatchOption};
 ghost use Rattle.std.specs.Option.{option_map_or};
-ghost use Rattle.vp_pragma.specs.Rights.{nothing};
 ghost use Rattle.std.specs.Str.{bytes_eq};
-ghost use Rattle.vp_elab.specs.Tree.{author_in, declared_envelopes, find_in, matches_at, name_at, sight_at};
-ghost use Rattle.vp_elab.specs.Objects.{AreObjects, StandsFor, module_name_at};
+ghost use Rattle.vp_modules.specs.Items.{items_in};
+ghost use Rattle.vp_modules.specs.Tables.{module_names};
 ghost use Rattle.vp_pragma.specs.Reading.{viewport_of};
+ghost use Rattle.vp_pragma.specs.Rights.{nothing};
+ghost use Rattle.vp_elab.specs.Tree.{AreAlike, author_in, children_of, declared_envelopes, find_in, first_of, matches_at, name_at, sight_at};
+ghost use Rattle.vp_elab.specs.Objects.{AreObjects, StandsFor, module_name_at};
 ghost use Rattle.vp_elab.specs.Built.{IsBuilt, design_of, shown};
+ghost use Rattle.vp_elab.specs.Items.{instantiated_at, node_item, parent_of};
 
+use crate::children::{objects_behind, top_at, tops_at};
 use crate::object::{Object, ObjectId};
-use crate::scope::Modules;
+use crate::objects::module_at;
+use crate::scope::Scope;
 use crate::sight::{Sight, is_on};
+use std::alloc::{AllocError, Global};
 use std::marker::Model;
 use vp_list::Sequence;
-use vp_modules::Names;
-use vp_parse::Source;
+use vp_modules::{Names, Tables, items_of};
+use vp_parse::{Item, Module, Source};
 use vp_pragma::{Envelopes, Viewport};
 
 /// The objects of a design.
@@ -21,8 +27,8 @@ use vp_pragma::{Envelopes, Viewport};
 pub struct Objects {
     /// All of them, in preorder.
     pub all: Sequence<Object>,
-    /// The top modules, by the number of their module in the text.
-    pub roots: Sequence<ObjectId>,
+    /// The first object of each module of the text, by the number of the module.
+    pub firsts: Sequence<Option<ObjectId>>,
     /// The numbers of the envelopes of the top modules, rising, each once.
     pub root_envelopes: Sequence<u8>,
 }
@@ -33,10 +39,10 @@ pub struct Objects {
 pub struct Design {
     source: Source,
     envelopes: Envelopes,
-    modules: Modules,
+    tables: Tables,
+    /// What each module of the text declares.
+    scopes: Sequence<Scope>,
     objects: Objects,
-    /// What viewports open of each object.
-    sights: Sequence<Sight>,
 }
 
 impl Model for Design {
@@ -46,7 +52,7 @@ impl Model for Design {
 
     ghost view = { λ d. design_of d.source d.envelopes };
 
-    ghost invariant = { λ d. IsBuilt d.source d.envelopes d.modules d.objects d.sights };
+    ghost invariant = { λ d. IsBuilt d.source d.envelopes d.tables d.scopes d.objects };
 }
 
 /// The object of a number.
@@ -56,92 +62,113 @@ fn object_at(objects: &[Object], id: ObjectId) -> Option<Object>
     objects.get(id.0 as usize).copied()
 }
 
-/// What viewports open of the object of a number.
-fn sight_at(sights: &[Sight], id: ObjectId) -> Sight
-    ensures { shown result ≡ option_map_or shown (slice_get sights.now id.0) (nothing, None) }
+/// The object above that of a number, in which it is declared; none of a top module.
+fn parent_at(objects: &[Object], id: ObjectId) -> Option<ObjectId>
+    ensures { result ≡ option_and_then (λ o. o.parent) (slice_get objects.now id.0) }
 {
-    match sights.get(id.0 as usize).copied() {
-        Some(sight) => sight,
-        None => Sight::none(),
-    }
+    object_at(objects, id)?.parent
 }
 
-/// The names of what is declared in a module's object; none of any other object.
-fn names_at<'a>(objects: &'a [Object], scopes: &'a [Names], object: ObjectId) -> Option<&'a Names>
-    ensures { option_map (λ n. n.now) result ≡ option_and_then (slice_get scopes.now) (option_and_then (λ o. o.scope) (slice_get objects.now object.0)) }
+/// The number of the module of an object; none of an object that is no module.
+fn number_at(objects: &[Object], id: ObjectId) -> Option<usize>
+    ensures { result ≡ option_and_then (λ o. o.scope) (slice_get objects.now id.0) }
 {
-    let number = object_at(objects, object)?.scope?;
+    object_at(objects, id)?.scope
+}
+
+/// What the module of an object declares; none of an object that is no module.
+fn scope_at<'a>(objects: &[Object], scopes: &'a [Scope], id: ObjectId) -> Option<&'a Scope>
+    ensures { option_map (λ s. s.now) result ≡ option_and_then (slice_get scopes.now) (option_and_then (λ o. o.scope) (slice_get objects.now id.0)) }
+{
+    let number = number_at(objects, id)?;
     scopes.get(number)
 }
 
-/// The numbers of the envelopes of what is declared in a module's object; none of any other object.
-fn numbers_at<'a>(
-    objects: &'a [Object],
-    envelopes: &'a [Sequence<u8>],
-    object: ObjectId,
-) -> Option<&'a Sequence<u8>>
-    ensures { option_map (λ n. n.now) result ≡ option_and_then (slice_get envelopes.now) (option_and_then (λ o. o.scope) (slice_get objects.now object.0)) }
+/// The names that are declared in the module of an object; none of an object that is no module.
+fn names_at<'a>(objects: &[Object], names: &'a [Names], id: ObjectId) -> Option<&'a Names>
+    ensures { option_map (λ n. n.now) result ≡ option_and_then (slice_get names.now) (option_and_then (λ o. o.scope) (slice_get objects.now id.0)) }
 {
-    let number = object_at(objects, object)?.scope?;
-    envelopes.get(number)
+    let number = number_at(objects, id)?;
+    names.get(number)
 }
 
-/// The index of a name that is declared in a module's object.
-fn index_at(objects: &[Object], scopes: &[Names], object: ObjectId, name: &str) -> Option<usize>
-    ensures { result ≡ option_and_then (λ s. position (bytes_eq name.now) s) (option_and_then (slice_get scopes.now) (option_and_then (λ o. o.scope) (slice_get objects.now object.0))) }
+/// The index of a name that is declared in the module of an object.
+fn index_at(objects: &[Object], names: &[Names], id: ObjectId, name: &str) -> Option<usize>
+    ensures { result ≡ option_and_then (λ ns. position (bytes_eq name.now) ns) (option_and_then (slice_get names.now) (option_and_then (λ o. o.scope) (slice_get objects.now id.0))) }
 {
-    names_at(objects, scopes, object)?.find(name)
+    names_at(objects, names, id)?.find(name)
 }
 
-/// The name of the object of a number, which is declared in a module's object.
-fn child_name<'a>(
-    objects: &'a [Object],
-    scopes: &'a [Names],
-    object: ObjectId,
-    id: ObjectId,
-) -> &'a str
-    requires { object.0 < id.0 }
-    ensures { result.now ≡ option_map_or (λ s. slice_index_or s (id.0 - object.0 - 1) []) (option_and_then (slice_get scopes.now) (option_and_then (λ o. o.scope) (slice_get objects.now object.0))) [] }
+/// The name of an index in the module of an object.
+fn child_name<'a>(objects: &[Object], names: &'a [Names], id: ObjectId, index: u32) -> &'a str
+    ensures { result.now ≡ option_map_or (λ ns. slice_index_or ns index []) (option_and_then (slice_get names.now) (option_and_then (λ o. o.scope) (slice_get objects.now id.0))) [] }
 {
-    match names_at(objects, scopes, object) {
-        Some(names) => names.at((id.0 - object.0 - 1) as usize),
+    match names_at(objects, names, id) {
+        Some(names) => names.at(index as usize),
         None => "",
     }
 }
 
-/// The name of a module, by the number of its object; none of any other object.
+/// The item of an index in the module of an object.
+fn child_item(source: &Source, objects: &[Object], id: ObjectId, index: u32) -> Option<Item>
+    ensures { result ≡ option_and_then (λ m. slice_get (items_in source.now m) index) (option_and_then (slice_get source.now.modules) (option_and_then (λ o. o.scope) (slice_get objects.now id.0))) }
+{
+    let module = module_at(source, number_at(objects, id))?;
+    items_of(source, module).get(index as usize).copied()
+}
+
+/// How far the item of an index stands behind the object of its module.
+fn slot_at(objects: &[Object], scopes: &[Scope], id: ObjectId, index: usize) -> u32
+    ensures { result ≡ option_map_or (λ s. slice_index_or s.slots index 0) (option_and_then (slice_get scopes.now) (option_and_then (λ o. o.scope) (slice_get objects.now id.0))) 0 }
+{
+    match scope_at(objects, scopes, id) {
+        Some(scope) => scope.slot(index),
+        None => 0,
+    }
+}
+
+/// What viewports open of the item of an index in the module of an object.
+fn child_sight(objects: &[Object], scopes: &[Scope], id: ObjectId, index: u32) -> Sight
+    ensures { shown result ≡ option_map_or (λ s. slice_index_or s.sights index (nothing, None)) (option_and_then (slice_get scopes.now) (option_and_then (λ o. o.scope) (slice_get objects.now id.0))) (nothing, None) }
+{
+    match scope_at(objects, scopes, id) {
+        Some(scope) => scope.sight(index as usize),
+        None => Sight::none(),
+    }
+}
+
+/// The name of the module of an object; none of an object that is no module.
 fn module_name<'a>(names: &'a Names, objects: &[Object], id: ObjectId) -> Option<&'a str>
     ensures { option_map (λ n. n.now) result ≡ option_and_then (slice_get names.now) (option_and_then (λ o. o.scope) (slice_get objects.now id.0)) }
 {
-    let number = object_at(objects, id)?.scope?;
+    let number = number_at(objects, id)?;
     names.get(number)
 }
 
-/// The top module of a name.
-fn root_at(names: &Names, roots: &[ObjectId], name: &str) -> Option<ObjectId>
-    ensures { result ≡ option_and_then (slice_get roots.now) (position (bytes_eq name.now) names.now) }
+/// The first object of the module of a number.
+fn first_at(firsts: &[Option<ObjectId>], number: usize) -> Option<ObjectId>
+    ensures { result ≡ slice_index_or firsts.now number None }
 {
-    let number = names.find(name)?;
-    roots.get(number).copied()
+    firsts.get(number).copied().flatten()
 }
 
 impl Design {
     pub(crate) fn new(
         source: Source,
         envelopes: Envelopes,
-        modules: Modules,
+        tables: Tables,
+        scopes: Sequence<Scope>,
         objects: Objects,
-        sights: Sequence<Sight>,
     ) -> Design
-        requires { IsBuilt source envelopes modules objects sights }
+        requires { IsBuilt source envelopes tables scopes objects }
         ensures { result ≡ design_of source envelopes }
     {
         Design {
             source,
             envelopes,
-            modules,
+            tables,
+            scopes,
             objects,
-            sights,
         }
     }
 
@@ -186,6 +213,36 @@ impl Design {
         object_at(self.objects.all.as_slice(), id)
     }
 
+    /// The item of the text that the object of a number is; none of a top module, and behind the end.
+    pub fn item(&self, id: ObjectId) -> Option<Item>
+        ensures { result ≡ option_and_then (node_item self.now.source) (slice_get self.now.tree.nodes id.0) }
+    {
+        let objects = self.objects.all.as_slice();
+        let object = object_at(objects, id)?;
+        match object.parent {
+            Some(module) => child_item(&self.source, objects, module, object.index),
+            None => None,
+        }
+    }
+
+    /// The module that the object of a number instantiates; none of a top module, and behind the end.
+    pub fn instantiated(&self, id: ObjectId) -> Option<Module>
+        ensures { result ≡ instantiated_at self.now.source self.now.tree.nodes id.0 }
+    {
+        let object = object_at(self.objects.all.as_slice(), id)?;
+        match object.parent {
+            Some(_) => module_at(&self.source, object.scope),
+            None => None,
+        }
+    }
+
+    /// The object above that of a number, in which it is declared; none of a top module, and behind the end.
+    pub fn parent(&self, id: ObjectId) -> Option<ObjectId>
+        ensures { option_map (λ o. o.0) result ≡ option_and_then (parent_of self.now.tree.nodes) (slice_get self.now.tree.nodes id.0) }
+    {
+        parent_at(self.objects.all.as_slice(), id)
+    }
+
     /// The name of the object of a number, as it stands in paths; empty behind the end.
     pub fn name(&self, id: ObjectId) -> &str
         ensures { result.now ≡ name_at self.now.tree id.0 }
@@ -195,7 +252,10 @@ impl Design {
             return "";
         };
         match object.parent {
-            Some(module) => child_name(objects, self.modules.tables.scopes.as_slice(), module, id),
+            Some(module) => {
+                let names = self.tables.scopes.as_slice();
+                child_name(objects, names, module, object.index)
+            }
             None => self.source.word(object.place),
         }
     }
@@ -214,18 +274,21 @@ impl Design {
     pub fn definition(&self, id: ObjectId) -> Option<&str>
         ensures { option_map (λ d. d.now) result ≡ option_and_then (λ n. n.definition) (slice_get self.now.tree.nodes id.0) }
     {
-        module_name(
-            &self.modules.tables.modules,
-            self.objects.all.as_slice(),
-            id,
-        )
+        module_name(&self.tables.modules, self.objects.all.as_slice(), id)
     }
 
     /// What the viewports that match the object of a number open of it; nothing behind the end.
     pub fn sight(&self, id: ObjectId) -> Sight
         ensures { shown result ≡ sight_at self.now.tree id.0 }
     {
-        sight_at(self.sights.as_slice(), id)
+        let objects = self.objects.all.as_slice();
+        let Some(object) = object_at(objects, id) else {
+            return Sight::none();
+        };
+        match object.parent {
+            Some(module) => child_sight(objects, self.scopes.as_slice(), module, object.index),
+            None => Sight::none(),
+        }
     }
 
     /// The viewports, in the order of the text.
@@ -276,21 +339,52 @@ impl Design {
     fn root(&self, name: &str) -> Option<ObjectId>
         ensures { option_map (λ o. o.0) result ≡ find_in self.now.tree.nodes None name.now }
     {
-        root_at(
-            &self.modules.tables.modules,
-            self.objects.roots.as_slice(),
-            name,
-        )
+        let number = self.tables.modules.find(name)?;
+        let first = first_at(self.objects.firsts.as_slice(), number);
+        top_at(self.objects.all.as_slice(), first)
     }
 
     fn child(&self, object: ObjectId, name: &str) -> Option<ObjectId>
         ensures { option_map (λ o. o.0) result ≡ find_in self.now.tree.nodes (Some object.0) name.now }
     {
         let objects = self.objects.all.as_slice();
-        match index_at(objects, self.modules.tables.scopes.as_slice(), object, name) {
-            Some(index) => Some(ObjectId(object.0 + 1 + index as u32)),
-            None => None,
+        let index = index_at(objects, self.tables.scopes.as_slice(), object, name)?;
+        let slot = slot_at(objects, self.scopes.as_slice(), object, index);
+        Some(ObjectId(object.0 + slot))
+    }
+
+    /// The top modules, in the order of the text. Takes memory.
+    pub fn roots(&self, alloc: Global) -> Result<Sequence<ObjectId>, AllocError>
+        ensures { IfOk result (λ ids. map (λ o. o.0) ids ≡ children_of self.now.tree.nodes None) }
+    {
+        let objects = self.objects.all.as_slice();
+        tops_at(alloc, objects, self.objects.firsts.as_slice())
+    }
+
+    /// The objects that are declared in a module, in the order of the text; none in an object that is no module, and
+    /// in one that is not there. Takes memory.
+    pub fn children(&self, alloc: Global, id: ObjectId) -> Result<Sequence<ObjectId>, AllocError>
+        ensures { IfOk result (λ ids. map (λ o. o.0) ids ≡ children_of self.now.tree.nodes (Some id.0)) }
+    {
+        let objects = self.objects.all.as_slice();
+        match scope_at(objects, self.scopes.as_slice(), id) {
+            Some(scope) => objects_behind(alloc, id, scope.slots()),
+            None => Ok(Sequence::from_vec(Vec::new(alloc))),
         }
+    }
+
+    /// The instances of a module are alike: what a name names stands as far behind one as behind another.
+    pub fn instances_are_alike(&self)
+        ensures { AreAlike self.now.tree.nodes }
+    {
+        let _ = &self.source;
+    }
+
+    /// The first object of the module that has a number in the text: its top module or its first instance.
+    pub fn first_instance(&self, number: usize) -> Option<ObjectId>
+        ensures { option_map (λ o. o.0) result ≡ option_and_then (first_of self.now.tree.nodes) (slice_get (module_names self.now.source self.now.source.modules) number) }
+    {
+        first_at(self.objects.firsts.as_slice(), number)
     }
 
     /// The numbers of the envelopes of the places declared in a module, or of the top modules: rising, each once.
@@ -308,8 +402,8 @@ impl Design {
         ensures { result.now ≡ declared_envelopes self.now.tree (Some object.0) }
     {
         let objects = self.objects.all.as_slice();
-        match numbers_at(objects, self.modules.envelopes.as_slice(), object) {
-            Some(numbers) => numbers.as_slice(),
+        match scope_at(objects, self.scopes.as_slice(), object) {
+            Some(scope) => scope.envelopes(),
             None => &[],
         }
     }

@@ -1,19 +1,20 @@
 // What viewports open at the objects of a design, and whether each is on something (docs/FORMATS.md, "Viewports").
-ghost use Rattle.std.specs.Prelude.{◌≡◌, ◌++◌, ◌∷◌, [], None, Some, map, slice_index_or, IfErr, IfOk, MatchResult, OnOk};
+ghost use Rattle.std.specs.Prelude.{◌≡◌, [], None, Some, map, slice_index_or, IfOk, MatchResult};
 ghost use Rattle.std.specs.List.{list_any};
 ghost use Rattle.std.specs.Option.{option_or};
+ghost use Rattle.vp_modules.specs.Items.{item_name, items_in};
+ghost use Rattle.vp_modules.specs.Refusals.{Explains, twice, twice_in};
+ghost use Rattle.vp_modules.specs.Tables.{scope_in, tables_in};
 ghost use Rattle.vp_pragma.specs.Reading.{viewport_of};
 ghost use Rattle.vp_pragma.specs.Rights.{either, nothing, set_of};
-ghost use Rattle.vp_elab.specs.Tree.{matches, matches_node, sight_in, sight_of, step_named};
-ghost use Rattle.vp_modules.specs.Items.{item_name, items_in};
-ghost use Rattle.vp_elab.specs.Elaboration.{item_node, module_nodes, nodes_of};
+ghost use Rattle.vp_elab.specs.Tree.{matches, sight_of, step_named};
+ghost use Rattle.vp_elab.specs.Elaboration.{item_step};
 ghost use Rattle.vp_elab.specs.Built.{shown};
-ghost use Rattle.vp_modules.specs.Refusals.{Explains, twice, twice_in};
-ghost use Rattle.vp_elab.specs.Refusals.{unmatched_in};
+ghost use Rattle.vp_elab.specs.Refusals.{is_on_any, is_on_item, unmatched_in};
 
 use std::alloc::{AllocError, Global};
 use vp_list::Sequence;
-use vp_modules::{ElabError, Names, items_of, place_of};
+use vp_modules::{ElabError, Names, Tables, items_of, place_of};
 use vp_parse::{Item, Module, Source};
 use vp_pragma::{Envelopes, Rights, Viewport};
 
@@ -82,7 +83,7 @@ fn item_sight(
     item: Item,
 ) -> Sight
     requires { slice_index_or names.now index [] ≡ item_name source.now item }
-    ensures { shown result ≡ sight_in envelopes.now.viewports (item_node source.now envelopes.now.envelopes «module».name item) }
+    ensures { shown result ≡ sight_of envelopes.now.viewports (item_step source.now envelopes.now.envelopes «module» item) }
 {
     let name = names.at(index);
     let envelope = envelopes.of(place_of(item));
@@ -94,37 +95,20 @@ fn item_sight(
     )
 }
 
-/// What viewports open of a module, which is nothing, and of its items, at the end.
-fn add_sights(
-    sights: &mut Vec<Sight>,
-    source: &Source,
-    envelopes: &Envelopes,
-    names: &Names,
-    module: Module,
-) -> Result<(), AllocError>
-    requires { names.now ≡ map (item_name source.now) (items_in source.now «module») }
-    ensures { OnOk result (map shown sights.new.items ≡ map shown sights.old.items ++ map (sight_in envelopes.now.viewports) (module_nodes source.now envelopes.now.envelopes «module»)) }
-{
-    sights.push(Sight::none())?;
-    for (index, item) in items_of(source, module).iter().enumerate() {
-        sights.push(item_sight(source, envelopes, names, module, index, *item))?;
-    }
-    Ok(())
-}
-
-/// What viewports open of each object of a text.
+/// What viewports open of the items of a module, which have these names.
 pub fn sights_of(
     alloc: Global,
     source: &Source,
     envelopes: &Envelopes,
-    scopes: &[Names],
+    names: &Names,
+    module: Module,
 ) -> Result<Sequence<Sight>, AllocError>
-    requires { scopes.now ≡ map (λ m. map (item_name source.now) (items_in source.now m)) source.now.modules }
-    ensures { IfOk result (λ sights. map shown sights ≡ map (sight_in envelopes.now.viewports) (nodes_of source.now envelopes.now.envelopes)) }
+    requires { names.now ≡ scope_in source.now «module» }
+    ensures { IfOk result (λ sights. map shown sights ≡ map (λ i. sight_of envelopes.now.viewports (item_step source.now envelopes.now.envelopes «module» i)) (items_in source.now «module»)) }
 {
     let mut sights = Vec::new(alloc);
-    for (number, module) in source.modules.as_slice().iter().enumerate() {
-        add_sights(&mut sights, source, envelopes, &scopes[number], *module)?;
+    for (index, item) in items_of(source, module).iter().enumerate() {
+        sights.push(item_sight(source, envelopes, names, module, index, *item))?;
     }
     Ok(Sequence::from_vec(sights))
 }
@@ -137,9 +121,9 @@ fn is_on_item(
     module: Module,
     viewport: &Viewport,
 ) -> bool
-    requires names { names.now ≡ map (item_name source.now) (items_in source.now «module») }
+    requires names { names.now ≡ scope_in source.now «module» }
     requires once { twice source.now [] (items_in source.now «module») ≡ None }
-    ensures { result ≡ list_any (matches_node (viewport_of viewport.now)) (module_nodes source.now envelopes.now.envelopes «module») }
+    ensures { result ≡ list_any (is_on_item source.now envelopes.now.envelopes (viewport_of viewport.now) «module») (items_in source.now «module») }
 {
     let name = viewport.item.as_str();
     let Some(index) = names.find(name) else {
@@ -153,31 +137,32 @@ fn is_on_item(
 }
 
 /// A viewport is on an item of a text.
-fn is_on_any(source: &Source, envelopes: &Envelopes, scopes: &[Names], viewport: &Viewport) -> bool
-    requires names { scopes.now ≡ map (λ m. map (item_name source.now) (items_in source.now m)) source.now.modules }
+fn is_on_any(source: &Source, envelopes: &Envelopes, tables: &Tables, viewport: &Viewport) -> bool
+    requires tables { tables.now ≡ tables_in source.now }
     requires once { twice_in source.now [] source.now.modules ≡ None }
-    ensures { result ≡ list_any (matches_node (viewport_of viewport.now)) (nodes_of source.now envelopes.now.envelopes) }
+    ensures { result ≡ is_on_any source.now envelopes.now.envelopes (viewport_of viewport.now) source.now.modules }
 {
     for (number, module) in source.modules.as_slice().iter().enumerate() {
-        if is_on_item(source, envelopes, &scopes[number], *module, viewport) {
+        let names = &tables.scopes.as_slice()[number];
+        if is_on_item(source, envelopes, names, *module, viewport) {
             return true;
         }
     }
     false
 }
 
-/// Each viewport is on an item of the text; else the first that is not.
+/// Each viewport is on an item of the text; else the first that is not is refused (508).
 pub fn check_viewports(
     source: &Source,
     envelopes: &Envelopes,
-    scopes: &[Names],
+    tables: &Tables,
 ) -> Result<(), ElabError>
-    requires names { scopes.now ≡ map (λ m. map (item_name source.now) (items_in source.now m)) source.now.modules }
+    requires tables { tables.now ≡ tables_in source.now }
     requires once { twice_in source.now [] source.now.modules ≡ None }
     ensures { MatchResult result (λ _. unmatched_in source.now envelopes.now ≡ None) (λ e. Explains (unmatched_in source.now envelopes.now) e) }
 {
     for viewport in envelopes.viewports() {
-        if !is_on_any(source, envelopes, scopes, viewport) {
+        if !is_on_any(source, envelopes, tables, viewport) {
             return Err(ElabError::ViewportUnknown {
                 line: viewport.line,
             });

@@ -178,7 +178,7 @@ part_missing os end place h =
 
 -- ---- parts by place
 
-each_fits : (sizes : List ℕ) (k : ℕ) → list_all is_width sizes ≡ true → is_width (get_or sizes k 1) ≡ true
+pub each_fits : (sizes : List ℕ) (k : ℕ) → list_all is_width sizes ≡ true → is_width (get_or sizes k 1) ≡ true
 each_fits [] k h = refl
 each_fits (n ∷ ns) zero h = (and_parts (is_width n) (list_all is_width ns) h).0
 each_fits (n ∷ ns) (suc k) h = each_fits ns k (and_parts (is_width n) (list_all is_width ns) h).1

@@ -1,5 +1,5 @@
 -- The values of derivations, computed.
-use Rattle.std.proofs.Common.{◌≡◌, ℕ, true, List, [], ◌∷◌, Option, Some, None, drop, refl}
+use Rattle.std.proofs.Common.{◌≡◌, ℕ, true, List, [], ◌∷◌, Option, Some, None, drop, refl, arith}
 use Rattle.std.specs.Prelude.{codes}
 use Rattle.std.specs.Str.{chars, is_utf8}
 use Rattle.std.proofs.Math.Utf8.{encode}
@@ -7,6 +7,7 @@ use Rattle.vp_bits.specs.declared.bit.Bit.TheVariants.{Zero, One, Unknown}
 use Rattle.vp_parse_expr.specs.declared.node.Expression.TheVariants as node_of
 use Rattle.vp_parse_expr.specs.declared.operator.BinaryOperator.TheVariants.{Add, Subtract}
 use Rattle.vp_parse_expr.specs.Grammar.{Expr, Name, Number, Group, Binary, Selection, Whole, Bit}
+use Rattle.vp_parse.specs.declared.source.Module as declared
 use Rattle.vp_elab.specs.declared.object.Kind.{Kind}
 use Rattle.vp_elab.specs.declared.object.Kind.TheVariants.{Module, Reg}
 use Rattle.vp_elab.specs.Built.{Elaborated}
@@ -21,13 +22,23 @@ use Rattle.vp_expr.specs.Terms.{Term, value}
 abbrev difference : Expr
 difference = Binary Subtract (Number 0 7) 1 (Group 2 (Binary Add (Number 3 2) 4 (Number 5 1)) 6)
 
+-- a module with six expressions
+abbrev six : declared.Module
+six = record {
+  name = 0;
+  items = record { first = 0; end = 0 };
+  ports = 0;
+  statements = record { first = 0; end = 0 };
+  expressions = record { first = 0; end = 6 };
+}
+
 -- a design without objects, in which it is laid out behind another number
 abbrev design : Elaborated
 design = record {
   source = record {
     text = [];
     tokens = [];
-    modules = [];
+    modules = six ∷ [];
     connections = [];
     items = [];
     statements = [];
@@ -39,15 +50,24 @@ design = record {
   tree = record { nodes = []; viewports = []; authors = [] };
 }
 
-in_4_bits : derived_value design 0 [] 4 difference ≡ Zero ∷ Zero ∷ One ∷ Zero ∷ []
+in_4_bits : derived_value design None [] 4 difference ≡ Zero ∷ Zero ∷ One ∷ Zero ∷ []
 in_4_bits = refl
 
 -- a name that is no object
-no_object : derived_value design 0 [] 2 (Name 0 Whole) ≡ Unknown ∷ Zero ∷ []
+no_object : derived_value design None [] 2 (Name 0 Whole) ≡ Unknown ∷ Zero ∷ []
 no_object = refl
 
-stands : StandsAt design 5 difference
-stands = record { before = node_of.Number 9 5 ∷ []; behind = []; laid = refl; there = refl }
+stands : StandsAt design six 5 difference
+stands = record {
+  number = 0;
+  one = refl;
+  before = node_of.Number 9 5 ∷ [];
+  behind = [];
+  laid = refl;
+  there = refl;
+  from = omega arith;
+  to = omega arith;
+}
 
 -- ---- the module top has a reg [1:0] b and an instance u of a module whose reg [4:1] is a
 
@@ -80,7 +100,7 @@ nested = record {
 
 -- what is selected of a name in u, which is object 2
 abbrev in_u : List ℕ → Selection → Term
-in_u name s = named_term nested 2 (find_in nested.tree.nodes (Some 2) name) s
+in_u name s = named_term nested (Some 2) (find_in nested.tree.nodes (Some 2) name) s
 
 -- the reg stands one behind its instance
 slot_in_an_instance : in_u (codes "a") Whole ≡ term.Object 1 4

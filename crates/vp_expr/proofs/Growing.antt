@@ -1,7 +1,7 @@
 -- Lists that grow by an item a turn, as a loop goes over others.
-use Rattle.std.proofs.Common.{◌≡◌, ◌∙◌, ℕ, ◌+◌, ◌<◌, List, [], ◌∷◌, ◌++◌, length, map, take, drop, get_or, sym, ap, append_assoc, add-one, drop-cons}
+use Rattle.std.proofs.Common.{◌≡◌, ◌∙◌, ℕ, ◌+◌, ◌<◌, Option, List, [], ◌∷◌, ◌++◌, length, map, take, drop, get_or, sym, ap, append_assoc, add-one, drop-cons}
 use Rattle.std.proofs.lemmas.List.{map-append, take_more}
-use Rattle.std.specs.List.{fold}
+use Rattle.std.specs.List.{cons_option, filter_map, fold}
 
 -- what is left begins with the next item
 next_left : {A : Type 0} (items : List A) (i : ℕ) (d : A) → i < length items → drop i items ≡ get_or items i d ∷ drop (i + 1) items
@@ -28,3 +28,10 @@ fold_left f so_far items i d next whole h same is =
     ap (λ b. fold f b (drop (i + 1) items)) is
     ∙ ap (fold f so_far) (sym (next_left items i d h))
     ∙ same
+
+-- what is made of the next item, if something is, before what is left to make
+pub option_left : {A B : Type 0} (f : A → Option B) (made : List B) (items : List A) (i : ℕ) (d : A) (x : Option B) (whole : List B) → i < length items → made ++ filter_map f (drop i items) ≡ whole → x ≡ f (get_or items i d) → made ++ cons_option x (filter_map f (drop (i + 1) items)) ≡ whole
+option_left f made items i d x whole h so_far is =
+    ap (λ o. made ++ cons_option o (filter_map f (drop (i + 1) items))) is
+    ∙ ap (λ l. made ++ filter_map f l) (sym (next_left items i d h))
+    ∙ so_far

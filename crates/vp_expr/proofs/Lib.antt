@@ -6,10 +6,15 @@ mod ArenaRows
 mod LiteralRows
 mod TermRows
 mod DerivedRows
+mod ModuleRows
 mod ReadRows
-pub mod Processes
+mod ProcessRows
+mod StartRows
 pub mod Fitting
 pub mod Named
 pub mod Sized
+pub mod AllRun
+pub mod Scopes
+pub mod Wholes
 pub mod Derivations
 pub mod Refused

@@ -1,5 +1,5 @@
 -- The sizes in the tables of a design are those of its operands.
-use Rattle.std.proofs.Common.{◌≡◌, ◌∙◌, ◌&&◌, ℕ, Bool, true, false, cond, List, map, Some, None, ap, sym, refl}
+use Rattle.std.proofs.Common.{◌≡◌, ◌∙◌, ◌&&◌, ℕ, Bool, true, false, cond, List, Some, None, ap, sym, refl}
 use Rattle.std.specs.List.{list_all}
 use Rattle.vp_elab.specs.Built.{Elaborated}
 use Rattle.vp_expr.specs.declared.operand.Operand.{Operand}
@@ -8,7 +8,7 @@ use Rattle.vp_expr.specs.declared.tables.Process.{Process}
 use Rattle.vp_expr.specs.declared.tables.Tables.{Tables}
 use Rattle.vp_expr.specs.Arena.{IsSized, fitting, is_width, sizes_in}
 use Rattle.vp_expr.specs.Checks.{IsChecked}
-use Rattle.vp_expr.specs.Tables.{action_of, all_fit, first_module, operands_of, processes_of, sizes_of, tables_of, widths_of}
+use Rattle.vp_expr.specs.Tables.{actions_of, all_fit, operands_of, processes_of, sizes_of, tables_of, widths_of}
 
 pub tables_sized : (design : Elaborated) (t : Tables) → t ≡ tables_of design → list_all is_width t.sizes ≡ true → IsSized t.operands t.sizes
 unfolding tables_of
@@ -41,13 +41,13 @@ module _ (d : Elaborated) (operands : List Operand) (widths sizes : List ℕ) (a
       ∙ sizes_fit.0
 
   -- and the tables that are made of them are the design's
-  pub tables_checked : (actions : List Action) (processes : List Process) → actions ≡ map (action_of d first_module sizes) d.source.statements → processes ≡ processes_of d → IsChecked d (record { operands = operands; widths = widths; sizes = sizes; actions = actions; processes = processes })
+  pub tables_checked : (actions : List Action) (processes : List Process) → actions ≡ actions_of d sizes → processes ≡ processes_of d sizes → IsChecked d (record { operands = operands; widths = widths; sizes = sizes; actions = actions; processes = processes })
   unfolding tables_of
   tables_checked actions processes acts runs =
-      let all : actions ≡ map (action_of d first_module (sizes_of d)) d.source.statements =
-      acts ∙ ap (λ ns. map (action_of d first_module ns) d.source.statements) sizes_are in
+      let all : actions ≡ actions_of d (sizes_of d) = acts ∙ ap (actions_of d) sizes_are in
+      let each : processes ≡ processes_of d (sizes_of d) = runs ∙ ap (processes_of d) sizes_are in
       record {
-        tables_are = rw (are, widths_fit.1, sizes_are, all, runs) refl;
+        tables_are = rw (are, widths_fit.1, sizes_are, all, each) refl;
         wide = ap (list_all is_width) widths_fit.1 ∙ widths_fit.0;
         fit = ap (list_all is_width) sizes_fit.1 ∙ sizes_fit.0;
       }

@@ -1,5 +1,5 @@
 -- Which expressions of a design are refused: the refusals, each tested over the whole text, in this order.
-use Rattle.std.specs.Prelude.{◌≡◌, ℕ, ◌+◌, ◌==◌, ◌&&◌, min, nat_lt, nat_le, not, Bool, true, false, if◌then◌else◌, List, [], ◌∷◌, ◌++◌, length, slice_get, slice_index_or, Option, Some, None, option_and_then, option_map}
+use Rattle.std.specs.Prelude.{◌≡◌, ℕ, ◌+◌, ◌==◌, ◌&&◌, min, nat_lt, nat_le, not, Bool, true, false, if◌then◌else◌, List, [], ◌∷◌, ◌++◌, drop, length, slice_get, slice_index_or, Option, Some, None, option_and_then, option_map}
 use Rattle.std.specs.List.{fold, list_all}
 use Rattle.vp_parse_expr.specs.declared.node.Expression.{Expression}
 use Rattle.vp_parse_expr.specs.declared.node.Expression.TheVariants as expression
@@ -12,8 +12,11 @@ use Rattle.vp_parse.specs.declared.source.Source.{Source}
 use Rattle.vp_parse.specs.declared.source.DeclaredRange.{DeclaredRange}
 use Rattle.vp_parse.specs.declared.source.Item.{Item}
 use Rattle.vp_parse.specs.declared.source.Item.TheVariants as item
+use Rattle.vp_parse.specs.declared.source.Module as declared
 use Rattle.vp_parse_stmt.specs.declared.arena.Statement.{Statement}
 use Rattle.vp_parse_stmt.specs.declared.arena.Statement.TheVariants as statement
+use Rattle.vp_modules.specs.Items.{expressions_in, items_in, statements_in}
+use Rattle.vp_modules.specs.Refusals.{first_in}
 use Rattle.vp_elab.specs.Built.{Elaborated}
 use Rattle.vp_elab.specs.Elaboration.{range_width}
 use Rattle.vp_elab.specs.Tree.{below}
@@ -21,7 +24,7 @@ use Rattle.vp_expr.specs.declared.fault.ExprError.{ExprError}
 use Rattle.vp_expr.specs.declared.fault.ExprError.TheVariants.{TooWide, SignedCompare, BadSelect, NoMemory}
 use Rattle.vp_expr.specs.declared.tables.Tables.{Tables}
 use Rattle.vp_expr.specs.Arena.{is_width, operand_size, signs_in}
-use Rattle.vp_expr.specs.Tables.{all_fit, first_module, node_named, operand_of, operands_of, tables_of}
+use Rattle.vp_expr.specs.Tables.{all_fit, node_named, operand_of, operands_of, scope_of, tables_of}
 
 -- a place, where something is so
 abbrev pub place_if : Bool → ℕ → Option ℕ
@@ -38,7 +41,7 @@ abbrev pub counted : ℕ → ℕ
 counted size = min size 65
 
 -- the bits of the name at a place: how many, and the lowest index, if there is one (clause 4.3.1)
-abbrev pub bits_named : Elaborated → (scope name : ℕ) → Option (ℕ × Option ℕ)
+abbrev pub bits_named : Elaborated → (scope : Option ℕ) → (name : ℕ) → Option (ℕ × Option ℕ)
 bits_named design scope name = option_map (λ n. (n.width, n.lowest)) (node_named design scope name)
 
 -- how many of so many bits are selected (clause 5.2.1)
@@ -53,22 +56,26 @@ size_of_bits s None = 1
 size_of_bits s (Some bits) = selected_width s bits.0
 
 -- how many bits are selected of the name at a place; 1 where there is no such object
-abbrev pub node_size : Elaborated → (scope name : ℕ) → Selection → ℕ
+abbrev pub node_size : Elaborated → (scope : Option ℕ) → (name : ℕ) → Selection → ℕ
 node_size design scope name s = size_of_bits s (bits_named design scope name)
 
 -- the size of an expression as it is counted, by the sizes of those before it (clause 5.4.1)
-abbrev pub counted_size : Elaborated → (scope : ℕ) → List ℕ → Expression → ℕ
+abbrev pub counted_size : Elaborated → (scope : Option ℕ) → List ℕ → Expression → ℕ
 counted_size design scope sizes (expression.Name name s) = counted (node_size design scope name s)
 counted_size design scope sizes (expression.Literal place size digits) = counted size
 counted_size design scope sizes e = counted (operand_size sizes (operand_of design scope e))
 
 -- sizes, and behind them that of one more expression
-abbrev pub with_size : Elaborated → (scope : ℕ) → List ℕ → Expression → List ℕ
+abbrev pub with_size : Elaborated → (scope : Option ℕ) → List ℕ → Expression → List ℕ
 with_size design scope sizes e = sizes ++ counted_size design scope sizes e ∷ []
 
--- the sizes of the expressions of a design, as they are counted
+-- sizes, and behind them those of the expressions of a module
+abbrev pub with_sizes : Elaborated → List ℕ → declared.Module → List ℕ
+with_sizes design sizes m = fold (with_size design (scope_of design m)) sizes (expressions_in design.source m)
+
+-- the sizes of the expressions of a design, as they are counted, module by module
 abbrev pub counted_sizes : Elaborated → List ℕ
-counted_sizes design = fold (with_size design first_module) [] design.source.expressions
+counted_sizes design = fold (with_sizes design) [] design.source.modules
 
 -- a selection of a part is too wide (clause 5.2.1)
 abbrev pub is_wide_part : Selection → Bool
@@ -135,21 +142,25 @@ bad_bits name s None = None
 bad_bits name s (Some bits) = place_if (is_bad bits.1 bits.0 s) name
 
 -- the name at a place, where the selection of its bits is bad
-abbrev pub bad_name : Elaborated → (scope name : ℕ) → Selection → Option ℕ
+abbrev pub bad_name : Elaborated → (scope : Option ℕ) → (name : ℕ) → Selection → Option ℕ
 bad_name design scope name s = bad_bits name s (bits_named design scope name)
 
 -- a bad selection in an expression; a replication of 0
-abbrev pub bad_at : Elaborated → (scope : ℕ) → Expression → Option ℕ
+abbrev pub bad_at : Elaborated → (scope : Option ℕ) → Expression → Option ℕ
 bad_at design scope (expression.Name name s) = bad_name design scope name s
 bad_at design scope (expression.Replication brace count list) = place_if (count == 0) brace
 bad_at design scope _ = None
 
 -- a bad selection before the equals sign of an assignment
-abbrev pub bad_target : Elaborated → (scope : ℕ) → Statement → Option ℕ
+abbrev pub bad_target : Elaborated → (scope : Option ℕ) → Statement → Option ℕ
 bad_target design scope (statement.Assign target s value) = bad_name design scope target s
 bad_target design scope _ = None
 
 -- ---- all of them
+
+-- the first place of a module that is too wide, in a declaration or in a statement's target
+abbrev pub wide_declared : Source → declared.Module → Option ℕ
+wide_declared source m = earlier (earliest wide_item (items_in source m)) (earliest wide_target (statements_in source m))
 
 -- the expression at a place that is too wide by itself, by the sizes of all
 abbrev pub wide_among : List Expression → List ℕ → ℕ → Option ℕ
@@ -159,21 +170,36 @@ wide_among es sizes place = option_and_then (wide_at (slice_index_or sizes place
 abbrev pub first_wide_of : List Expression → List ℕ → Option ℕ
 first_wide_of es sizes = earliest (wide_among es sizes) (below (length es))
 
+-- the first expression of modules that is too wide by itself, by the sizes of the expressions of all of them
+abbrev pub first_wide_in : Source → List declared.Module → List ℕ → Option ℕ
+first_wide_in source [] sizes = None
+first_wide_in source (m ∷ ms) sizes =
+    let es = expressions_in source m in
+    earlier (first_wide_of es sizes) (first_wide_in source ms (drop (length es) sizes))
+
 -- the first place that is too wide: in a declaration, in a statement's target, or in an expression
 unfoldable pub first_wide : Elaborated → Option ℕ
 first_wide design =
-    earlier (earlier (earliest wide_item design.source.items) (earliest wide_target design.source.statements))
-    (first_wide_of design.source.expressions (counted_sizes design))
+    earlier (first_in design.source (wide_declared design.source))
+    (first_wide_in design.source design.source.modules (counted_sizes design))
+
+-- the first relational operator of a module on two signed operands, by the signs of expressions
+abbrev pub signed_in : Source → List Bool → declared.Module → Option ℕ
+signed_in source signs m = earliest (signed_at signs) (expressions_in source m)
 
 -- the first relational operator on two signed operands
 unfoldable pub first_signed : Elaborated → Option ℕ
-first_signed design = earliest (signed_at (signs_in (operands_of design))) design.source.expressions
+first_signed design = first_in design.source (signed_in design.source (signs_in (operands_of design)))
+
+-- the first bad selection of a module
+abbrev pub bad_in : Elaborated → declared.Module → Option ℕ
+bad_in design m =
+    earlier (earliest (bad_target design (scope_of design m)) (statements_in design.source m))
+    (earliest (bad_at design (scope_of design m)) (expressions_in design.source m))
 
 -- the first bad selection
 unfoldable pub first_bad : Elaborated → Option ℕ
-first_bad design =
-    earlier (earliest (bad_target design first_module) design.source.statements)
-    (earliest (bad_at design first_module) design.source.expressions)
+first_bad design = first_in design.source (bad_in design)
 
 -- a refusal by the line of the place that is at fault, if one is; else another
 abbrev pub refused_at : Source → (ℕ → ExprError) → Option ℕ → Option ExprError → Option ExprError

@@ -1,5 +1,5 @@
 -- The value of an expression by its derivation, and where a derivation stands in a design.
-use Rattle.std.specs.Prelude.{◌≡◌, ℕ, ◌-◌, true, false, if◌then◌else◌, List, [], ◌∷◌, ◌++◌, Option, Some, None}
+use Rattle.std.specs.Prelude.{◌≡◌, ◌≤◌, ◌<◌, ℕ, ◌-◌, true, false, if◌then◌else◌, List, [], ◌∷◌, ◌++◌, length, slice_get, Option, Some, None}
 use Rattle.vp_bits.specs.declared.bit.Bit as bits
 use Rattle.vp_parse_expr.specs.declared.node.Expression as node
 use Rattle.vp_parse_expr.specs.declared.node.Range.{Range}
@@ -8,12 +8,13 @@ use Rattle.vp_parse_expr.specs.declared.operator.UnaryOperator.{UnaryOperator}
 use Rattle.vp_parse_expr.specs.Grammar.{Expr, Name, Sized, Based, Number, Group, Unary, Binary, Conditional, Concatenation, Replication, Selection, Whole, Bit, Part, Parts, First, More}
 use Rattle.vp_parse_expr.specs.Layout.{put_expr, put_range}
 use Rattle.vp_parse.specs.Places.{word_at}
+use Rattle.vp_parse.specs.declared.source.Module as declared
 use Rattle.vp_elab.specs.Built.{Elaborated}
 use Rattle.vp_elab.specs.Elaboration.{range_width}
 use Rattle.vp_expr.specs.declared.operand.Operand.TheVariants as operand
 use Rattle.vp_expr.specs.Arena.{blank, is_width, term_from, value_in}
 use Rattle.vp_expr.specs.Literals.{based_bits, literal_bits, number_bits}
-use Rattle.vp_expr.specs.Tables.{infix_of, lowest_in, object_named, unary_operand, width_in}
+use Rattle.vp_expr.specs.Tables.{infix_of, lowest_in, object_named, slot_in, unary_operand, width_in}
 use Rattle.vp_expr.specs.Terms as term
 use Rattle.vp_expr.specs.Terms.{Term, value}
 
@@ -26,21 +27,21 @@ abbrev pub binary_term : BinaryOperator → Term → Term → Term
 binary_term o a b = term_from (a ∷ b ∷ []) (operand.Paired (infix_of o) 0 1)
 
 -- an object of an instance, by the module's object; one unknown bit in place of one that is no vector (clause 4.3)
-abbrev pub object_term : Elaborated → (scope object : ℕ) → Term
+abbrev pub object_term : Elaborated → (scope : Option ℕ) → (object : ℕ) → Term
 object_term design scope object =
-    if is_width (width_in design object) then term.Object (object - scope) (width_in design object) else blank
+    if is_width (width_in design object) then term.Object (slot_in scope object).0 (width_in design object) else blank
 
 -- a part of an object, by its range; one unknown bit in place of one that no vector can be (clause 5.2.1)
-abbrev pub part_term : Elaborated → (scope object : ℕ) → Range → Term
+abbrev pub part_term : Elaborated → (scope : Option ℕ) → (object : ℕ) → Range → Term
 part_term design scope object r =
     if is_width (range_width r)
-    then term.PartSelect (object - scope) (r.lsb - lowest_in design object) (range_width r)
+    then term.PartSelect (slot_in scope object).0 (r.lsb - lowest_in design object) (range_width r)
     else blank
 
 abbrev mutual
   -- an expression over the objects of an instance, by the object of its module: each name is the slot of its object, and each
   -- literal its value (clause 5)
-  pub expr_term : Elaborated → (scope : ℕ) → Expr → Term
+  pub expr_term : Elaborated → (scope : Option ℕ) → Expr → Term
   expr_term design scope (Name place s) = named_term design scope (object_named design scope place) s
   expr_term design scope (Sized place size kind digits) = term.Constant (literal_bits size (word_at design.source digits)) false
   expr_term design scope (Based digits) = term.Constant (based_bits (word_at design.source digits)) false
@@ -55,26 +56,33 @@ abbrev mutual
       term.Replicated count (parts_term design scope l)
 
   -- what is selected of the object of a name; one unknown bit where there is none (clause 5.2.1)
-  pub named_term : Elaborated → (scope : ℕ) → Option ℕ → Selection → Term
+  pub named_term : Elaborated → (scope object : Option ℕ) → Selection → Term
   named_term design scope None s = blank
   named_term design scope (Some object) Whole = object_term design scope object
   named_term design scope (Some object) (Bit opening e closing) =
-      term.BitSelect (object - scope) (lowest_in design object) (expr_term design scope e)
+      term.BitSelect (slot_in scope object).0 (lowest_in design object) (expr_term design scope e)
   named_term design scope (Some object) (Part r) = part_term design scope object (put_range r)
 
   -- the expressions in braces, one behind the other (clause 5.1.14)
-  pub parts_term : Elaborated → (scope : ℕ) → Parts → Term
+  pub parts_term : Elaborated → (scope : Option ℕ) → Parts → Term
   parts_term design scope (First e) = term.Concatenated (expr_term design scope e)
   parts_term design scope (More l comma e) = term.Appended (parts_term design scope l) (expr_term design scope e)
 
 -- the value of an expression in a context of a size, by the object of the module in which it stands and the values of the objects
 -- of an instance of that (clause 5.4)
-abbrev pub derived_value : Elaborated → (scope : ℕ) → List (List bits.Bit) → ℕ → Expr → List bits.Bit
+abbrev pub derived_value : Elaborated → (scope : Option ℕ) → List (List bits.Bit) → ℕ → Expr → List bits.Bit
 derived_value design scope values n e = value (value_in values) n (expr_term design scope e)
 
--- a derivation stands at a place of a design: its parts are laid out behind others, and the whole has this place
-pub record StandsAt (design : Elaborated) (place : ℕ) (e : Expr) : Type 0 where
+-- ---- places
+
+-- a derivation stands at a place of a design, in a module: its parts are laid out behind others, all of them in the span of the
+-- module, and the whole has this place
+pub record StandsAt (design : Elaborated) (m : declared.Module) (place : ℕ) (e : Expr) : Type 0 where
+  pub number : ℕ
+  pub one : slice_get design.source.modules number ≡ Some m
   pub before : List node.Expression
   pub behind : List node.Expression
   pub laid : design.source.expressions ≡ (put_expr e before).1 ++ behind
   pub there : place ≡ (put_expr e before).0
+  pub from : m.expressions.first ≤ length before
+  pub to : place < m.expressions.end

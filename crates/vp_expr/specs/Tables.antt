@@ -1,6 +1,6 @@
 -- The tables that a simulator runs: the expressions and statements of a design, with slots in place of names.
-use Rattle.std.specs.Prelude.{ℕ, zero, suc, ◌-◌, ◌&&◌, max, Bool, false, true, if◌then◌else◌, List, map, length, slice_get, slice_index_or, Option, Some, None, option_map, option_and_then}
-use Rattle.std.specs.List.{filter_map, list_all}
+use Rattle.std.specs.Prelude.{ℕ, ◌-◌, ◌&&◌, max, Bool, false, true, if◌then◌else◌, List, map, slice_get, slice_index_or, Option, Some, None, option_map, option_and_then}
+use Rattle.std.specs.List.{filter_map, flat_map, list_all}
 use Rattle.std.specs.Option.{option_map_or, unwrap_or}
 use Rattle.vp_parse_expr.specs.declared.node.Expression.{Expression}
 use Rattle.vp_parse_expr.specs.declared.node.Expression.TheVariants as expression
@@ -13,11 +13,14 @@ use Rattle.vp_parse_expr.specs.declared.operator.UnaryOperator.TheVariants as be
 use Rattle.vp_parse.specs.Places.{word_at}
 use Rattle.vp_parse_stmt.specs.declared.arena.Statement.{Statement}
 use Rattle.vp_parse_stmt.specs.declared.arena.Statement.TheVariants as statement
-use Rattle.vp_parse.specs.declared.source.Item.{Item}
-use Rattle.vp_parse.specs.declared.source.Item.TheVariants as item
+use Rattle.vp_parse.specs.declared.source.Module as declared
+use Rattle.vp_modules.specs.Items.{expressions_in, statements_in}
 use Rattle.vp_elab.specs.Built.{Elaborated}
 use Rattle.vp_elab.specs.Elaboration.{range_width}
-use Rattle.vp_elab.specs.Tree.{Node, below, find_in}
+use Rattle.vp_elab.specs.Tree.{Node, find_in, first_of}
+use Rattle.vp_processes.specs.Processes as elaborated
+use Rattle.vp_processes.specs.declared.process.Process as run
+use Rattle.vp_processes.specs.declared.process.Process.TheVariants as going
 use Rattle.vp_elab.specs.declared.object.ObjectId.{ObjectId}
 use Rattle.vp_expr.specs.declared.operand.Slot.{Slot}
 use Rattle.vp_expr.specs.declared.operand.Operand.{Operand}
@@ -44,21 +47,23 @@ use Rattle.vp_expr.specs.Values.{no_value}
 
 -- ---- names
 
--- the object of the module of a text, which has at most one: the first (clause 12.5)
-abbrev pub first_module : ℕ
-first_module = 0
+-- the object in which the names of a module are looked up: its first, since a name has the same slot in each instance of a
+-- module; none where the module has no object (clauses 12.1.2 and 12.5)
+abbrev pub scope_of : Elaborated → declared.Module → Option ℕ
+scope_of design m = first_of design.tree.nodes (word_at design.source m.name)
 
 -- the object of the name at a place, by the object of the module in which it stands (clause 12.5)
-abbrev pub object_named : Elaborated → (scope place : ℕ) → Option ℕ
-object_named design scope place = find_in design.tree.nodes (Some scope) (word_at design.source place)
+abbrev pub object_named : Elaborated → (scope : Option ℕ) → (place : ℕ) → Option ℕ
+object_named design scope place =
+    option_and_then (λ s. find_in design.tree.nodes (Some s) (word_at design.source place)) scope
 
 -- the node of the name at a place
-abbrev pub node_named : Elaborated → (scope place : ℕ) → Option Node
+abbrev pub node_named : Elaborated → (scope : Option ℕ) → (place : ℕ) → Option Node
 node_named design scope place = option_and_then (slice_get design.tree.nodes) (object_named design scope place)
 
 -- how far an object stands behind the object of its module: in each instance of the module as far (clause 12.1.2)
-abbrev pub slot_in : (scope object : ℕ) → Slot
-slot_in scope object = record { 0 = object - scope }
+abbrev pub slot_in : (scope : Option ℕ) → (object : ℕ) → Slot
+slot_in scope object = record { 0 = object - unwrap_or scope 0 }
 
 -- how many bits an object has; 0 where there is none
 abbrev pub width_in : Elaborated → ℕ → ℕ
@@ -71,7 +76,7 @@ lowest_in design object = unwrap_or (option_and_then (λ (n : Node). n.lowest) (
 -- ---- expressions
 
 -- what is selected of an object as an operand; one unknown bit in place of an object or a part that no vector can be (clause 5.2.1)
-abbrev pub selected_operand : Elaborated → (scope object : ℕ) → Selection → Operand
+abbrev pub selected_operand : Elaborated → (scope : Option ℕ) → (object : ℕ) → Selection → Operand
 selected_operand design scope object selection.Whole =
     if is_width (width_in design object)
     then operand.Object (slot_in scope object) (width_in design object)
@@ -83,7 +88,7 @@ selected_operand design scope object (selection.Part r) =
     else operand.Constant no_value false
 
 -- what is selected of a name as an operand; one unknown bit where there is no such object
-abbrev pub named_operand : Elaborated → (scope : ℕ) → Option ℕ → Selection → Operand
+abbrev pub named_operand : Elaborated → (scope object : Option ℕ) → Selection → Operand
 named_operand design scope None s = operand.Constant no_value false
 named_operand design scope (Some object) s = selected_operand design scope object s
 
@@ -123,7 +128,7 @@ infix_of between.LogicalAnd = pair.Joined logical.And
 infix_of between.LogicalOr = pair.Joined logical.Or
 
 -- an expression of a module, by its object: with a slot in place of its name, and the value of its literal (clause 5)
-abbrev pub operand_of : Elaborated → (scope : ℕ) → Expression → Operand
+abbrev pub operand_of : Elaborated → (scope : Option ℕ) → Expression → Operand
 operand_of design scope (expression.Name name s) = named_operand design scope (object_named design scope name) s
 operand_of design scope (expression.Literal place size digits) = operand.Constant (literal_bits size (word_at design.source digits)) false
 operand_of design scope (expression.Based digits) = operand.Constant (based_bits (word_at design.source digits)) false
@@ -135,9 +140,13 @@ operand_of design scope (expression.Concatenation brace part) = operand.Concaten
 operand_of design scope (expression.Appended brace list part) = operand.Appended list part
 operand_of design scope (expression.Replication brace count list) = operand.Replicated count list
 
--- the expressions of a design as operands
+-- the expressions of a module as operands
+abbrev pub operands_in : Elaborated → declared.Module → List Operand
+operands_in design m = map (operand_of design (scope_of design m)) (expressions_in design.source m)
+
+-- the expressions of a design as operands, module by module
 abbrev pub operands_of : Elaborated → List Operand
-operands_of design = map (operand_of design first_module) design.source.expressions
+operands_of design = flat_map (operands_in design) design.source.modules
 
 -- the widths of the objects of a design
 abbrev pub widths_of : Elaborated → List ℕ
@@ -154,7 +163,7 @@ abbrev pub sized_at : (place size : ℕ) → Option Sized
 sized_at place size = if is_width size then Some (record { place = place; size = size }) else None
 
 -- what is selected of an object as a target; none where it is an object or a part that no vector can be (clause 5.2.1)
-abbrev pub selected_target : Elaborated → (scope object : ℕ) → Selection → Option Target
+abbrev pub selected_target : Elaborated → (scope : Option ℕ) → (object : ℕ) → Selection → Option Target
 selected_target design scope object selection.Whole =
     if is_width (width_in design object) then Some (target.Whole (slot_in scope object) (width_in design object)) else None
 selected_target design scope object (selection.Bit index) =
@@ -185,31 +194,43 @@ assign_to sizes value None = action.Nothing
 assign_to sizes value (Some t) = assign_target sizes value t
 
 -- what is selected of an object, if there is one, as a target
-abbrev pub named_target : Elaborated → (scope : ℕ) → Option ℕ → Selection → Option Target
+abbrev pub named_target : Elaborated → (scope object : Option ℕ) → Selection → Option Target
 named_target design scope None s = None
 named_target design scope (Some object) s = selected_target design scope object s
 
 -- a statement of a module, by its object: with a slot in place of its name (clauses 9.2.1 and 9.8.1)
-abbrev pub action_of : Elaborated → (scope : ℕ) → (sizes : List ℕ) → Statement → Action
+abbrev pub action_of : Elaborated → (scope : Option ℕ) → (sizes : List ℕ) → Statement → Action
 action_of design scope sizes statement.Empty = action.Nothing
 action_of design scope sizes (statement.Then list last) = action.Then list last
 action_of design scope sizes (statement.Assign name s value) =
     assign_to sizes value (named_target design scope (object_named design scope name) s)
 
--- the statement of an item that is a process (clause 9.9)
-abbrev pub body_of : Item → Option ℕ
-body_of (item.Initial keyword body) = Some body
-body_of _ = None
+-- the statements of a module as actions, by the sizes of the expressions of the design
+abbrev pub actions_in : Elaborated → (sizes : List ℕ) → declared.Module → List Action
+actions_in design sizes m = map (action_of design (scope_of design m) sizes) (statements_in design.source m)
 
--- the statement of an object that is a process; the objects of a module stand behind it in the order of its items
-abbrev pub body_at : List Item → ℕ → Option ℕ
-body_at items zero = None
-body_at items (suc n) = option_and_then body_of (slice_get items n)
+-- the statements of a design as actions, module by module
+abbrev pub actions_of : Elaborated → (sizes : List ℕ) → List Action
+actions_of design sizes = flat_map (actions_in design sizes) design.source.modules
 
--- the object of a number as a process of the text's module, if it is one
-abbrev pub process_at : List Item → ℕ → Option Process
-process_at items object =
-    option_map (λ body. process.Procedure (record { 0 = object }) (record { 0 = first_module }) body) (body_at items object)
+-- ---- processes
+
+-- the context of a continuous assignment's value: the greater of the value's own size and the net's width (clauses 5.4.1 and 6.1)
+abbrev pub driven_size : Elaborated → (sizes : List ℕ) → (net value : ℕ) → ℕ
+driven_size design sizes net value = max (width_in design net) (slice_index_or sizes value 1)
+
+-- a continuous assignment of the expression at a place to a net; none where no vector has the size of its context (clause 6.1)
+abbrev pub assignment_of : Elaborated → (sizes : List ℕ) → (object net instance : ObjectId) → (value : ℕ) → Option Process
+assignment_of design sizes object net instance value =
+    option_map (process.Assignment object net instance) (sized_at value (driven_size design sizes net.0 value))
+
+-- a process of the design as one that a simulator runs: a connection inwards is a continuous assignment to the port, one outwards
+-- of the port to the net outside (clauses 6.1, 9.9 and 12.3.9.2)
+abbrev pub process_of : Elaborated → (sizes : List ℕ) → run.Process → Option Process
+process_of design sizes (going.Procedure object instance body) = Some (process.Procedure object instance body)
+process_of design sizes (going.Assignment object instance net value) = assignment_of design sizes object net instance value
+process_of design sizes (going.Inward port instance value) = assignment_of design sizes port port instance value
+process_of design sizes (going.Outward port net) = Some (process.Connection port net)
 
 -- the object of a process; of a connection the port
 abbrev pub process_object : Process → ObjectId
@@ -217,9 +238,9 @@ process_object (process.Procedure object instance body) = object
 process_object (process.Assignment object net instance value) = object
 process_object (process.Connection port net) = port
 
--- the processes of a design, in the order of their objects
-abbrev pub processes_of : Elaborated → List Process
-processes_of design = filter_map (process_at design.source.items) (below (length design.tree.nodes))
+-- the processes of a design, by the sizes of its expressions
+abbrev pub processes_of : Elaborated → (sizes : List ℕ) → List Process
+processes_of design sizes = filter_map (process_of design sizes) (elaborated.processes_of design)
 
 -- the tables of a design
 unfoldable pub tables_of : Elaborated → Tables
@@ -227,8 +248,8 @@ tables_of design = record {
   operands = operands_of design;
   widths = widths_of design;
   sizes = sizes_of design;
-  actions = map (action_of design first_module (sizes_of design)) design.source.statements;
-  processes = processes_of design;
+  actions = actions_of design (sizes_of design);
+  processes = processes_of design (sizes_of design);
 }
 
 -- each width and each size is that of a vector

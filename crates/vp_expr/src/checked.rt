@@ -1,5 +1,6 @@
-ghost use Rattle.std.specs.Prelude.{◌≡◌, ◌≤◌, true, map, All, None, IfErr, IfOk, OnOk};
+ghost use Rattle.std.specs.Prelude.{◌≡◌, ◌≤◌, true, length, map, All, None, IfErr, IfOk, OnOk};
 ghost use Rattle.std.specs.List.{list_all};
+ghost use Rattle.vp_processes.specs.Processes.{processes_of};
 ghost use Rattle.vp_expr.specs.Arena.{is_width};
 ghost use Rattle.vp_expr.specs.Checks.{Explains, IsChecked, refusal_of};
 ghost use Rattle.vp_expr.specs.Tables.{tables_of};
@@ -48,10 +49,11 @@ impl Checked {
         self.design.objects()
     }
 
-    /// What a simulator runs.
+    /// What a simulator runs, with all processes of the design.
     pub fn tables(&self) -> &Tables
         ensures tables { result.now ≡ tables_of self.now }
         ensures fit { list_all is_width result.now.sizes ≡ true }
+        ensures whole { length result.now.processes ≡ length (processes_of self.now) }
     {
         &self.tables
     }

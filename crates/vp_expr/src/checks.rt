@@ -1,16 +1,18 @@
 // What is refused of a design's expressions, by the place of each fault.
-ghost use Rattle.std.specs.Prelude.{◌≡◌, ◌++◌, ◌∷◌, [], false, slice_index_or, IfOk};
+ghost use Rattle.std.specs.Prelude.{◌≡◌, drop, option_map, slice_index_or, IfOk, OnOk};
 ghost use Rattle.vp_parse.specs.Places.{earliest};
-ghost use Rattle.vp_expr.specs.Checks.{bad_at, bad_name, bad_target, bits_named, counted, counted_size, counted_sizes, first_bad, first_signed, first_wide, first_wide_of, is_bad, is_relational, is_wide, is_wide_part, node_size, range_in, signed_at, wide_among, wide_at, wide_item, wide_target};
-ghost use Rattle.vp_expr.specs.Tables.{first_module, operands_of};
+ghost use Rattle.vp_modules.specs.Refusals.{first_in};
+ghost use Rattle.vp_expr.specs.Checks.{bad_at, bad_in, bad_name, bad_target, bits_named, counted, counted_size, counted_sizes, first_bad, first_signed, first_wide, first_wide_in, first_wide_of, is_bad, is_relational, is_wide, is_wide_part, node_size, range_in, signed_at, signed_in, wide_among, wide_at, wide_declared, wide_item, wide_target, with_sizes};
+ghost use Rattle.vp_expr.specs.Tables.{operands_of, scope_of};
 
 use crate::operand::Operand;
-use crate::resolving::{FIRST_MODULE, object_named, operand_of};
+use crate::resolving::{object_named, operand_of, scope_of};
 use crate::sizes::{operand_size, sign_at, signs_of};
 use std::alloc::{AllocError, Global};
 use vp_elab::{Design, ObjectId, range_width};
+use vp_modules::{expressions_of, items_of, statements_of};
 use vp_parse::{
-    BinaryOperator, DeclaredRange, Expression, Item, Selection, Source, Statement, earlier,
+    BinaryOperator, DeclaredRange, Expression, Item, Module, Selection, Source, Statement, earlier,
 };
 
 /// The greatest width of a vector, in bits.
@@ -32,8 +34,8 @@ fn is_wide(size: u64) -> bool
 
 /// The bits of the name at a place: how many, and the lowest index, if there is one.
 #[tactic(auto, using(crate::proofs::Named::bits_there))]
-fn bits_named(design: &Design, scope: ObjectId, name: u32) -> Option<(u32, Option<u16>)>
-    ensures { result ≡ bits_named design.now scope.0 name }
+fn bits_named(design: &Design, scope: Option<ObjectId>, name: u32) -> Option<(u32, Option<u16>)>
+    ensures { result ≡ bits_named design.now (option_map (λ o. o.0) scope) name }
 {
     let object = object_named(design, scope, name)?;
     let object = design.object(object)?;
@@ -41,8 +43,8 @@ fn bits_named(design: &Design, scope: ObjectId, name: u32) -> Option<(u32, Optio
 }
 
 /// How many bits are selected of the name at a place; 1 where there is no such object.
-fn named_size(design: &Design, scope: ObjectId, name: u32, selection: Selection) -> u64
-    ensures { result ≡ node_size design.now scope.0 name selection }
+fn named_size(design: &Design, scope: Option<ObjectId>, name: u32, selection: Selection) -> u64
+    ensures { result ≡ node_size design.now (option_map (λ o. o.0) scope) name selection }
 {
     let Some((width, _lowest)) = bits_named(design, scope, name) else {
         return 1;
@@ -55,8 +57,13 @@ fn named_size(design: &Design, scope: ObjectId, name: u32, selection: Selection)
 }
 
 /// The size of an expression as it is counted, in bits, by the sizes of those before it.
-fn counted_size(design: &Design, scope: ObjectId, sizes: &[u8], expression: Expression) -> u8
-    ensures { result ≡ counted_size design.now scope.0 sizes.now expression }
+fn counted_size(
+    design: &Design,
+    scope: Option<ObjectId>,
+    sizes: &[u8],
+    expression: Expression,
+) -> u8
+    ensures { result ≡ counted_size design.now (option_map (λ o. o.0) scope) sizes.now expression }
 {
     counted(match expression {
         Expression::Name { name, selection } => named_size(design, scope, name, selection),
@@ -65,13 +72,31 @@ fn counted_size(design: &Design, scope: ObjectId, sizes: &[u8], expression: Expr
     })
 }
 
-/// The sizes of the expressions of a design, as they are counted. Takes memory.
+/// The sizes of the expressions of a module, as they are counted, behind those before them. Takes memory.
+fn add_counted(
+    design: &Design,
+    scope: Option<ObjectId>,
+    module: Module,
+    sizes: &mut Vec<u8>,
+) -> Result<(), AllocError>
+    requires { option_map (λ o. o.0) scope ≡ scope_of design.now «module» }
+    ensures { OnOk result (sizes.new.items ≡ with_sizes design.now sizes.old.items «module») }
+{
+    for expression in expressions_of(design.source(), module) {
+        let size = counted_size(design, scope, sizes.as_slice(), *expression);
+        sizes.push(size)?;
+    }
+    Ok(())
+}
+
+/// The sizes of the expressions of a design, as they are counted, module by module. Takes memory.
 fn counted_sizes(alloc: Global, design: &Design) -> Result<Vec<u8>, AllocError>
     ensures { IfOk result (λ sizes. sizes.items ≡ counted_sizes design.now) }
 {
     let mut sizes: Vec<u8> = Vec::new(alloc);
-    for expression in design.source().expressions.as_slice() {
-        sizes.push(counted_size(design, FIRST_MODULE, &sizes, *expression))?;
+    for (number, module) in design.source().modules.as_slice().iter().enumerate() {
+        let scope = scope_of(design, number);
+        add_counted(design, scope, *module, &mut sizes)?;
     }
     Ok(sizes)
 }
@@ -185,6 +210,46 @@ fn first_wide_of(expressions: &[Expression], sizes: &[u8]) -> Option<u32>
     first
 }
 
+/// The first place of a module that is too wide, in a declaration or in a statement's target.
+fn wide_declared(source: &Source, module: Module) -> Option<u32>
+    ensures { result ≡ wide_declared source.now «module» }
+{
+    let declared = first_wide_item(items_of(source, module));
+    earlier(declared, first_wide_target(statements_of(source, module)))
+}
+
+/// The first place of a text that is too wide, in a declaration or in a statement's target.
+fn first_wide_declared(source: &Source) -> Option<u32>
+    ensures { result ≡ first_in source.now (wide_declared source.now) }
+{
+    let mut first = None;
+    for module in source.modules.as_slice() {
+        first = earlier(first, wide_declared(source, *module));
+    }
+    first
+}
+
+/// The sizes behind so many.
+fn sizes_behind(sizes: &[u8], count: usize) -> &[u8]
+    ensures { result.now ≡ drop count sizes.now }
+{
+    sizes.get(count..).unwrap_or(&[])
+}
+
+/// The first expression of a text that is too wide by itself, by the sizes of all.
+fn first_wide_expression(source: &Source, sizes: &[u8]) -> Option<u32>
+    ensures { result ≡ first_wide_in source.now source.now.modules sizes.now }
+{
+    let mut first = None;
+    let mut left = sizes;
+    for module in source.modules.as_slice() {
+        let expressions = expressions_of(source, *module);
+        first = earlier(first, first_wide_of(expressions, left));
+        left = sizes_behind(left, expressions.len());
+    }
+    first
+}
+
 /// The first place that is too wide: in a declaration, in a statement's target, or in an expression. Takes memory.
 #[tactic(auto, unfolding(crate::specs::Checks::first_wide))]
 pub fn first_wide(alloc: Global, design: &Design) -> Result<Option<u32>, AllocError>
@@ -192,10 +257,8 @@ pub fn first_wide(alloc: Global, design: &Design) -> Result<Option<u32>, AllocEr
 {
     let source = design.source();
     let sizes = counted_sizes(alloc, design)?;
-    let declared = first_wide_item(source.items.as_slice());
-    let first = earlier(declared, first_wide_target(source.statements.as_slice()));
-    let expressions = source.expressions.as_slice();
-    Ok(earlier(first, first_wide_of(expressions, &sizes)))
+    let declared = first_wide_declared(source);
+    Ok(earlier(declared, first_wide_expression(source, &sizes)))
 }
 
 /// An operator compares the sizes of numbers.
@@ -238,6 +301,18 @@ fn first_signed_of(signs: &[bool], expressions: &[Expression]) -> Option<u32>
     first
 }
 
+/// The first relational operator of a text on two signed operands, by the signs of expressions.
+fn first_signed_in(source: &Source, signs: &[bool]) -> Option<u32>
+    ensures { result ≡ first_in source.now (signed_in source.now signs.now) }
+{
+    let mut first = None;
+    for module in source.modules.as_slice() {
+        let expressions = expressions_of(source, *module);
+        first = earlier(first, first_signed_of(signs, expressions));
+    }
+    first
+}
+
 /// The first relational operator on two signed operands, by the expressions of the design as operands. Takes memory.
 #[tactic(auto, unfolding(crate::specs::Checks::first_signed))]
 pub fn first_signed(
@@ -249,8 +324,7 @@ pub fn first_signed(
     ensures { IfOk result (λ first. first ≡ first_signed design.now) }
 {
     let signs = signs_of(alloc, operands)?;
-    let expressions = design.source().expressions.as_slice();
-    Ok(first_signed_of(signs.as_slice(), expressions))
+    Ok(first_signed_in(design.source(), signs.as_slice()))
 }
 
 /// A selection is bad of what has bits from the lowest on: of a scalar, or of a part that is not inside.
@@ -268,8 +342,13 @@ fn is_bad(lowest: Option<u16>, width: u32, selection: Selection) -> bool
 }
 
 /// The name at a place, where the selection of its bits is bad.
-fn bad_name(design: &Design, scope: ObjectId, name: u32, selection: Selection) -> Option<u32>
-    ensures { result ≡ bad_name design.now scope.0 name selection }
+fn bad_name(
+    design: &Design,
+    scope: Option<ObjectId>,
+    name: u32,
+    selection: Selection,
+) -> Option<u32>
+    ensures { result ≡ bad_name design.now (option_map (λ o. o.0) scope) name selection }
 {
     let (width, lowest) = bits_named(design, scope, name)?;
     if is_bad(lowest, width, selection) {
@@ -280,8 +359,8 @@ fn bad_name(design: &Design, scope: ObjectId, name: u32, selection: Selection) -
 }
 
 /// The place of a bad selection in an expression, or of a replication of 0.
-fn bad_at(design: &Design, scope: ObjectId, expression: Expression) -> Option<u32>
-    ensures { result ≡ bad_at design.now scope.0 expression }
+fn bad_at(design: &Design, scope: Option<ObjectId>, expression: Expression) -> Option<u32>
+    ensures { result ≡ bad_at design.now (option_map (λ o. o.0) scope) expression }
 {
     match expression {
         Expression::Name { name, selection } => bad_name(design, scope, name, selection),
@@ -291,8 +370,8 @@ fn bad_at(design: &Design, scope: ObjectId, expression: Expression) -> Option<u3
 }
 
 /// The name of an assignment's target whose selection is bad.
-fn bad_target(design: &Design, scope: ObjectId, statement: Statement) -> Option<u32>
-    ensures { result ≡ bad_target design.now scope.0 statement }
+fn bad_target(design: &Design, scope: Option<ObjectId>, statement: Statement) -> Option<u32>
+    ensures { result ≡ bad_target design.now (option_map (λ o. o.0) scope) statement }
 {
     match statement {
         Statement::Assign {
@@ -304,24 +383,43 @@ fn bad_target(design: &Design, scope: ObjectId, statement: Statement) -> Option<
     }
 }
 
-fn first_bad_target(design: &Design) -> Option<u32>
-    ensures { result ≡ earliest (bad_target design.now first_module) design.now.source.statements }
+fn first_bad_target(
+    design: &Design,
+    scope: Option<ObjectId>,
+    statements: &[Statement],
+) -> Option<u32>
+    ensures { result ≡ earliest (bad_target design.now (option_map (λ o. o.0) scope)) statements.now }
 {
     let mut first = None;
-    for statement in design.source().statements.as_slice() {
-        first = earlier(first, bad_target(design, FIRST_MODULE, *statement));
+    for statement in statements {
+        first = earlier(first, bad_target(design, scope, *statement));
     }
     first
 }
 
-fn first_bad_operand(design: &Design) -> Option<u32>
-    ensures { result ≡ earliest (bad_at design.now first_module) design.now.source.expressions }
+fn first_bad_operand(
+    design: &Design,
+    scope: Option<ObjectId>,
+    expressions: &[Expression],
+) -> Option<u32>
+    ensures { result ≡ earliest (bad_at design.now (option_map (λ o. o.0) scope)) expressions.now }
 {
     let mut first = None;
-    for expression in design.source().expressions.as_slice() {
-        first = earlier(first, bad_at(design, FIRST_MODULE, *expression));
+    for expression in expressions {
+        first = earlier(first, bad_at(design, scope, *expression));
     }
     first
+}
+
+/// The first bad selection of a module.
+fn bad_in(design: &Design, scope: Option<ObjectId>, module: Module) -> Option<u32>
+    requires { option_map (λ o. o.0) scope ≡ scope_of design.now «module» }
+    ensures { result ≡ bad_in design.now «module» }
+{
+    let source = design.source();
+    let target = first_bad_target(design, scope, statements_of(source, module));
+    let operand = first_bad_operand(design, scope, expressions_of(source, module));
+    earlier(target, operand)
 }
 
 /// The first bad selection.
@@ -329,5 +427,10 @@ fn first_bad_operand(design: &Design) -> Option<u32>
 pub fn first_bad(design: &Design) -> Option<u32>
     ensures { result ≡ first_bad design.now }
 {
-    earlier(first_bad_target(design), first_bad_operand(design))
+    let mut first = None;
+    for (number, module) in design.source().modules.as_slice().iter().enumerate() {
+        let scope = scope_of(design, number);
+        first = earlier(first, bad_in(design, scope, *module));
+    }
+    first
 }

@@ -2,9 +2,11 @@ ghost use Rattle.std.specs.Prelude.{◌≡◌, ◌<◌, drop, length, slice_get,
 ghost use Rattle.vp_bits.specs.Vector.{IsWidth};
 ghost use Rattle.vp_expr.specs.Arena.{blank, term_below, term_made, value_in, IsSized};
 ghost use Rattle.vp_parse_expr.specs.Grammar.{Expr};
+ghost use Rattle.vp_parse.specs.declared.source.Module.{Module};
+ghost use Rattle.vp_parse.specs.Whole.{AreWhole};
 ghost use Rattle.vp_expr.specs.Derived.{StandsAt, derived_value};
 ghost use Rattle.vp_expr.specs.Evaluation.{eval, given_to, own_eval};
-ghost use Rattle.vp_expr.specs.Tables.{first_module, tables_of};
+ghost use Rattle.vp_expr.specs.Tables.{scope_of, tables_of};
 ghost use Rattle.vp_expr.specs.Terms.{size, value};
 
 use crate::checked::Checked;
@@ -191,11 +193,11 @@ fn value_of(tables: &Tables, values: &[Bits], place: usize, operand: Operand, co
 }
 
 /// The value of an expression of a design in its context, for an instance of the module in which it stands, from the values of
-/// the objects (IEEE Std 1364-2005, 5.4): that of the derivation that stands at its place; one unknown bit, extended by zeros,
-/// behind the end.
+/// the objects (IEEE Std 1364-2005, 5.4): that of the derivation that stands at its place in a module, whose names are those of
+/// the module, where the modules hold all expressions; one unknown bit, extended by zeros, behind the end.
 pub fn eval(checked: &Checked, values: &Values, instance: ObjectId, id: ExprId) -> Bits
     ensures value { result ≡ eval (tables_of checked.now) (drop instance.0 values.now) id }
-    ensures derived { (e : Expr) → StandsAt checked.now id.place e → result ≡ derived_value checked.now first_module (drop instance.0 values.now) id.size e }
+    ensures derived { AreWhole checked.now.source → (m : Module) (e : Expr) → StandsAt checked.now m id.place e → result ≡ derived_value checked.now (scope_of checked.now m) (drop instance.0 values.now) id.size e }
 {
     let tables = checked.tables();
     let values = values.of_instance(instance);

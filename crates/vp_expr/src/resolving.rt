@@ -1,7 +1,7 @@
 // Expressions with slots in place of names.
-ghost use Rattle.std.specs.Prelude.{◌≡◌, ◌-◌, false, option_map};
+ghost use Rattle.std.specs.Prelude.{◌≡◌, ◌-◌, false, option_and_then, option_map, slice_get};
 ghost use Rattle.vp_expr.specs.Values.{no_value};
-ghost use Rattle.vp_expr.specs.Tables.{first_module, infix_of, lowest_in, named_operand, object_named, operand_of, selected_operand, slot_in, unary_operand, width_in};
+ghost use Rattle.vp_expr.specs.Tables.{infix_of, lowest_in, named_operand, object_named, operand_of, scope_of, selected_operand, slot_in, unary_operand, width_in};
 
 use crate::literal::{based_bits, literal_bits, number_bits};
 use crate::operand::{Binary, Comparison, Infix, Logical, Operand, Reduction, Shift, Slot, Unary};
@@ -10,21 +10,30 @@ use vp_bits::Bits;
 use vp_elab::{Design, ObjectId, range_width};
 use vp_parse::{BinaryOperator, Expression, Range, Selection, UnaryOperator};
 
-/// The object of the module of a text, which has at most one: the first.
-pub const FIRST_MODULE: ObjectId = ObjectId(0);
+/// The object in which the names of the module of a number are looked up: its first, since a name has the same slot in each
+/// instance of a module. None where the module has no object.
+pub fn scope_of(design: &Design, number: usize) -> Option<ObjectId>
+    ensures { option_map (λ o. o.0) result ≡ option_and_then (scope_of design.now) (slice_get design.now.source.modules number) }
+{
+    design.first_instance(number)
+}
 
 /// The object of the name at a place, by the object of the module in which it stands.
-pub fn object_named(design: &Design, scope: ObjectId, place: u32) -> Option<ObjectId>
-    ensures { option_map (λ o. o.0) result ≡ object_named design.now scope.0 place }
+pub fn object_named(design: &Design, scope: Option<ObjectId>, place: u32) -> Option<ObjectId>
+    ensures { option_map (λ o. o.0) result ≡ object_named design.now (option_map (λ o. o.0) scope) place }
 {
+    let scope = scope?;
     design.find(Some(scope), design.source().word(place))
 }
 
 /// How far an object stands behind the object of its module.
-pub fn slot_in(scope: ObjectId, object: ObjectId) -> Slot
-    ensures { result ≡ slot_in scope.0 object.0 }
+pub fn slot_in(scope: Option<ObjectId>, object: ObjectId) -> Slot
+    ensures { result ≡ slot_in (option_map (λ o. o.0) scope) object.0 }
 {
-    Slot(object.0.saturating_sub(scope.0))
+    match scope {
+        Some(scope) => Slot(object.0.saturating_sub(scope.0)),
+        None => Slot(object.0),
+    }
 }
 
 /// How many bits an object has; 0 where there is none.
@@ -70,11 +79,11 @@ fn unknown_bit() -> Operand
 /// What is selected of an object as an operand; one unknown bit in place of an object or a part that no vector can be.
 fn selected_operand(
     design: &Design,
-    scope: ObjectId,
+    scope: Option<ObjectId>,
     object: ObjectId,
     selection: Selection,
 ) -> Operand
-    ensures { result ≡ selected_operand design.now scope.0 object.0 selection }
+    ensures { result ≡ selected_operand design.now (option_map (λ o. o.0) scope) object.0 selection }
 {
     let slot = slot_in(scope, object);
     match selection {
@@ -99,8 +108,13 @@ fn selected_operand(
 }
 
 /// What is selected of a name as an operand; one unknown bit where there is no such object.
-fn named_operand(design: &Design, scope: ObjectId, name: u32, selection: Selection) -> Operand
-    ensures { result ≡ named_operand design.now scope.0 (object_named design.now scope.0 name) selection }
+fn named_operand(
+    design: &Design,
+    scope: Option<ObjectId>,
+    name: u32,
+    selection: Selection,
+) -> Operand
+    ensures { let scope = option_map (λ o. o.0) scope in result ≡ named_operand design.now scope (object_named design.now scope name) selection }
 {
     match object_named(design, scope, name) {
         Some(object) => selected_operand(design, scope, object, selection),
@@ -161,8 +175,8 @@ fn constant(bits: Bits, is_signed: bool) -> Operand
 }
 
 /// An expression of a module as an operand, by the module's object: a slot in place of a name, its value in place of a literal.
-pub fn operand_of(design: &Design, scope: ObjectId, expression: Expression) -> Operand
-    ensures { result ≡ operand_of design.now scope.0 expression }
+pub fn operand_of(design: &Design, scope: Option<ObjectId>, expression: Expression) -> Operand
+    ensures { result ≡ operand_of design.now (option_map (λ o. o.0) scope) expression }
 {
     match expression {
         Expression::Name { name, selection } => named_operand(design, scope, name, selection),

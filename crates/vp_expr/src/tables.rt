@@ -1,20 +1,19 @@
-ghost use Rattle.std.specs.Prelude.{◌≡◌, true, false, map, IfOk, IfSome, MatchOption};
-ghost use Rattle.std.specs.List.{filter_map};
-ghost use Rattle.vp_elab.specs.Tree.{below};
+ghost use Rattle.std.specs.Prelude.{◌≡◌, ◌++◌, true, false, option_map, IfOk, IfSome, MatchOption, OnOk};
 ghost use Rattle.vp_expr.specs.Arena.{fitting};
 ghost use Rattle.vp_expr.specs.Checks.{IsChecked};
-ghost use Rattle.vp_expr.specs.Tables.{action_of, all_fit, assign_target, assign_value, body_at, body_of, first_module, named_target, object_named, operands_of, processes_of, selected_target, sized_at, target_width, widths_of};
+ghost use Rattle.vp_expr.specs.Tables.{action_of, actions_in, actions_of, all_fit, assign_target, assign_value, assignment_of, named_target, object_named, operands_in, operands_of, process_of, processes_of, scope_of, selected_target, sized_at, target_width, widths_of};
 
 use crate::id::ExprId;
 use crate::operand::{Operand, Slot};
 use crate::resolving::{
-    FIRST_MODULE, lowest_in, object_named, operand_of, part_place, slot_in, width_in,
+    lowest_in, object_named, operand_of, part_place, scope_of, slot_in, width_in,
 };
 use crate::sizes::{fitted, size_at, sizes_of};
 use std::alloc::{AllocError, Global};
 use vp_elab::{Design, ObjectId, range_width};
 use vp_list::Sequence;
-use vp_parse::{Item, Selection, Statement};
+use vp_modules::{expressions_of, statements_of};
+use vp_parse::{Module, Selection, Statement};
 
 /// What of an object of an instance an assignment sets (clause 5.2.1).
 #[derive(Clone, Copy)]
@@ -106,7 +105,7 @@ pub struct Tables {
 }
 
 /// The expression at a place in a context of a size, in bits; none where no vector has that.
-fn sized_at(place: u32, size: u8) -> Option<ExprId>
+fn sized_at(place: u32, size: u32) -> Option<ExprId>
     ensures { result ≡ sized_at place size }
 {
     Some(ExprId::new(place, fitted(u64::from(size))?))
@@ -115,11 +114,11 @@ fn sized_at(place: u32, size: u8) -> Option<ExprId>
 /// What is selected of an object as a target; none where it is an object or a part that no vector can be.
 fn selected_target(
     design: &Design,
-    scope: ObjectId,
+    scope: Option<ObjectId>,
     object: ObjectId,
     selection: Selection,
 ) -> Option<Target>
-    ensures { result ≡ selected_target design.now scope.0 object.0 selection }
+    ensures { result ≡ selected_target design.now (option_map (λ o. o.0) scope) object.0 selection }
 {
     let slot = slot_in(scope, object);
     match selection {
@@ -141,8 +140,13 @@ fn selected_target(
 }
 
 /// What is selected of a name as a target; none where there is no such object.
-fn named_target(design: &Design, scope: ObjectId, name: u32, selection: Selection) -> Option<Target>
-    ensures { result ≡ named_target design.now scope.0 (object_named design.now scope.0 name) selection }
+fn named_target(
+    design: &Design,
+    scope: Option<ObjectId>,
+    name: u32,
+    selection: Selection,
+) -> Option<Target>
+    ensures { let scope = option_map (λ o. o.0) scope in result ≡ named_target design.now scope (object_named design.now scope name) selection }
 {
     match object_named(design, scope, name) {
         Some(object) => selected_target(design, scope, object, selection),
@@ -175,12 +179,12 @@ fn assign_target(sizes: &[u8], value: u32, target: Target) -> Action
     ensures { result ≡ assign_target sizes.now value target }
 {
     let size = target_width(target).max(size_at(sizes, value));
-    assign_value(target, sized_at(value, size))
+    assign_value(target, sized_at(value, u32::from(size)))
 }
 
 /// A statement of a module as an action, by the module's object.
-fn action_of(design: &Design, scope: ObjectId, sizes: &[u8], statement: Statement) -> Action
-    ensures { result ≡ action_of design.now scope.0 sizes.now statement }
+fn action_of(design: &Design, scope: Option<ObjectId>, sizes: &[u8], statement: Statement) -> Action
+    ensures { result ≡ action_of design.now (option_map (λ o. o.0) scope) sizes.now statement }
 {
     match statement {
         Statement::Empty => Action::Nothing,
@@ -196,58 +200,126 @@ fn action_of(design: &Design, scope: ObjectId, sizes: &[u8], statement: Statemen
     }
 }
 
-/// The statement of an item that is a process.
-fn body_of(item: Item) -> Option<u32>
-    ensures { result ≡ body_of item }
+/// A continuous assignment of the expression at a place to a net, at the greater of the net's width and its own size.
+fn assignment_of(
+    design: &Design,
+    sizes: &[u8],
+    object: ObjectId,
+    net: ObjectId,
+    instance: ObjectId,
+    value: u32,
+) -> Option<Process>
+    ensures { result ≡ assignment_of design.now sizes.now object net instance value }
 {
-    match item {
-        Item::Initial { body, .. } => Some(body),
-        _ => None,
+    let size = width_in(design, net).max(u32::from(size_at(sizes, value)));
+    let value = sized_at(value, size)?;
+    Some(Process::Assignment {
+        object,
+        net,
+        instance,
+        value,
+    })
+}
+
+/// A process of a design as one that a simulator runs; none where no vector has the size of its value's context.
+fn process_of(design: &Design, sizes: &[u8], process: vp_processes::Process) -> Option<Process>
+    ensures { result ≡ process_of design.now sizes.now process }
+{
+    match process {
+        vp_processes::Process::Procedure {
+            object,
+            instance,
+            body,
+        } => Some(Process::Procedure {
+            object,
+            instance,
+            body,
+        }),
+        vp_processes::Process::Assignment {
+            object,
+            instance,
+            net,
+            value,
+        } => assignment_of(design, sizes, object, net, instance, value),
+        vp_processes::Process::Inward {
+            port,
+            instance,
+            value,
+        } => assignment_of(design, sizes, port, port, instance, value),
+        vp_processes::Process::Outward { port, net } => Some(Process::Connection { port, net }),
     }
 }
 
-/// The statement of an object that is a process.
-fn body_at(items: &[Item], object: u32) -> Option<u32>
-    ensures { result ≡ body_at items.now object }
+/// The expressions of a module as operands, behind others. Takes memory.
+fn add_operands(
+    design: &Design,
+    scope: Option<ObjectId>,
+    module: Module,
+    operands: &mut Vec<Operand>,
+) -> Result<(), AllocError>
+    requires { option_map (λ o. o.0) scope ≡ scope_of design.now «module» }
+    ensures { OnOk result (operands.new.items ≡ operands.old.items ++ operands_in design.now «module») }
 {
-    let place = object.checked_sub(1)?;
-    let item = items.get(place as usize)?;
-    body_of(*item)
+    for expression in expressions_of(design.source(), module) {
+        operands.push(operand_of(design, scope, *expression))?;
+    }
+    Ok(())
 }
 
-/// The expressions of a design as operands.
+/// The expressions of a design as operands, module by module. Takes memory.
 pub fn operands_of(alloc: Global, design: &Design) -> Result<Sequence<Operand>, AllocError>
     ensures { IfOk result (λ operands. operands ≡ operands_of design.now) }
 {
     let mut operands = Vec::new(alloc);
-    for expression in design.source().expressions.as_slice() {
-        operands.push(operand_of(design, FIRST_MODULE, *expression))?;
+    for (number, module) in design.source().modules.as_slice().iter().enumerate() {
+        let scope = scope_of(design, number);
+        add_operands(design, scope, *module, &mut operands)?;
     }
     Ok(Sequence::from_vec(operands))
 }
 
+/// The statements of a module as actions, behind others. Takes memory.
+fn add_actions(
+    design: &Design,
+    scope: Option<ObjectId>,
+    sizes: &[u8],
+    module: Module,
+    actions: &mut Vec<Action>,
+) -> Result<(), AllocError>
+    requires { option_map (λ o. o.0) scope ≡ scope_of design.now «module» }
+    ensures { OnOk result (actions.new.items ≡ actions.old.items ++ actions_in design.now sizes.now «module») }
+{
+    for statement in statements_of(design.source(), module) {
+        actions.push(action_of(design, scope, sizes, *statement))?;
+    }
+    Ok(())
+}
+
+/// The statements of a design as actions, module by module. Takes memory.
 fn actions_of(alloc: Global, design: &Design, sizes: &[u8]) -> Result<Sequence<Action>, AllocError>
-    ensures { IfOk result (λ actions. actions ≡ map (action_of design.now first_module sizes.now) design.now.source.statements) }
+    ensures { IfOk result (λ actions. actions ≡ actions_of design.now sizes.now) }
 {
     let mut actions = Vec::new(alloc);
-    for statement in design.source().statements.as_slice() {
-        actions.push(action_of(design, FIRST_MODULE, sizes, *statement))?;
+    for (number, module) in design.source().modules.as_slice().iter().enumerate() {
+        let scope = scope_of(design, number);
+        add_actions(design, scope, sizes, *module, &mut actions)?;
     }
     Ok(Sequence::from_vec(actions))
 }
 
-fn processes_of(alloc: Global, design: &Design) -> Result<Sequence<Process>, AllocError>
-    ensures { IfOk result (λ processes. processes ≡ processes_of design.now) }
+/// The processes of a design, by the sizes of its expressions. Takes memory.
+fn processes_of(
+    alloc: Global,
+    design: &Design,
+    sizes: &[u8],
+) -> Result<Sequence<Process>, AllocError>
+    ensures { IfOk result (λ processes. processes ≡ processes_of design.now sizes.now) }
 {
-    let items = design.source().items.as_slice();
+    let elaborated = vp_processes::processes_of(alloc, design)?;
     let mut processes = Vec::new(alloc);
-    for number in 0..design.count() {
-        if let Some(body) = body_at(items, number) {
-            processes.push(Process::Procedure {
-                object: ObjectId(number),
-                instance: FIRST_MODULE,
-                body,
-            })?;
+    for process in elaborated.as_slice() {
+        if let Some(process) = process_of(design, sizes, *process) {
+            processes.push(process)?;
         }
     }
     Ok(Sequence::from_vec(processes))
@@ -285,11 +357,12 @@ pub fn tables_of(
         return Ok(None);
     };
     let actions = actions_of(alloc, design, sizes.as_slice())?;
+    let processes = processes_of(alloc, design, sizes.as_slice())?;
     Ok(Some(Tables {
         operands,
         widths,
         sizes,
         actions,
-        processes: processes_of(alloc, design)?,
+        processes,
     }))
 }

@@ -1,15 +1,19 @@
-ghost use Rattle.std.specs.Prelude.{◌≡◌, ◌≤◌, ◌<◌, drop, replicate, length, map, slice_get, slice_index_or, slice_set, IfOk, IsOkUnless};
+ghost use Rattle.std.specs.Prelude.{◌≡◌, ◌<◌, drop, replicate, length, map, option_and_then, slice_get, slice_index_or, slice_set, IfOk, IsOkUnless};
+ghost use Rattle.std.specs.Option.{option_map_or};
 ghost use Rattle.vp_bits.specs.declared.bit.Bit.TheVariants.{Unknown};
+ghost use Rattle.vp_bits.specs.Vector.{IsWidth};
 ghost use Rattle.vp_expr.specs.Arena.{value_in};
-ghost use Rattle.vp_expr.specs.Start.{start_value};
-ghost use Rattle.vp_expr.specs.Values.{start_of, no_value};
+ghost use Rattle.vp_expr.specs.Start.{constant_at, item_constant, literal_constant, start_of, start_value};
+ghost use Rattle.vp_expr.specs.Values.{no_value};
 
 use crate::checked::Checked;
 use crate::fault::ExprError;
+use crate::literal::literal_bits;
 use std::alloc::Global;
 use std::marker::Model;
 use vp_bits::Bits;
-use vp_elab::{Kind, Object, ObjectId};
+use vp_elab::{Design, Kind, Object, ObjectId};
+use vp_parse::{Expression, Item, Source};
 
 /// A value for each object of a design. A contract sees their list, by object number.
 #[derive(Drop)]
@@ -26,15 +30,65 @@ impl Model for Values {
     ghost view = { λ v. v.values.items };
 }
 
-/// The value of an object before anything has happened; a localparam's is unknown yet.
-fn start(object: Object) -> Bits
-    requires { (1 ≤ object.width) × (object.width ≤ 64) }
-    ensures { result ≡ start_value object.kind object.width (replicate object.width Unknown) }
+/// So many bits of the value of a literal with a size; of any other expression so many unknown ones.
+fn literal_constant(source: &Source, width: u8, expression: Expression) -> Bits
+    requires { IsWidth width }
+    ensures { result ≡ literal_constant source.now width expression }
 {
+    match expression {
+        Expression::Literal { size, digits, .. } => {
+            literal_bits(size, source.word(digits)).resize(width)
+        }
+        _ => Bits::unknown(width),
+    }
+}
+
+/// The constant of an item of so many bits, which a localparam has; all unknown for any other.
+fn item_constant(source: &Source, width: u8, item: Item) -> Bits
+    requires { IsWidth width }
+    ensures { result ≡ item_constant source.now width item }
+{
+    let Item::LocalParameter { value, .. } = item else {
+        return Bits::unknown(width);
+    };
+    match source.expressions.as_slice().get(value as usize) {
+        Some(expression) => literal_constant(source, width, *expression),
+        None => Bits::unknown(width),
+    }
+}
+
+/// The constant of the object of a number, of so many bits.
+fn constant_at(design: &Design, id: ObjectId, width: u8) -> Bits
+    requires { IsWidth width }
+    ensures { result ≡ constant_at design.now id.0 width }
+{
+    match design.item(id) {
+        Some(item) => item_constant(design.source(), width, item),
+        None => Bits::unknown(width),
+    }
+}
+
+/// The value of an object before anything has happened, by its number.
+fn start(design: &Design, id: ObjectId, object: Object) -> Bits
+    requires { IsWidth object.width }
+    ensures { result ≡ start_value object.kind object.width (constant_at design.now id.0 object.width) }
+{
+    let width = object.width as u8;
     match object.kind {
-        Kind::Reg | Kind::Parameter => Bits::unknown(object.width as u8),
-        Kind::Net => Bits::high_impedance(object.width as u8),
+        Kind::Reg => Bits::unknown(width),
+        Kind::Net => Bits::high_impedance(width),
+        Kind::Parameter => constant_at(design, id, width),
         Kind::Module | Kind::Always | Kind::Initial | Kind::Assign => Bits::unknown(1),
+    }
+}
+
+/// The value of the object of a number before anything has happened; one unknown bit for a number that is not there.
+fn start_at(checked: &Checked, id: ObjectId) -> Bits
+    ensures { result ≡ option_map_or (start_of checked.now) (slice_get checked.now.tree.nodes id.0) no_value }
+{
+    match checked.objects().get(id.0 as usize) {
+        Some(object) => start(checked.design(), id, *object),
+        None => Bits::unknown(1),
     }
 }
 
@@ -51,12 +105,12 @@ pub fn value_in(values: &[Bits], place: u32) -> Bits
 impl Values {
     /// The values before anything has happened; takes memory (604).
     pub fn new(alloc: Global, checked: &Checked) -> Result<Values, ExprError>
-        ensures values { IfOk result (λ values. values ≡ map start_of checked.now.tree.nodes) }
+        ensures values { IfOk result (λ values. values ≡ map (start_of checked.now) checked.now.tree.nodes) }
         ensures err { IsOkUnless result ExprError.NoMemory }
     {
         let mut values = Vec::new(alloc);
-        for object in checked.objects() {
-            values.push(start(*object))?;
+        for number in 0..checked.design().count() {
+            values.push(start_at(checked, ObjectId(number)))?;
         }
         Ok(Values { values })
     }

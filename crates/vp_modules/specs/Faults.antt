@@ -1,11 +1,10 @@
 -- The numbers and the lines of the faults of a source.
 use Rattle.std.specs.Prelude.{ℕ}
 use Rattle.vp_modules.specs.declared.fault.ElabError.{ElabError}
-use Rattle.vp_modules.specs.declared.fault.ElabError.TheVariants.{Duplicate, UnknownModule, Recursive, Undeclared, BadTarget, BadConnection, MultipleDrivers, LeftOut, TooManyObjects, ViewportUnknown, NoMemory}
+use Rattle.vp_modules.specs.declared.fault.ElabError.TheVariants.{Duplicate, UnknownModule, Recursive, Undeclared, BadTarget, BadConnection, MultipleDrivers, TooManyObjects, ViewportUnknown, NoMemory}
 
 -- the number of a refusal (profile)
 abbrev pub code_of : ElabError → ℕ
-code_of (LeftOut line) = 402
 code_of (Duplicate line) = 501
 code_of (Undeclared line) = 502
 code_of (UnknownModule line) = 503
@@ -26,7 +25,6 @@ line_of (Undeclared line) = line
 line_of (BadTarget line) = line
 line_of (BadConnection line) = line
 line_of (MultipleDrivers line) = line
-line_of (LeftOut line) = line
 line_of TooManyObjects = 0
 line_of (ViewportUnknown line) = line
 line_of NoMemory = 0

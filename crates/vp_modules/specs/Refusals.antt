@@ -16,7 +16,7 @@ use Rattle.vp_parse.specs.declared.source.Module as declared
 use Rattle.vp_parse.specs.declared.source.Item.{Item}
 use Rattle.vp_parse.specs.declared.source.Item.TheVariants as item
 use Rattle.vp_modules.specs.declared.fault.ElabError.{ElabError}
-use Rattle.vp_modules.specs.declared.fault.ElabError.TheVariants.{Duplicate, UnknownModule, Recursive, Undeclared, BadTarget, BadConnection, MultipleDrivers, LeftOut, TooManyObjects, ViewportUnknown, NoMemory}
+use Rattle.vp_modules.specs.declared.fault.ElabError.TheVariants.{Duplicate, UnknownModule, Recursive, Undeclared, BadTarget, BadConnection, MultipleDrivers, TooManyObjects, ViewportUnknown, NoMemory}
 use Rattle.vp_modules.specs.Items.{connections_of, definition_of, expressions_in, instantiated, is_among, is_input, is_net, is_operand, is_reg, item_name, item_place, items_in, module_named, named_at, ports_in, statements_in}
 
 -- the first of two refusals that holds
@@ -34,7 +34,6 @@ Explains refusal (Undeclared line) = refusal ≡ Some (Undeclared line)
 Explains refusal (BadTarget line) = refusal ≡ Some (BadTarget line)
 Explains refusal (BadConnection line) = refusal ≡ Some (BadConnection line)
 Explains refusal (MultipleDrivers line) = refusal ≡ Some (MultipleDrivers line)
-Explains refusal (LeftOut line) = refusal ≡ Some (LeftOut line)
 Explains refusal TooManyObjects = refusal ≡ Some TooManyObjects
 Explains refusal (ViewportUnknown line) = refusal ≡ Some (ViewportUnknown line)
 

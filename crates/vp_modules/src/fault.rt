@@ -28,9 +28,6 @@ pub enum ElabError {
     /// A second driver of a net (505).
     #[error("line {line}: the net has a driver")]
     MultipleDrivers { line: u32 },
-    /// What is read and tested, but not simulated yet: a second module, or an item that is no reg and no `initial` (402).
-    #[error("line {line}: cannot be simulated yet")]
-    LeftOut { line: u32 },
     /// More than 65,536 objects, or a path of more than 64 steps (507).
     #[error("too many objects")]
     TooManyObjects,
@@ -45,7 +42,7 @@ pub enum ElabError {
 impl ElabError {
     ghost use Rattle.vp_modules.specs.Faults.{code_of, line_of};
 
-    /// The number of the refusal, 501 to 510, or 402.
+    /// The number of the refusal, 501 to 510.
     pub fn code(&self) -> u32
         ensures { result ≡ code_of self.now }
     {
@@ -56,7 +53,6 @@ impl ElabError {
             ElabError::Recursive { .. } => 504,
             ElabError::MultipleDrivers { .. } => 505,
             ElabError::BadConnection { .. } => 506,
-            ElabError::LeftOut { .. } => 402,
             ElabError::TooManyObjects => 507,
             ElabError::ViewportUnknown { .. } => 508,
             ElabError::BadTarget { .. } => 509,
@@ -76,7 +72,6 @@ impl ElabError {
             | ElabError::BadTarget { line }
             | ElabError::BadConnection { line }
             | ElabError::MultipleDrivers { line }
-            | ElabError::LeftOut { line }
             | ElabError::ViewportUnknown { line } => *line,
             ElabError::TooManyObjects | ElabError::NoMemory => 0,
         }

@@ -18,7 +18,9 @@ mod tables;
 
 pub use definitions::{definitions_of, tops_of};
 pub use fault::ElabError;
-pub use items::{items_of, name_of, place_of};
+pub use items::{
+    connections_of, expressions_of, is_input, items_of, name_of, place_of, ports_of, statements_of,
+};
 pub use names::Names;
 pub use resolved::{Resolved, check_modules};
 pub use tables::{Tables, tables_of};

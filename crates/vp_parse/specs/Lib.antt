@@ -6,3 +6,4 @@ pub mod Places
 pub mod Layout
 pub mod Placing
 pub mod Told
+pub mod Whole

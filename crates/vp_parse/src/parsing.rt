@@ -10,6 +10,7 @@ ghost use Rattle.vp_parse.specs.Placing.{lists_in, module_into, modules_into};
 ghost use Rattle.vp_parse.specs.Reading.{read};
 ghost use Rattle.vp_parse.specs.Told.{Tells, stopped_at as stop_at, place_told, line_told};
 ghost use Rattle.vp_parse.specs.Weight.{weight};
+ghost use Rattle.vp_parse.specs.Whole.{AreWhole};
 
 use crate::fault::ParseError;
 use crate::items::items;
@@ -164,6 +165,8 @@ pub fn parse(alloc: Global, text: &str, tokens: &[Token]) -> Result<Source, Pars
     requires { length tokens.now ≤ TEXT_LIMIT }
     // What is found lies in the source as a derivation of the symbols says.
     ensures found { IfOk result (λ source. (d : Derivation) × IsDerivation d (symbols_of text.now tokens.now) × IsSourceOf text.now tokens.now d source) }
+    // Its modules hold all expressions and statements that are found.
+    ensures whole { IfOk result (λ source. AreWhole source) }
     // What is refused has no derivation, unless memory ran out.
     ensures none { IfErr result (λ e. (e ≡ error.NoMemory) ⊎ ((d : Derivation) → IsDerivation d (symbols_of text.now tokens.now) → ⊥)) }
     // The fault is the one at which reading stops.

@@ -1,4 +1,5 @@
 mod commands;
+mod designs;
 mod dialogues;
 mod scripts;
 mod tokens;

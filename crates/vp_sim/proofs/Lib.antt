@@ -1,4 +1,7 @@
 pub mod Beginning
 pub mod Stacking
-pub mod Changes
+pub mod Choosing
+pub mod Marking
+pub mod Fans
 pub mod StepRows
+pub mod NetRows

@@ -1,14 +1,20 @@
-ghost use Rattle.std.specs.Prelude.{◌≡◌, ◌<◌, ◌∷◌, [], length, slice_index, slice_index_or, slice_set, take, ◌-◌, ◌++◌, None, IfErr, IfOk, IfSome, MatchOption, ◌≤◌, IsSomeAnd, IsOkUnless, OnErr, OnOk};
+ghost use Rattle.std.specs.Prelude.{◌≡◌, ◌<◌, ◌≤◌, [], length, slice_get, slice_index_or, slice_set, take, ◌-◌, ◌++◌, All, None, Some, IfErr, IfOk, IfSome, MatchOption, IsSomeAnd, IsOkUnless, OnErr, OnOk};
 ghost use Rattle.std.specs.List.{remove};
 ghost use Rattle.std.specs.Arc.{arc_value};
-ghost use Rattle.vp_elab.specs.Tree.{below};
+ghost use Rattle.vp_expr.specs.Tables.{tables_of};
 ghost use Rattle.vp_expr.specs.Values.{no_value};
 ghost use Rattle.vp_sim.specs.declared.fault.SimError.TheVariants.{NoMemory};
-ghost use Rattle.vp_sim.specs.States.{Explains, Goes, IsStep, Refuses, actions_in, active_behind, advance, change_of, changed_by, next_time, slot_done, source_of, start, step, turn, values_behind};
+ghost use Rattle.vp_sim.specs.Events.{with_evaluations};
+ghost use Rattle.vp_sim.specs.Fanouts.{net_at, object_at};
+ghost use Rattle.vp_sim.specs.States.{Explains, Goes, IsStep, Refuses, active_behind, advance, change_of, changed_by, eligible, evaluated, happened, next_time, over, performed, scheduled, slot_done, source_of, start, step, turn, updated, updated_by, values_behind};
 ghost use Rattle.vp_sim.specs.Statements.{action_at, first_event, left_behind, next_of};
 
 use crate::change::Change;
+use crate::eligible::{count_eligible, eligible_place, net_at};
+use crate::event::Event;
+use crate::fanout::Fanout;
 use crate::fault::SimError;
+use crate::region::ActiveRegion;
 use crate::stacks::Stacks;
 use crate::statement::{action_at, first_event, push_left_behind};
 use std::alloc::{AllocError, Global};
@@ -16,42 +22,32 @@ use std::marker::Model;
 use std::sync::Arc;
 use vp_bits::Bits;
 use vp_elab::{Design, ObjectId};
-use vp_expr::{Action, Checked, Values, eval, given_to};
+use vp_expr::{Action, Checked, ExprId, Process, Slot, Target, Values, eval, given_to};
 
 /// A simulation of a design (IEEE Std 1364-2005, 11.3; docs/FORMATS.md, "Simulation"). A contract sees its state.
 #[derive(Drop)]
 pub struct Sim {
     alloc: Global,
-    checked: Arc<Checked>,
+    fanout: Arc<Fanout>,
     /// In time units.
     time: u64,
     finished: bool,
     values: Values,
     stacks: Stacks,
-    /// The active events, each by the number of its process.
-    active: Vec<usize>,
+    active: ActiveRegion,
     /// Room for what an event leaves of its statement.
     scratch: Vec<u32>,
 }
 
 impl Model for Sim {
     ghost use Rattle.std.specs.Arc.{arc_value};
-    ghost use Rattle.vp_sim.specs.States.{State};
+    ghost use Rattle.vp_sim.specs.States.{IsSized, State};
 
     ghost Value = { State };
 
-    ghost view = { λ s. record { design = arc_value s.checked; time = s.time; finished = s.finished; values = s.values; remaining = s.stacks; active = s.active.items } };
-}
+    ghost view = { λ s. record { design = arc_value s.fanout; time = s.time; finished = s.finished; values = s.values; remaining = s.stacks; active = s.active.events } };
 
-/// The numbers below one, rising.
-fn numbers_below(alloc: Global, end: usize) -> Result<Vec<usize>, AllocError>
-    ensures { IfOk result (λ numbers. numbers.items ≡ below end) }
-{
-    let mut numbers = Vec::new(alloc);
-    for number in 0..end {
-        numbers.push(number)?;
-    }
-    Ok(numbers)
+    ghost invariant = { λ s. IsSized (arc_value s.fanout) s.values s.active.processes };
 }
 
 /// What changes where an object that has a value is given another.
@@ -68,6 +64,66 @@ fn change_of(object: ObjectId, old: Option<Bits>, value: Bits) -> Option<Change>
     Some(Change { object, value })
 }
 
+/// The object of an instance at a slot; none where the design has no such object.
+fn object_at(design: &Design, instance: ObjectId, slot: Slot) -> Option<ObjectId>
+    ensures { MatchOption result (length design.now.tree.nodes ≤ object_at instance slot.0) (λ o. o.0 ≡ object_at instance slot.0) }
+{
+    let number = u64::from(instance.0) + u64::from(slot.0);
+    if number < u64::from(design.count()) {
+        Some(ObjectId(number as u32))
+    } else {
+        None
+    }
+}
+
+/// A change happens, if there is one: the object has its value, and the evaluations of these processes become active.
+fn happen(
+    values: &mut Values,
+    active: &mut ActiveRegion,
+    change: &Option<Change>,
+    waiting: &[usize],
+)
+    requires fits { IfSome change.now (λ c. length (slice_index_or values.old c.object.0 c.value) ≡ length c.value) }
+    requires room { length waiting.now ≤ active.old.room }
+    requires within { All (λ p. p < active.old.processes) waiting.now }
+    ensures values { values.new ≡ values_behind values.old change.now }
+    ensures events { active.new.events ≡ with_evaluations active.old.events waiting.now }
+    ensures processes { active.new.processes ≡ active.old.processes }
+{
+    if let Some(change) = change {
+        values.set(change.object, change.value);
+    }
+    active.evaluate_all(waiting);
+}
+
+/// The event of a procedure at a place is over, unless something remains of the procedure.
+fn end_unless(active: &mut ActiveRegion, place: usize, rest: &[u32])
+    requires { place < length active.old.events }
+    ensures events { active.new.events ≡ active_behind active.old.events place rest.now }
+    ensures room { active.old.room ≤ active.new.room }
+    ensures processes { active.new.processes ≡ active.old.processes }
+{
+    if rest.is_empty() {
+        active.remove(place);
+    }
+}
+
+/// What is left of a statement behind its first event takes the place of the next one of a process.
+fn leave_behind(
+    actions: &[Action],
+    stacks: &mut Stacks,
+    scratch: &mut Vec<u32>,
+    process: usize,
+    statement: u32,
+) -> Result<(), AllocError>
+    ensures ok { OnOk result (stacks.new ≡ slice_set stacks.old process (take (length (slice_index_or stacks.old process []) - 1) (slice_index_or stacks.old process []) ++ left_behind actions.now (length actions.now) statement)) }
+    ensures err { OnErr result (stacks.new ≡ stacks.old) }
+{
+    scratch.clear();
+    push_left_behind(actions, statement, scratch)?;
+    stacks.replace_next(process, scratch)
+}
+
 impl Sim {
     /// A simulation of a design in which nothing has happened; or want of memory (806).
     pub fn new(alloc: Global, checked: Arc<Checked>) -> Result<Sim, SimError>
@@ -79,10 +135,11 @@ impl Sim {
         };
         let processes = checked.tables().processes.as_slice();
         let stacks = Stacks::new(alloc, processes)?;
-        let active = numbers_below(alloc, processes.len())?;
+        let active = ActiveRegion::new(alloc, processes.len())?;
+        let fanout = Fanout::new(alloc, checked)?;
         Ok(Sim {
             alloc,
-            checked,
+            fanout: Arc::new(alloc, fanout)?,
             time: 0,
             finished: false,
             values,
@@ -102,21 +159,35 @@ impl Sim {
         };
         Ok(Sim {
             alloc: self.alloc,
-            checked: Arc::try_clone(&self.checked)?,
+            fanout: Arc::try_clone(&self.fanout)?,
             time: self.time,
             finished: self.finished,
             values,
             stacks: self.stacks.try_clone(self.alloc)?,
-            active: Vec::from_slice(self.alloc, &self.active)?,
+            active: self.active.try_clone(self.alloc)?,
             scratch: Vec::new(self.alloc),
         })
+    }
+
+    /// The design, checked.
+    fn checked(&self) -> &Checked
+        ensures { result.now ≡ self.now.design }
+    {
+        self.fanout.checked()
+    }
+
+    /// The processes of the design.
+    fn processes(&self) -> &[Process]
+        ensures { result.now ≡ (tables_of self.now.design).processes }
+    {
+        self.checked().tables().processes.as_slice()
     }
 
     /// The design.
     pub fn design(&self) -> &Design
         ensures { result.now ≡ self.now.design }
     {
-        self.checked.design()
+        self.checked().design()
     }
 
     /// The values of the objects.
@@ -158,28 +229,48 @@ impl Sim {
     pub fn slot_done(&self) -> bool
         ensures { result ≡ slot_done self.now }
     {
-        self.active.is_empty()
+        self.active.events().is_empty()
     }
 
     /// How many events a step can take.
     pub fn eligible(&self) -> usize
-        ensures { result ≡ length self.now.active }
+        ensures { result ≡ length (eligible self.now) }
     {
-        self.active.len()
+        count_eligible(self.processes(), self.active.events())
     }
 
-    /// The process whose event is the k-th of those that a step can take.
+    /// The place of the k-th of the events that a step can take.
+    fn eligible_place(&self, k: usize) -> Option<usize>
+        ensures place { result ≡ slice_get (eligible self.now) k }
+        ensures within { IfSome result (λ place. place < length self.now.active) }
+    {
+        eligible_place(self.processes(), self.active.events(), k)
+    }
+
+    /// The event at a place.
+    fn event(&self, place: usize) -> Event
+        requires { place < length self.now.active }
+        ensures { slice_get self.now.active place ≡ Some result }
+    {
+        self.active.events()[place]
+    }
+
+    /// The process of a number.
+    fn process(&self, number: usize) -> Option<Process>
+        ensures { result ≡ slice_get (tables_of self.now.design).processes number }
+    {
+        self.processes().get(number).copied()
+    }
+
+    /// The object of the process whose event is the k-th of those that a step can take; of a connection its port.
     pub fn source(&self, k: usize) -> ObjectId
-        requires { k < length self.now.active }
+        requires { k < length (eligible self.now) }
         ensures { result ≡ source_of self.now k }
     {
-        match self
-            .checked
-            .tables()
-            .processes
-            .as_slice()
-            .get(self.active[k])
-        {
+        let Some(place) = self.eligible_place(k) else {
+            return ObjectId(0);
+        };
+        match self.process(self.event(place).process()) {
             Some(process) => process.object(),
             None => ObjectId(0),
         }
@@ -193,24 +284,27 @@ impl Sim {
         ensures refused { IfErr result (λ e. Explains (step self.old k) e) }
         ensures unchanged { OnErr result (self.new ≡ self.old) }
     {
-        let process = self.process(k)?;
-        self.turn(k, process)
+        let place = self.place(k)?;
+        match self.event(place) {
+            Event::Evaluation { process } => self.evaluate(place, process),
+            Event::Update { process, value } => self.update(place, process, value),
+        }
     }
 
-    /// The process whose event is the k-th of those that a step can take.
-    fn process(&self, k: usize) -> Result<usize, SimError>
-        ensures ok { IfOk result (λ process. step self.now k ≡ turn self.now k process (slice_index_or self.now.remaining process [])) }
-        ensures within { OnOk result (k < length self.now.active) }
+    /// The place of the k-th of the events that a step can take.
+    fn place(&self, k: usize) -> Result<usize, SimError>
+        ensures ok { IfOk result (λ place. step self.now k ≡ happened (tables_of self.now.design) self.now place (slice_get self.now.active place)) }
+        ensures within { IfOk result (λ place. place < length self.now.active) }
         ensures refused { IfErr result (λ e. step self.now k ≡ Refuses e) }
     {
         if self.finished {
             return Err(SimError::Finished);
         }
-        if self.active.is_empty() {
+        if self.active.events().is_empty() {
             return Err(SimError::Idle);
         }
-        match self.active.get(k).copied() {
-            Some(process) => Ok(process),
+        match self.eligible_place(k) {
+            Some(place) => Ok(place),
             None => Err(SimError::NoSuchChoice),
         }
     }
@@ -220,7 +314,7 @@ impl Sim {
         ensures ok { OnOk result (IsStep (step self.now k)) }
         ensures refused { IfErr result (λ e. step self.now k ≡ Refuses e) }
     {
-        self.process(k)?;
+        self.place(k)?;
         Ok(())
     }
 
@@ -232,7 +326,7 @@ impl Sim {
         if self.finished {
             return Err(SimError::Finished);
         }
-        if !self.active.is_empty() {
+        if !self.active.events().is_empty() {
             return Err(SimError::SlotNotDone);
         }
         Err(SimError::Idle)
@@ -255,68 +349,140 @@ impl Sim {
         self.stacks.of(process).last().copied()
     }
 
-    /// What an event of a process changes.
-    fn change_by(&self, action: Action) -> Option<Change>
-        ensures change { result ≡ changed_by self.now action }
+    /// What a change of an object to a value changes.
+    fn change_to(&self, object: ObjectId, value: Bits) -> Option<Change>
+        ensures change { result ≡ change_of object.0 (slice_get self.now.values object.0) value }
         ensures fits { IfSome result (λ c. length (slice_index_or self.now.values c.object.0 c.value) ≡ length c.value) }
     {
-        let Action::Assign { target, value } = action else {
-            return None;
-        };
-        let value = eval(&self.checked, &self.values, ObjectId(0), value);
-        let value = given_to(&self.checked, &self.values, ObjectId(0), target, value);
-        let object = ObjectId(target.slot().0);
         change_of(object, self.values.find(object), value)
     }
 
-    /// What the first event of a statement changes.
-    fn change_by_first(&self, statement: u32) -> Option<Change>
-        ensures change { result ≡ changed_by self.now (action_at (actions_in self.now) (first_event (actions_in self.now) (length (actions_in self.now)) statement)) }
+    /// What a blocking assignment in an instance changes.
+    fn change_by_assignment(
+        &self,
+        instance: ObjectId,
+        target: Target,
+        value: ExprId,
+    ) -> Option<Change>
+        ensures change { result ≡ changed_by (tables_of self.now.design) self.now.values instance (Action.Assign target value) }
         ensures fits { IfSome result (λ c. length (slice_index_or self.now.values c.object.0 c.value) ≡ length c.value) }
     {
-        let actions = self.checked.tables().actions.as_slice();
-        self.change_by(action_at(actions, first_event(actions, statement)))
+        let values = &self.values;
+        let Some(object) = object_at(self.design(), instance, target.slot()) else {
+            return None;
+        };
+        let value = eval(self.checked(), values, instance, value);
+        let value = given_to(self.checked(), values, instance, target, value);
+        self.change_to(object, value)
     }
 
-    /// What is left of a statement behind its first event takes the place of the next one of a process.
-    fn leave_behind(&mut self, process: usize, statement: u32) -> Result<(), SimError>
-        ensures ok { OnOk result (self.new ≡ record self.old { remaining = slice_set self.old.remaining process (take (length (slice_index_or self.old.remaining process []) - 1) (slice_index_or self.old.remaining process []) ++ left_behind (actions_in self.old) (length (actions_in self.old)) statement) }) }
-        ensures refused { IsOkUnless result NoMemory }
-        ensures unchanged { OnErr result (self.new ≡ self.old) }
+    /// What an event of a procedure in an instance changes.
+    fn change_by(&self, instance: ObjectId, action: Action) -> Option<Change>
+        ensures change { result ≡ changed_by (tables_of self.now.design) self.now.values instance action }
+        ensures fits { IfSome result (λ c. length (slice_index_or self.now.values c.object.0 c.value) ≡ length c.value) }
     {
-        let actions = self.checked.tables().actions.as_slice();
-        self.scratch.clear();
-        push_left_behind(actions, statement, &mut self.scratch)?;
-        self.stacks.replace_next(process, &self.scratch)?;
-        Ok(())
+        match action {
+            Action::Assign { target, value } => self.change_by_assignment(instance, target, value),
+            Action::Nothing | Action::Then { .. } => None,
+        }
     }
 
-    /// The active event at a place is over, and its process.
+    /// What the first event of a statement of a procedure in an instance changes.
+    fn change_by_first(&self, instance: ObjectId, statement: u32) -> Option<Change>
+        ensures change { let actions = (tables_of self.now.design).actions in result ≡ changed_by (tables_of self.now.design) self.now.values instance (action_at actions (first_event actions (length actions) statement)) }
+        ensures fits { IfSome result (λ c. length (slice_index_or self.now.values c.object.0 c.value) ≡ length c.value) }
+    {
+        let actions = self.checked().tables().actions.as_slice();
+        self.change_by(
+            instance,
+            action_at(actions, first_event(actions, statement)),
+        )
+    }
+
+    /// What an update of the net of a process changes.
+    fn change_by_update(&self, process: usize, value: Bits) -> Option<Change>
+        ensures change { result ≡ updated_by self.now.values (net_at (tables_of self.now.design).processes process) value }
+        ensures fits { IfSome result (λ c. length (slice_index_or self.now.values c.object.0 c.value) ≡ length c.value) }
+    {
+        let net = net_at(self.processes(), process)?;
+        self.change_to(net, value)
+    }
+
+    /// The event at a place is over.
     fn end(&mut self, place: usize)
         requires { place < length self.old.active }
-        ensures { self.new ≡ record self.old { active = remove self.old.active place } }
+        ensures { self.new ≡ over self.old place }
     {
         self.active.remove(place);
     }
 
-    /// An event of a process is over, which stands at a place among the active ones.
-    fn settle(&mut self, place: usize, process: usize, change: &Option<Change>)
-        requires within { place < length self.old.active }
-        requires fits { IfSome change.now (λ c. length (slice_index_or self.old.values c.object.0 c.value) ≡ length c.value) }
-        ensures { self.new ≡ record self.old { values = values_behind self.old.values change.now; active = active_behind self.old.active place (slice_index_or self.old.remaining process []) } }
+    /// The evaluation at a place is over, and the update of the net of its process is active.
+    fn schedule(&mut self, place: usize, process: usize, net: ObjectId, value: Bits)
+        requires { place < length self.old.active }
+        ensures { self.new ≡ scheduled self.old place process net value }
     {
-        if self.stacks.of(process).is_empty() {
-            self.active.remove(place);
-        }
-        if let Some(change) = change {
-            self.values.set(change.object, change.value);
+        let width = self.values.get(net).width();
+        self.active.remove(place);
+        self.active.update(process, value.resize(width));
+    }
+
+    /// The evaluation of a process, which stands at a place among the active events.
+    fn evaluate(&mut self, place: usize, process: usize) -> Result<Option<Change>, SimError>
+        requires { place < length self.old.active }
+        ensures ok { IfOk result (λ change. evaluated (tables_of self.old.design) self.old place process (slice_get (tables_of self.old.design).processes process) ≡ Goes self.new change) }
+        ensures refused { IsOkUnless result NoMemory }
+        ensures unchanged { OnErr result (self.new ≡ self.old) }
+    {
+        match self.process(process) {
+            Some(kind) => self.evaluate_as(place, process, kind),
+            None => {
+                self.end(place);
+                Ok(None)
+            }
         }
     }
 
-    /// The event of a process, which stands at a place among the active ones.
-    fn turn(&mut self, place: usize, process: usize) -> Result<Option<Change>, SimError>
+    /// The evaluation of this process, which stands at a place among the active events.
+    fn evaluate_as(
+        &mut self,
+        place: usize,
+        process: usize,
+        kind: Process,
+    ) -> Result<Option<Change>, SimError>
         requires { place < length self.old.active }
-        ensures ok { IfOk result (λ change. turn self.old place process (slice_index_or self.old.remaining process []) ≡ Goes self.new change) }
+        ensures ok { IfOk result (λ change. evaluated (tables_of self.old.design) self.old place process (Some kind) ≡ Goes self.new change) }
+        ensures refused { IsOkUnless result NoMemory }
+        ensures unchanged { OnErr result (self.new ≡ self.old) }
+    {
+        match kind {
+            Process::Procedure { instance, .. } => self.turn(place, process, instance),
+            Process::Assignment {
+                net,
+                instance,
+                value,
+                ..
+            } => {
+                let value = eval(self.checked(), &self.values, instance, value);
+                self.schedule(place, process, net, value);
+                Ok(None)
+            }
+            Process::Connection { port, net } => {
+                let value = self.values.get(port);
+                self.schedule(place, process, net, value);
+                Ok(None)
+            }
+        }
+    }
+
+    /// The evaluation of a procedure in an instance, which stands at a place among the active events.
+    fn turn(
+        &mut self,
+        place: usize,
+        process: usize,
+        instance: ObjectId,
+    ) -> Result<Option<Change>, SimError>
+        requires { place < length self.old.active }
+        ensures ok { IfOk result (λ change. turn (tables_of self.old.design) self.old place process instance (slice_index_or self.old.remaining process []) ≡ Goes self.new change) }
         ensures refused { IsOkUnless result NoMemory }
         ensures unchanged { OnErr result (self.new ≡ self.old) }
     {
@@ -324,9 +490,58 @@ impl Sim {
             self.end(place);
             return Ok(None);
         };
-        let change = self.change_by_first(next);
-        self.leave_behind(process, next)?;
-        self.settle(place, process, &change);
+        let change = self.change_by_first(instance, next);
+        self.perform(place, process, next, &change)?;
+        Ok(change)
+    }
+
+    /// The first event of a statement of a procedure, which makes a change, and stands at a place among the active events.
+    fn perform(
+        &mut self,
+        place: usize,
+        process: usize,
+        statement: u32,
+        change: &Option<Change>,
+    ) -> Result<(), SimError>
+        requires within { place < length self.old.active }
+        requires some { 1 ≤ length (slice_index_or self.old.remaining process []) }
+        requires fits { IfSome change.now (λ c. length (slice_index_or self.old.values c.object.0 c.value) ≡ length c.value) }
+        ensures ok { let tables = tables_of self.old.design in OnOk result (self.new ≡ performed tables self.old place process (take (length (slice_index_or self.old.remaining process []) - 1) (slice_index_or self.old.remaining process []) ++ left_behind tables.actions (length tables.actions) statement) change.now) }
+        ensures refused { IsOkUnless result NoMemory }
+        ensures unchanged { OnErr result (self.new ≡ self.old) }
+    {
+        let waiting = self.fanout.behind(change);
+        self.active.reserve(waiting.len())?;
+        let actions = self.fanout.checked().tables().actions.as_slice();
+        leave_behind(
+            actions,
+            &mut self.stacks,
+            &mut self.scratch,
+            process,
+            statement,
+        )?;
+        end_unless(&mut self.active, place, self.stacks.of(process));
+        happen(&mut self.values, &mut self.active, change, waiting);
+        Ok(())
+    }
+
+    /// The update of the net of a process, which stands at a place among the active events.
+    fn update(
+        &mut self,
+        place: usize,
+        process: usize,
+        value: Bits,
+    ) -> Result<Option<Change>, SimError>
+        requires { place < length self.old.active }
+        ensures ok { IfOk result (λ change. updated (tables_of self.old.design) self.old place (updated_by self.old.values (net_at (tables_of self.old.design).processes process) value) ≡ Goes self.new change) }
+        ensures refused { IsOkUnless result NoMemory }
+        ensures unchanged { OnErr result (self.new ≡ self.old) }
+    {
+        let change = self.change_by_update(process, value);
+        let waiting = self.fanout.behind(&change);
+        self.active.reserve(waiting.len())?;
+        self.active.remove(place);
+        happen(&mut self.values, &mut self.active, &change, waiting);
         Ok(change)
     }
 }

@@ -1,6 +1,7 @@
 -- A world, computed event by event. Each row is an equation that holds by computation.
 use Rattle.std.proofs.Common.{◌≡◌, ℕ, true, false, List, [], ◌∷◌, Option, Some, None, refl}
 use Rattle.std.specs.Prelude.{codes, fold}
+use Rattle.std.specs.Fmt.{digits}
 use Rattle.std.specs.Str.{chars, is_utf8}
 use Rattle.std.proofs.Math.Utf8.{encode}
 use Rattle.vp_bits.specs.declared.bit.Bit.TheVariants.{Unknown, One}
@@ -71,17 +72,27 @@ tree = record {
 abbrev word : ℕ → ℕ → Token
 word from to = record { kind = Name; start = from; end = to; line = 1; column = 1; directive = false }
 
--- `initial begin a = 1 'b1; k = a; end`, of which these lists name the words alone
+-- `reg a, k; initial begin a = 1 'b1; k = a; end` in a module, of which these lists name the words alone, and where the `initial` stands
 abbrev source : Source
 source = record {
-  text = codes "a k 'b1";
-  tokens = word 0 1 ∷ word 2 3 ∷ word 4 7 ∷ [];
-  modules = [];
+  text = codes "top a k 'b1";
+  tokens =
+      word 0 3 ∷ word 4 5 ∷ word 6 7 ∷ word 8 11
+      ∷ record { kind = Name; start = 11; end = 11; line = 6; column = 3; directive = false } ∷ [];
+  modules =
+      record {
+        name = 0;
+        items = record { first = 0; end = 3 };
+        ports = 0;
+        statements = record { first = 0; end = 5 };
+        expressions = record { first = 0; end = 2 };
+      }
+      ∷ [];
   connections = [];
-  items = item.Reg 0 None ∷ item.Reg 1 None ∷ item.Initial 9 4 ∷ [];
+  items = item.Reg 1 None ∷ item.Reg 2 None ∷ item.Initial 4 4 ∷ [];
   statements =
-      statement.Empty ∷ statement.Assign 0 selection.Whole 0 ∷ statement.Then 0 1 ∷ statement.Assign 1 selection.Whole 1 ∷ statement.Then 2 3 ∷ [];
-  expressions = expression.Literal 9 1 2 ∷ expression.Name 0 selection.Whole ∷ [];
+      statement.Empty ∷ statement.Assign 1 selection.Whole 0 ∷ statement.Then 0 1 ∷ statement.Assign 2 selection.Whole 1 ∷ statement.Then 2 3 ∷ [];
+  expressions = expression.Literal 9 1 3 ∷ expression.Name 1 selection.Whole ∷ [];
 }
 
 abbrev ann : Member
@@ -146,7 +157,7 @@ value_read : answered (opens ∷ asks (codes "top.a") ∷ []) (reads 1) ≡ repl
 value_read = refl
 
 value_behind_a_step : answered (opens ∷ asks (codes "top.a") ∷ runs ∷ steps 0 ∷ []) (reads 1) ≡ reply.Value (One ∷ [])
-unfolding is_utf8 chars encode sizes_in tables_of
+unfolding digits is_utf8 chars encode sizes_in tables_of
 value_behind_a_step = refl
 
 time_read : answered (opens ∷ []) (event.Ask first request.Time) ≡ reply.Time 0 false
@@ -192,15 +203,15 @@ advance_before_a_run : refused (opens ∷ []) event.Advance ≡ Some error.Beyon
 advance_before_a_run = refl
 
 no_such_choice : refused (opens ∷ runs ∷ []) (steps 1) ≡ Some (error.Sim sim.NoSuchChoice)
-unfolding is_utf8 chars encode sizes_in tables_of
+unfolding digits is_utf8 chars encode sizes_in tables_of
 no_such_choice = refl
 
 idle : refused (opens ∷ runs ∷ steps 0 ∷ steps 0 ∷ []) (steps 0) ≡ Some (error.Sim sim.Idle)
-unfolding is_utf8 chars encode sizes_in tables_of
+unfolding digits is_utf8 chars encode sizes_in tables_of
 idle = refl
 
 no_future : refused (opens ∷ runs ∷ steps 0 ∷ steps 0 ∷ []) event.Advance ≡ Some (error.Sim sim.Idle)
-unfolding is_utf8 chars encode sizes_in tables_of
+unfolding digits is_utf8 chars encode sizes_in tables_of
 no_future = refl
 
 -- a full log is told before the goal, and behind a session that is not open
@@ -219,5 +230,5 @@ legal :
     (entry opens (reply.Opened first) None ∷ entry (asks (codes "top.k")) hidden None ∷ entry runs reply.Done None
     ∷ entry (steps 0) reply.Done (Some (record { object = record { 0 = 1 }; value = One ∷ [] }))
     ∷ entry (event.Close first) reply.Done None ∷ [])
-unfolding is_utf8 chars encode sizes_in tables_of
+unfolding digits is_utf8 chars encode sizes_in tables_of
 legal = (refl, refl, (refl, refl, (refl, refl, (refl, refl, (refl, refl, tt)))))

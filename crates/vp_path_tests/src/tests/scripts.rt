@@ -121,6 +121,33 @@ fn reg_count(rt: HostRuntime) {
     }
 }
 
+/// So many modules, each but the first with an instance of the one before it, and what the first declares.
+fn tower(alloc: Global, declared: &str, count: u32) -> String {
+    let mut design = copies(alloc, "module m1; ", 1);
+    let _written = write!(&mut design, "{declared} endmodule\n");
+    for i in 2..=count {
+        let below = i - 1;
+        let _written = write!(&mut design, "module m{i}; m{below} u(); endmodule\n");
+    }
+    design
+}
+
+#[test]
+fn path_length(rt: HostRuntime) {
+    let (ok, refused) = ("{\"ok\":true}\n", "fault 507 line 0");
+    let rows = [
+        (64, "", ok),
+        (63, "reg r;", ok),
+        (64, "reg r;", refused),
+        (65, "", refused),
+    ];
+    for (count, declared, lines) in rows {
+        let design = tower(rt.alloc(), declared, count);
+        let text = printed(rt.alloc(), &design, POLICY, OPEN);
+        assert_eq!(rt; text.as_str(), lines);
+    }
+}
+
 #[test]
 fn bundle_without_text(rt: HostRuntime) {
     let rows: [(&[u8], &str); 3] = [

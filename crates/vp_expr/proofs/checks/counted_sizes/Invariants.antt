@@ -1,9 +1,9 @@
 use Rattle.std.proofs.Common.{◌≡◌, drop}
 use Rattle.std.specs.List.{fold}
-use Rattle.vp_expr.specs.Checks.{counted_sizes, with_size}
-use Rattle.vp_expr.specs.Tables.{first_module}
+use Rattle.vp_expr.specs.Checks.{counted_sizes, with_sizes}
 use Rattle.vp_expr.proofs.checks.counted_sizes.Given as goal
 
-abbrev pub invariant-loop-expression : goal.invariant-loop-expression
-invariant-loop-expression l =
-    fold (with_size l.design first_module) l.sizes.items (drop l.expression-index l.expression-items) ≡ counted_sizes l.design
+-- the sizes so far, and behind them those of the modules that are left
+abbrev pub invariant-loop-number : goal.invariant-loop-number
+invariant-loop-number l =
+    fold (with_sizes l.design) l.sizes.items (drop l.number l.design.source.modules) ≡ counted_sizes l.design

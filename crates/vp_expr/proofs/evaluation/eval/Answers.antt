@@ -28,4 +28,4 @@ value_below-requires-clause-sized c =
     tables_sized c.args.checked.now c.tables-tables.result.now c.tables-tables.ensures.tables c.tables-tables.ensures.fit
 
 pub returns-clause-derived : goal.returns-clause-derived
-returns-clause-derived c = λ e s. returns-clause-value c ∙ value_derived c.args.checked.now (drop c.args.instance.0 c.args.values.now) c.args.id e s
+returns-clause-derived c = λ whole m e s. returns-clause-value c ∙ value_derived c.args.checked.now m (drop c.args.instance.0 c.args.values.now) c.args.id e whole s

@@ -1,7 +1,9 @@
-use Rattle.std.proofs.Common.{◌≡◌, ◌++◌, drop, map}
-use Rattle.vp_expr.specs.Tables.{action_of, first_module}
+use Rattle.std.proofs.Common.{◌≡◌, ◌++◌, drop}
+use Rattle.std.specs.List.{flat_map}
+use Rattle.vp_expr.specs.Tables.{actions_in, actions_of}
 use Rattle.vp_expr.proofs.tables.actions_of.Given as goal
 
--- the actions so far, and those of what is left
-abbrev pub invariant-loop-statement : goal.invariant-loop-statement
-invariant-loop-statement l = l.actions.items ++ map (action_of l.design first_module l.sizes) (drop l.statement-index l.statement-items) ≡ map (action_of l.design first_module l.sizes) l.statement-items
+-- the actions so far, and those of the modules that are left
+abbrev pub invariant-loop-number : goal.invariant-loop-number
+invariant-loop-number l =
+    l.actions.items ++ flat_map (actions_in l.design l.sizes) (drop l.number l.design.source.modules) ≡ actions_of l.design l.sizes

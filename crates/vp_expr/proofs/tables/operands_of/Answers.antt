@@ -1,8 +1,9 @@
-use Rattle.vp_expr.specs.Tables.{first_module, operand_of}
-use Rattle.vp_expr.proofs.Growing.{map_left}
+use Rattle.std.proofs.Common.{◌∙◌, ap}
+use Rattle.vp_parse.specs.declared.source.Source.{Source}
+use Rattle.vp_expr.proofs.Scopes.{scope_there}
 use Rattle.vp_expr.proofs.tables.operands_of.Goals as goal
 
-pub loop-expression-preserved : goal.loop-expression-preserved
-loop-expression-preserved c =
-    rw c.in_ok-push.ensures.items
-    (map_left (operand_of c.args.design.now first_module) c.loop-expression.operands.items c.as_slice-expression-items.result.now c.loop-expression.expression-index _ c.operand_of.result _ c.loop-expression-test.true c.loop-expression.invariant c.operand_of.ensures)
+pub add_operands-requires : goal.add_operands-requires
+add_operands-requires c =
+    scope_there c.args.design.now c.as_slice-module-items.result.now c.loop-number.number _ _ (c.as_slice-module-items.ensures ∙ ap (λ (s : Source). s.modules) c.source.ensures)
+    c.scope_of-scope.ensures c.loop-number-test.true

@@ -1,31 +1,29 @@
-use Rattle.std.proofs.Common.{arith}
-use Rattle.vp_elab.proofs.BuiltTables.{child_some, child_small, child_none}
+use Rattle.std.proofs.Common.{◌≡◌, ◌+◌, ◌∙◌, ap, sym, subst, Some, ℕ, arith}
+use Rattle.std.specs.Prelude.{option_map}
+use Rattle.vp_elab.specs.declared.object.ObjectId.{ObjectId}
+use Rattle.vp_elab.specs.Tree.{find_in}
+use Rattle.vp_elab.proofs.Designed.{child_none, child_some}
 use Rattle.vp_elab.proofs.design.Design.child.Goals as goal
 
-pub overflow_cast-result : goal.overflow_cast-result
-overflow_cast-result c =
+pub returns-in_err-index : goal.returns-in_err-index
+returns-in_err-index c =
     let s = c.self.inside in
-    let small =
-    child_small s.source s.envelopes s.modules s.objects s.sights c.self.invariant c.as_slice-objects.result.now c.as_slice.result.now c.args.object.0 c.in-Some.index
-    c.args.name.now c.as_slice-objects.ensures c.as_slice.ensures (c.in-Some.ensures {u = tt}) in
-    omega arith
+    ap (option_map (λ (o : ObjectId). o.0)) c.from_residual.ensures
+    ∙ child_none s.source s.envelopes s.tables s.scopes s.objects c.self.invariant c.args.self.now c.self.view_is c.as_slice-objects.result.now c.as_slice.result.now c.args.object.0 c.args.name.now c.as_slice-objects.ensures c.as_slice.ensures (c.in_err-index.ensures {u = tt})
 
-pub overflow_add-result-in-Some : goal.overflow_add-result-in-Some
-overflow_add-result-in-Some c =
+pub overflow_add-result : goal.overflow_add-result
+overflow_add-result c =
     let s = c.self.inside in
-    let small =
-    child_small s.source s.envelopes s.modules s.objects s.sights c.self.invariant c.as_slice-objects.result.now c.as_slice.result.now c.args.object.0 c.in-Some.index
-    c.args.name.now c.as_slice-objects.ensures c.as_slice.ensures (c.in-Some.ensures {u = tt}) in
-    omega arith
+    let there =
+    child_some s.source s.envelopes s.tables s.scopes s.objects c.self.invariant c.args.self.now c.self.view_is c.as_slice-objects.result.now c.as_slice.result.now c.as_slice-2.result.now c.args.object.0 c.in_ok-index.index c.args.name.now
+    c.as_slice-objects.ensures c.as_slice.ensures c.as_slice-2.ensures (c.in_ok-index.ensures {u = tt}) in
+    let slot = c.slot_at-slot.ensures in
+    omega (arith, there.1)
 
-pub returns-in-Some : goal.returns-in-Some
-returns-in-Some c =
+pub returns : goal.returns
+returns c =
     let s = c.self.inside in
-    child_some s.source s.envelopes s.modules s.objects s.sights c.self.invariant c.args.self.now c.self.view_is c.as_slice-objects.result.now c.as_slice.result.now
-    c.args.object.0 c.in-Some.index c.args.name.now c.as_slice-objects.ensures c.as_slice.ensures (c.in-Some.ensures {u = tt})
-
-pub returns-in-None : goal.returns-in-None
-returns-in-None c =
-    let s = c.self.inside in
-    child_none s.source s.envelopes s.modules s.objects s.sights c.self.invariant c.args.self.now c.self.view_is c.as_slice-objects.result.now c.as_slice.result.now
-    c.args.object.0 c.args.name.now c.as_slice-objects.ensures c.as_slice.ensures (c.in-None.ensures {u = tt})
+    let there =
+    child_some s.source s.envelopes s.tables s.scopes s.objects c.self.invariant c.args.self.now c.self.view_is c.as_slice-objects.result.now c.as_slice.result.now c.as_slice-2.result.now c.args.object.0 c.in_ok-index.index c.args.name.now
+    c.as_slice-objects.ensures c.as_slice.ensures c.as_slice-2.ensures (c.in_ok-index.ensures {u = tt}) in
+    subst (λ (n : ℕ). Some (c.args.object.0 + n) ≡ find_in c.args.self.now.tree.nodes (Some c.args.object.0) c.args.name.now) (sym c.slot_at-slot.ensures) there.0

@@ -1,17 +1,15 @@
-use Rattle.std.proofs.Common.{◌∙◌, ap, sym, length, map}
-use Rattle.std.proofs.lemmas.List.{length-map}
-use Rattle.vp_elab.specs.declared.object.Object.{Object}
-use Rattle.vp_elab.specs.declared.design.Objects.{Objects}
-use Rattle.vp_elab.specs.Tree.{Node}
-use Rattle.vp_elab.specs.Built.{Elaborated}
-use Rattle.vp_elab.proofs.Preorder.{kinds_same}
+use Rattle.std.proofs.Common.{◌∙◌, arith}
+use Rattle.vp_elab.proofs.Designed.{count_is, few_objects}
 use Rattle.vp_elab.proofs.design.Design.count.Goals as goal
+
+pub overflow_cast-result : goal.overflow_cast-result
+overflow_cast-result c =
+    let s = c.self.inside in
+    let few = few_objects s.source s.envelopes s.tables s.scopes s.objects c.self.invariant c.args.self.now c.self.view_is in
+    let long = c.len.ensures in
+    omega arith
 
 pub returns : goal.returns
 returns c =
-    c.len.ensures
-    ∙ sym (length-map c.self.inside.objects.all (λ (o : Object). o.kind))
-    ∙ ap length
-    (ap (λ (o : Objects). map (λ (p : Object). p.kind) o.all) c.self.invariant.flat
-    ∙ kinds_same c.self.inside.source c.self.inside.envelopes.envelopes ∙ ap (λ (d : Elaborated). map (λ (n : Node). n.kind) d.tree.nodes) c.self.view_is)
-    ∙ length-map c.args.self.now.tree.nodes (λ (n : Node). n.kind)
+    let s = c.self.inside in
+    c.len.ensures ∙ count_is s.source s.envelopes s.tables s.scopes s.objects c.self.invariant c.args.self.now c.self.view_is

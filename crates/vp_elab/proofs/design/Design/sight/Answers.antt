@@ -1,16 +1,20 @@
-use Rattle.std.proofs.Common.{◌∙◌, ap, List, None, slice_get}
-use Rattle.std.specs.Option.{option_map_or}
-use Rattle.vp_pragma.specs.Rights.{nothing}
-use Rattle.vp_elab.specs.declared.sight.Sight.{Sight}
-use Rattle.vp_elab.specs.Tree.{sight_at}
-use Rattle.vp_elab.specs.Elaboration.{nodes_of}
-use Rattle.vp_elab.specs.Built.{Elaborated, shown}
-use Rattle.vp_elab.proofs.Sights.{sight_found}
+use Rattle.std.proofs.Common.{◌∙◌}
+use Rattle.vp_elab.proofs.Designed.{sight_child, sight_none, sight_root}
 use Rattle.vp_elab.proofs.design.Design.sight.Goals as goal
 
-pub returns : goal.returns
-returns c =
+pub returns-in_default : goal.returns-in_default
+returns-in_default c =
     let s = c.self.inside in
-    c.sight_at.ensures ∙ ap (λ (xs : List Sight). option_map_or shown (slice_get xs c.args.id.0) (nothing, None)) c.as_slice.ensures
-    ∙ sight_found s.envelopes.viewports (nodes_of s.source s.envelopes.envelopes) s.sights c.args.id.0 c.self.invariant.sighted
-    ∙ ap (λ (d : Elaborated). sight_at d.tree c.args.id.0) c.self.view_is
+    c.none.ensures ∙ sight_none s.source s.envelopes s.tables s.scopes s.objects c.self.invariant c.args.self.now c.self.view_is c.as_slice-objects.result.now c.args.id.0 c.as_slice-objects.ensures (c.in_default.ensures {u = tt})
+
+pub returns-in-Some-parent : goal.returns-in-Some-parent
+returns-in-Some-parent c =
+    let s = c.self.inside in
+    c.child_sight.ensures
+    ∙ sight_child s.source s.envelopes s.tables s.scopes s.objects c.self.invariant c.args.self.now c.self.view_is c.as_slice-objects.result.now c.as_slice.result.now c.args.id.0 c.in-Some.object c.in-Some-parent.module
+    c.as_slice-objects.ensures c.as_slice.ensures (c.in-Some.ensures {u = tt}) c.in-Some-parent.is
+
+pub returns-in-None : goal.returns-in-None
+returns-in-None c =
+    let s = c.self.inside in
+    c.none-in-None.ensures ∙ sight_root s.source s.envelopes s.tables s.scopes s.objects c.self.invariant c.args.self.now c.self.view_is c.as_slice-objects.result.now c.args.id.0 c.in-Some.object c.as_slice-objects.ensures (c.in-Some.ensures {u = tt}) c.in-None.is

@@ -1,8 +1,7 @@
-use Rattle.std.proofs.Common.{◌≡◌, take, replicate}
-use Rattle.std.specs.Prelude.{map}
-use Rattle.vp_bits.specs.declared.bit.Bit.TheVariants.{Unknown}
-use Rattle.vp_expr.specs.Start.{start_value}
+use Rattle.std.proofs.Common.{◌≡◌, map, take}
+use Rattle.vp_expr.specs.Start.{start_of}
 use Rattle.vp_expr.proofs.values.Values.new.Given as goal
 
-abbrev pub invariant-loop-object : goal.invariant-loop-object
-invariant-loop-object l = l.values.items ≡ map (λ o. start_value o.kind o.width (replicate o.width Unknown)) (take l.object-index l.object-items)
+-- the values of the objects so far
+abbrev pub invariant-loop-number : goal.invariant-loop-number
+invariant-loop-number l = l.values.items ≡ map (start_of l.checked) (take l.number l.checked.tree.nodes)

@@ -1,0 +1,10 @@
+use Rattle.std.proofs.Common.{◌∙◌, ap}
+use Rattle.std.specs.Prelude.{option_map}
+use Rattle.vp_elab.specs.declared.object.ObjectId.{ObjectId}
+use Rattle.vp_elab.proofs.Designed.{parent_found}
+use Rattle.vp_elab.proofs.design.Design.parent.Goals as goal
+
+pub returns : goal.returns
+returns c =
+    let s = c.self.inside in
+    ap (option_map (λ (o : ObjectId). o.0)) c.parent_at.ensures ∙ parent_found s.source s.envelopes s.tables s.scopes s.objects c.self.invariant c.args.self.now c.self.view_is c.as_slice.result.now c.args.id.0 c.as_slice.ensures

@@ -1,0 +1,18 @@
+use Rattle.std.proofs.Common.{◌≡◌, List, ℕ, suc, ◌==◌, ◌∙◌, ap, subst, false, filter, get_or, map, arith}
+use Rattle.std.specs.Prelude.{IfOk}
+use Rattle.std.specs.List.{list_any}
+use Rattle.vp_parse.specs.declared.source.Module.{Module}
+use Rattle.vp_pragma.specs.Envelopes.{envelope_at}
+use Rattle.vp_elab.specs.Tree.{below}
+use Rattle.vp_elab.specs.Objects.{numbers_of}
+use Rattle.vp_elab.proofs.Marks.{filter_below_same}
+use Rattle.vp_elab.proofs.scope.name_envelopes_of.Goals as goal
+
+pub returns : goal.returns
+returns c =
+    let places : List ℕ = map (λ (m : Module). m.name) c.args.modules.now in
+    let few = c.count.type_inv in
+    let same : filter (λ e. get_or c.root_marks_of.result e false) (below (suc c.count.result)) ≡ numbers_of c.args.envelopes.now.envelopes places =
+    filter_below_same (λ e. get_or c.root_marks_of.result e false) (λ e. list_any (λ place. envelope_at c.args.envelopes.now.envelopes place == e) places) (suc c.count.result) (λ e l. c.root_marks_of.ensures e (omega arith))
+    ∙ ap (λ (n : ℕ). filter (λ e. list_any (λ place. envelope_at c.args.envelopes.now.envelopes place == e) places) (below (suc n))) c.count.ensures in
+    subst (λ (ns : List ℕ). IfOk c.marked.result (λ numbers. numbers ≡ ns)) same c.marked.ensures

@@ -1,0 +1,148 @@
+-- Texts whose modules follow each other without a gap: what is made module by module has the places of the text.
+use Rattle.std.proofs.Common.{◌≡◌, ◌∙◌, ℕ, zero, suc, ◌+◌, ◌-◌, ◌≤◌, ◌&&◌, Bool, cond, leb, List, [], ◌∷◌, ◌++◌, length, map, take, drop, slice_get, Some, sym, ap, append_assoc, arith}
+use Rattle.std.proofs.lemmas.Bool.{le-leb}
+use Rattle.std.proofs.lemmas.List.{drop-append-le, length-append, length-drop, length-map, length-take, map-append}
+use Rattle.std.proofs.lemmas.List.Folds.{drop_split}
+use Rattle.std.proofs.Math.Seq.{drop-length, take-append-add}
+use Rattle.std.specs.List.{flat_map, slice_range}
+use Rattle.vp_list.specs.Lists.{range_of}
+use Rattle.vp_parse_expr.specs.declared.node.Expression.{Expression}
+use Rattle.vp_parse.specs.declared.source.Module.{Module}
+use Rattle.vp_parse.specs.declared.source.Source.{Source}
+use Rattle.vp_parse.specs.declared.source.Span.{Span}
+use Rattle.vp_parse.specs.Whole.{AreGapless, AreWhole}
+use Rattle.vp_modules.specs.Items.{expressions_in, statements_in}
+use Rattle.vp_elab.specs.Built.{Elaborated}
+use Rattle.vp_expr.specs.declared.operand.Operand.{Operand}
+use Rattle.vp_expr.specs.Tables.{operand_of, operands_in, operands_of, scope_of}
+
+-- a list has the items of a span that ends in it
+in_range : {X : Type 0} (xs : List X) (a b : ℕ) → a ≤ b → b ≤ length xs → range_of xs a b ≡ slice_range xs a b
+in_range xs a b h k =
+    ap (λ (x : Bool). cond (x && leb b (length xs)) (slice_range xs a b) []) (le-leb a b h)
+    ∙ ap (λ (x : Bool). cond x (slice_range xs a b) []) (le-leb b (length xs) k)
+
+-- spans without a gap go up
+gapless_up : (from : ℕ) (spans : List Span) (to : ℕ) → AreGapless from spans to → from ≤ to
+gapless_up from [] to h = omega arith
+gapless_up from (s ∷ spans) to h =
+    let start = h.0 in
+    let up = h.1 in
+    let rest = gapless_up s.end spans to h.2 in
+    omega arith
+
+-- ---- the lists of a text
+
+-- what the spans of modules hold is all from the first place on
+hold_all : {X : Type 0} (span : Module → Span) (xs : List X) (from : ℕ) (ms : List Module) → AreGapless from (map span ms) (length xs) → flat_map (λ m. range_of xs (span m).first (span m).end) ms ≡ drop from xs
+hold_all span xs from [] h = sym (ap (λ (n : ℕ). drop n xs) h ∙ drop-length xs)
+hold_all span xs from (m ∷ ms) h =
+    let s = span m in
+    ap (λ l. l ++ flat_map (λ m. range_of xs (span m).first (span m).end) ms) (in_range xs s.first s.end h.1 (gapless_up s.end (map span ms) (length xs) h.2))
+    ∙ ap (λ l. slice_range xs s.first s.end ++ l) (hold_all span xs s.end ms h.2)
+    ∙ sym (drop_split xs s.first s.end h.1)
+    ∙ ap (λ (n : ℕ). drop n xs) h.0
+
+-- the expressions of the modules, one behind the other, are those of the text
+pub whole_expressions : (source : Source) → AreWhole source → flat_map (expressions_in source) source.modules ≡ source.expressions
+whole_expressions source whole = hold_all (λ (m : Module). m.expressions) source.expressions 0 source.modules whole.expressions
+
+-- and so are the statements
+pub whole_statements : (source : Source) → AreWhole source → flat_map (statements_in source) source.modules ≡ source.statements
+whole_statements source whole = hold_all (λ (m : Module). m.statements) source.statements 0 source.modules whole.statements
+
+-- ---- the operands of a module among those of all
+
+module _ (d : Elaborated) where
+  abbrev es : List Expression
+  es = d.source.expressions
+
+  -- behind so many stand the operands of a module, which is one of these
+  record StandAmong (m : Module) (ms : List Module) (from : ℕ) : Type 0 where
+    os : List Operand
+    rest : List Operand
+    are : flat_map (operands_in d) ms ≡ os ++ (operands_in d m ++ rest)
+    first : from + length os ≡ m.expressions.first
+    up : m.expressions.first ≤ m.expressions.end
+    inside : m.expressions.end ≤ length es
+
+  held : (m : Module) → m.expressions.first ≤ m.expressions.end → m.expressions.end ≤ length es → length (operands_in d m) ≡ m.expressions.end - m.expressions.first
+  held m h k =
+      let a = m.expressions.first in
+      let b = m.expressions.end in
+      length-map (expressions_in d.source m) (operand_of d (scope_of d m))
+      ∙ ap length (in_range es a b h k)
+      ∙ (let l = length-take (b - a) (drop a es) in let n = length-drop a es in omega arith)
+
+  among : (m : Module) (ms : List Module) (k from : ℕ) → AreGapless from (map (λ m. m.expressions) ms) (length es) → slice_get ms k ≡ Some m → StandAmong m ms from
+  among m [] k from h e = absurd cc
+  among m (x ∷ ms) zero from h e =
+      let same : x ≡ m = cc in
+      let start : m.expressions.first ≡ from = ap (λ (y : Module). y.expressions.first) (sym same) ∙ h.0 in
+      let ends : x.expressions.end ≡ m.expressions.end = ap (λ (y : Module). y.expressions.end) same in
+      let begins : x.expressions.first ≡ m.expressions.first = ap (λ (y : Module). y.expressions.first) same in
+      let up = h.1 in
+      let last = gapless_up x.expressions.end (map (λ m. m.expressions) ms) (length es) h.2 in
+      record {
+        os = [];
+        rest = flat_map (operands_in d) ms;
+        are = ap (λ (y : Module). operands_in d y ++ flat_map (operands_in d) ms) same;
+        first = omega arith;
+        up = omega arith;
+        inside = omega arith;
+      }
+  among m (x ∷ ms) (suc k) from h e =
+      let b = among m ms k x.expressions.end h.2 e in
+      let own = operands_in d x in
+      let start = h.0 in
+      let up = h.1 in
+      let last = gapless_up x.expressions.end (map (λ m. m.expressions) ms) (length es) h.2 in
+      let many = held x up last in
+      let behind = b.first in
+      record {
+        os = own ++ b.os;
+        rest = b.rest;
+        are = ap (λ (l : List Operand). own ++ l) b.are ∙ sym (append_assoc own b.os (operands_in d m ++ b.rest));
+        first = omega (arith, length-append own b.os);
+        up = b.up;
+        inside = b.inside;
+      }
+
+  -- the operands of a design, up to those of some expressions, of which the last are of a module, and the rest
+  pub record StandBehind (m : Module) (nodes : List Expression) : Type 0 where
+    pub os : List Operand
+    pub rest : List Operand
+    pub first : length os ≡ m.expressions.first
+    pub are : operands_of d ≡ (os ++ map (operand_of d (scope_of d m)) (drop (length os) nodes)) ++ rest
+
+  -- the expressions of a module, of which some are told
+  told : (m : Module) (nodes behind : List Expression) → es ≡ nodes ++ behind → m.expressions.first ≤ length nodes → length nodes ≤ m.expressions.end → m.expressions.end ≤ length es → expressions_in d.source m ≡ drop m.expressions.first nodes ++ take (m.expressions.end - length nodes) behind
+  told m nodes behind laid from to inside =
+      let a = m.expressions.first in
+      let b = m.expressions.end in
+      let n : b - a ≡ length (drop a nodes) + (b - length nodes) = (let l = length-drop a nodes in omega arith) in
+      in_range es a b (omega arith) inside
+      ∙ ap (λ (l : List Expression). slice_range l a b) laid
+      ∙ ap (take (b - a)) (drop-append-le a nodes behind from)
+      ∙ ap (λ (i : ℕ). take i (drop a nodes ++ behind)) n
+      ∙ take-append-add (drop a nodes) behind (b - length nodes)
+
+  pub stand_behind : (m : Module) (number : ℕ) (nodes behind : List Expression) → AreWhole d.source → slice_get d.source.modules number ≡ Some m → es ≡ nodes ++ behind → m.expressions.first ≤ length nodes → length nodes ≤ m.expressions.end → StandBehind m nodes
+  stand_behind m number nodes behind whole one laid from to =
+      let b = among m d.source.modules number 0 whole.expressions one in
+      let f = operand_of d (scope_of d m) in
+      let left = take (m.expressions.end - length nodes) behind in
+      let start : length b.os ≡ m.expressions.first = (let first = b.first in omega arith) in
+      let own = map f (drop (length b.os) nodes) in
+      record {
+        os = b.os;
+        rest = map f left ++ b.rest;
+        first = start;
+        are =
+            b.are
+            ∙ ap (λ (l : List Expression). b.os ++ (map f l ++ b.rest)) (told m nodes behind laid from to b.inside)
+            ∙ ap (λ (i : ℕ). b.os ++ (map f (drop i nodes ++ left) ++ b.rest)) (sym start)
+            ∙ ap (λ (l : List Operand). b.os ++ (l ++ b.rest)) (map-append f (drop (length b.os) nodes) left)
+            ∙ ap (λ (l : List Operand). b.os ++ l) (append_assoc own (map f left) b.rest)
+            ∙ sym (append_assoc b.os own (map f left ++ b.rest));
+      }

@@ -1,0 +1,4 @@
+pub mod Connected
+pub mod FirstIndexes
+pub mod Processes
+pub mod ProcessRows
