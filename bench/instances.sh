@@ -29,11 +29,12 @@ measure() {
         echo "$(((end - begin) / 1000000)) $(cat "$work/peak")"
     done | sort -n | head -n 1
 }
-design 25000 1 > "$work/large"
+design 20000 1 > "$work/large"
 design 1 "$count" > "$work/many"
-design 25000 "$count" > "$work/both"
+design 20000 "$count" > "$work/both"
 for name in large many both; do
     measure "$name" > "$work/$name.cost"
+    test ! -s "$work/out" || { echo "$name: refused, $(cat "$work/out")"; exit 1; }
     echo "$name: $(wc -c < "$work/$name") bytes, $(cut -d' ' -f1 "$work/$name.cost") ms, $(cut -d' ' -f2 "$work/$name.cost") KiB"
 done
 cat "$work/large.cost" "$work/many.cost" "$work/both.cost" | awk '
