@@ -1,3 +1,4 @@
+mod building;
 mod commands;
 mod designs;
 mod dialogues;

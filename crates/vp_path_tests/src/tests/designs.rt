@@ -1,10 +1,7 @@
 //! What is declared in the scopes of a design.
 
-use std::alloc::Global;
-use vp_elab::{Design, ObjectId, elaborate};
-use vp_lex::tokens;
-use vp_parse::parse;
-use vp_pragma::envelopes;
+use crate::tests::building::design_of;
+use vp_elab::ObjectId;
 
 /// Two top modules, one of them with a reg and two instances, each of which has two ports and an assignment.
 const DESIGN: &str = "module inv(input wire a, output wire y);
@@ -18,24 +15,16 @@ module other;
 endmodule
 ";
 
-/// The design, with its objects.
-fn design(alloc: Global) -> Option<Design> {
-    let tokens = tokens(alloc, DESIGN).ok()?;
-    let envelopes = envelopes(alloc, DESIGN, &tokens).ok()?;
-    let source = parse(alloc, DESIGN, &tokens).ok()?;
-    elaborate(alloc, source, envelopes).ok()
-}
-
 #[test]
 fn top_modules(rt: HostRuntime) {
-    let design = design(rt.alloc()).expect(&rt, "a design");
+    let design = design_of(rt.alloc(), DESIGN).expect(&rt, "a design");
     let roots = design.roots(rt.alloc()).ok().expect(&rt, "memory");
     assert_eq!(rt; roots.as_slice(), [ObjectId(0), ObjectId(10)].as_slice());
 }
 
 #[test]
 fn declared_in_modules(rt: HostRuntime) {
-    let design = design(rt.alloc()).expect(&rt, "a design");
+    let design = design_of(rt.alloc(), DESIGN).expect(&rt, "a design");
     let rows = [
         (0, [ObjectId(1), ObjectId(2), ObjectId(6)]),
         (2, [ObjectId(3), ObjectId(4), ObjectId(5)]),

@@ -1,12 +1,10 @@
 //! What a user sees of a design.
 
+use crate::tests::building::design_of;
 use std::alloc::Global;
-use vp_elab::{Design, elaborate};
-use vp_lex::tokens;
+use vp_elab::Design;
 use vp_list::Text;
-use vp_parse::parse;
 use vp_policy::{Policy, SeenObject, UserId, View};
-use vp_pragma::envelopes;
 
 /// A design in which `acme` hides two regs, and opens one of them by a viewport.
 const DESIGN: &str = "module top;
@@ -23,14 +21,6 @@ endmodule
 const POLICY: &[u8] =
     b"{\"users\":[{\"name\":\"ann\",\"token\":\"t1\",\"open\":\"list+read\",\"run\":true}]}";
 
-/// The design, with its objects.
-fn design(alloc: Global) -> Option<Design> {
-    let tokens = tokens(alloc, DESIGN).ok()?;
-    let envelopes = envelopes(alloc, DESIGN, &tokens).ok()?;
-    let source = parse(alloc, DESIGN, &tokens).ok()?;
-    elaborate(alloc, source, envelopes).ok()
-}
-
 /// What Ann sees of a design.
 fn view_in(alloc: Global, design: &Design) -> Option<View> {
     let policy = Policy::read(alloc, POLICY, design).ok()?;
@@ -39,7 +29,7 @@ fn view_in(alloc: Global, design: &Design) -> Option<View> {
 
 /// What Ann sees of the design.
 fn view(alloc: Global) -> Option<View> {
-    view_in(alloc, &design(alloc)?)
+    view_in(alloc, &design_of(alloc, DESIGN)?)
 }
 
 /// How many objects Ann sees, and whether she may let the design run.

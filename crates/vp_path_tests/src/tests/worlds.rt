@@ -3,16 +3,14 @@
 ghost use Rattle.std.specs.Prelude.{IfSome};
 ghost use Rattle.vp_world.specs.Events.{IsWellFormed};
 
+use crate::tests::building::design_of;
 use std::alloc::Global;
 use std::sync::Arc;
 use vp_bits::Bits;
-use vp_elab::{Design, ObjectId, elaborate};
+use vp_elab::{Design, ObjectId};
 use vp_expr::{Checked, check};
-use vp_lex::tokens;
 use vp_list::{Sequence, Text};
-use vp_parse::{Source, parse};
 use vp_policy::{Policy, UserId};
-use vp_pragma::{Envelopes, envelopes};
 use vp_sim::Sim;
 use vp_world::{Event, Limits, Reply, Request, SessionId, World, WorldError};
 
@@ -36,32 +34,14 @@ const ANN: SessionId = SessionId {
     opens: 1,
 };
 
-/// The design's envelopes.
-fn design_envelopes(alloc: Global) -> Option<Envelopes> {
-    let tokens = tokens(alloc, DESIGN).ok()?;
-    envelopes(alloc, DESIGN, &tokens).ok()
-}
-
-/// The design's source.
-fn source(alloc: Global) -> Option<Source> {
-    let tokens = tokens(alloc, DESIGN).ok()?;
-    parse(alloc, DESIGN, &tokens).ok()
-}
-
-/// The design, with its objects.
-fn design(alloc: Global) -> Option<Design> {
-    let envelopes = design_envelopes(alloc)?;
-    elaborate(alloc, source(alloc)?, envelopes).ok()
-}
-
 /// The design, checked.
 fn checked(alloc: Global) -> Option<Checked> {
-    check(alloc, design(alloc)?).ok()
+    check(alloc, design_of(alloc, DESIGN)?).ok()
 }
 
 /// The policy, read.
 fn policy(alloc: Global) -> Option<Policy> {
-    Policy::read(alloc, POLICY, &design(alloc)?).ok()
+    Policy::read(alloc, POLICY, &design_of(alloc, DESIGN)?).ok()
 }
 
 /// The envelopes of a scope of a design that are closed to Ann.
@@ -71,7 +51,7 @@ fn closed_in(alloc: Global, design: &Design, scope: Option<ObjectId>) -> Option<
 
 /// The envelopes of a scope of the design that are closed to Ann.
 fn closed(alloc: Global, scope: Option<ObjectId>) -> Option<Sequence<u8>> {
-    closed_in(alloc, &design(alloc)?, scope)
+    closed_in(alloc, &design_of(alloc, DESIGN)?, scope)
 }
 
 #[test]

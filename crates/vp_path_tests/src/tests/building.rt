@@ -1,0 +1,33 @@
+//! Designs of texts. Each function has few values of its own, which keeps its proof short.
+ghost use Rattle.std.specs.Prelude.{◌≤◌, length};
+ghost use Rattle.vp_lex.specs.declared.token.TheConstants.{TEXT_LIMIT};
+
+use std::alloc::Global;
+use vp_elab::{Design, elaborate};
+use vp_lex::tokens;
+use vp_parse::{Source, parse};
+use vp_pragma::{Envelopes, envelopes};
+
+/// The envelopes of a text.
+fn envelopes_of(alloc: Global, text: &str) -> Option<Envelopes>
+    requires { length text.now ≤ TEXT_LIMIT }
+{
+    let tokens = tokens(alloc, text).ok()?;
+    envelopes(alloc, text, &tokens).ok()
+}
+
+/// The source of a text.
+fn source_of(alloc: Global, text: &str) -> Option<Source>
+    requires { length text.now ≤ TEXT_LIMIT }
+{
+    let tokens = tokens(alloc, text).ok()?;
+    parse(alloc, text, &tokens).ok()
+}
+
+/// The design of a text, with its objects.
+pub fn design_of(alloc: Global, text: &str) -> Option<Design>
+    requires { length text.now ≤ TEXT_LIMIT }
+{
+    let envelopes = envelopes_of(alloc, text)?;
+    elaborate(alloc, source_of(alloc, text)?, envelopes).ok()
+}
