@@ -1,5 +1,5 @@
 -- Laws of tests at some place of vectors, and of reductions.
-use Rattle.std.proofs.Common.{◌≡◌, ◌≢◌, ℕ, zero, suc, ◌+◌, ◌*◌, ◌-◌, ◌/◌, ◌%◌, ◌^◌, ◌<◌, ◌||◌, ◌&&◌, nat_eq, if◌then◌else◌, Bool, true, false, List, [], ◌∷◌, length, replicate, bit_and, refl, ap, sym, ◌∙◌, arith}
+use Rattle.std.proofs.Common.{◌≡◌, ◌≢◌, ℕ, zero, suc, ◌+◌, ◌*◌, ◌-◌, ◌/◌, ◌%◌, ◌^◌, ◌<◌, ◌||◌, ◌&&◌, nat_eq, not, if◌then◌else◌, Bool, true, false, List, [], ◌∷◌, length, replicate, bit_and, refl, ap, sym, ◌∙◌, arith}
 use Rattle.std.specs.List.{list_any}
 use Rattle.std.proofs.Math.Dec.{eqb-suc-zero}
 use Rattle.std.specs.Int.Bits.{bit_or, bit_xor, or_zero_l}
@@ -9,7 +9,7 @@ use Rattle.vp_bits.specs.declared.bit.Bit.{Bit}
 use Rattle.vp_bits.specs.declared.bit.Bit.TheVariants.{Zero, One, Unknown, HighImpedance}
 use Rattle.vp_bits.specs.declared.bits.Bits.TheInside.{Inside}
 use Rattle.vp_bits.specs.Vector.{bits_of, bit_from, same_bit, same_bits, IsStored}
-use Rattle.vp_bits.specs.Comparing.{is_unknown, has_unknown, is_known_difference, at_some_place, has_known_difference, equal}
+use Rattle.vp_bits.specs.Comparing.{is_unknown, has_unknown, is_known_difference, at_some_place, has_known_difference, equal, is_difference_but_z, casez_matches}
 use Rattle.vp_bits.specs.Arithmetic.{bit_of_digit, bits_of_number}
 use Rattle.vp_bits.specs.Tables.{folded, and_bit, or_bit, xor_bit, and_of_all, or_of_all, xor_of_all}
 use Rattle.vp_bits.specs.Words.{half_below, length-bits_of}
@@ -117,6 +117,10 @@ abbrev pub opposite : Bool → Bool
 opposite true = false
 opposite false = true
 
+not_opposite : (a : Bool) → not a ≡ opposite a
+not_opposite true = refl
+not_opposite false = refl
+
 opposite-or : (a b : Bool) → (opposite a && opposite b) ≡ opposite (a || b)
 opposite-or true b = refl
 opposite-or false b = refl
@@ -155,6 +159,23 @@ same_bits_stored v o left right is_left is_right stored_left stored_right same =
     ap (λ bits. same_bits bits right) (sym is_left) ∙ ap (same_bits (bits_of v.width v.aval v.bval)) (sym is_right_too)
     ∙ same_bits_words v.width v.aval v.bval o.aval o.bval (value-below differing v.width v.aval v.bval o.aval o.bval stored_left.aval_fits stored_left.bval_fits a b)
     ∙ is_none (value differing v.aval v.bval o.aval o.bval)
+
+-- ---- matches where z matches any bit
+
+-- the places where two vectors have other bits, and neither has z
+abbrev pub differing_but_z : Formula
+differing_but_z = Xor differing (And differing (Or (Xor Bval (And Bval Aval)) (Xor OtherBval (And OtherBval OtherAval))))
+
+pub casez_matches_stored : (v o : Inside) (left right : List Bit) → bits_of v.width v.aval v.bval ≡ left → bits_of o.width o.aval o.bval ≡ right → IsStored v.width v.aval v.bval → IsStored o.width o.aval o.bval → o.width ≡ v.width → casez_matches left right ≡ nat_eq (value differing_but_z v.aval v.bval o.aval o.bval) 0
+casez_matches_stored v o left right is_left is_right stored_left stored_right same =
+    let a : o.aval < 2 ^ v.width = rw (← same) stored_right.aval_fits in
+    let b : o.bval < 2 ^ v.width = rw (← same) stored_right.bval_fits in
+    let fits : value differing_but_z v.aval v.bval o.aval o.bval < 2 ^ v.width = value-below differing_but_z v.width v.aval v.bval o.aval o.bval stored_left.aval_fits stored_left.bval_fits a b in
+    let is_right_too : bits_of v.width o.aval o.bval ≡ right = ap (λ w. bits_of w o.aval o.bval) (sym same) ∙ is_right in
+    ap (λ bits. casez_matches bits right) (sym is_left) ∙ ap (casez_matches (bits_of v.width v.aval v.bval)) (sym is_right_too)
+    ∙ ap not (some_place differing_but_z is_difference_but_z refl v.width v.aval v.bval o.aval o.bval fits)
+    ∙ not_opposite (is_above (value differing_but_z v.aval v.bval o.aval o.bval))
+    ∙ is_none (value differing_but_z v.aval v.bval o.aval o.bval)
 
 -- ---- reductions
 

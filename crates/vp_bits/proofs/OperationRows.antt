@@ -1,9 +1,9 @@
 -- The definitions of operations at rows that are worked out by hand, bits least significant first.
-use Rattle.std.proofs.Common.{◌≡◌, [], ◌∷◌, Some, None, refl}
+use Rattle.std.proofs.Common.{◌≡◌, [], ◌∷◌, Some, None, true, false, refl}
 use Rattle.vp_bits.specs.declared.bit.Bit.TheVariants.{Zero, One, Unknown, HighImpedance}
 use Rattle.vp_bits.specs.Tables.{bitwise, and_bit, or_bit, xor_bit, merge_bit, negated, and_of_all, or_of_all, xor_of_all}
 use Rattle.vp_bits.specs.Arithmetic.{number_of, bits_of_number, added, subtracted, multiplied}
-use Rattle.vp_bits.specs.Comparing.{less, equal, case_equal}
+use Rattle.vp_bits.specs.Comparing.{less, equal, case_equal, casez_matches}
 use Rattle.vp_bits.specs.Shaping.{shifted_left, shifted_right, concatenated, repeated, selected, with_selected}
 
 -- 4'b01xz & 1'bz in each place is 4'b0xxx
@@ -105,6 +105,16 @@ row-case_equal_z = refl
 
 pub row-case_equal_differs : case_equal (Unknown ∷ []) (HighImpedance ∷ []) ≡ Zero ∷ []
 row-case_equal_differs = refl
+
+-- in casez 4'b1z0x matches 4'b110x and 4'bzz0x, and not 4'b1100
+pub row-casez : casez_matches (Unknown ∷ Zero ∷ HighImpedance ∷ One ∷ []) (Unknown ∷ Zero ∷ One ∷ One ∷ []) ≡ true
+row-casez = refl
+
+pub row-casez_either_side : casez_matches (Unknown ∷ Zero ∷ HighImpedance ∷ One ∷ []) (Unknown ∷ Zero ∷ HighImpedance ∷ HighImpedance ∷ []) ≡ true
+row-casez_either_side = refl
+
+pub row-casez_unknown : casez_matches (Unknown ∷ Zero ∷ HighImpedance ∷ One ∷ []) (Zero ∷ Zero ∷ One ∷ One ∷ []) ≡ false
+row-casez_unknown = refl
 
 -- 4'b1001 << 1'bx is 4'bxxxx
 pub row-shl_unknown : shifted_left (One ∷ Zero ∷ Zero ∷ One ∷ []) (Unknown ∷ []) ≡ Unknown ∷ Unknown ∷ Unknown ∷ Unknown ∷ []

@@ -1,9 +1,9 @@
 -- Comparisons, each with an answer of one bit.
-use Rattle.std.specs.Prelude.{◌||◌, if◌then◌else◌, nat_lt, Bool, true, false, List, [], ◌∷◌, Option, Some, None}
+use Rattle.std.specs.Prelude.{◌||◌, if◌then◌else◌, nat_lt, not, Bool, true, false, List, [], ◌∷◌, Option, Some, None}
 use Rattle.std.specs.List.{list_any}
 use Rattle.vp_bits.specs.declared.bit.Bit.{Bit}
 use Rattle.vp_bits.specs.declared.bit.Bit.TheVariants.{Zero, One, Unknown, HighImpedance}
-use Rattle.vp_bits.specs.Vector.{same_bits}
+use Rattle.vp_bits.specs.Vector.{same_bit, same_bits}
 use Rattle.vp_bits.specs.Arithmetic.{with_numbers}
 
 -- the bit of an answer that may be unknown (IEEE Std 1364-2005, 5.1.7)
@@ -51,3 +51,15 @@ equal left right =
 -- case equality ===: whether the bits are the same, x and z too (IEEE Std 1364-2005, 5.1.8)
 abbrev pub case_equal : List Bit → List Bit → List Bit
 case_equal left right = bit_of_answer (Some (same_bits left right)) ∷ []
+
+-- whether two bits differ and neither is z (IEEE Std 1364-2005, 9.5.1)
+abbrev pub is_difference_but_z : Bit → Bit → Bool
+is_difference_but_z HighImpedance other = false
+is_difference_but_z Zero HighImpedance = false
+is_difference_but_z One HighImpedance = false
+is_difference_but_z Unknown HighImpedance = false
+is_difference_but_z bit other = not (same_bit bit other)
+
+-- whether two vectors match where a z of either matches any bit, as in casez (IEEE Std 1364-2005, 9.5.1)
+abbrev pub casez_matches : List Bit → List Bit → Bool
+casez_matches left right = not (at_some_place is_difference_but_z left right)

@@ -11,12 +11,13 @@ use Rattle.vp_parse_expr.specs.declared.node.Expression.{Expression}
 use Rattle.vp_parse_expr.specs.declared.node.Expression.TheVariants as expression
 use Rattle.vp_parse_expr.specs.declared.node.Selection.TheVariants as selection_of
 use Rattle.vp_parse_expr.specs.declared.operator.UnaryOperator.TheVariants as unary
+use Rattle.vp_parse_stmt.specs.declared.arena.Edge.TheVariants as edge
+use Rattle.vp_parse_stmt.specs.declared.arena.Span.{Span}
 use Rattle.vp_parse_stmt.specs.declared.arena.Statement.TheVariants as statement
 use Rattle.vp_parse.specs.declared.source.Connection.{Connection}
 use Rattle.vp_parse.specs.declared.source.Direction.TheVariants as direction
 use Rattle.vp_parse.specs.declared.source.Source.{Source}
 use Rattle.vp_parse.specs.declared.source.Module.{Module}
-use Rattle.vp_parse.specs.declared.source.Span.{Span}
 use Rattle.vp_parse.specs.declared.source.Item.{Item}
 use Rattle.vp_parse.specs.declared.source.Item.TheVariants as item
 use Rattle.vp_elab.specs.declared.object.Kind.{Kind}
@@ -45,6 +46,8 @@ source text modules items connections expressions = record {
   connections = connections;
   statements = [];
   expressions = expressions;
+  terms = [];
+  choices = [];
 }
 
 abbrev whole : ℕ → Expression
@@ -54,8 +57,8 @@ whole name = expression.Name name selection_of.Whole
 abbrev inverters : Source
 inverters =
     let parts : Source = source (codes "module inv(input wire a, output wire y);\n  assign y = ~a;\nendmodule\nmodule top;\n  reg r;\n  wire y1, y2;\n  localparam W = 4'd9;\n  inv u(.a(r), .y(y1)), v(.a(y1), .y(y2));\n  initial r = 1'b1;\nendmodule\n")
-    (record { name = 1; items = span 0 3; ports = 2; statements = span 0 0; expressions = span 0 2 }
-    ∷ record { name = 20; items = span 3 10; ports = 3; statements = span 0 1; expressions = span 2 8 } ∷ [])
+    (record { name = 1; items = span 0 3; ports = 2; statements = span 0 0; expressions = span 0 2; terms = span 0 0; choices = span 0 0 }
+    ∷ record { name = 20; items = span 3 10; ports = 3; statements = span 0 1; expressions = span 2 8; terms = span 0 0; choices = span 0 0 } ∷ [])
     (item.Port 5 direction.Input None ∷ item.Port 9 direction.Output None ∷ item.Assignment 13 1
     ∷ item.Reg 23 None ∷ item.Net 26 None ∷ item.Net 28 None ∷ item.LocalParameter 31 2
     ∷ item.Instance 37 36 0 2 ∷ item.Instance 52 36 2 4 ∷ item.Initial 67 0 ∷ [])
@@ -152,3 +155,38 @@ children_of_inverters = refl
 accepted_inverters : refusal_of inverters (record { envelopes = []; viewports = [] }) ≡ None
 unfolding digits is_utf8 chars encode_utf8 further_limit
 accepted_inverters = refl
+
+-- a reg, an initial, and an always behind it
+abbrev procedures : Source
+procedures =
+    let parts : Source = source (codes "module m;\n  reg r;\n  initial r = 1'b1;\n  always @(posedge r) ;\nendmodule\n")
+    (record {
+      name = 1;
+      items = span 0 3;
+      ports = 0;
+      statements = span 0 3;
+      expressions = span 0 1;
+      terms = span 0 1;
+      choices = span 0 0;
+    } ∷ [])
+    (item.Reg 4 None ∷ item.Initial 6 0 ∷ item.Always 12 2 ∷ []) [] (expression.Literal 9 1 10 ∷ []) in
+    record parts {
+      statements = statement.Assign 7 selection_of.Whole 0 ∷ statement.Null ∷ statement.Event (span 0 1) 1 ∷ [];
+      terms = record { edge = edge.Posedge; name = 16 } ∷ [];
+    }
+
+-- the always is named as the initial is, by its keyword, its line and its column
+nodes_of_procedures :
+    map row_of (nodes_of procedures [])
+    ≡ row (codes "m" ∷ []) kind.Module 1 1
+    ∷ row (codes "m" ∷ codes "r" ∷ []) kind.Reg 1 2
+    ∷ row (codes "m" ∷ codes "initial@3:3" ∷ []) kind.Initial 1 3
+    ∷ row (codes "m" ∷ codes "always@4:3" ∷ []) kind.Always 1 4
+    ∷ []
+unfolding digits is_utf8 chars encode_utf8 further_limit
+nodes_of_procedures = refl
+
+-- it has a design
+accepted_procedures : refusal_of procedures (record { envelopes = []; viewports = [] }) ≡ None
+unfolding digits is_utf8 chars encode_utf8 further_limit
+accepted_procedures = refl

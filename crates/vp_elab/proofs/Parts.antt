@@ -12,7 +12,7 @@ use Rattle.vp_modules.specs.Items.{definition_number, definition_of, instantiate
 
 -- a module, for a place behind the end of a list
 abbrev pub nowhere : Module
-nowhere = record { name = 0; items = record { first = 0; end = 0 }; ports = 0; statements = record { first = 0; end = 0 }; expressions = record { first = 0; end = 0 } }
+nowhere = record { name = 0; items = record { first = 0; end = 0 }; ports = 0; statements = record { first = 0; end = 0 }; expressions = record { first = 0; end = 0 }; terms = record { first = 0; end = 0 }; choices = record { first = 0; end = 0 } }
 
 -- numbers that are the same, where they are there
 pub some_same : (n m : ℕ) → n ≡ m → Some n ≡ Some m

@@ -7,8 +7,8 @@ use Rattle.std.specs.Char.{encode_utf8}
 use Rattle.vp_lex.specs.declared.fault.LexError.{LexError}
 use Rattle.vp_lex.specs.declared.token.Token.{Token}
 use Rattle.vp_lex.specs.Tokens.{tokens_of}
+use Rattle.vp_parse_stmt.specs.declared.arena.Span.{Span}
 use Rattle.vp_parse.specs.declared.source.Source.{Source}
-use Rattle.vp_parse.specs.declared.source.Span.{Span}
 use Rattle.vp_parse.specs.declared.source.Item.TheVariants as item
 use Rattle.vp_pragma.specs.declared.fault.PragmaError.{PragmaError}
 use Rattle.vp_pragma.specs.Envelopes.{Protection}
@@ -38,11 +38,13 @@ abbrev source : Source
 source = record {
   text = text;
   tokens = tokens_in (tokens_of text);
-  modules = record { name = 1; items = span 0 3; ports = 0; statements = span 0 0; expressions = span 0 0 } ∷ [];
+  modules = record { name = 1; items = span 0 3; ports = 0; statements = span 0 0; expressions = span 0 0; terms = span 0 0; choices = span 0 0 } ∷ [];
   items = item.Reg 4 None ∷ item.Reg 14 None ∷ item.Initial 19 0 ∷ [];
   connections = [];
   statements = [];
   expressions = [];
+  terms = [];
+  choices = [];
 }
 
 abbrev tree : Tree

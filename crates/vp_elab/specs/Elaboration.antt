@@ -31,6 +31,7 @@ item_kind (item.LocalParameter name value) = kind.Parameter
 item_kind (item.Assignment target value) = kind.Assign
 item_kind (item.Instance name definition first end) = kind.Module
 item_kind (item.Initial keyword body) = kind.Initial
+item_kind (item.Always keyword body) = kind.Always
 
 -- the range of a literal with a size (profile)
 abbrev pub literal_range : Expression → Option Range

@@ -75,6 +75,7 @@ fn kind_of(item: Item) -> Kind
         Item::Assignment { .. } => Kind::Assign,
         Item::Instance { .. } => Kind::Module,
         Item::Initial { .. } => Kind::Initial,
+        Item::Always { .. } => Kind::Always,
     }
 }
 
@@ -123,7 +124,10 @@ fn width_of(source: &Source, item: Item) -> u32
         Item::Port { range, .. } | Item::Net { range, .. } | Item::Reg { range, .. } =>
             range_or_scalar_width(range),
         Item::LocalParameter { value, .. } => literal_width(source, value),
-        Item::Assignment { .. } | Item::Instance { .. } | Item::Initial { .. } => 1,
+        Item::Assignment { .. }
+        | Item::Instance { .. }
+        | Item::Initial { .. }
+        | Item::Always { .. } => 1,
     }
 }
 
@@ -136,7 +140,10 @@ fn lowest_of(source: &Source, item: Item) -> Option<u16>
             range?.range.lsb,
         ),
         Item::LocalParameter { value, .. } => literal_lowest(source, value),
-        Item::Assignment { .. } | Item::Instance { .. } | Item::Initial { .. } => None,
+        Item::Assignment { .. }
+        | Item::Instance { .. }
+        | Item::Initial { .. }
+        | Item::Always { .. } => None,
     }
 }
 

@@ -46,7 +46,7 @@ module _ (d : Elaborated) (wide : list_all is_width (widths_of d) ≡ true) (fit
       (greater_fits (width_in d net.0) (get_or (sizes_of d) value 1) (width_there d.tree.nodes net.0 wide) (each_fits (sizes_of d) value fit))
 
   runs : (p : run.Process) → is_some (process_of d (sizes_of d) p) ≡ true
-  runs (going.Procedure object instance body) = refl
+  runs (going.Procedure object instance repeats body) = refl
   runs (going.Assignment object instance net value) = assigns object net instance value
   runs (going.Inward port instance value) = assigns port port instance value
   runs (going.Outward port net) = refl

@@ -1,18 +1,20 @@
 -- The sizes and signs of operands, one by one.
 use Rattle.std.proofs.Common.{◌≡◌, ◌∙◌, ℕ, zero, suc, ◌+◌, ◌<◌, ◌≤◌, length-take, cond, Option, subst, leb, ◌&&◌, Bool, true, false, List, [], ◌∷◌, ◌++◌, length, map, take, drop, get_or, Some, None, refl, sym, ap, arith}
-use Rattle.std.proofs.lemmas.List.{get_or-take, get_or_append_left, get_or_past, get_or_push, length_push, map-append, take-append-drop, take-append-le, take_all}
+use Rattle.std.proofs.lemmas.List.{get_or-take, get_or_past, map-append, take_all}
 use Rattle.std.proofs.lemmas.Bool.{and_parts}
 use Rattle.std.proofs.lemmas.Option.{get_or_from_slice_get, slice_get_within}
 use Rattle.std.specs.Prelude.{slice_get, IfSome, MatchOption}
 use borrow.Author.Tests.{leb-true}
 use Rattle.vp_bits.specs.Vector.{IsWidth}
 use Rattle.std.proofs.lemmas.List.Folds.{list_all-append}
-use Rattle.std.proofs.lemmas.List.Sums.{fold-append, fold_more}
+use Rattle.std.proofs.lemmas.List.Sums.{fold_more}
 use Rattle.std.specs.List.{fold, list_all}
 use Rattle.vp_expr.specs.declared.operand.Infix.TheVariants as pair
 use Rattle.vp_expr.specs.declared.operand.Operand.{Operand}
 use Rattle.vp_expr.specs.declared.operand.Operand.TheVariants as operand
 use Rattle.vp_expr.specs.Terms.{Term, size}
+use Rattle.vp_expr.proofs.Prefixes as prefix
+use Rattle.vp_expr.proofs.Prefixes.{length-made, made_below, made_missing, made_split, made_there, made_whole, past_end, take_made}
 use Rattle.vp_expr.specs.Arena.{blank, term_below, term_made, IsSized, fitting, is_width, operand_size, part_in, sizes_in, term_from, terms_of, with_term}
 
 -- what is computed of a part, among what is computed of terms
@@ -67,8 +69,7 @@ stays f terms (o ∷ os) h =
 
 -- the terms of all operands, from those of the first on
 pub terms_split : (os : List Operand) (k : ℕ) → terms_of os ≡ fold with_term (terms_of (take k os)) (drop k os)
-terms_split os k =
-    ap (fold with_term []) (sym (take-append-drop k os)) ∙ fold-append with_term [] (take k os) (drop k os)
+terms_split os k = made_split term_from os k
 
 pub none_fits : (sizes : List ℕ) → list_all is_width sizes ≡ false → fitting sizes ≡ None
 none_fits sizes h = rw h refl
@@ -135,35 +136,18 @@ first_all os i sizes h first =
 -- ---- terms by place
 
 pub length-terms : (terms : List Term) (os : List Operand) → length (fold with_term terms os) ≡ length terms + length os
-length-terms terms [] = omega arith
-length-terms terms (o ∷ os) = omega (arith, length-terms (with_term terms o) os, length_push terms (term_from terms o))
-
-grows : (terms : List Term) (os : List Operand) (n : ℕ) → n ≤ length terms → take n (fold with_term terms os) ≡ take n terms
-grows terms [] n h = refl
-grows terms (o ∷ os) n h =
-    grows (with_term terms o) os n (omega (arith, length_push terms (term_from terms o))) ∙ take-append-le n terms (term_from terms o ∷ []) h
+length-terms terms os = length-made term_from terms os
 
 pub grows_at : (terms : List Term) (os : List Operand) (n : ℕ) (d : Term) → n < length terms → get_or (fold with_term terms os) n d ≡ get_or terms n d
-grows_at terms [] n d h = refl
-grows_at terms (o ∷ os) n d h =
-    grows_at (with_term terms o) os n d (omega (arith, length_push terms (term_from terms o))) ∙ get_or_append_left terms (term_from terms o ∷ []) d n h
+grows_at terms os n d h = prefix.grows_at term_from terms os n d h
 
 -- the terms of the first operands
 pub take_terms : (os : List Operand) (k : ℕ) → k ≤ length os → take k (terms_of os) ≡ terms_of (take k os)
-take_terms os k h =
-    let n : length (terms_of (take k os)) ≡ k = length-terms [] (take k os) ∙ omega (arith, length-take k os) in
-    ap (take k) (terms_split os k) ∙ grows (terms_of (take k os)) (drop k os) k (omega arith) ∙ take_all k (terms_of (take k os)) (omega arith)
+take_terms os k h = take_made term_from os k h
 
 -- the term at a place is made of those before it
 pub term_there : (os : List Operand) (k : ℕ) (o : Operand) → k < length os → o ≡ get_or os k o → part_in (terms_of os) k ≡ term_from (take k (terms_of os)) o
-term_there os k o h at =
-    let n : length (terms_of (take k os)) ≡ k = length-terms [] (take k os) ∙ omega (arith, length-take k os) in
-    let m : length (terms_of (take (k + 1) os)) ≡ k + 1 = length-terms [] (take (k + 1) os) ∙ omega (arith, length-take (k + 1) os) in
-    ap (λ ts. part_in ts k) (terms_split os (k + 1))
-    ∙ grows_at (terms_of (take (k + 1) os)) (drop (k + 1) os) k blank (omega arith)
-    ∙ ap (λ ts. part_in ts k) (fold_more with_term [] os k o h ∙ ap (with_term (terms_of (take k os))) (sym at))
-    ∙ get_or_push (terms_of (take k os)) (term_from (terms_of (take k os)) o) blank k n
-    ∙ ap (λ ts. term_from ts o) (sym (take_terms os k (omega arith)))
+term_there os k o h at = made_there term_from os k o blank h at
 
 -- a part behind the end
 pub part_past : (terms : List Term) (end place : ℕ) → end ≤ place → part_in (take end terms) place ≡ blank
@@ -173,8 +157,7 @@ pub part_before : (terms : List Term) (end place : ℕ) → place < end → part
 part_before terms end place h = get_or-take end terms place blank h
 
 pub part_missing : (os : List Operand) (end place : ℕ) → length os ≤ place → part_in (take end (terms_of os)) place ≡ blank
-part_missing os end place h =
-    get_or_past (take end (terms_of os)) place blank (omega (arith, length-take end (terms_of os), length-terms [] os))
+part_missing os end place h = made_missing term_from os end place blank h
 
 -- ---- parts by place
 
@@ -201,18 +184,11 @@ size_behind os end place h = ap size (sym (part_past (terms_of os) end place h))
 pub size_fits : (os : List Operand) (sizes : List ℕ) (place : ℕ) → IsSized os sizes → IsWidth (get_or sizes place 1)
 size_fits os sizes place sized = width_from (get_or sizes place 1) (each_fits sizes place sized.fit)
 
-past_end : {X : Type 0} (xs : List X) (k : ℕ) → None ≡ slice_get xs k → length xs ≤ k
-past_end [] k h = omega arith
-past_end (x ∷ xs) zero h = absurd cc
-past_end (x ∷ xs) (suc k) h = let e = past_end xs k h in omega arith
-
 pub found_term : (os : List Operand) (end place : ℕ) (found : Option Operand) → place < end → found ≡ slice_get os place → MatchOption found (term_below os end place ≡ blank) (λ o. term_below os end place ≡ term_made os place o)
 found_term os end place None h at = part_missing os end place (past_end os place at)
-found_term os end place (Some o) h at =
-    part_before (terms_of os) end place h
-    ∙ term_there os place o (slice_get_within os place o (sym at)) (sym (get_or_from_slice_get os place o o (sym at)))
+found_term os end place (Some o) h at = made_below term_from os end place o blank h (sym at)
 
-pub found_fits : (os : List Operand) (sizes : List ℕ) (place : ℕ) (found : Option Operand) → IsSized os sizes → found ≡ slice_get os place → IfSome found (λ o. IsWidth (size (term_made os place o)))
+pub found_fits : (os : List Operand) (sizes : List ℕ) (place : ℕ) (found : Option Operand) → IsSized os sizes → IfSome found (λ o. Some o ≡ slice_get os place) → IfSome found (λ o. IsWidth (size (term_made os place o)))
 found_fits os sizes place None sized at = tt
 found_fits os sizes place (Some o) sized at =
     let is : part_in (terms_of os) place ≡ term_made os place o = term_there os place o (slice_get_within os place o (sym at)) (sym (get_or_from_slice_get os place o o (sym at))) in
@@ -220,5 +196,4 @@ found_fits os sizes place (Some o) sized at =
 
 -- below the end of all operands stand all of them
 pub term_whole : (os : List Operand) (place : ℕ) → term_below os (length os) place ≡ part_in (terms_of os) place
-term_whole os place =
-    ap (λ (ts : List Term). part_in ts place) (take_all (length os) (terms_of os) (omega (arith, length-terms [] os)))
+term_whole os place = made_whole term_from os place blank

@@ -30,6 +30,8 @@ six = record {
   ports = 0;
   statements = record { first = 0; end = 0 };
   expressions = record { first = 0; end = 6 };
+  terms = record { first = 0; end = 0 };
+  choices = record { first = 0; end = 0 };
 }
 
 -- a design without objects, in which it is laid out behind another number
@@ -46,6 +48,8 @@ design = record {
         node_of.Number 9 5 ∷ node_of.Number 0 7 ∷ node_of.Number 3 2 ∷ node_of.Number 5 1
         ∷ node_of.Binary Add 4 2 3
         ∷ node_of.Binary Subtract 1 1 4 ∷ [];
+    terms = [];
+    choices = [];
   };
   tree = record { nodes = []; viewports = []; authors = [] };
 }
@@ -85,7 +89,7 @@ object path kind width lowest = record { path = path; kind = kind; width = width
 
 abbrev nested : Elaborated
 nested = record {
-  source = record { text = []; tokens = []; modules = []; connections = []; items = []; statements = []; expressions = [] };
+  source = record { text = []; tokens = []; modules = []; connections = []; items = []; statements = []; expressions = []; terms = []; choices = [] };
   tree = record {
     nodes =
         object (top ∷ []) Module 1 None

@@ -1,7 +1,8 @@
 -- Lists that grow by an item a turn, as a loop goes over others.
-use Rattle.std.proofs.Common.{◌≡◌, ◌∙◌, ℕ, ◌+◌, ◌<◌, Option, List, [], ◌∷◌, ◌++◌, length, map, take, drop, get_or, sym, ap, append_assoc, add-one, drop-cons}
+use Rattle.std.proofs.Common.{◌≡◌, ◌∙◌, ℕ, ◌+◌, ◌<◌, Option, Some, List, [], ◌∷◌, ◌++◌, length, map, take, drop, get_or, sym, ap, append_assoc, add-one, drop-cons}
 use Rattle.std.proofs.lemmas.List.{map-append, take_more}
-use Rattle.std.specs.List.{cons_option, filter_map, fold}
+use Rattle.std.proofs.lemmas.List.Sums.{fold-append}
+use Rattle.std.specs.List.{cons_option, filter_map, flat_map, fold}
 
 -- what is left begins with the next item
 next_left : {A : Type 0} (items : List A) (i : ℕ) (d : A) → i < length items → drop i items ≡ get_or items i d ∷ drop (i + 1) items
@@ -35,3 +36,16 @@ option_left f made items i d x whole h so_far is =
     ap (λ o. made ++ cons_option o (filter_map f (drop (i + 1) items))) is
     ∙ ap (λ l. made ++ filter_map f l) (sym (next_left items i d h))
     ∙ so_far
+
+-- the same where something is made of the next item
+pub option_pushed : {A B : Type 0} (f : A → Option B) (made : List B) (items : List A) (i : ℕ) (d : A) (x : B) (whole : List B) → i < length items → made ++ filter_map f (drop i items) ≡ whole → Some x ≡ f (get_or items i d) → (made ++ x ∷ []) ++ filter_map f (drop (i + 1) items) ≡ whole
+option_pushed f made items i d x whole h so_far is =
+    append_assoc made (x ∷ []) (filter_map f (drop (i + 1) items)) ∙ option_left f made items i d (Some x) whole h so_far is
+
+-- one more list of a fold over lists, before those that are left
+pub folds_left : {A B C : Type 0} (g : C → B → C) (f : A → List B) (so_far : C) (items : List A) (i : ℕ) (d : A) (next whole : C) → i < length items → fold g so_far (flat_map f (drop i items)) ≡ whole → next ≡ fold g so_far (f (get_or items i d)) → fold g next (flat_map f (drop (i + 1) items)) ≡ whole
+folds_left g f so_far items i d next whole h same is =
+    ap (λ c. fold g c (flat_map f (drop (i + 1) items))) is
+    ∙ sym (fold-append g so_far (f (get_or items i d)) (flat_map f (drop (i + 1) items)))
+    ∙ ap (λ l. fold g so_far (flat_map f l)) (sym (next_left items i d h))
+    ∙ same

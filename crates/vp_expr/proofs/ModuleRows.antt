@@ -34,6 +34,8 @@ m = record {
   ports = 0;
   statements = record { first = 0; end = 1 };
   expressions = record { first = 0; end = 1 };
+  terms = record { first = 0; end = 0 };
+  choices = record { first = 0; end = 0 };
 }
 
 abbrev n : declared.Module
@@ -43,6 +45,8 @@ n = record {
   ports = 0;
   statements = record { first = 1; end = 2 };
   expressions = record { first = 1; end = 2 };
+  terms = record { first = 0; end = 0 };
+  choices = record { first = 0; end = 0 };
 }
 
 abbrev step : List ℕ → Option (List ℕ) → Step
@@ -74,6 +78,8 @@ two = record {
     items = [];
     statements = statement.Assign 2 selected_as.Whole 0 ∷ statement.Assign 2 selected_as.Whole 1 ∷ [];
     expressions = node.Name 2 selected_as.Whole ∷ node.Name 2 selected_as.Whole ∷ [];
+    terms = [];
+    choices = [];
   };
   tree = record {
     nodes =
@@ -118,6 +124,8 @@ whole : AreWhole two.source
 whole = record {
   expressions = (refl, omega arith, (refl, omega arith, refl));
   statements = (refl, omega arith, (refl, omega arith, refl));
+  terms = (refl, omega arith, (refl, omega arith, refl));
+  choices = (refl, omega arith, (refl, omega arith, refl));
 }
 
 in_n : StandsAt two n 1 (Name 2 Whole)

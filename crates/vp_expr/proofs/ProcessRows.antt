@@ -1,5 +1,5 @@
 -- The processes of a design as ones that a simulator runs, at rows that are worked out by hand.
-use Rattle.std.proofs.Common.{◌≡◌, ℕ, [], ◌∷◌, Option, Some, None, refl}
+use Rattle.std.proofs.Common.{◌≡◌, ℕ, false, true, [], ◌∷◌, Option, Some, None, refl}
 use Rattle.vp_elab.specs.declared.object.Kind.{Kind}
 use Rattle.vp_elab.specs.declared.object.Kind.TheVariants.{Assign, Module, Net}
 use Rattle.vp_elab.specs.declared.object.ObjectId.{ObjectId}
@@ -18,7 +18,7 @@ object number = record { 0 = number }
 -- a module, and in it a net of 4 bits, a scalar net and a continuous assignment
 abbrev design : Elaborated
 design = record {
-  source = record { text = []; tokens = []; modules = []; connections = []; items = []; statements = []; expressions = [] };
+  source = record { text = []; tokens = []; modules = []; connections = []; items = []; statements = []; expressions = []; terms = []; choices = [] };
   tree = record {
     nodes = node Module 1 None ∷ node Net 4 (Some 0) ∷ node Net 1 None ∷ node Assign 1 None ∷ [];
     viewports = [];
@@ -26,8 +26,11 @@ design = record {
   };
 }
 
-procedure_as_it_is : process_of design [] (going.Procedure (object 3) (object 0) 7) ≡ Some (process.Procedure (object 3) (object 0) 7)
+procedure_as_it_is : process_of design [] (going.Procedure (object 3) (object 0) false 7) ≡ Some (process.Procedure (object 3) (object 0) false 7)
 procedure_as_it_is = refl
+
+always_repeats : process_of design [] (going.Procedure (object 3) (object 0) true 7) ≡ Some (process.Procedure (object 3) (object 0) true 7)
+always_repeats = refl
 
 -- the value, at place 1, has 2 bits of its own, and the net has 4
 at_the_width_of_its_net :

@@ -25,6 +25,8 @@ source = record {
   items = LocalParameter 0 0 ∷ Reg 0 None ∷ [];
   statements = [];
   expressions = Literal 1 4 2 ∷ Number 1 4 ∷ [];
+  terms = [];
+  choices = [];
 }
 
 nine : item_constant source 4 (LocalParameter 0 0) ≡ One ∷ Zero ∷ Zero ∷ One ∷ []

@@ -9,7 +9,8 @@ use Rattle.vp_expr.specs.declared.operand.Shift.TheVariants as shift
 use Rattle.vp_expr.specs.declared.operand.Comparison.TheVariants as comparison
 use Rattle.vp_expr.specs.declared.operand.Logical.TheVariants as logical
 use Rattle.vp_expr.specs.Arena.{value_in}
-use Rattle.vp_expr.specs.Terms.{Term, Constant, BitSelect, PartSelect, Applied, Reduced, Combined, Shifted, Compared, Joined, Conditional, Concatenated, Appended, Replicated, is_signed, value, own_value, assigned, with_bit_at, with_part_at}
+use Rattle.vp_expr.specs.Terms.{Term, Constant, BitSelect, PartSelect, Applied, Reduced, Combined, Shifted, Compared, Joined, Conditional, Concatenated, Appended, Replicated, is_signed, value, own_value, assigned, with_part_at}
+use Rattle.vp_expr.proofs.Setting.{with_bit_at}
 
 -- an unsigned constant by its bits, the least significant first
 abbrev constant : List Bit → Term

@@ -9,7 +9,7 @@ use Rattle.vp_list.specs.Lists.{range_of}
 use Rattle.vp_parse_expr.specs.declared.node.Expression.{Expression}
 use Rattle.vp_parse.specs.declared.source.Module.{Module}
 use Rattle.vp_parse.specs.declared.source.Source.{Source}
-use Rattle.vp_parse.specs.declared.source.Span.{Span}
+use Rattle.vp_parse_stmt.specs.declared.arena.Span.{Span}
 use Rattle.vp_parse.specs.Whole.{AreGapless, AreWhole}
 use Rattle.vp_modules.specs.Items.{expressions_in, statements_in}
 use Rattle.vp_elab.specs.Built.{Elaborated}
@@ -17,7 +17,7 @@ use Rattle.vp_expr.specs.declared.operand.Operand.{Operand}
 use Rattle.vp_expr.specs.Tables.{operand_of, operands_in, operands_of, scope_of}
 
 -- a list has the items of a span that ends in it
-in_range : {X : Type 0} (xs : List X) (a b : ℕ) → a ≤ b → b ≤ length xs → range_of xs a b ≡ slice_range xs a b
+pub in_range : {X : Type 0} (xs : List X) (a b : ℕ) → a ≤ b → b ≤ length xs → range_of xs a b ≡ slice_range xs a b
 in_range xs a b h k =
     ap (λ (x : Bool). cond (x && leb b (length xs)) (slice_range xs a b) []) (le-leb a b h)
     ∙ ap (λ (x : Bool). cond x (slice_range xs a b) []) (le-leb b (length xs) k)

@@ -106,9 +106,10 @@ wide_range declared = place_if (is_wide (range_width declared.range)) declared.b
 abbrev pub wide_item : Item → Option ℕ
 wide_item i = option_and_then wide_range (range_in i)
 
--- an assignment to a part that is too wide (clause 5.2.1)
+-- an assignment to a part that is too wide (clauses 5.2.1, 9.2.1 and 9.2.2)
 abbrev pub wide_target : Statement → Option ℕ
 wide_target (statement.Assign target s value) = place_if (is_wide_part s) target
+wide_target (statement.Nonblocking target s value delay) = place_if (is_wide_part s) target
 wide_target _ = None
 
 -- ---- relational operators on signed operands (profile)
@@ -151,9 +152,10 @@ bad_at design scope (expression.Name name s) = bad_name design scope name s
 bad_at design scope (expression.Replication brace count list) = place_if (count == 0) brace
 bad_at design scope _ = None
 
--- a bad selection before the equals sign of an assignment
+-- a bad selection on the left side of an assignment, blocking or not (clauses 9.2.1 and 9.2.2)
 abbrev pub bad_target : Elaborated → (scope : Option ℕ) → Statement → Option ℕ
 bad_target design scope (statement.Assign target s value) = bad_name design scope target s
+bad_target design scope (statement.Nonblocking target s value delay) = bad_name design scope target s
 bad_target design scope _ = None
 
 -- ---- all of them

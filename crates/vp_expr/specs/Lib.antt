@@ -7,6 +7,8 @@ pub mod Arena
 pub mod Start
 pub mod Literals
 pub mod LiteralSteps
+pub mod Names
+pub mod Awaits
 pub mod Tables
 pub mod Evaluation
 pub mod Reads

@@ -1,6 +1,6 @@
 -- The tables that a simulator runs: the expressions and statements of a design, with slots in place of names.
-use Rattle.std.specs.Prelude.{ℕ, ◌-◌, ◌&&◌, max, Bool, false, true, if◌then◌else◌, List, map, slice_get, slice_index_or, Option, Some, None, option_map, option_and_then}
-use Rattle.std.specs.List.{filter_map, flat_map, list_all}
+use Rattle.std.specs.Prelude.{ℕ, ◌-◌, ◌&&◌, max, Bool, false, true, if◌then◌else◌, List, map, slice_index_or, Option, Some, None, option_map, option_and_then}
+use Rattle.std.specs.List.{filter_map, flat_map, fold, list_all}
 use Rattle.std.specs.Option.{option_map_or, unwrap_or}
 use Rattle.vp_parse_expr.specs.declared.node.Expression.{Expression}
 use Rattle.vp_parse_expr.specs.declared.node.Expression.TheVariants as expression
@@ -11,18 +11,19 @@ use Rattle.vp_parse_expr.specs.declared.operator.BinaryOperator.TheVariants as b
 use Rattle.vp_parse_expr.specs.declared.operator.UnaryOperator.{UnaryOperator}
 use Rattle.vp_parse_expr.specs.declared.operator.UnaryOperator.TheVariants as before
 use Rattle.vp_parse.specs.Places.{word_at}
+use Rattle.vp_parse_stmt.specs.declared.arena.Choice.{Choice}
+use Rattle.vp_parse_stmt.specs.declared.arena.Span.{Span}
 use Rattle.vp_parse_stmt.specs.declared.arena.Statement.{Statement}
 use Rattle.vp_parse_stmt.specs.declared.arena.Statement.TheVariants as statement
 use Rattle.vp_parse.specs.declared.source.Module as declared
+use Rattle.vp_parse.specs.declared.source.Source.{Source}
 use Rattle.vp_modules.specs.Items.{expressions_in, statements_in}
 use Rattle.vp_elab.specs.Built.{Elaborated}
 use Rattle.vp_elab.specs.Elaboration.{range_width}
-use Rattle.vp_elab.specs.Tree.{Node, find_in, first_of}
 use Rattle.vp_processes.specs.Processes as elaborated
 use Rattle.vp_processes.specs.declared.process.Process as run
 use Rattle.vp_processes.specs.declared.process.Process.TheVariants as going
 use Rattle.vp_elab.specs.declared.object.ObjectId.{ObjectId}
-use Rattle.vp_expr.specs.declared.operand.Slot.{Slot}
 use Rattle.vp_expr.specs.declared.operand.Operand.{Operand}
 use Rattle.vp_expr.specs.declared.operand.Operand.TheVariants as operand
 use Rattle.vp_expr.specs.declared.operand.Infix.{Infix}
@@ -33,6 +34,7 @@ use Rattle.vp_expr.specs.declared.operand.Binary.TheVariants as binary
 use Rattle.vp_expr.specs.declared.operand.Shift.TheVariants as shift
 use Rattle.vp_expr.specs.declared.operand.Comparison.TheVariants as comparison
 use Rattle.vp_expr.specs.declared.operand.Logical.TheVariants as logical
+use Rattle.vp_expr.specs.declared.awaited.Awaited.{Awaited}
 use Rattle.vp_expr.specs.declared.tables.Action.{Action}
 use Rattle.vp_expr.specs.declared.tables.Action.TheVariants as action
 use Rattle.vp_expr.specs.declared.tables.Target.{Target}
@@ -44,34 +46,8 @@ use Rattle.vp_expr.specs.declared.tables.Tables.{Tables}
 use Rattle.vp_expr.specs.Arena.{is_width, sizes_in}
 use Rattle.vp_expr.specs.Literals.{based_bits, literal_bits, number_bits}
 use Rattle.vp_expr.specs.Values.{no_value}
-
--- ---- names
-
--- the object in which the names of a module are looked up: its first, since a name has the same slot in each instance of a
--- module; none where the module has no object (clauses 12.1.2 and 12.5)
-abbrev pub scope_of : Elaborated → declared.Module → Option ℕ
-scope_of design m = first_of design.tree.nodes (word_at design.source m.name)
-
--- the object of the name at a place, by the object of the module in which it stands (clause 12.5)
-abbrev pub object_named : Elaborated → (scope : Option ℕ) → (place : ℕ) → Option ℕ
-object_named design scope place =
-    option_and_then (λ s. find_in design.tree.nodes (Some s) (word_at design.source place)) scope
-
--- the node of the name at a place
-abbrev pub node_named : Elaborated → (scope : Option ℕ) → (place : ℕ) → Option Node
-node_named design scope place = option_and_then (slice_get design.tree.nodes) (object_named design scope place)
-
--- how far an object stands behind the object of its module: in each instance of the module as far (clause 12.1.2)
-abbrev pub slot_in : (scope : Option ℕ) → (object : ℕ) → Slot
-slot_in scope object = record { 0 = object - unwrap_or scope 0 }
-
--- how many bits an object has; 0 where there is none
-abbrev pub width_in : Elaborated → ℕ → ℕ
-width_in design object = option_map_or (λ (n : Node). n.width) (slice_get design.tree.nodes object) 0
-
--- the index of the least significant bit of an object; 0 where it has none
-abbrev pub lowest_in : Elaborated → ℕ → ℕ
-lowest_in design object = unwrap_or (option_and_then (λ (n : Node). n.lowest) (slice_get design.tree.nodes object)) 0
+use Rattle.vp_expr.specs.Awaits.{awaits_of, choices_at, cut_at, laid_of}
+pub use Rattle.vp_expr.specs.Names.{lowest_in, node_named, object_named, scope_of, slot_in, width_in}
 
 -- ---- expressions
 
@@ -179,31 +155,78 @@ target_width (target.Whole slot width) = width
 target_width (target.Bit slot lowest index) = 1
 target_width (target.Part slot place width) = width
 
--- an assignment of a value to a target; nothing where there is none
-abbrev pub assign_value : Target → Option Sized → Action
-assign_value t None = action.Nothing
-assign_value t (Some value) = action.Assign t value
-
--- an assignment to a target: the value has the greater of its size and the target's width as its context (clause 5.4.1)
-abbrev pub assign_target : (sizes : List ℕ) → (value : ℕ) → Target → Action
-assign_target sizes value t = assign_value t (sized_at value (max (target_width t) (slice_index_or sizes value 1)))
-
--- an assignment to a target, if there is one
-abbrev pub assign_to : (sizes : List ℕ) → (value : ℕ) → Option Target → Action
-assign_to sizes value None = action.Nothing
-assign_to sizes value (Some t) = assign_target sizes value t
-
 -- what is selected of an object, if there is one, as a target
 abbrev pub named_target : Elaborated → (scope object : Option ℕ) → Selection → Option Target
 named_target design scope None s = None
 named_target design scope (Some object) s = selected_target design scope object s
 
--- a statement of a module, by its object: with a slot in place of its name (clauses 9.2.1 and 9.8.1)
+-- the size of the expression at a place, by the sizes of all; 1 behind the end
+abbrev pub size_at : (sizes : List ℕ) → (place : ℕ) → ℕ
+size_at sizes place = slice_index_or sizes place 1
+
+-- an expression that sizes itself, as a condition does (clause 5.4.1)
+abbrev pub own_sized : (sizes : List ℕ) → (place : ℕ) → Option Sized
+own_sized sizes place = sized_at place (size_at sizes place)
+
+-- the value of an assignment to a target: the greater of its size and the target's width is its context (clause 5.4.1)
+abbrev pub value_for : (sizes : List ℕ) → (value : ℕ) → Target → Option Sized
+value_for sizes value t = sized_at value (max (target_width t) (size_at sizes value))
+
+-- the target of an assignment to what is selected of a name, and its value; none where no vector can be one of them
+abbrev pub assigned : Elaborated → (scope : Option ℕ) → (sizes : List ℕ) → (name : ℕ) → Selection → (value : ℕ) → Option (Target × Sized)
+assigned design scope sizes name s value =
+    option_and_then (λ t. option_map (λ v. (t, v)) (value_for sizes value t))
+    (named_target design scope (object_named design scope name) s)
+
+-- the greater of a size and that of a choice's label, if it has one
+abbrev pub with_label : (sizes : List ℕ) → ℕ → Choice → ℕ
+with_label sizes size choice = option_map_or (λ label. max size (size_at sizes label)) choice.label size
+
+-- the selector of a case: the greatest of its size and those of all labels is the context of each of them (clause 9.5)
+abbrev pub selector_for : Source → (sizes : List ℕ) → (selector : ℕ) → Span → Option Sized
+selector_for source sizes selector choices =
+    sized_at selector (fold (with_label sizes) (size_at sizes selector) (choices_at source choices))
+
+-- a statement that goes on by a condition or a selector, with that in its context; none where no vector can be that, and for any
+-- other statement (clauses 9.4 to 9.7)
+abbrev pub conditional_action : Source → (sizes : List ℕ) → Statement → Option Action
+conditional_action source sizes (statement.Wait condition body) = option_map (λ c. action.Wait c body) (own_sized sizes condition)
+conditional_action source sizes (statement.If condition first second) =
+    option_map (λ c. action.If c first second) (own_sized sizes condition)
+conditional_action source sizes (statement.While condition body step) =
+    option_map (λ c. action.While c body step) (own_sized sizes condition)
+conditional_action source sizes (statement.Case is_wild selector choices) =
+    option_map (λ s. action.Case is_wild s choices) (selector_for source sizes selector choices)
+conditional_action source sizes _ = None
+
+-- a statement of a module, by its object: with a slot in place of a name, and expressions in their contexts; none where no vector
+-- can be its target or one of these (clause 9)
+abbrev pub action_for : Elaborated → (scope : Option ℕ) → (sizes : List ℕ) → Statement → Option Action
+action_for design scope sizes statement.Empty = Some action.Nothing
+action_for design scope sizes (statement.Then list last) = Some (action.Then list last)
+action_for design scope sizes (statement.Assign name s value) =
+    option_map (λ a. action.Assign a.0 a.1) (assigned design scope sizes name s value)
+action_for design scope sizes statement.Null = Some action.Null
+action_for design scope sizes (statement.Nonblocking name s value delay) =
+    option_map (λ a. action.Nonblocking a.0 a.1 delay) (assigned design scope sizes name s value)
+action_for design scope sizes (statement.Delay amount body) = Some (action.Delay amount body)
+action_for design scope sizes (statement.Event terms body) = Some (action.Event body)
+action_for design scope sizes (statement.AnyEvent body) = Some (action.Event body)
+action_for design scope sizes (statement.Wait condition body) =
+    conditional_action design.source sizes (statement.Wait condition body)
+action_for design scope sizes (statement.If condition first second) =
+    conditional_action design.source sizes (statement.If condition first second)
+action_for design scope sizes (statement.While condition body step) =
+    conditional_action design.source sizes (statement.While condition body step)
+action_for design scope sizes (statement.Case is_wild selector choices) =
+    conditional_action design.source sizes (statement.Case is_wild selector choices)
+action_for design scope sizes statement.Finish = Some action.Finish
+action_for design scope sizes (statement.Forever body) = Some (action.Forever body)
+action_for design scope sizes (statement.For start turns) = Some (action.For start turns)
+
+-- a statement of a module, by its object; nothing in place of one that no vector can be
 abbrev pub action_of : Elaborated → (scope : Option ℕ) → (sizes : List ℕ) → Statement → Action
-action_of design scope sizes statement.Empty = action.Nothing
-action_of design scope sizes (statement.Then list last) = action.Then list last
-action_of design scope sizes (statement.Assign name s value) =
-    assign_to sizes value (named_target design scope (object_named design scope name) s)
+action_of design scope sizes s = unwrap_or (action_for design scope sizes s) action.Nothing
 
 -- the statements of a module as actions, by the sizes of the expressions of the design
 abbrev pub actions_in : Elaborated → (sizes : List ℕ) → declared.Module → List Action
@@ -217,7 +240,7 @@ actions_of design sizes = flat_map (actions_in design sizes) design.source.modul
 
 -- the context of a continuous assignment's value: the greater of the value's own size and the net's width (clauses 5.4.1 and 6.1)
 abbrev pub driven_size : Elaborated → (sizes : List ℕ) → (net value : ℕ) → ℕ
-driven_size design sizes net value = max (width_in design net) (slice_index_or sizes value 1)
+driven_size design sizes net value = max (width_in design net) (size_at sizes value)
 
 -- a continuous assignment of the expression at a place to a net; none where no vector has the size of its context (clause 6.1)
 abbrev pub assignment_of : Elaborated → (sizes : List ℕ) → (object net instance : ObjectId) → (value : ℕ) → Option Process
@@ -227,14 +250,14 @@ assignment_of design sizes object net instance value =
 -- a process of the design as one that a simulator runs: a connection inwards is a continuous assignment to the port, one outwards
 -- of the port to the net outside (clauses 6.1, 9.9 and 12.3.9.2)
 abbrev pub process_of : Elaborated → (sizes : List ℕ) → run.Process → Option Process
-process_of design sizes (going.Procedure object instance body) = Some (process.Procedure object instance body)
+process_of design sizes (going.Procedure object instance repeats body) = Some (process.Procedure object instance repeats body)
 process_of design sizes (going.Assignment object instance net value) = assignment_of design sizes object net instance value
 process_of design sizes (going.Inward port instance value) = assignment_of design sizes port port instance value
 process_of design sizes (going.Outward port net) = Some (process.Connection port net)
 
 -- the object of a process; of a connection the port
 abbrev pub process_object : Process → ObjectId
-process_object (process.Procedure object instance body) = object
+process_object (process.Procedure object instance repeats body) = object
 process_object (process.Assignment object net instance value) = object
 process_object (process.Connection port net) = port
 
@@ -250,7 +273,13 @@ tables_of design = record {
   sizes = sizes_of design;
   actions = actions_of design (sizes_of design);
   processes = processes_of design (sizes_of design);
+  awaited = (laid_of (awaits_of design (operands_of design))).0;
+  awaited_ends = (laid_of (awaits_of design (operands_of design))).1;
 }
+
+-- the changes for which the statement at a place waits
+unfoldable pub awaited_of : Tables → (place : ℕ) → List Awaited
+awaited_of tables place = cut_at tables.awaited tables.awaited_ends place
 
 -- each width and each size is that of a vector
 abbrev pub all_fit : Elaborated → Bool

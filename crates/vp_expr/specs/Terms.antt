@@ -182,15 +182,19 @@ own_value at t = value at (size t) t
 abbrev pub assigned : (ℕ → List Bit) → (target : ℕ) → Term → List Bit
 assigned at target t = resized target (value at (max target (size t)) t)
 
--- what an assignment to the bit at an index leaves of a vector; the vector itself where the index is unknown or out of range
--- (IEEE Std 1364-2005, 5.2.1)
-abbrev pub with_bit_at : List Bit → (lowest : ℕ) → Option ℕ → List Bit → List Bit
-with_bit_at bits lowest None part = bits
-with_bit_at bits lowest (Some index) part =
-    if has_index bits lowest index then with_selected bits (index - lowest) (resized 1 part) else bits
+-- the place of the bit at an index of a vector whose least significant bit has the lowest; none where the index is unknown or out
+-- of range (IEEE Std 1364-2005, 5.2.1)
+abbrev pub index_place : List Bit → (lowest : ℕ) → Option ℕ → Option ℕ
+index_place bits lowest None = None
+index_place bits lowest (Some index) = if has_index bits lowest index then Some (index - lowest) else None
 
 -- what an assignment to the part from a place on leaves of a vector; the vector itself where the part is not inside it
 -- (IEEE Std 1364-2005, 5.2.1)
 abbrev pub with_part_at : List Bit → (place width : ℕ) → List Bit → List Bit
 with_part_at bits place width part =
     if nat_le 1 width && nat_le (place + width) (length bits) then with_selected bits place (resized width part) else bits
+
+-- a vector with the bits of another from a place on, if there is a place (clause 5.2.1)
+abbrev pub set_in : List Bit → (place : Option ℕ) → (part : List Bit) → List Bit
+set_in bits None part = bits
+set_in bits (Some place) part = with_part_at bits place (length part) part

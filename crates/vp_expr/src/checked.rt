@@ -1,10 +1,12 @@
-ghost use Rattle.std.specs.Prelude.{◌≡◌, ◌≤◌, true, length, map, All, None, IfErr, IfOk, OnOk};
+ghost use Rattle.std.specs.Prelude.{◌≡◌, ◌≤◌, [], slice_index_or, true, length, map, All, None, IfErr, IfOk, OnOk};
 ghost use Rattle.std.specs.List.{list_all};
 ghost use Rattle.vp_processes.specs.Processes.{processes_of};
 ghost use Rattle.vp_expr.specs.Arena.{is_width};
+ghost use Rattle.vp_expr.specs.Awaits.{awaits_of};
 ghost use Rattle.vp_expr.specs.Checks.{Explains, IsChecked, refusal_of};
-ghost use Rattle.vp_expr.specs.Tables.{tables_of};
+ghost use Rattle.vp_expr.specs.Tables.{awaited_of, operands_of, tables_of};
 
+use crate::awaited::{Awaited, cut_at};
 use crate::fault::ExprError;
 use crate::refusing::checked_tables;
 use crate::tables::Tables;
@@ -56,6 +58,17 @@ impl Checked {
         ensures whole { length result.now.processes ≡ length (processes_of self.now) }
     {
         &self.tables
+    }
+
+    /// The changes for which the statement at a place waits.
+    #[tactic(auto, unfolding(crate::specs::Tables::awaited_of))]
+    pub fn awaited(&self, place: u32) -> &[Awaited]
+        ensures cut { result.now ≡ awaited_of (tables_of self.now) place }
+        ensures awaited { result.now ≡ slice_index_or (awaits_of self.now (operands_of self.now)) place [] }
+    {
+        let tables = &self.tables;
+        let ends = tables.awaited_ends.as_slice();
+        cut_at(tables.awaited.as_slice(), ends, place as usize)
     }
 }
 

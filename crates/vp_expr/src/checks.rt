@@ -157,6 +157,11 @@ fn wide_target(statement: Statement) -> Option<u32>
             target,
             selection,
             ..
+        }
+        | Statement::Nonblocking {
+            target,
+            selection,
+            ..
         } if is_wide_part(selection) => Some(target),
         _ => None,
     }
@@ -378,8 +383,13 @@ fn bad_target(design: &Design, scope: Option<ObjectId>, statement: Statement) ->
             target,
             selection,
             ..
+        }
+        | Statement::Nonblocking {
+            target,
+            selection,
+            ..
         } => bad_name(design, scope, target, selection),
-        Statement::Empty | Statement::Then { .. } => None,
+        _ => None,
     }
 }
 

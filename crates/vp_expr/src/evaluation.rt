@@ -1,11 +1,11 @@
-ghost use Rattle.std.specs.Prelude.{◌≡◌, ◌<◌, drop, length, slice_get, IfSome, MatchOption, OnSome};
+ghost use Rattle.std.specs.Prelude.{◌≡◌, ◌<◌, Some, drop, length, slice_get, IfSome, MatchOption, OnSome};
 ghost use Rattle.vp_bits.specs.Vector.{IsWidth};
 ghost use Rattle.vp_expr.specs.Arena.{blank, term_below, term_made, value_in, IsSized};
 ghost use Rattle.vp_parse_expr.specs.Grammar.{Expr};
 ghost use Rattle.vp_parse.specs.declared.source.Module.{Module};
 ghost use Rattle.vp_parse.specs.Whole.{AreWhole};
 ghost use Rattle.vp_expr.specs.Derived.{StandsAt, derived_value};
-ghost use Rattle.vp_expr.specs.Evaluation.{eval, given_to, own_eval};
+ghost use Rattle.vp_expr.specs.Evaluation.{eval, own_eval, place_set};
 ghost use Rattle.vp_expr.specs.Tables.{scope_of, tables_of};
 ghost use Rattle.vp_expr.specs.Terms.{size, value};
 
@@ -13,8 +13,7 @@ use crate::checked::Checked;
 use crate::id::ExprId;
 use crate::operand::{Infix, Operand};
 use crate::operators::{
-    applied, bit_at, combined, compared, joined, part_at, reduced, shifted, with_bit_at,
-    with_part_at,
+    applied, bit_at, combined, compared, index_place, joined, part_at, reduced, shifted,
 };
 use crate::sizes::size_at;
 use crate::tables::{Tables, Target};
@@ -30,16 +29,25 @@ fn operand_at(operands: &[Operand], place: u32) -> Option<Operand>
 }
 
 /// The operand at a place before an end; none elsewhere.
-pub fn operand_below(tables: &Tables, end: usize, place: u32) -> Option<Operand>
+pub fn operand_before(operands: &[Operand], end: usize, place: u32) -> Option<Operand>
+    ensures below { OnSome result (place < end) }
+    ensures found { IfSome result (λ o. Some o ≡ slice_get operands.now place) }
+    ensures term { MatchOption result (term_below operands.now end place ≡ blank) (λ o. term_below operands.now end place ≡ term_made operands.now place o) }
+{
+    if place as usize >= end {
+        return None;
+    }
+    operand_at(operands, place)
+}
+
+/// The operand at a place before an end, whose size is that of a vector; none elsewhere.
+fn operand_below(tables: &Tables, end: usize, place: u32) -> Option<Operand>
     requires { IsSized tables.now.operands tables.now.sizes }
     ensures below { OnSome result (place < end) }
     ensures term { MatchOption result (term_below tables.now.operands end place ≡ blank) (λ o. term_below tables.now.operands end place ≡ term_made tables.now.operands place o) }
     ensures fits { IfSome result (λ o. IsWidth (size (term_made tables.now.operands place o))) }
 {
-    if place as usize >= end {
-        return None;
-    }
-    operand_at(tables.operands.as_slice(), place)
+    operand_before(tables.operands.as_slice(), end, place)
 }
 
 /// The size of the operand at a place before an end, in bits; 1 elsewhere.
@@ -197,6 +205,7 @@ fn value_of(tables: &Tables, values: &[Bits], place: usize, operand: Operand, co
 /// the module, where the modules hold all expressions; one unknown bit, extended by zeros, behind the end.
 pub fn eval(checked: &Checked, values: &Values, instance: ObjectId, id: ExprId) -> Bits
     ensures value { result ≡ eval (tables_of checked.now) (drop instance.0 values.now) id }
+    ensures width { length result ≡ id.size }
     ensures derived { AreWhole checked.now.source → (m : Module) (e : Expr) → StandsAt checked.now m id.place e → result ≡ derived_value checked.now (scope_of checked.now m) (drop instance.0 values.now) id.size e }
 {
     let tables = checked.tables();
@@ -212,30 +221,28 @@ fn own_eval(checked: &Checked, values: &[Bits], place: u32) -> Bits
     own_value(tables, values, tables.operands.len(), place)
 }
 
-/// What an assignment of a value gives the object of its target in an instance, from the values of the objects: the value itself,
-/// or the object's own with a bit or a part set (IEEE Std 1364-2005, 5.2.1).
-pub fn given_to(
+/// The place of the lowest bit of its object that an assignment sets in an instance, where the least significant bit has place 0,
+/// from the values of the objects; none where no bit is selected, as by an index that is unknown or out of range (IEEE Std 1364-2005,
+/// 5.2.1).
+pub fn place_set(
     checked: &Checked,
     values: &Values,
     instance: ObjectId,
     target: Target,
-    value: Bits,
-) -> Bits
-    ensures { result ≡ given_to (tables_of checked.now) (drop instance.0 values.now) target value }
+) -> Option<u32>
+    ensures { result ≡ place_set (tables_of checked.now) (drop instance.0 values.now) target }
 {
     let values = values.of_instance(instance);
     match target {
-        Target::Whole { .. } => value,
+        Target::Whole { .. } => Some(0),
         Target::Bit {
             slot,
             lowest,
             index,
         } => {
             let index = own_eval(checked, values, index).number();
-            with_bit_at(value_in(values, slot.0), lowest, index, value)
+            index_place(value_in(values, slot.0), lowest, index)
         }
-        Target::Part { slot, place, width } => {
-            with_part_at(value_in(values, slot.0), place, width, value)
-        }
+        Target::Part { place, .. } => Some(place),
     }
 }

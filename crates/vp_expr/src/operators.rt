@@ -1,7 +1,7 @@
 ghost use Rattle.std.specs.Prelude.{◌≡◌, [], ◌∷◌, length};
 ghost use Rattle.vp_bits.specs.Tables.{truth};
 ghost use Rattle.vp_bits.specs.Vector.{IsWidth};
-ghost use Rattle.vp_expr.specs.Terms.{applied, bit_at, combined, compared, joined, part_at, reduced, shifted_by, with_bit_at, with_part_at};
+ghost use Rattle.vp_expr.specs.Terms.{applied, bit_at, combined, compared, index_place, joined, part_at, reduced, shifted_by, with_part_at, set_in};
 
 use crate::operand::{Binary, Comparison, Logical, Reduction, Shift, Unary};
 use vp_bits::Bits;
@@ -110,19 +110,17 @@ pub fn part_at(bits: Bits, place: u32, width: u8) -> Bits
     bits.select(place as u8, width)
 }
 
-/// What an assignment to the bit of a vector at an index leaves of it, where the least significant bit has the lowest; the
-/// vector itself where the index is unknown or out of range (IEEE Std 1364-2005, 5.2.1).
-pub fn with_bit_at(bits: Bits, lowest: u32, index: Option<u64>, part: Bits) -> Bits
-    ensures { result ≡ with_bit_at bits lowest index part }
+/// The place of the bit of a vector at an index, where the least significant bit has the lowest; none where the index is unknown
+/// or out of range (IEEE Std 1364-2005, 5.2.1).
+pub fn index_place(bits: Bits, lowest: u32, index: Option<u64>) -> Option<u32>
+    ensures { result ≡ index_place bits lowest index }
 {
-    let Some(index) = index else {
-        return bits;
-    };
+    let index = index?;
     let lowest = u64::from(lowest);
     if index < lowest || index - lowest >= u64::from(bits.width()) {
-        return bits;
+        return None;
     }
-    bits.with_select((index - lowest) as u8, part.resize(1))
+    Some((index - lowest) as u32)
 }
 
 /// What an assignment to a part of a vector leaves of it, from a place on and as many bits as the width says; the vector
@@ -134,4 +132,15 @@ pub fn with_part_at(bits: Bits, place: u32, width: u8, part: Bits) -> Bits
         return bits;
     }
     bits.with_select(place as u8, part.resize(width))
+}
+
+/// A vector with the bits of another from a place on; itself where there is no place, or where the other does not lie inside it
+/// (IEEE Std 1364-2005, 5.2.1).
+pub fn set_in(bits: Bits, place: Option<u32>, part: Bits) -> Bits
+    ensures { result ≡ set_in bits place part }
+{
+    match place {
+        Some(place) => with_part_at(bits, place, part.width(), part),
+        None => bits,
+    }
 }

@@ -1,19 +1,19 @@
 ghost use Rattle.std.specs.Prelude.{◌≡◌, ◌++◌, true, false, option_map, IfOk, IfSome, MatchOption, OnOk};
 ghost use Rattle.vp_expr.specs.Arena.{fitting};
 ghost use Rattle.vp_expr.specs.Checks.{IsChecked};
-ghost use Rattle.vp_expr.specs.Tables.{action_of, actions_in, actions_of, all_fit, assign_target, assign_value, assignment_of, named_target, object_named, operands_in, operands_of, process_of, processes_of, scope_of, selected_target, sized_at, target_width, widths_of};
+ghost use Rattle.vp_expr.specs.Tables.{all_fit, assignment_of, operands_in, operands_of, process_of, processes_of, scope_of, widths_of};
 
+use crate::actions::{actions_of, sized_at};
+use crate::awaited::{Awaited, awaits_of};
 use crate::id::ExprId;
 use crate::operand::{Operand, Slot};
-use crate::resolving::{
-    lowest_in, object_named, operand_of, part_place, scope_of, slot_in, width_in,
-};
+use crate::resolving::{operand_of, scope_of, width_in};
 use crate::sizes::{fitted, size_at, sizes_of};
 use std::alloc::{AllocError, Global};
-use vp_elab::{Design, ObjectId, range_width};
+use vp_elab::{Design, ObjectId};
 use vp_list::Sequence;
-use vp_modules::{expressions_of, statements_of};
-use vp_parse::{Module, Selection, Statement};
+use vp_modules::expressions_of;
+use vp_parse::{Module, Span};
 
 /// What of an object of an instance an assignment sets (clause 5.2.1).
 #[derive(Clone, Copy)]
@@ -41,15 +41,73 @@ impl Target {
 }
 
 /// A statement (clause 9), with a slot in place of a name. It names its parts by their places in the list of
-/// actions or of operands.
+/// actions or of operands. A condition sizes itself (5.4.1).
 #[derive(Clone, Copy)]
 pub enum Action {
     /// A block without statements.
     Nothing,
     /// The statements of a block, and one more after them.
-    Then { list: u32, last: u32 },
+    Then {
+        list: u32,
+        last: u32,
+    },
     /// A blocking assignment of a value, at the greater of its size and the target's width.
-    Assign { target: Target, value: ExprId },
+    Assign {
+        target: Target,
+        value: ExprId,
+    },
+    /// A statement that does nothing (A.6.4).
+    Null,
+    /// A nonblocking assignment of a value, sized as that of a blocking one, perhaps behind a delay (9.2.2).
+    Nonblocking {
+        target: Target,
+        value: ExprId,
+        delay: Option<u32>,
+    },
+    /// A statement behind a delay (9.7.1).
+    Delay {
+        amount: u32,
+        body: u32,
+    },
+    /// A statement behind an event; what it waits for stands in the table of what is awaited (9.7.2 to 9.7.5).
+    Event {
+        body: u32,
+    },
+    /// Waits until a condition is true (9.7.6).
+    Wait {
+        condition: ExprId,
+        body: u32,
+    },
+    /// A choice, perhaps with an `else` (9.4).
+    If {
+        condition: ExprId,
+        first: u32,
+        second: Option<u32>,
+    },
+    /// Goes on as long as a condition is true; a `for`'s turns end with its step (9.6).
+    While {
+        condition: ExprId,
+        body: u32,
+        step: Option<u32>,
+    },
+    /// An assignment, and then a loop (9.6).
+    For {
+        start: u32,
+        turns: u32,
+    },
+    /// One of a span of the source's choices, by a selector at the greatest of its size and the sizes of all labels, which is the
+    /// context of each label too; `casez` takes z and ? for anything (9.5).
+    Case {
+        is_wild: bool,
+        selector: ExprId,
+        choices: Span,
+    },
+    /// Goes on without an end (9.6).
+    Forever {
+        body: u32,
+    },
+    /// Ends the simulation (17.4.1).
+    Finish,
 }
 
 /// What goes on by itself.
@@ -60,6 +118,8 @@ pub enum Process {
     Procedure {
         object: ObjectId,
         instance: ObjectId,
+        /// It is an `always`, which begins again when it is over (clause 9.9.2).
+        repeats: bool,
         body: u32,
     },
     /// A continuous assignment (clause 6.1), or a connection of a port inwards (clause 12.3.9.2): its object (the port's, for a
@@ -102,102 +162,10 @@ pub struct Tables {
     pub sizes: Sequence<u8>,
     pub actions: Sequence<Action>,
     pub processes: Sequence<Process>,
-}
-
-/// The expression at a place in a context of a size, in bits; none where no vector has that.
-fn sized_at(place: u32, size: u32) -> Option<ExprId>
-    ensures { result ≡ sized_at place size }
-{
-    Some(ExprId::new(place, fitted(u64::from(size))?))
-}
-
-/// What is selected of an object as a target; none where it is an object or a part that no vector can be.
-fn selected_target(
-    design: &Design,
-    scope: Option<ObjectId>,
-    object: ObjectId,
-    selection: Selection,
-) -> Option<Target>
-    ensures { result ≡ selected_target design.now (option_map (λ o. o.0) scope) object.0 selection }
-{
-    let slot = slot_in(scope, object);
-    match selection {
-        Selection::Whole => Some(Target::Whole {
-            slot,
-            width: fitted(u64::from(width_in(design, object)))?,
-        }),
-        Selection::Bit { index } => Some(Target::Bit {
-            slot,
-            lowest: lowest_in(design, object),
-            index,
-        }),
-        Selection::Part(range) => Some(Target::Part {
-            slot,
-            place: part_place(design, object, range),
-            width: fitted(u64::from(range_width(range)))?,
-        }),
-    }
-}
-
-/// What is selected of a name as a target; none where there is no such object.
-fn named_target(
-    design: &Design,
-    scope: Option<ObjectId>,
-    name: u32,
-    selection: Selection,
-) -> Option<Target>
-    ensures { let scope = option_map (λ o. o.0) scope in result ≡ named_target design.now scope (object_named design.now scope name) selection }
-{
-    match object_named(design, scope, name) {
-        Some(object) => selected_target(design, scope, object, selection),
-        None => None,
-    }
-}
-
-/// How many bits a target has.
-fn target_width(target: Target) -> u8
-    ensures { result ≡ target_width target }
-{
-    match target {
-        Target::Whole { width, .. } | Target::Part { width, .. } => width,
-        Target::Bit { .. } => 1,
-    }
-}
-
-/// An assignment of a value to a target; nothing where there is none.
-fn assign_value(target: Target, value: Option<ExprId>) -> Action
-    ensures { result ≡ assign_value target value }
-{
-    match value {
-        Some(value) => Action::Assign { target, value },
-        None => Action::Nothing,
-    }
-}
-
-/// An assignment of the value at a place to a target, at the greater of the target's width and its own size.
-fn assign_target(sizes: &[u8], value: u32, target: Target) -> Action
-    ensures { result ≡ assign_target sizes.now value target }
-{
-    let size = target_width(target).max(size_at(sizes, value));
-    assign_value(target, sized_at(value, u32::from(size)))
-}
-
-/// A statement of a module as an action, by the module's object.
-fn action_of(design: &Design, scope: Option<ObjectId>, sizes: &[u8], statement: Statement) -> Action
-    ensures { result ≡ action_of design.now (option_map (λ o. o.0) scope) sizes.now statement }
-{
-    match statement {
-        Statement::Empty => Action::Nothing,
-        Statement::Then { list, last } => Action::Then { list, last },
-        Statement::Assign {
-            target,
-            selection,
-            value,
-        } => match named_target(design, scope, target, selection) {
-            Some(target) => assign_target(sizes, value, target),
-            None => Action::Nothing,
-        },
-    }
+    /// The changes for which statements wait, one statement's behind the other's.
+    pub awaited: Sequence<Awaited>,
+    /// Of each statement, by its place, where its own changes end.
+    pub awaited_ends: Sequence<usize>,
 }
 
 /// A continuous assignment of the expression at a place to a net, at the greater of the net's width and its own size.
@@ -229,10 +197,12 @@ fn process_of(design: &Design, sizes: &[u8], process: vp_processes::Process) -> 
         vp_processes::Process::Procedure {
             object,
             instance,
+            repeats,
             body,
         } => Some(Process::Procedure {
             object,
             instance,
+            repeats,
             body,
         }),
         vp_processes::Process::Assignment {
@@ -276,35 +246,6 @@ pub fn operands_of(alloc: Global, design: &Design) -> Result<Sequence<Operand>, 
         add_operands(design, scope, *module, &mut operands)?;
     }
     Ok(Sequence::from_vec(operands))
-}
-
-/// The statements of a module as actions, behind others. Takes memory.
-fn add_actions(
-    design: &Design,
-    scope: Option<ObjectId>,
-    sizes: &[u8],
-    module: Module,
-    actions: &mut Vec<Action>,
-) -> Result<(), AllocError>
-    requires { option_map (λ o. o.0) scope ≡ scope_of design.now «module» }
-    ensures { OnOk result (actions.new.items ≡ actions.old.items ++ actions_in design.now sizes.now «module») }
-{
-    for statement in statements_of(design.source(), module) {
-        actions.push(action_of(design, scope, sizes, *statement))?;
-    }
-    Ok(())
-}
-
-/// The statements of a design as actions, module by module. Takes memory.
-fn actions_of(alloc: Global, design: &Design, sizes: &[u8]) -> Result<Sequence<Action>, AllocError>
-    ensures { IfOk result (λ actions. actions ≡ actions_of design.now sizes.now) }
-{
-    let mut actions = Vec::new(alloc);
-    for (number, module) in design.source().modules.as_slice().iter().enumerate() {
-        let scope = scope_of(design, number);
-        add_actions(design, scope, sizes, *module, &mut actions)?;
-    }
-    Ok(Sequence::from_vec(actions))
 }
 
 /// The processes of a design, by the sizes of its expressions. Takes memory.
@@ -358,11 +299,14 @@ pub fn tables_of(
     };
     let actions = actions_of(alloc, design, sizes.as_slice())?;
     let processes = processes_of(alloc, design, sizes.as_slice())?;
+    let awaits = awaits_of(alloc, design, operands.as_slice())?;
     Ok(Some(Tables {
         operands,
         widths,
         sizes,
         actions,
         processes,
+        awaited: Sequence::from_vec(awaits.awaited),
+        awaited_ends: Sequence::from_vec(awaits.ends),
     }))
 }

@@ -1,3 +1,4 @@
+pub mod Earliest
 pub mod Twice
 pub mod Looked
 pub mod Numbers

@@ -10,7 +10,7 @@ use Rattle.vp_parse.specs.declared.source.Module.{Module}
 
 -- a module that is in no text, for what stands behind the end of a list
 abbrev pub nowhere : Module
-nowhere = record { name = 0; items = record { first = 0; end = 0 }; ports = 0; statements = record { first = 0; end = 0 }; expressions = record { first = 0; end = 0 } }
+nowhere = record { name = 0; items = record { first = 0; end = 0 }; ports = 0; statements = record { first = 0; end = 0 }; expressions = record { first = 0; end = 0 }; terms = record { first = 0; end = 0 }; choices = record { first = 0; end = 0 } }
 
 -- the place of a name among the names, which f gives, is that of the first that has it
 pub placed :

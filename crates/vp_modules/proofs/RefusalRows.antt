@@ -1,5 +1,5 @@
 -- Refusals of small texts, computed from their bytes. Each row is an equation that holds by computation.
-use Rattle.std.proofs.Common.{◌≡◌, ℕ, true, false, map, List, [], ◌∷◌, Some, None, Result, Ok, Err, refl}
+use Rattle.std.proofs.Common.{◌≡◌, ℕ, true, false, map, List, [], ◌∷◌, length, Some, None, Result, Ok, Err, refl}
 use Rattle.std.specs.Prelude.{codes}
 use Rattle.std.specs.Fmt.{digits}
 use Rattle.std.specs.Str.{chars, is_utf8}
@@ -11,12 +11,15 @@ use Rattle.vp_parse_expr.specs.declared.node.Expression.{Expression}
 use Rattle.vp_parse_expr.specs.declared.node.Expression.TheVariants as expression
 use Rattle.vp_parse_expr.specs.declared.node.Selection.TheVariants as selection_of
 use Rattle.vp_parse_expr.specs.declared.operator.UnaryOperator.TheVariants as unary
+use Rattle.vp_parse_stmt.specs.declared.arena.Edge.TheVariants as edge
+use Rattle.vp_parse_stmt.specs.declared.arena.EventTerm.{EventTerm}
+use Rattle.vp_parse_stmt.specs.declared.arena.Span.{Span}
+use Rattle.vp_parse_stmt.specs.declared.arena.Statement.{Statement}
 use Rattle.vp_parse_stmt.specs.declared.arena.Statement.TheVariants as statement
 use Rattle.vp_parse.specs.declared.source.Connection.{Connection}
 use Rattle.vp_parse.specs.declared.source.Direction.TheVariants as direction
 use Rattle.vp_parse.specs.declared.source.Source.{Source}
 use Rattle.vp_parse.specs.declared.source.Module.{Module}
-use Rattle.vp_parse.specs.declared.source.Span.{Span}
 use Rattle.vp_parse.specs.declared.source.Item.{Item}
 use Rattle.vp_parse.specs.declared.source.Item.TheVariants as item
 use Rattle.vp_modules.specs.declared.fault.ElabError.TheVariants.{Duplicate, UnknownModule, Recursive, Undeclared, BadTarget, BadConnection, MultipleDrivers}
@@ -30,9 +33,9 @@ tokens_in (Err e) = []
 abbrev span : ℕ → ℕ → Span
 span first end = record { first = first; end = end }
 
--- a module with its name, its items, where its ports end, and its expressions; no statements
+-- a module with its name, its items, where its ports end, and its expressions; no statements, and so no parts of these
 abbrev module_of : ℕ → Span → ℕ → Span → Module
-module_of name items ports expressions = record { name = name; items = items; ports = ports; statements = span 0 0; expressions = expressions }
+module_of name items ports expressions = record { name = name; items = items; ports = ports; statements = span 0 0; expressions = expressions; terms = span 0 0; choices = span 0 0 }
 
 abbrev source : List ℕ → List Module → List Item → List Connection → List Expression → Source
 source text modules items connections expressions = record {
@@ -43,6 +46,8 @@ source text modules items connections expressions = record {
   connections = connections;
   statements = [];
   expressions = expressions;
+  terms = [];
+  choices = [];
 }
 
 abbrev whole : ℕ → Expression
@@ -106,6 +111,57 @@ declared_twice :
 unfolding digits is_utf8 chars encode_utf8
 declared_twice = refl
 
+-- a text with one module of these items, behind so many ports, statements, expressions and terms of events
+abbrev procedural : List ℕ → ℕ → List Item → List Statement → List Expression → List EventTerm → Source
+procedural text ports items statements expressions terms =
+    let m : Module = record {
+      name = 1;
+      items = span 0 (length items);
+      ports = ports;
+      statements = span 0 (length statements);
+      expressions = span 0 (length expressions);
+      terms = span 0 (length terms);
+      choices = span 0 0;
+    } in
+    let parts : Source = source text (m ∷ []) items [] expressions in
+    record parts { statements = statements; terms = terms }
+
+-- an event on a local parameter, which never changes
+event_on_a_parameter :
+    refusal_of (procedural (codes "module m; localparam p = 1'b0; always @(posedge\np) ; endmodule") 0
+    (item.LocalParameter 4 0 ∷ item.Always 9 1 ∷ [])
+    (statement.Null ∷ statement.Event (span 0 1) 0 ∷ []) (expression.Literal 6 1 7 ∷ [])
+    (record { edge = edge.Posedge; name = 13 } ∷ []))
+    ≡ Some (Undeclared 2)
+unfolding digits is_utf8 chars encode_utf8
+event_on_a_parameter = refl
+
+-- an event on a port
+event_on_a_port :
+    refusal_of (procedural (codes "module m(input c); always @(c) ; endmodule") 1
+    (item.Port 4 direction.Input None ∷ item.Always 7 1 ∷ [])
+    (statement.Null ∷ statement.Event (span 0 1) 0 ∷ []) [] (record { edge = edge.Any; name = 10 } ∷ []))
+    ≡ None
+unfolding digits is_utf8 chars encode_utf8
+event_on_a_port = refl
+
+-- a nonblocking assignment to a net
+net_is_assigned_later :
+    refusal_of (procedural (codes "module m; wire a; initial\na <= 1; endmodule") 0
+    (item.Net 4 None ∷ item.Initial 6 0 ∷ []) (statement.Nonblocking 7 selection_of.Whole 0 None ∷ [])
+    (expression.Number 9 1 ∷ []) [])
+    ≡ Some (BadTarget 2)
+unfolding digits is_utf8 chars encode_utf8
+net_is_assigned_later = refl
+
+-- a nonblocking assignment to a name that is not declared
+undeclared_is_assigned_later :
+    refusal_of (procedural (codes "module m; always\na <= 1; endmodule") 0
+    (item.Always 3 0 ∷ []) (statement.Nonblocking 4 selection_of.Whole 0 None ∷ []) (expression.Number 6 1 ∷ []) [])
+    ≡ Some (Undeclared 2)
+unfolding digits is_utf8 chars encode_utf8
+undeclared_is_assigned_later = refl
+
 -- a name that is not declared
 not_declared :
     refusal_of (source (codes "module m; wire w; assign w =\nv; endmodule") (module_of 1 (span 0 2) 0 (span 0 1) ∷ [])
@@ -140,8 +196,8 @@ net_in_parentheses = refl
 abbrev inverters : Source
 inverters =
     let parts : Source = source (codes "module inv(input wire a, output wire y);\n  assign y = ~a;\nendmodule\nmodule top;\n  reg r;\n  wire y1, y2;\n  localparam W = 4'd9;\n  inv u(.a(r), .y(y1)), v(.a(y1), .y(y2));\n  initial r = 1'b1;\nendmodule\n")
-    (record { name = 1; items = span 0 3; ports = 2; statements = span 0 0; expressions = span 0 2 }
-    ∷ record { name = 20; items = span 3 10; ports = 3; statements = span 0 1; expressions = span 2 8 } ∷ [])
+    (record { name = 1; items = span 0 3; ports = 2; statements = span 0 0; expressions = span 0 2; terms = span 0 0; choices = span 0 0 }
+    ∷ record { name = 20; items = span 3 10; ports = 3; statements = span 0 1; expressions = span 2 8; terms = span 0 0; choices = span 0 0 } ∷ [])
     (item.Port 5 direction.Input None ∷ item.Port 9 direction.Output None ∷ item.Assignment 13 1
     ∷ item.Reg 23 None ∷ item.Net 26 None ∷ item.Net 28 None ∷ item.LocalParameter 31 2
     ∷ item.Instance 37 36 0 2 ∷ item.Instance 52 36 2 4 ∷ item.Initial 67 0 ∷ [])

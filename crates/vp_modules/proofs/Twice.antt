@@ -1,5 +1,5 @@
 -- Names that are declared twice, module by module.
-use Rattle.std.proofs.Common.{◌≡◌, ℕ, suc, ◌+◌, ◌<◌, Bool, false, cond, List, [], ◌∷◌, ◌++◌, length, drop, get_or, Option, Some, None, ap, ◌∙◌, arith}
+use Rattle.std.proofs.Common.{◌≡◌, ℕ, suc, ◌+◌, ◌<◌, Bool, false, cond, List, [], ◌∷◌, ◌++◌, length, drop, get_or, Option, Some, None, ap, sym, subst, ◌∙◌, arith}
 use Rattle.std.proofs.Math.Seq.{drop-cons}
 use Rattle.vp_parse.specs.Places.{line_at, word_at}
 use Rattle.vp_parse.specs.declared.source.Source.{Source}
@@ -7,7 +7,7 @@ use Rattle.vp_parse.specs.declared.source.Module.{Module}
 use Rattle.vp_modules.specs.declared.fault.ElabError.{ElabError}
 use Rattle.vp_modules.specs.declared.fault.ElabError.TheVariants.{Duplicate}
 use Rattle.vp_modules.specs.Items.{is_among, items_in}
-use Rattle.vp_modules.specs.Refusals.{first_of_two, twice, twice_in}
+use Rattle.vp_modules.specs.Refusals.{Explains, first_of_two, twice, twice_in}
 
 -- behind a module whose names are new and declared once, the modules go on
 pub twice_behind :
@@ -28,3 +28,11 @@ twice_next source names ms i d in_list new once =
     let next : suc i ≡ i + 1 = omega arith in
     ap (twice_in source names) (drop-cons ms i d in_list) ∙ twice_behind source names m (drop (suc i) ms) new once
     ∙ ap (λ (n : ℕ). twice_in source (names ++ word_at source m.name ∷ []) (drop n ms)) next
+
+-- a refusal by a module and those behind it is that of the text, where those before it are in order
+pub refused_at :
+    (source : Source) (names : List (List ℕ)) (ms : List Module) (i : ℕ) (d : Module) (e : ElabError) → i < length ms
+    → twice_in source names (drop i ms) ≡ twice_in source [] ms
+    → ((rest : List Module) → Explains (twice_in source names (get_or ms i d ∷ rest)) e) → Explains (twice_in source [] ms) e
+refused_at source names ms i d e in_list same refused =
+    subst (λ (r : Option ElabError). Explains r e) (ap (twice_in source names) (sym (drop-cons ms i d in_list)) ∙ same) (refused (drop (suc i) ms))

@@ -1,10 +1,11 @@
 -- The items of modules, what they declare, and what their names name.
-use Rattle.std.specs.Prelude.{ℕ, not, Bool, true, false, List, [], ◌++◌, Option, Some, None, slice_get, codes, decimal}
+use Rattle.std.specs.Prelude.{ℕ, not, ◌||◌, Bool, true, false, List, [], ◌++◌, Option, Some, None, slice_get, codes, decimal}
 use Rattle.std.specs.List.{list_any, position}
 use Rattle.std.specs.Option.{option_and_then, option_map_or}
 use Rattle.std.specs.Str.{bytes_eq}
 use Rattle.vp_list.specs.Lists.{range_of}
 use Rattle.vp_parse_expr.specs.declared.node.Expression.{Expression}
+use Rattle.vp_parse_stmt.specs.declared.arena.EventTerm.{EventTerm}
 use Rattle.vp_parse_stmt.specs.declared.arena.Statement.{Statement}
 use Rattle.vp_parse.specs.Places.{column_at, line_at, word_at}
 use Rattle.vp_parse.specs.declared.source.Connection.{Connection}
@@ -36,6 +37,10 @@ statements_in source m = range_of source.statements m.statements.first m.stateme
 abbrev pub expressions_in : Source → declared.Module → List Expression
 expressions_in source m = range_of source.expressions m.expressions.first m.expressions.end
 
+-- the terms of a module's events (clause 9.7.2)
+abbrev pub terms_in : Source → declared.Module → List EventTerm
+terms_in source m = range_of source.terms m.terms.first m.terms.end
+
 -- ---- items
 
 -- the place of a declaration: of its name, of the keyword of a process, or of the name to which a continuous assignment assigns (profile)
@@ -47,6 +52,7 @@ item_place (item.LocalParameter name value) = name
 item_place (item.Assignment target value) = target
 item_place (item.Instance name definition first end) = name
 item_place (item.Initial keyword body) = keyword
+item_place (item.Always keyword body) = keyword
 
 -- the name of a process: its keyword, its line and its column (profile)
 abbrev pub process_name : List ℕ → Source → ℕ → List ℕ
@@ -57,6 +63,7 @@ process_name keyword source place =
 abbrev pub item_name : Source → Item → List ℕ
 item_name source (item.Assignment target value) = process_name (codes "assign") source target
 item_name source (item.Initial keyword body) = process_name (codes "initial") source keyword
+item_name source (item.Always keyword body) = process_name (codes "always") source keyword
 item_name source i = word_at source (item_place i)
 
 -- a port is an input, and so a net that is driven from outside
@@ -76,6 +83,10 @@ abbrev pub is_reg : Item → Bool
 is_reg (item.Port name direction.OutputReg range) = true
 is_reg (item.Reg name range) = true
 is_reg _ = false
+
+-- an item can be waited for in an event: a net or a reg, ports among them (clause 9.7.2)
+abbrev pub is_signal : Item → Bool
+is_signal i = is_net i || is_reg i
 
 -- an item has a value: a net, a reg, or a local parameter (clause 4)
 abbrev pub is_operand : Item → Bool

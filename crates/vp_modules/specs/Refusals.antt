@@ -17,7 +17,7 @@ use Rattle.vp_parse.specs.declared.source.Item.{Item}
 use Rattle.vp_parse.specs.declared.source.Item.TheVariants as item
 use Rattle.vp_modules.specs.declared.fault.ElabError.{ElabError}
 use Rattle.vp_modules.specs.declared.fault.ElabError.TheVariants.{Duplicate, UnknownModule, Recursive, Undeclared, BadTarget, BadConnection, MultipleDrivers, TooManyObjects, ViewportUnknown, NoMemory}
-use Rattle.vp_modules.specs.Items.{connections_of, definition_of, expressions_in, instantiated, is_among, is_input, is_net, is_operand, is_reg, item_name, item_place, items_in, module_named, named_at, ports_in, statements_in}
+use Rattle.vp_modules.specs.Items.{connections_of, definition_of, expressions_in, instantiated, is_among, is_input, is_net, is_operand, is_reg, is_signal, item_name, item_place, items_in, module_named, named_at, ports_in, statements_in, terms_in}
 
 -- the first of two refusals that holds
 abbrev pub first_of_two : Option ElabError → Option ElabError → Option ElabError
@@ -94,23 +94,24 @@ abbrev pub name_in : Expression → Option ℕ
 name_in (expression.Name name selection) = Some name
 name_in _ = None
 
--- the place of the name to which a statement assigns (clause 9.2.1)
+-- the place of the name to which a statement assigns, at once or later (clause 9.2)
 abbrev pub target_of : Statement → Option ℕ
-target_of statement.Empty = None
-target_of (statement.Then chain last) = None
 target_of (statement.Assign target selection value) = Some target
+target_of (statement.Nonblocking target selection value delay) = Some target
+target_of _ = None
 
 -- the place of the name to which a continuous assignment assigns (clause 6.1)
 abbrev pub assigned_by : Item → Option ℕ
 assigned_by (item.Assignment target value) = Some target
 assigned_by _ = None
 
--- the first name in a module that is not declared
+-- the first name in a module that is not declared, or that stands in an event and is no net or reg
 abbrev pub undeclared : Source → declared.Module → Option ℕ
 undeclared source m =
     earlier (earliest (λ s. unfit source m is_operand (target_of s)) (statements_in source m))
     (earlier (earliest (λ e. unfit source m is_operand (name_in e)) (expressions_in source m))
-    (earliest (λ i. unfit source m is_operand (assigned_by i)) (items_in source m)))
+    (earlier (earliest (λ i. unfit source m is_operand (assigned_by i)) (items_in source m))
+    (earliest (λ t. unfit source m is_signal (Some t.name)) (terms_in source m))))
 
 -- ---- targets (clauses 6.1 and 9.2)
 

@@ -16,7 +16,7 @@ pub enum ElabError {
     /// A module that instantiates itself, at any depth; the line is that of its name (504).
     #[error("line {line}: the module instantiates itself")]
     Recursive { line: u32 },
-    /// A name that is no net, reg or local parameter of its module (502).
+    /// A name that is no net, reg or local parameter of its module, or in an event no net or reg (502).
     #[error("line {line}: not declared")]
     Undeclared { line: u32 },
     /// A procedure's target that is no reg, or a continuous assignment's that is no net, or is an input (509).

@@ -1,9 +1,9 @@
 ghost use Rattle.std.specs.Prelude.{◌≡◌, string_bytes, IfOk};
 ghost use Rattle.vp_parse.specs.Places.{column_at, line_at};
-ghost use Rattle.vp_modules.specs.Items.{connections_of, expressions_in, is_input, is_net, is_operand, is_reg, item_name, item_place, items_in, ports_in, process_name, statements_in};
+ghost use Rattle.vp_modules.specs.Items.{connections_of, expressions_in, is_input, is_net, is_operand, is_reg, is_signal, item_name, item_place, items_in, ports_in, process_name, statements_in, terms_in};
 
 use std::alloc::{AllocError, Global};
-use vp_parse::{Connection, Direction, Expression, Item, Module, Source, Statement};
+use vp_parse::{Connection, Direction, EventTerm, Expression, Item, Module, Source, Statement};
 
 /// The items of a module, its ports first.
 pub fn items_of(source: &Source, module: Module) -> &[Item]
@@ -48,6 +48,17 @@ pub fn expressions_of(source: &Source, module: Module) -> &[Expression]
         .unwrap_or(&[])
 }
 
+/// The terms of a module's events.
+pub fn terms_of(source: &Source, module: Module) -> &[EventTerm]
+    ensures { result.now ≡ terms_in source.now «module» }
+{
+    let span = module.terms;
+    let terms = source.terms.as_slice();
+    terms
+        .get(span.first as usize..span.end as usize)
+        .unwrap_or(&[])
+}
+
 /// The place of an item's declaration.
 pub fn place_of(item: Item) -> u32
     ensures { result ≡ item_place item }
@@ -59,7 +70,7 @@ pub fn place_of(item: Item) -> u32
         | Item::LocalParameter { name, .. }
         | Item::Instance { name, .. } => name,
         Item::Assignment { target, .. } => target,
-        Item::Initial { keyword, .. } => keyword,
+        Item::Initial { keyword, .. } | Item::Always { keyword, .. } => keyword,
     }
 }
 
@@ -96,6 +107,13 @@ pub fn is_reg(item: Item) -> bool
         Item::Reg { .. } => true,
         _ => false,
     }
+}
+
+/// An item can be waited for in an event: a net or a reg.
+pub fn is_signal(item: Item) -> bool
+    ensures { result ≡ is_signal item }
+{
+    is_net(item) || is_reg(item)
 }
 
 /// An item has a value: a net, a reg, or a local parameter.
@@ -140,6 +158,7 @@ pub fn name_of(alloc: Global, source: &Source, item: Item) -> Result<String, All
     match item {
         Item::Assignment { target, .. } => process_name(alloc, "assign", source, target),
         Item::Initial { keyword, .. } => process_name(alloc, "initial", source, keyword),
+        Item::Always { keyword, .. } => process_name(alloc, "always", source, keyword),
         _ => String::from_str(alloc, source.word(place_of(item))),
     }
 }

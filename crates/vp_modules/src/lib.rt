@@ -20,6 +20,7 @@ pub use definitions::{definitions_of, tops_of};
 pub use fault::ElabError;
 pub use items::{
     connections_of, expressions_of, is_input, items_of, name_of, place_of, ports_of, statements_of,
+    terms_of,
 };
 pub use names::Names;
 pub use resolved::{Resolved, check_modules};

@@ -1,11 +1,14 @@
-ghost use Rattle.std.specs.Prelude.{◌≡◌};
+ghost use Rattle.std.specs.Prelude.{◌≡◌, Some};
 ghost use Rattle.vp_parse.specs.Places.{earliest};
-ghost use Rattle.vp_modules.specs.Items.{expressions_in, items_in, statements_in};
+ghost use Rattle.vp_modules.specs.Items.{expressions_in, items_in, statements_in, terms_in};
 ghost use Rattle.vp_modules.specs.Purposes.{fits};
 ghost use Rattle.vp_modules.specs.Refusals.{assigned_by, bad_target, name_in, target_of, undeclared, unfit};
 ghost use Rattle.vp_modules.specs.Tables.{scope_in};
 
-use crate::items::{expressions_of, is_input, is_net, is_operand, is_reg, items_of, statements_of};
+use crate::items::{
+    expressions_of, is_input, is_net, is_operand, is_reg, is_signal, items_of, statements_of,
+    terms_of,
+};
 use crate::lookup::named_at;
 use crate::names::Names;
 use vp_parse::{Expression, Item, Module, Source, Statement, earlier};
@@ -19,6 +22,8 @@ pub enum Purpose {
     Variable,
     /// To be driven by a continuous assignment.
     Driven,
+    /// To be waited for in an event (9.7.2).
+    Event,
 }
 
 /// An item is of use for a purpose.
@@ -29,6 +34,7 @@ fn fits(purpose: Purpose, item: Item) -> bool
         Purpose::Operand => is_operand(item),
         Purpose::Variable => is_reg(item),
         Purpose::Driven => is_net(item) && !is_input(item),
+        Purpose::Event => is_signal(item),
     }
 }
 
@@ -60,13 +66,13 @@ fn name_in(expression: Expression) -> Option<u32>
     }
 }
 
-/// The place of the name to which a statement assigns.
+/// The place of the name to which a statement assigns, at once or later.
 fn target_of(statement: Statement) -> Option<u32>
     ensures { result ≡ target_of statement }
 {
     match statement {
-        Statement::Assign { target, .. } => Some(target),
-        Statement::Empty | Statement::Then { .. } => None,
+        Statement::Assign { target, .. } | Statement::Nonblocking { target, .. } => Some(target),
+        _ => None,
     }
 }
 
@@ -125,7 +131,22 @@ fn unfit_assigned(source: &Source, module: Module, names: &Names, purpose: Purpo
     first
 }
 
-/// The first name in a module that is no net, reg or local parameter of it.
+/// The first name in a module's events that is of no use for a purpose.
+fn unfit_term(source: &Source, module: Module, names: &Names, purpose: Purpose) -> Option<u32>
+    requires { names.now ≡ scope_in source.now «module» }
+    ensures { result ≡ earliest (λ t. unfit source.now «module» (fits purpose) (Some t.name)) (terms_in source.now «module») }
+{
+    let mut first = None;
+    for term in terms_of(source, module) {
+        first = earlier(
+            first,
+            unfit(source, module, names, purpose, Some(term.name)),
+        );
+    }
+    first
+}
+
+/// The first name in a module that is no net, reg or local parameter of it, or in an event no net or reg.
 pub fn undeclared(source: &Source, module: Module, names: &Names) -> Option<u32>
     requires { names.now ≡ scope_in source.now «module» }
     ensures { result ≡ undeclared source.now «module» }
@@ -133,7 +154,8 @@ pub fn undeclared(source: &Source, module: Module, names: &Names) -> Option<u32>
     let operand = unfit_operand(source, module, names, Purpose::Operand);
     let assigned = unfit_assigned(source, module, names, Purpose::Operand);
     let target = unfit_target(source, module, names, Purpose::Operand);
-    earlier(target, earlier(operand, assigned))
+    let term = unfit_term(source, module, names, Purpose::Event);
+    earlier(target, earlier(operand, earlier(assigned, term)))
 }
 
 /// The first target in a module that may not be assigned so.

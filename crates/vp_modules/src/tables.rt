@@ -1,7 +1,7 @@
-ghost use Rattle.std.specs.Prelude.{◌≡◌, [], map, IfErr, IfOk};
+ghost use Rattle.std.specs.Prelude.{◌≡◌, false, List, [], ◌∷◌, ◌++◌, map, None, IfErr, IfOk, OnOk};
 ghost use Rattle.vp_parse.specs.Places.{word_at};
-ghost use Rattle.vp_modules.specs.Items.{item_name, items_in};
-ghost use Rattle.vp_modules.specs.Tables.{module_names, tables_in};
+ghost use Rattle.vp_modules.specs.Items.{is_among, item_name, items_in};
+ghost use Rattle.vp_modules.specs.Tables.{module_names, scope_in, tables_in};
 ghost use Rattle.vp_modules.specs.Refusals.{Explains, twice, twice_in};
 
 use crate::fault::ElabError;
@@ -9,7 +9,7 @@ use crate::items::{items_of, name_of, place_of};
 use crate::names::Names;
 use std::alloc::Global;
 use vp_list::Sequence;
-use vp_parse::{Item, Source};
+use vp_parse::{Item, Module, Source};
 
 /// The names of a text.
 #[derive(Drop)]
@@ -38,6 +38,31 @@ fn names_of(alloc: Global, source: &Source, items: &[Item]) -> Result<Names, Ela
     Ok(names)
 }
 
+/// Adds the name of a module, and those of its items; or the first that is declared twice.
+fn add_module(
+    alloc: Global,
+    source: &Source,
+    declared: Module,
+    modules: &mut Names,
+    scopes: &mut Vec<Names>,
+) -> Result<(), ElabError>
+    ensures names { OnOk result (modules.new ≡ modules.old ++ word_at source.now declared.name ∷ []) }
+    ensures scopes { OnOk result (scopes.new.items ≡ scopes.old.items ++ scope_in source.now declared ∷ []) }
+    ensures new { OnOk result (is_among modules.old (word_at source.now declared.name) ≡ false) }
+    ensures once { OnOk result (twice source.now [] (items_in source.now declared) ≡ None) }
+    ensures twice { IfErr result (λ e. (ms : List Module) → Explains (twice_in source.now modules.old (declared ∷ ms)) e) }
+{
+    let name = String::from_str(alloc, source.word(declared.name))?;
+    if !modules.add(name)? {
+        return Err(ElabError::Duplicate {
+            line: source.line(declared.name),
+        });
+    }
+    let names = names_of(alloc, source, items_of(source, declared))?;
+    scopes.push(names)?;
+    Ok(())
+}
+
 /// The names of a text; or the first that is declared twice (501).
 pub fn tables_of(alloc: Global, source: &Source) -> Result<Tables, ElabError>
     ensures tables { IfOk result (λ tables. tables ≡ tables_in source.now) }
@@ -47,13 +72,7 @@ pub fn tables_of(alloc: Global, source: &Source) -> Result<Tables, ElabError>
     let mut modules = Names::new(alloc);
     let mut scopes = Vec::new(alloc);
     for module in source.modules.as_slice() {
-        let name = String::from_str(alloc, source.word(module.name))?;
-        if !modules.add(name)? {
-            return Err(ElabError::Duplicate {
-                line: source.line(module.name),
-            });
-        }
-        scopes.push(names_of(alloc, source, items_of(source, *module))?)?;
+        add_module(alloc, source, *module, &mut modules, &mut scopes)?;
     }
     Ok(Tables {
         modules,

@@ -16,10 +16,11 @@ use Rattle.vp_parse_expr.specs.Stopping.{Reader, is_next, terminal}
 use Rattle.vp_parse_expr.specs.Takes.{expr_longer}
 use Rattle.vp_parse_expr.specs.Again.{Stops, expr_again, range_again, literal_again}
 use Rattle.vp_parse_stmt.specs.Grammar.{Stmt}
-use Rattle.vp_parse_stmt.specs.Reading.{stmt_at}
+use Rattle.vp_parse_stmt.specs.Reading.{stmt_at, is_else}
+use Rattle.vp_parse_stmt.specs.Following.{end_follows}
 use Rattle.vp_parse_stmt.specs.Again.{CompleteStmt, stmt_longer, stmt_again}
-use Rattle.vp_parse.specs.Grammar.{Further, further_text, AreFurther, further_height, width_text, value_text, value_height, Connection, Ordered, Named, Connections, Unconnected, Connected, connection_text, connections_text, is_named, is_blank, IsConnection, IsAlike, AreConnections, connection_height, connections_height, Declaration, Nets, Regs, LocalParameters, Assignments, Instances, Declarator, Plain, Valued, Instance, declaration_text, declarator_text, IsDeclarator, declarator_height, Item, Declares, Initial, item_text, items_text, IsItem, AreItems, item_depth, items_depth, item_height, items_height, Direction, Input, Output, OutputReg, Port, Declared, Bare, PortList, Header, NoHeader, Ports, direction_text, port_text, ports_text, header_text, IsPort, ArePorts, IsHeader, Module, module_text, IsModule, Derivation, source_text, IsSource, source_depth, source_height}
-use Rattle.vp_parse.specs.Reading.{further_at, width_at, is_end, value_at, ordered_at, named_at, connection_at, connected_at, connections_at, valued_at, net_at, instance_at, declarator_by, declarator_at, declarators_at, ranged_at, initial_at, item_by, item_at, items_at, wire_at, output_at, direction_by, direction_at, declared_at, port_at, ports_at, listed_at, parentheses_at, header_at, module_at, modules_at, source_at}
+use Rattle.vp_parse.specs.Grammar.{Further, further_text, AreFurther, further_height, width_text, value_text, value_height, Connection, Ordered, Named, Connections, Unconnected, Connected, connection_text, connections_text, is_named, is_blank, IsConnection, IsAlike, AreConnections, connection_height, connections_height, Declaration, Nets, Regs, LocalParameters, Assignments, Instances, Declarator, Plain, Valued, Instance, declaration_text, declarator_text, IsDeclarator, declarator_height, Item, Declares, Initial, Always, item_text, items_text, IsItem, AreItems, item_depth, items_depth, item_height, items_height, Direction, Input, Output, OutputReg, Port, Declared, Bare, PortList, Header, NoHeader, Ports, direction_text, port_text, ports_text, header_text, IsPort, ArePorts, IsHeader, Module, module_text, IsModule, Derivation, source_text, IsSource, source_depth, source_height}
+use Rattle.vp_parse.specs.Reading.{further_at, width_at, is_end, value_at, ordered_at, named_at, connection_at, connected_at, connections_at, valued_at, net_at, instance_at, declarator_by, declarator_at, declarators_at, ranged_at, procedure_at, item_by, item_at, items_at, wire_at, output_at, direction_by, direction_at, declared_at, port_at, ports_at, listed_at, parentheses_at, header_at, module_at, modules_at, source_at}
 
 abbrev comma_kind : SymbolKind
 comma_kind = symbol.Punctuator punctuator.Comma
@@ -289,6 +290,7 @@ item_longer (Declares d x fs semicolon) rest =
     let l = declared_longer d (declarator_text x (further_text declarator_text fs behind)) in
     omega arith
 item_longer (Initial place body) rest = let h = stmt_longer body rest in omega arith
+item_longer (Always place body) rest = let h = stmt_longer body rest in omega arith
 
 items_longer : (l : List Item) (rest : List Symbol) → length rest ≤ length (items_text l rest)
 items_longer [] rest = omega arith
@@ -304,6 +306,24 @@ declared_no_end (Instances definition) rest = refl
 item_no_end : (i : Item) (rest : List Symbol) → is_next (symbol.Keyword keyword.Endmodule) (item_text i rest) ≡ false
 item_no_end (Declares d x fs semicolon) rest = declared_no_end d (declarator_text x (further_text declarator_text fs (symbol_at (symbol.Punctuator punctuator.Semicolon) semicolon ∷ rest)))
 item_no_end (Initial place body) rest = refl
+item_no_end (Always place body) rest = refl
+
+declared_no_else : (d : Declaration) (rest : List Symbol) → is_else (declaration_text d rest) ≡ false
+declared_no_else (Nets place range) rest = refl
+declared_no_else (Regs place range) rest = refl
+declared_no_else (LocalParameters place) rest = refl
+declared_no_else (Assignments place) rest = refl
+declared_no_else (Instances definition) rest = refl
+
+-- an item does not begin with an else
+item_no_else : (i : Item) (rest : List Symbol) → is_else (item_text i rest) ≡ false
+item_no_else (Declares d x fs semicolon) rest = declared_no_else d (declarator_text x (further_text declarator_text fs (symbol_at (symbol.Punctuator punctuator.Semicolon) semicolon ∷ rest)))
+item_no_else (Initial place body) rest = refl
+item_no_else (Always place body) rest = refl
+
+items_no_else : (l : List Item) (rest : List Symbol) → is_else rest ≡ false → is_else (items_text l rest) ≡ false
+items_no_else [] rest h = h
+items_no_else (i ∷ l) rest h = item_no_else i (items_text l rest)
 
 module _ (limit : ℕ) where
   ranged_again : (d : Option Range → Declaration) (range : Option Range) (x : Declarator) (fs : List (Further Declarator)) (semicolon : ℕ) (rest : List Symbol) → IfSome range IsRange → IsDeclarator (d range) x → AreFurther (IsDeclarator (d range)) fs → max (declarator_height x) (further_height declarator_height fs) ≤ limit
@@ -315,24 +335,25 @@ module _ (limit : ℕ) where
       rw h (rw k refl)
 
   module _ (d : ℕ) (statement : Reader Stmt) (complete : CompleteStmt limit d statement) where
-    item_again : (i : Item) (rest : List Symbol) → IsItem i → item_height i ≤ limit → item_depth i ≤ d → item_at limit statement (item_text i rest) ≡ Ok (i, rest)
-    unfolding item_at item_by initial_at
-    item_again (Declares (Nets place range) x fs semicolon) rest is shallow fits = ranged_again (Nets place) range x fs semicolon rest is.0 is.1 is.2 shallow
-    item_again (Declares (Regs place range) x fs semicolon) rest is shallow fits = ranged_again (Regs place) range x fs semicolon rest is.0 is.1 is.2 shallow
-    item_again (Declares (LocalParameters place) x fs semicolon) rest is shallow fits = declarators_again limit (LocalParameters place) x fs semicolon rest is.1 is.2 shallow
-    item_again (Declares (Assignments place) x fs semicolon) rest is shallow fits = declarators_again limit (Assignments place) x fs semicolon rest is.1 is.2 shallow
-    item_again (Declares (Instances definition) x fs semicolon) rest is shallow fits = declarators_again limit (Instances definition) x fs semicolon rest is.1 is.2 shallow
-    item_again (Initial place body) rest is shallow fits = let h = complete body rest is shallow fits in rw h refl
+    item_again : (i : Item) (rest : List Symbol) → IsItem i → item_height i ≤ limit → item_depth i ≤ d → is_else rest ≡ false → item_at limit statement (item_text i rest) ≡ Ok (i, rest)
+    unfolding item_at item_by procedure_at
+    item_again (Declares (Nets place range) x fs semicolon) rest is shallow fits ends = ranged_again (Nets place) range x fs semicolon rest is.0 is.1 is.2 shallow
+    item_again (Declares (Regs place range) x fs semicolon) rest is shallow fits ends = ranged_again (Regs place) range x fs semicolon rest is.0 is.1 is.2 shallow
+    item_again (Declares (LocalParameters place) x fs semicolon) rest is shallow fits ends = declarators_again limit (LocalParameters place) x fs semicolon rest is.1 is.2 shallow
+    item_again (Declares (Assignments place) x fs semicolon) rest is shallow fits ends = declarators_again limit (Assignments place) x fs semicolon rest is.1 is.2 shallow
+    item_again (Declares (Instances definition) x fs semicolon) rest is shallow fits ends = declarators_again limit (Instances definition) x fs semicolon rest is.1 is.2 shallow
+    item_again (Initial place body) rest is shallow fits ends = let h = complete body rest is shallow fits (end_follows body rest ends) in rw h refl
+    item_again (Always place body) rest is shallow fits ends = let h = complete body rest is shallow fits (end_follows body rest ends) in rw h refl
 
-    items_again : (m : ℕ) (l : List Item) (rest : List Symbol) → AreItems l → items_height l ≤ limit → items_depth l ≤ d → length (items_text l rest) ≤ m → is_next (symbol.Keyword keyword.Endmodule) rest ≡ true → items_at limit statement m (items_text l rest) ≡ Ok (l, rest)
+    items_again : (m : ℕ) (l : List Item) (rest : List Symbol) → AreItems l → items_height l ≤ limit → items_depth l ≤ d → length (items_text l rest) ≤ m → is_next (symbol.Keyword keyword.Endmodule) rest ≡ true → is_else rest ≡ false → items_at limit statement m (items_text l rest) ≡ Ok (l, rest)
     unfolding items_at
-    items_again zero [] rest are shallow fits enough stops = rw stops refl
-    items_again zero (i ∷ l) rest are shallow fits enough stops = let h = item_longer i (items_text l rest) in absurd (omega arith)
-    items_again (suc m) [] rest are shallow fits enough stops = rw stops refl
-    items_again (suc m) (i ∷ l) rest are shallow fits enough stops =
+    items_again zero [] rest are shallow fits enough stops ends = rw stops refl
+    items_again zero (i ∷ l) rest are shallow fits enough stops ends = let h = item_longer i (items_text l rest) in absurd (omega arith)
+    items_again (suc m) [] rest are shallow fits enough stops ends = rw stops refl
+    items_again (suc m) (i ∷ l) rest are shallow fits enough stops ends =
         let longer = item_longer i (items_text l rest) in
-        let h = item_again i (items_text l rest) are.0 (omega arith) (omega arith) in
-        let k = items_again m l rest are.1 (omega arith) (omega arith) (omega arith) stops in
+        let h = item_again i (items_text l rest) are.0 (omega arith) (omega arith) (items_no_else l rest ends) in
+        let k = items_again m l rest are.1 (omega arith) (omega arith) (omega arith) stops ends in
         rw (item_no_end i (items_text l rest), h) (rw k refl)
 
 -- ---- ports
@@ -432,7 +453,7 @@ unfolding module_at terminal
 module_again limit m rest is shallow fits =
     let behind = symbol_at (symbol.Keyword keyword.Endmodule) m.endmodule ∷ rest in
     let k = header_again m.header m.semicolon (items_text m.items behind) is.0 in
-    let h = items_again limit limit (stmt_at limit limit) (stmt_again limit limit) (length (items_text m.items behind)) m.items behind is.1 shallow fits (omega arith) refl in
+    let h = items_again limit limit (stmt_at limit limit) (stmt_again limit limit) (length (items_text m.items behind)) m.items behind is.1 shallow fits (omega arith) refl refl in
     rw k (rw h refl)
 
 modules_again : (limit m : ℕ) (d : Derivation) → IsSource d → source_height d ≤ limit → source_depth d ≤ limit → length (source_text d) ≤ m → modules_at limit m (source_text d) ≡ Ok d

@@ -9,10 +9,11 @@ use Rattle.vp_parse_expr.specs.Kinds.{symbol_at}
 use Rattle.vp_parse_expr.specs.Grammar.{Name, Sized, Whole, Part}
 use Rattle.vp_parse_expr.specs.Stopping.{Stop, Unexpected, TooDeep, terminal}
 use Rattle.vp_parse_expr.specs.Reading.{bound_by, bound_at, range_at, sized_at, number_at, bit_at, part_select_at, select_at, name_at, group_at, unary_at, part_at, further_part_at, further_parts_at, parts_at, concatenation_at, replication_at, braces_at, operand_by, operand_at, binary_at, more_at, conditional_at, choice_at, chain_at, expr_at, literal_by, literal_at}
+use Rattle.vp_parse_stmt.specs.Grammar as statement
 use Rattle.vp_parse_stmt.specs.Grammar.{Stmt, Assign, Block, Empty, Then}
-use Rattle.vp_parse.specs.Grammar.{Ordered, Named, Unconnected, Connected, Nets, Regs, LocalParameters, Instances, Plain, Valued, Instance, Item, Declares, Initial, Input, Declared, Bare, NoHeader, Ports, Derivation}
-use Rattle.vp_parse_stmt.specs.Reading.{stmts_at, assign_at, block_at, stmt_by, form_at, stmt_at}
-use Rattle.vp_parse.specs.Reading.{further_at, width_at, value_at, ordered_at, named_at, connection_at, connected_at, connections_at, valued_at, net_at, instance_at, declarator_by, declarator_at, declarators_at, ranged_at, initial_at, item_by, item_at, items_at, wire_at, output_at, direction_by, direction_at, declared_at, port_at, ports_at, listed_at, parentheses_at, header_at, module_at, modules_at, source_at, read}
+use Rattle.vp_parse.specs.Grammar.{Ordered, Named, Unconnected, Connected, Nets, Regs, LocalParameters, Instances, Plain, Valued, Instance, Item, Declares, Initial, Always, Input, Declared, Bare, NoHeader, Ports, Derivation}
+use Rattle.vp_parse_stmt.specs.Reading.{stmts_at, amount_by, amount_at, grouped_delay_at, delay_at, later_at, hold_at, blocking_at, assign_at, nonblocking_at, set_at, assignment_at, block_at, edged_at, term_at, separator_by, separator_at, joined_at, further_terms_at, terms_at, terms_event_at, star_event_at, event_by, event_at, awaited_at, condition_at, guarded_at, second_at, else_at, if_at, stmt_by, form_at, stmt_at}
+use Rattle.vp_parse.specs.Reading.{further_at, width_at, value_at, ordered_at, named_at, connection_at, connected_at, connections_at, valued_at, net_at, instance_at, declarator_by, declarator_at, declarators_at, ranged_at, procedure_at, item_by, item_at, items_at, wire_at, output_at, direction_by, direction_at, declared_at, port_at, ports_at, listed_at, parentheses_at, header_at, module_at, modules_at, source_at, read}
 
 -- ---- symbols
 
@@ -30,6 +31,15 @@ reg = symbol.Keyword keyword.Reg
 
 abbrev initial : SymbolKind
 initial = symbol.Keyword keyword.Initial
+
+abbrev always : SymbolKind
+always = symbol.Keyword keyword.Always
+
+abbrev if_word : SymbolKind
+if_word = symbol.Keyword keyword.If
+
+abbrev else_word : SymbolKind
+else_word = symbol.Keyword keyword.Else
 
 abbrev begin : SymbolKind
 begin = symbol.Keyword keyword.Begin
@@ -60,7 +70,7 @@ semicolon = symbol.Punctuator punctuator.Semicolon
 
 -- what is read from symbols of these kinds, placed from 0 on
 unfoldable read_kinds : List SymbolKind → Result Derivation Stop
-unfolding terminal bound_by bound_at range_at sized_at number_at bit_at part_select_at select_at name_at group_at unary_at part_at further_part_at further_parts_at parts_at concatenation_at replication_at braces_at operand_by operand_at binary_at more_at conditional_at choice_at chain_at expr_at literal_by literal_at stmts_at assign_at block_at stmt_by form_at stmt_at further_at width_at value_at ordered_at named_at connection_at connected_at connections_at valued_at net_at instance_at declarator_by declarator_at declarators_at ranged_at initial_at item_by item_at items_at wire_at output_at direction_by direction_at declared_at port_at ports_at listed_at parentheses_at header_at module_at modules_at source_at
+unfolding terminal bound_by bound_at range_at sized_at number_at bit_at part_select_at select_at name_at group_at unary_at part_at further_part_at further_parts_at parts_at concatenation_at replication_at braces_at operand_by operand_at binary_at more_at conditional_at choice_at chain_at expr_at literal_by literal_at stmts_at amount_by amount_at grouped_delay_at delay_at later_at hold_at blocking_at assign_at nonblocking_at set_at assignment_at block_at edged_at term_at separator_by separator_at joined_at further_terms_at terms_at terms_event_at star_event_at event_by event_at awaited_at condition_at guarded_at second_at else_at if_at stmt_by form_at stmt_at further_at width_at value_at ordered_at named_at connection_at connected_at connections_at valued_at net_at instance_at declarator_by declarator_at declarators_at ranged_at procedure_at item_by item_at items_at wire_at output_at direction_by direction_at declared_at port_at ports_at listed_at parentheses_at header_at module_at modules_at source_at
 read_kinds kinds = read (placed 0 kinds)
 
 -- so many kinds of one sort
@@ -181,6 +191,27 @@ row_instances : read_kinds (head ++ symbol.Name ∷ symbol.Name ∷ opening ∷ 
 unfolding read_kinds
 row_instances = refl
 
+-- the derivation of `module m ; always @ ( posedge c ) if ( a ) b <= # 2 c ; else ; endmodule`
+abbrev pub clocked : Derivation
+clocked =
+    only_item (Always 3 (statement.Awaited 4 (statement.Terms 5 (statement.Single (statement.Edged statement.Posedge 6 7)) 8)
+    (statement.Choose 9 10 (Name 11 Whole) 12
+    (statement.Nonblocking 13 Whole 14 (statement.Later 15 (statement.Plain 2 16)) (Name 17 Whole) 18) 19 (statement.Null 20)))) 21
+
+-- module m; always @(posedge c) if (a) b <= #2 c; else ; endmodule
+row_always : read_kinds (head ++ always ∷ symbol.Punctuator punctuator.At ∷ opening ∷ symbol.Keyword keyword.Posedge ∷ symbol.Name ∷ closing
+    ∷ if_word ∷ opening ∷ symbol.Name ∷ closing ∷ symbol.Name ∷ symbol.Punctuator punctuator.LessOrEqual ∷ symbol.Punctuator punctuator.Hash ∷ symbol.Number 2 ∷ symbol.Name ∷ semicolon
+    ∷ else_word ∷ semicolon ∷ endmodule ∷ [])
+    ≡ Ok clocked
+unfolding read_kinds
+row_always = refl
+
+-- module m; always if (a) if (b) ; else ; endmodule: the else belongs to the nearest if (9.4)
+row_nearest_if : read_kinds (head ++ always ∷ if_word ∷ opening ∷ symbol.Name ∷ closing ∷ if_word ∷ opening ∷ symbol.Name ∷ closing ∷ semicolon ∷ else_word ∷ semicolon ∷ endmodule ∷ [])
+    ≡ Ok (only_item (Always 3 (statement.When 4 5 (Name 6 Whole) 7 (statement.Choose 8 9 (Name 10 Whole) 11 (statement.Null 12) 13 (statement.Null 14)))) 15)
+unfolding read_kinds
+row_nearest_if = refl
+
 -- ---- what is refused, with the number of symbols left
 
 -- module m(a); endmodule
@@ -222,6 +253,16 @@ row_size_65536 = refl
 row_no_semicolon : read_kinds (head ++ initial ∷ symbol.Name ∷ equals ∷ symbol.Name ∷ endmodule ∷ []) ≡ Err (Unexpected 1)
 unfolding read_kinds
 row_no_semicolon = refl
+
+-- module m; always endmodule
+row_no_statement : read_kinds (head ++ always ∷ endmodule ∷ []) ≡ Err (Unexpected 1)
+unfolding read_kinds
+row_no_statement = refl
+
+-- module m; always ; else ; endmodule
+row_else_alone : read_kinds (head ++ always ∷ semicolon ∷ else_word ∷ semicolon ∷ endmodule ∷ []) ≡ Err (Unexpected 3)
+unfolding read_kinds
+row_else_alone = refl
 
 -- module m; reg a b; endmodule
 row_no_comma : read_kinds (head ++ reg ∷ symbol.Name ∷ symbol.Name ∷ semicolon ∷ endmodule ∷ []) ≡ Err (Unexpected 3)

@@ -1,11 +1,12 @@
 -- What the grammar sees of tokens, the lists of a source, and where an error is told, computed on examples.
-use Rattle.std.proofs.Common.{◌≡◌, List, [], ◌∷◌, Some, None, refl}
+use Rattle.std.proofs.Common.{◌≡◌, false, List, [], ◌∷◌, Some, None, refl}
 use Rattle.vp_parse_expr.specs.declared.node.Expression.TheVariants as expression_of
 use Rattle.vp_parse_expr.specs.declared.node.Selection.TheVariants as selection_of
+use Rattle.vp_parse_stmt.specs.declared.arena.Edge.TheVariants as edge_of
 use Rattle.vp_parse_stmt.specs.declared.arena.Statement.TheVariants as statement_of
 use Rattle.vp_parse.specs.declared.source.Item.TheVariants as item_of
 use Rattle.vp_parse_expr.specs.Grammar.{Name, Sized, Whole}
-use Rattle.vp_parse_stmt.specs.Grammar.{Assign, Block, Empty, Then}
+use Rattle.vp_parse_stmt.specs.Grammar.{Also, Assign, Block, Case, Default, Empty, Exact, Labels, Last, More, Null, Only, Then, Unmarked}
 use Rattle.vp_parse.specs.declared.source.Direction.TheVariants as direction_of
 use Rattle.vp_parse.specs.Grammar.{Ordered, Connected, Nets, Regs, Instances, Plain, Valued, Instance, Declares, Initial, OutputReg, Declared, Bare, NoHeader, Ports, Derivation}
 use Rattle.vp_parse.specs.Layout.{put_source}
@@ -13,6 +14,7 @@ use Rattle.vp_parse_expr.specs.declared.symbol.Symbol.{Symbol}
 use Rattle.vp_parse_expr.specs.declared.symbol.SymbolKind.TheVariants as symbol
 use Rattle.vp_parse_expr.specs.Kinds.{symbol_at}
 use Rattle.vp_parse.specs.Told.{place_told}
+use Rattle.vp_parse.proofs.GrammarRows.{clocked}
 
 -- the derivation of `module t ; reg a , b ; initial begin a = 1 'b1 ; begin end b = a ; end endmodule`
 abbrev example : Derivation
@@ -33,7 +35,15 @@ example =
 
 -- three items; the block's chain begins at statement 0 and ends at statement 6
 lists_of_example : put_source example ≡ (
-  record { name = 1; items = record { first = 0; end = 3 }; ports = 0; statements = record { first = 0; end = 7 }; expressions = record { first = 0; end = 2 } } ∷ [],
+  record {
+    name = 1;
+    items = record { first = 0; end = 3 };
+    ports = 0;
+    statements = record { first = 0; end = 7 };
+    expressions = record { first = 0; end = 2 };
+    terms = record { first = 0; end = 0 };
+    choices = record { first = 0; end = 0 };
+  } ∷ [],
   record {
     items = item_of.Reg 4 None ∷ item_of.Reg 6 None ∷ item_of.Initial 8 6 ∷ [];
     connections = [];
@@ -43,6 +53,8 @@ lists_of_example : put_source example ≡ (
           ∷ statement_of.Empty ∷ statement_of.Then 2 3
           ∷ statement_of.Assign 17 selection_of.Whole 1 ∷ statement_of.Then 4 5 ∷ [];
       expressions = expression_of.Literal 12 1 13 ∷ expression_of.Name 19 selection_of.Whole ∷ [];
+      terms = [];
+      choices = [];
     };
   },
 )
@@ -77,8 +89,24 @@ hierarchy =
 
 -- both ports have the range of the first; the net is followed by its assignment; the blank connection begins at the comma behind it
 lists_of_hierarchy : put_source hierarchy ≡ (
-  record { name = 1; items = record { first = 0; end = 2 }; ports = 2; statements = record { first = 0; end = 0 }; expressions = record { first = 0; end = 0 } }
-      ∷ record { name = 17; items = record { first = 2; end = 5 }; ports = 2; statements = record { first = 0; end = 0 }; expressions = record { first = 0; end = 2 } } ∷ [],
+  record {
+    name = 1;
+    items = record { first = 0; end = 2 };
+    ports = 2;
+    statements = record { first = 0; end = 0 };
+    expressions = record { first = 0; end = 0 };
+    terms = record { first = 0; end = 0 };
+    choices = record { first = 0; end = 0 };
+  }
+      ∷ record {
+        name = 17;
+        items = record { first = 2; end = 5 };
+        ports = 2;
+        statements = record { first = 0; end = 0 };
+        expressions = record { first = 0; end = 2 };
+        terms = record { first = 0; end = 0 };
+        choices = record { first = 0; end = 0 };
+      } ∷ [],
   record {
     items =
         item_of.Port 10 direction_of.OutputReg (Some (record { bracket = 5; range = record { msb = 1; lsb = 0 } }))
@@ -89,10 +117,80 @@ lists_of_hierarchy : put_source hierarchy ≡ (
     parts = record {
       statements = [];
       expressions = expression_of.Name 22 selection_of.Whole ∷ expression_of.Name 28 selection_of.Whole ∷ [];
+      terms = [];
+      choices = [];
     };
   },
 )
 lists_of_hierarchy = refl
+
+-- `always @(posedge c) if (a) b <= #2 c; else ;`: each statement stands behind those in it, so the one behind its event is the last
+lists_of_clocked : put_source clocked ≡ (
+  record {
+    name = 1;
+    items = record { first = 0; end = 1 };
+    ports = 0;
+    statements = record { first = 0; end = 4 };
+    expressions = record { first = 0; end = 2 };
+    terms = record { first = 0; end = 1 };
+    choices = record { first = 0; end = 0 };
+  } ∷ [],
+  record {
+    items = item_of.Always 3 3 ∷ [];
+    connections = [];
+    parts = record {
+      statements =
+          statement_of.Nonblocking 13 selection_of.Whole 1 (Some 2) ∷ statement_of.Null
+          ∷ statement_of.If 0 0 (Some 1) ∷ statement_of.Event (record { first = 0; end = 1 }) 2 ∷ [];
+      expressions = expression_of.Name 11 selection_of.Whole ∷ expression_of.Name 17 selection_of.Whole ∷ [];
+      terms = record { edge = edge_of.Posedge; name = 7 } ∷ [];
+      choices = [];
+    };
+  },
+)
+lists_of_clocked = refl
+
+-- the derivation of `module m ; initial case ( a ) b , c : ; default ; endcase endmodule`
+abbrev chosen : Derivation
+chosen =
+    record {
+      keyword = 0;
+      name = 1;
+      header = NoHeader;
+      semicolon = 2;
+      items =
+          Initial 3 (Case Exact 4 5 (Name 6 Whole) 7
+          (More (Labels (Also (Name 8 Whole) 9 (Only (Name 10 Whole))) 11 (Null 12)) (Last (Default 13 Unmarked (Null 14)))) 15)
+          ∷ [];
+      endmodule = 16;
+    }
+    ∷ []
+
+-- both labels of the first item choose its statement, and the choice of anything else is the last
+lists_of_chosen : put_source chosen ≡ (
+  record {
+    name = 1;
+    items = record { first = 0; end = 1 };
+    ports = 0;
+    statements = record { first = 0; end = 3 };
+    expressions = record { first = 0; end = 3 };
+    terms = record { first = 0; end = 0 };
+    choices = record { first = 0; end = 3 };
+  } ∷ [],
+  record {
+    items = item_of.Initial 3 2 ∷ [];
+    connections = [];
+    parts = record {
+      statements =
+          statement_of.Null ∷ statement_of.Null ∷ statement_of.Case false 0 (record { first = 0; end = 3 }) ∷ [];
+      expressions = expression_of.Name 6 selection_of.Whole ∷ expression_of.Name 8 selection_of.Whole ∷ expression_of.Name 10 selection_of.Whole ∷ [];
+      terms = [];
+      choices =
+          record { label = Some 1; body = 0 } ∷ record { label = Some 2; body = 0 } ∷ record { label = None; body = 1 } ∷ [];
+    };
+  },
+)
+lists_of_chosen = refl
 
 -- ---- where an error is told
 

@@ -2,6 +2,7 @@ pub mod Again
 pub mod Found
 pub mod GrammarRows
 pub mod Growing
+pub mod GrowingParts
 pub mod Laws
 pub mod LayoutRows
 pub mod Loops

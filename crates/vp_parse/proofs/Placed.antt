@@ -6,6 +6,7 @@ use Rattle.vp_lex.specs.declared.token.Punctuator.TheVariants as punctuator
 use Rattle.std.proofs.Math.Seq.{append_snoc}
 use Rattle.std.proofs.lemmas.List.{append-nil}
 use Rattle.vp_parse.specs.declared.source.Direction as direction
+use Rattle.vp_parse.specs.declared.source.Item as item
 use Rattle.vp_parse.specs.declared.source.Item.TheVariants as item_of
 use Rattle.vp_parse.specs.declared.source.Module as module_of
 use Rattle.vp_parse.specs.declared.source.DeclaredRange.{DeclaredRange}
@@ -29,10 +30,10 @@ use Rattle.vp_parse_stmt.specs.Layout.{put_stmt, put_value}
 use Rattle.vp_parse_stmt.specs.Placing.{Placer, Made as MadePart, value_into, stmt_into}
 use Rattle.vp_parse_stmt.specs.Placed.{Places, made as made_part, value_seen, stmt_seen}
 use Rattle.vp_parse_stmt.specs.Reading.{stmt_at}
-use Rattle.vp_parse.specs.Grammar.{Further, further_text, AreFurther, further_height, Connection, Ordered, Named, Connections, Unconnected, Connected, value_text, value_height, connection_text, IsAlike, connection_height, Declaration, Nets, Regs, LocalParameters, Assignments, Instances, Declarator, Valued, Item, Direction, Port, Bare, PortList, Ports, Module, Derivation}
-use Rattle.vp_parse.specs.Layout.{Lists, no_parts, put_declared, with_item, with_connection, first_place, put_connection_by, put_connection, comma_at, put_connected, put_connections, put_declarator, put_further, put_item, put_items, PortType, put_direction, port_type, port_name, put_port, put_ports, scalar_input, put_header, put_module, put_modules, put_source}
-use Rattle.vp_parse.specs.Reading.{further_at, width_at, is_end, value_at, ordered_at, named_at, connection_at, connected_at, connections_at, valued_at, net_at, instance_at, declarator_by, declarator_at, declarators_at, ranged_at, initial_at, item_by, item_at, items_at, wire_at, output_at, direction_by, direction_at, declared_at, port_at, ports_at, listed_at, parentheses_at, header_at, module_at, modules_at, source_at}
-use Rattle.vp_parse.specs.Placing.{Kept, Keeper, Made, further_into, width_into, part_into, optional_into, ordered_into, named_into, connection_into, connected_into, connections_into, valued_into, net_into, instance_into, sized_into, declarator_by_into, declarator_into, declarators_into, initial_into, item_by_into, item_into, items_into, wire_into, output_into, direction_by_into, direction_into, port_type_into, next_type_into, port_into, ports_into, listed_into, parentheses_into, header_into, module_into, modules_into}
+use Rattle.vp_parse.specs.Grammar.{Further, further_text, AreFurther, further_height, Connection, Ordered, Named, Connections, Unconnected, Connected, value_text, value_height, connection_text, IsAlike, connection_height, Declaration, Nets, Regs, LocalParameters, Assignments, Instances, Declarator, Valued, Item, Initial, Always, Direction, Port, Bare, PortList, Ports, Module, Derivation}
+use Rattle.vp_parse.specs.Layout.{Lists, no_parts, put_declared, with_item, with_connection, first_place, put_connection_by, put_connection, comma_at, put_connected, put_connections, put_declarator, put_further, put_procedure, put_item, put_items, PortType, put_direction, port_type, port_name, put_port, put_ports, scalar_input, put_header, put_module, put_modules, put_source}
+use Rattle.vp_parse.specs.Reading.{further_at, width_at, is_end, value_at, ordered_at, named_at, connection_at, connected_at, connections_at, valued_at, net_at, instance_at, declarator_by, declarator_at, declarators_at, ranged_at, procedure_at, item_by, item_at, items_at, wire_at, output_at, direction_by, direction_at, declared_at, port_at, ports_at, listed_at, parentheses_at, header_at, module_at, modules_at, source_at}
+use Rattle.vp_parse.specs.Placing.{Kept, Keeper, Made, further_into, width_into, part_into, optional_into, ordered_into, named_into, connection_into, connected_into, connections_into, valued_into, net_into, instance_into, sized_into, declarator_by_into, declarator_into, declarators_into, procedure_into, item_by_into, item_into, items_into, wire_into, output_into, direction_by_into, direction_into, port_type_into, next_type_into, port_into, ports_into, listed_into, parentheses_into, header_into, module_into, modules_into}
 use Rattle.vp_parse.proofs.Takes.{IsRead, value_takes, connection_takes, further_takes}
 
 -- ---- tools
@@ -321,10 +322,11 @@ module _ (limit : ℕ) where
       (λ w. ap (λ (x : declaration.Declaration). declarators_into limit x lists w.1) (sym (same w.0)) ∙ declarators_seen (d w.0) lists w.1)
 
   module _ (placer : Placer) (reader : Reader Stmt) (places : Places put_stmt placer reader) where
-    initial_seen : (place : ℕ) → Keeps put_item (initial_into placer place) (initial_at reader place)
-    unfolding initial_into initial_at
-    initial_seen place lists ts =
-        bind_seen (part_made put_stmt lists) (kept put_item lists) (part_into placer lists ts) (reader ts) _ _ (part_seen put_stmt placer reader places lists ts) (λ b. refl)
+    procedure_seen : (spelled : Stmt → Item) (shown : ℕ → item.Item) → ((body : Stmt) (lists : Lists) → put_procedure shown body lists ≡ put_item (spelled body) lists) → Keeps put_item (procedure_into placer shown) (procedure_at reader spelled)
+    unfolding procedure_into procedure_at
+    procedure_seen spelled shown same lists ts =
+        bind_seen (part_made put_stmt lists) (kept put_item lists) (part_into placer lists ts) (reader ts) _ _ (part_seen put_stmt placer reader places lists ts)
+        (λ b. ap (λ (l : Lists). (let r : Result Kept Stop = Ok (l, b.1) in r)) (same b.0 lists))
 
     item_by_seen : (kind : SymbolKind) (place : ℕ) → Keeps put_item (item_by_into limit placer kind place) (item_by limit reader kind place)
     unfolding item_by_into item_by
@@ -333,7 +335,8 @@ module _ (limit : ℕ) where
     item_by_seen (symbol.Keyword keyword.Localparam) place lists ts = declarators_seen (LocalParameters place) lists ts
     item_by_seen (symbol.Keyword keyword.Assign) place lists ts = declarators_seen (Assignments place) lists ts
     item_by_seen symbol.Name place lists ts = declarators_seen (Instances place) lists ts
-    item_by_seen (symbol.Keyword keyword.Initial) place lists ts = initial_seen place lists ts
+    item_by_seen (symbol.Keyword keyword.Initial) place lists ts = procedure_seen (Initial place) (item_of.Initial place) (λ b l. refl) lists ts
+    item_by_seen (symbol.Keyword keyword.Always) place lists ts = procedure_seen (Always place) (item_of.Always place) (λ b l. refl) lists ts
     item_by_seen _ place lists ts = refl
 
     item_seen : Keeps put_item (item_into limit placer) (item_at limit reader)

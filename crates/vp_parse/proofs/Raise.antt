@@ -12,8 +12,8 @@ use Rattle.vp_parse_expr.specs.Raise.{OrDeep, OrDeep-same, OrDeep-bind, OrDeep-t
 use Rattle.vp_parse_stmt.specs.Grammar.{Stmt}
 use Rattle.vp_parse_stmt.specs.Reading.{stmt_at}
 use Rattle.vp_parse_stmt.specs.Raise.{stmt_raise}
-use Rattle.vp_parse.specs.Grammar.{Named, Declaration, Nets, Regs, LocalParameters, Assignments, Instances, Instance, Declares}
-use Rattle.vp_parse.specs.Reading.{further_at, width_at, is_end, value_at, ordered_at, named_at, connection_at, connected_at, connections_at, valued_at, net_at, instance_at, declarator_by, declarator_at, declarators_at, ranged_at, initial_at, item_by, item_at, items_at, header_at, module_at, modules_at, source_at}
+use Rattle.vp_parse.specs.Grammar.{Named, Declaration, Nets, Regs, LocalParameters, Assignments, Instances, Instance, Item, Declares, Initial, Always}
+use Rattle.vp_parse.specs.Reading.{further_at, width_at, is_end, value_at, ordered_at, named_at, connection_at, connected_at, connections_at, valued_at, net_at, instance_at, declarator_by, declarator_at, declarators_at, ranged_at, procedure_at, item_by, item_at, items_at, header_at, module_at, modules_at, source_at}
 
 further_raise : {X : Type 0} (low high : Reader X) → Below low high → (m : ℕ) → Below (further_at low m) (further_at high m)
 unfolding further_at
@@ -100,9 +100,9 @@ module _ (low high : ℕ) (le : low ≤ high) where
   ranged_raise d ts = OrDeep-then (width_at ts) _ _ (λ w. declarators_raise (d w.0) w.1)
 
   module _ (shallow deep : Reader Stmt) (below : Below shallow deep) where
-    initial_raise : (place : ℕ) → Below (initial_at shallow place) (initial_at deep place)
-    unfolding initial_at
-    initial_raise place ts = OrDeep-bind (shallow ts) (deep ts) _ _ (below ts) (λ b. refl)
+    procedure_raise : (construct : Stmt → Item) → Below (procedure_at shallow construct) (procedure_at deep construct)
+    unfolding procedure_at
+    procedure_raise construct ts = OrDeep-bind (shallow ts) (deep ts) _ _ (below ts) (λ b. refl)
 
     item_by_raise : (kind : SymbolKind) (place : ℕ) → Below (item_by low shallow kind place) (item_by high deep kind place)
     unfolding item_by
@@ -111,7 +111,8 @@ module _ (low high : ℕ) (le : low ≤ high) where
     item_by_raise (symbol.Keyword keyword.Localparam) place ts = declarators_raise (LocalParameters place) ts
     item_by_raise (symbol.Keyword keyword.Assign) place ts = declarators_raise (Assignments place) ts
     item_by_raise symbol.Name place ts = declarators_raise (Instances place) ts
-    item_by_raise (symbol.Keyword keyword.Initial) place ts = initial_raise place ts
+    item_by_raise (symbol.Keyword keyword.Initial) place ts = procedure_raise (Initial place) ts
+    item_by_raise (symbol.Keyword keyword.Always) place ts = procedure_raise (Always place) ts
     item_by_raise _ place ts = refl
 
     item_raise : Below (item_at low shallow) (item_at high deep)

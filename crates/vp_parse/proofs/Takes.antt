@@ -12,12 +12,12 @@ use Rattle.vp_parse_expr.specs.Kinds.{symbol_at}
 use Rattle.vp_parse_expr.specs.Grammar.{Expr, Range, expr_text, expr_depth, is_sized, IsExpr, IsRange}
 use Rattle.vp_parse_expr.specs.Stopping.{Stop, Reader, is_next, terminal}
 use Rattle.vp_parse_expr.specs.Reading.{expr_at, range_at, literal_at}
-use Rattle.vp_parse_expr.specs.Takes.{Holds, Holds-bind, Holds-if, IsTerminal, terminal_takes, IsWholeTaken, whole_takes, IsRangeTaken, range_takes, IsLiteralTaken, literal_takes}
+use Rattle.vp_parse_expr.specs.Takes.{Holds, Holds-bind, Holds-if, IsTerminal, terminal_takes, before, IsWholeTaken, whole_takes, IsRangeTaken, range_takes, IsLiteralTaken, literal_takes}
 use Rattle.vp_parse_stmt.specs.Grammar.{Stmt}
 use Rattle.vp_parse_stmt.specs.Reading.{stmt_at}
 use Rattle.vp_parse_stmt.specs.Takes.{IsTaken, SoundStmt, stmt_takes}
-use Rattle.vp_parse.specs.Grammar.{Further, further_text, AreFurther, further_height, width_text, value_text, value_height, Connection, Ordered, Connections, Connected, connection_text, connections_text, is_named, is_blank, IsConnection, IsAlike, AreConnections, connection_height, connections_height, Declaration, Nets, Regs, LocalParameters, Assignments, Instances, Declarator, Valued, declaration_text, declarator_text, IsDeclaration, IsDeclarator, declarator_height, Item, item_text, items_text, IsItem, AreItems, item_depth, items_depth, item_height, items_height, Direction, Port, PortList, Header, wire_text, direction_text, port_text, ports_text, header_text, is_declared, IsPort, ArePorts, IsHeader, Module, module_text, IsModule, Derivation, Derives}
-use Rattle.vp_parse.specs.Reading.{further_at, width_at, is_end, value_at, ordered_at, named_at, connection_at, connected_at, connections_at, valued_at, net_at, instance_at, declarator_by, declarator_at, declarators_at, ranged_at, initial_at, item_by, item_at, items_at, wire_at, output_at, direction_by, direction_at, declared_at, port_at, ports_at, listed_at, parentheses_at, header_at, module_at, modules_at, source_at}
+use Rattle.vp_parse.specs.Grammar.{Further, further_text, AreFurther, further_height, width_text, value_text, value_height, Connection, Ordered, Connections, Connected, connection_text, connections_text, is_named, is_blank, IsConnection, IsAlike, AreConnections, connection_height, connections_height, Declaration, Nets, Regs, LocalParameters, Assignments, Instances, Declarator, Valued, declaration_text, declarator_text, IsDeclaration, IsDeclarator, declarator_height, Item, Initial, Always, item_text, items_text, IsItem, AreItems, item_depth, items_depth, item_height, items_height, Direction, Port, PortList, Header, wire_text, direction_text, port_text, ports_text, header_text, is_declared, IsPort, ArePorts, IsHeader, Module, module_text, IsModule, Derivation, Derives}
+use Rattle.vp_parse.specs.Reading.{further_at, width_at, is_end, value_at, ordered_at, named_at, connection_at, connected_at, connections_at, valued_at, net_at, instance_at, declarator_by, declarator_at, declarators_at, ranged_at, procedure_at, item_by, item_at, items_at, wire_at, output_at, direction_by, direction_at, declared_at, port_at, ports_at, listed_at, parentheses_at, header_at, module_at, modules_at, source_at}
 
 -- ---- tools
 
@@ -321,11 +321,9 @@ module _ (limit : ℕ) (lt : 0 < limit) where
       (λ w t. subst (λ (r : List Symbol). Holds (IsItemTaken limit r) (declarators_at limit (d w.0) w.1)) (spells w.0 w.1 ∙ ap (λ (r : List Symbol). symbol_at kind place ∷ r) (sym t.text)) (declarators_takes (d w.0) w.1 (is w.0 t.is)))
 
   module _ (statement : Reader Stmt) (sound : SoundStmt limit limit statement) where
-    initial_takes : (place : ℕ) (ts : List Symbol) → Holds (IsItemTaken limit (symbol_at (symbol.Keyword keyword.Initial) place ∷ ts)) (initial_at statement place ts)
-    unfolding initial_at
-    initial_takes place ts =
-        Holds-bind (IsTaken limit limit ts) (IsItemTaken limit (symbol_at (symbol.Keyword keyword.Initial) place ∷ ts)) (statement ts) _ (sound ts)
-        (λ b t. record { text = ap (λ (r : List Symbol). symbol_at (symbol.Keyword keyword.Initial) place ∷ r) t.0; is = t.1; shallow = t.2; fits = t.3 })
+    procedure_takes : (construct : Stmt → Item) (ts whole : List Symbol) → ((b : Stmt × List Symbol) → IsTaken limit limit ts b → IsItemTaken limit whole (construct b.0, b.1)) → Holds (IsItemTaken limit whole) (procedure_at statement construct ts)
+    unfolding procedure_at
+    procedure_takes construct ts whole is = Holds-bind (IsTaken limit limit ts) (IsItemTaken limit whole) (statement ts) _ (sound ts) is
 
     item_by_takes : (kind : SymbolKind) (place : ℕ) (ts : List Symbol) → Holds (IsItemTaken limit (symbol_at kind place ∷ ts)) (item_by limit statement kind place ts)
     unfolding item_by
@@ -334,7 +332,10 @@ module _ (limit : ℕ) (lt : 0 < limit) where
     item_by_takes (symbol.Keyword keyword.Localparam) place ts = declarators_takes (LocalParameters place) ts tt
     item_by_takes (symbol.Keyword keyword.Assign) place ts = declarators_takes (Assignments place) ts tt
     item_by_takes symbol.Name place ts = declarators_takes (Instances place) ts tt
-    item_by_takes (symbol.Keyword keyword.Initial) place ts = initial_takes place ts
+    item_by_takes (symbol.Keyword keyword.Initial) place ts =
+        procedure_takes (Initial place) ts _ (λ b t. record { text = ap (before (symbol.Keyword keyword.Initial) place) t.0; is = t.1; shallow = t.2; fits = t.3 })
+    item_by_takes (symbol.Keyword keyword.Always) place ts =
+        procedure_takes (Always place) ts _ (λ b t. record { text = ap (before (symbol.Keyword keyword.Always) place) t.0; is = t.1; shallow = t.2; fits = t.3 })
     item_by_takes _ place ts = tt
 
     item_takes : (ts : List Symbol) → Holds (IsItemTaken limit ts) (item_at limit statement ts)

@@ -13,7 +13,7 @@ use Rattle.vp_parse_stmt.specs.Grammar.{Stmt}
 use Rattle.vp_parse_stmt.specs.Reading.{stmt_at}
 use Rattle.vp_parse_stmt.specs.Within.{stmt_within}
 use Rattle.vp_parse.specs.Grammar.{Declaration, Nets, Regs, LocalParameters, Assignments, Instances, Derivation}
-use Rattle.vp_parse.specs.Reading.{further_at, width_at, is_end, value_at, ordered_at, named_at, connection_at, connected_at, connections_at, valued_at, net_at, instance_at, declarator_by, declarator_at, declarators_at, ranged_at, initial_at, item_by, item_at, items_at, wire_at, output_at, direction_by, direction_at, declared_at, port_at, ports_at, listed_at, parentheses_at, header_at, module_at, modules_at, source_at}
+use Rattle.vp_parse.specs.Reading.{further_at, width_at, is_end, value_at, ordered_at, named_at, connection_at, connected_at, connections_at, valued_at, net_at, instance_at, declarator_by, declarator_at, declarators_at, ranged_at, procedure_at, item_by, item_at, items_at, wire_at, output_at, direction_by, direction_at, declared_at, port_at, ports_at, listed_at, parentheses_at, header_at, module_at, modules_at, source_at}
 
 further_within : {X : Type 0} (part : Reader X) → IsWithin part → (m : ℕ) → IsWithin (further_at part m)
 unfolding further_at
@@ -93,13 +93,14 @@ module _ (limit : ℕ) (lt : 0 < limit) where
 
   module _ (next : Reader Stmt) (within : IsWithin next) where
     item_by_within : (kind : SymbolKind) (place n : ℕ) (ts : List Symbol) → suc (length ts) ≤ n → Within n (item_by limit next kind place ts)
-    unfolding item_by initial_at
+    unfolding item_by procedure_at
     item_by_within (symbol.Keyword keyword.Wire) place n ts le = ranged_within (Nets place) n ts (omega arith)
     item_by_within (symbol.Keyword keyword.Reg) place n ts le = ranged_within (Regs place) n ts (omega arith)
     item_by_within (symbol.Keyword keyword.Localparam) place n ts le = declarators_within (LocalParameters place) n ts (omega arith)
     item_by_within (symbol.Keyword keyword.Assign) place n ts le = declarators_within (Assignments place) n ts (omega arith)
     item_by_within symbol.Name place n ts le = declarators_within (Instances place) n ts (omega arith)
     item_by_within (symbol.Keyword keyword.Initial) place n ts le = Within-bind n (next ts) _ (within n ts (omega arith)) (λ b le. le)
+    item_by_within (symbol.Keyword keyword.Always) place n ts le = Within-bind n (next ts) _ (within n ts (omega arith)) (λ b le. le)
     item_by_within _ place n ts le = omega arith
 
     item_within : IsWithin (item_at limit next)

@@ -167,10 +167,11 @@ declarator_height (Instance name opening connections closing) = connections_heig
 
 -- ---- items
 
--- an item of a module: a declaration with its declarators, or an initial construct (9.9.1)
+-- an item of a module: a declaration with its declarators, an initial construct (9.9.1), or an always construct (9.9.2)
 pub data Item : Type 0 where
   Declares : Declaration → Declarator → List (Further Declarator) → (semicolon : ℕ) → Item
   Initial : (place : ℕ) → Stmt → Item
+  Always : (place : ℕ) → Stmt → Item
 
 -- an item's symbols, and then these (12.1)
 abbrev pub item_text : Item → List Symbol → List Symbol
@@ -178,6 +179,7 @@ item_text (Declares declaration first further semicolon) rest =
     declaration_text declaration (declarator_text first
     (further_text declarator_text further (symbol_at (symbol.Punctuator punctuator.Semicolon) semicolon ∷ rest)))
 item_text (Initial place body) rest = symbol_at (symbol.Keyword keyword.Initial) place ∷ stmt_text body rest
+item_text (Always place body) rest = symbol_at (symbol.Keyword keyword.Always) place ∷ stmt_text body rest
 
 -- the symbols of a module's items, and then these (12.1)
 abbrev pub items_text : List Item → List Symbol → List Symbol
@@ -189,6 +191,7 @@ abbrev pub IsItem : Item → Type 0
 IsItem (Declares declaration first further semicolon) =
     IsDeclaration declaration × IsDeclarator declaration first × AreFurther (IsDeclarator declaration) further
 IsItem (Initial place body) = IsStmt body
+IsItem (Always place body) = IsStmt body
 
 -- the parts of each of a module's items belong together
 abbrev pub AreItems : List Item → Type 0
@@ -199,6 +202,7 @@ AreItems (i ∷ is) = IsItem i × AreItems is
 abbrev pub item_depth : Item → ℕ
 item_depth (Declares declaration first further semicolon) = 0
 item_depth (Initial place body) = stmt_depth body
+item_depth (Always place body) = stmt_depth body
 
 -- how deep the deepest statement of a module nests (profile)
 abbrev pub items_depth : List Item → ℕ
@@ -209,6 +213,7 @@ items_depth (i ∷ is) = max (item_depth i) (items_depth is)
 abbrev pub item_height : Item → ℕ
 item_height (Declares declaration first further semicolon) = max (declarator_height first) (further_height declarator_height further)
 item_height (Initial place body) = stmt_height body
+item_height (Always place body) = stmt_height body
 
 -- how deep the deepest expression of a module nests (profile)
 abbrev pub items_height : List Item → ℕ

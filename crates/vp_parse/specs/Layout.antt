@@ -7,17 +7,19 @@ use Rattle.vp_parse_expr.specs.declared.symbol.SymbolKind.TheVariants as symbol
 use Rattle.vp_parse_expr.specs.Kinds.{symbol_at}
 use Rattle.vp_parse_expr.specs.Grammar.{Expr, Range}
 use Rattle.vp_parse_expr.specs.Layout.{put_range}
+use Rattle.vp_parse_stmt.specs.Grammar.{Stmt}
 use Rattle.vp_parse_stmt.specs.Layout as layout
 use Rattle.vp_parse_stmt.specs.Layout.{put_stmt, put_value}
 use Rattle.vp_parse.specs.declared.source.Connection as connection
 use Rattle.vp_parse.specs.declared.source.DeclaredRange.{DeclaredRange}
 use Rattle.vp_parse.specs.declared.source.Direction as direction
 use Rattle.vp_parse.specs.declared.source.Direction.TheVariants as direction_of
+use Rattle.vp_parse.specs.declared.source.Ends.{Ends}
 use Rattle.vp_parse.specs.declared.source.Item as item
 use Rattle.vp_parse.specs.declared.source.Item.TheVariants as item_of
 use Rattle.vp_parse.specs.declared.source.Module as module_of
 use Rattle.vp_parse.specs.declared.source.Source.{Source}
-use Rattle.vp_parse.specs.Grammar.{Further, Connection, Ordered, Named, Connections, Unconnected, Connected, value_text, Declaration, Nets, Regs, LocalParameters, Assignments, Instances, Declarator, Plain, Valued, Instance, Item, Declares, Initial, Direction, Input, Output, OutputReg, Port, Declared, Bare, Header, NoHeader, Ports, Module, Derivation}
+use Rattle.vp_parse.specs.Grammar.{Further, Connection, Ordered, Named, Connections, Unconnected, Connected, value_text, Declaration, Nets, Regs, LocalParameters, Assignments, Instances, Declarator, Plain, Valued, Instance, Item, Declares, Initial, Always, Direction, Input, Output, OutputReg, Port, Declared, Bare, Header, NoHeader, Ports, Module, Derivation}
 
 -- the flat lists of a source: its items, the connections of its instances, and the parts that both name
 pub record Lists : Type 0 where
@@ -28,6 +30,16 @@ pub record Lists : Type 0 where
 -- no parts
 abbrev pub no_parts : Lists
 no_parts = record { items = []; connections = []; parts = layout.no_parts }
+
+-- where the lists end of which each module has a part
+abbrev pub ends_of : Lists → Ends
+ends_of lists = record {
+  items = length lists.items;
+  statements = length lists.parts.statements;
+  expressions = length lists.parts.expressions;
+  terms = length lists.parts.terms;
+  choices = length lists.parts.choices;
+}
 
 -- the range of a declaration
 abbrev pub put_declared : Range → DeclaredRange
@@ -98,11 +110,16 @@ abbrev pub put_further : Declaration → List (Further Declarator) → Lists →
 put_further declaration [] lists = lists
 put_further declaration (f ∷ fs) lists = put_further declaration fs (put_declarator declaration f.part lists)
 
+-- an item that has a statement, behind that statement (9.9)
+abbrev pub put_procedure : (ℕ → item.Item) → Stmt → Lists → Lists
+put_procedure construct body lists =
+    let b = put_stmt body lists.parts in with_item (construct b.0) (record lists { parts = b.1 })
+
 -- the items of an item of the text: those of each of its declarators
 abbrev pub put_item : Item → Lists → Lists
 put_item (Declares declaration first further semicolon) lists = put_further declaration further (put_declarator declaration first lists)
-put_item (Initial place body) lists =
-    let b = put_stmt body lists.parts in with_item (item_of.Initial place b.0) (record lists { parts = b.1 })
+put_item (Initial place body) lists = put_procedure (item_of.Initial place) body lists
+put_item (Always place body) lists = put_procedure (item_of.Always place) body lists
 
 -- the items of a module, in order
 abbrev pub put_items : List Item → Lists → Lists
@@ -166,6 +183,8 @@ put_module m lists =
         ports = length ports.items;
         statements = record { first = length lists.parts.statements; end = length after.parts.statements };
         expressions = record { first = length lists.parts.expressions; end = length after.parts.expressions };
+        terms = record { first = length lists.parts.terms; end = length after.parts.terms };
+        choices = record { first = length lists.parts.choices; end = length after.parts.choices };
       },
       after,
     )
@@ -184,7 +203,12 @@ abbrev pub lists_of : Source → Lists
 lists_of s = record {
   items = s.items;
   connections = s.connections;
-  parts = record { statements = s.statements; expressions = s.expressions };
+  parts = record {
+    statements = s.statements;
+    expressions = s.expressions;
+    terms = s.terms;
+    choices = s.choices;
+  };
 }
 
 -- the source of a text with these tokens and this derivation

@@ -13,6 +13,7 @@ use Rattle.vp_parse.specs.declared.source.Arena.{Arena}
 use Rattle.vp_parse.specs.declared.source.DeclaredRange.{DeclaredRange}
 use Rattle.vp_parse.specs.declared.source.Direction as direction
 use Rattle.vp_parse.specs.declared.source.Direction.TheVariants as direction_of
+use Rattle.vp_parse.specs.declared.source.Item as item
 use Rattle.vp_parse.specs.declared.source.Item.TheVariants as item_of
 use Rattle.vp_parse.specs.declared.source.Module as module_of
 use Rattle.vp_parse.specs.declared.items.Declaration as declaration
@@ -146,10 +147,10 @@ declarators_into limit declaration lists ts = do
 
 -- ---- items
 
--- an initial construct, from behind its keyword (9.9.1)
-unfoldable pub initial_into : Placer → ℕ → Keeper
-initial_into statement place lists ts =
-    part_into statement lists ts >>= λ b. Ok (with_item (item_of.Initial place b.0) b.1, b.2)
+-- an initial or an always construct, from behind its keyword (9.9.1, 9.9.2)
+unfoldable pub procedure_into : Placer → (ℕ → item.Item) → Keeper
+procedure_into statement construct lists ts =
+    part_into statement lists ts >>= λ b. Ok (with_item (construct b.0) b.1, b.2)
 
 -- an item, from behind its first symbol, by that symbol's kind and place (12.1)
 unfoldable pub item_by_into : (limit : ℕ) → Placer → SymbolKind → ℕ → Keeper
@@ -160,7 +161,8 @@ item_by_into limit statement (symbol.Keyword keyword.Reg) place lists ts =
 item_by_into limit statement (symbol.Keyword keyword.Localparam) place lists ts = declarators_into limit declaration_of.LocalParameters lists ts
 item_by_into limit statement (symbol.Keyword keyword.Assign) place lists ts = declarators_into limit declaration_of.Assignments lists ts
 item_by_into limit statement symbol.Name place lists ts = declarators_into limit (declaration_of.Instances place) lists ts
-item_by_into limit statement (symbol.Keyword keyword.Initial) place lists ts = initial_into statement place lists ts
+item_by_into limit statement (symbol.Keyword keyword.Initial) place lists ts = procedure_into statement (item_of.Initial place) lists ts
+item_by_into limit statement (symbol.Keyword keyword.Always) place lists ts = procedure_into statement (item_of.Always place) lists ts
 item_by_into limit statement _ place lists ts = Err (Unexpected (length ts + 1))
 
 -- an item, with the reader of statements (12.1)
@@ -266,6 +268,8 @@ module_into limit lists ts = do
       ports = length ports.0.items;
       statements = record { first = length lists.parts.statements; end = length items.0.parts.statements };
       expressions = record { first = length lists.parts.expressions; end = length items.0.parts.expressions };
+      terms = record { first = length lists.parts.terms; end = length items.0.parts.terms };
+      choices = record { first = length lists.parts.choices; end = length items.0.parts.choices };
     },
     items.0,
     rest,

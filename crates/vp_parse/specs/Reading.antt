@@ -11,7 +11,7 @@ use Rattle.vp_parse_expr.specs.Stopping.{Stop, Unexpected, ◌>>=◌, Reader, re
 use Rattle.vp_parse_expr.specs.Reading.{expr_at, range_at, literal_at}
 use Rattle.vp_parse_stmt.specs.Grammar.{Stmt}
 use Rattle.vp_parse_stmt.specs.Reading.{stmt_at}
-use Rattle.vp_parse.specs.Grammar.{Further, Connection, Ordered, Named, Connections, Unconnected, Connected, Declaration, Nets, Regs, LocalParameters, Assignments, Instances, Declarator, Plain, Valued, Instance, Item, Declares, Initial, Direction, Input, Output, OutputReg, Port, Declared, Bare, PortList, Header, NoHeader, Ports, Module, Derivation}
+use Rattle.vp_parse.specs.Grammar.{Further, Connection, Ordered, Named, Connections, Unconnected, Connected, Declaration, Nets, Regs, LocalParameters, Assignments, Instances, Declarator, Plain, Valued, Instance, Item, Declares, Initial, Always, Direction, Input, Output, OutputReg, Port, Declared, Bare, PortList, Header, NoHeader, Ports, Module, Derivation}
 
 -- ---- lists with commas, ranges and values
 
@@ -121,11 +121,11 @@ declarators_at limit declaration ts = do
 unfoldable pub ranged_at : (limit : ℕ) → (Option Range → Declaration) → Reader Item
 ranged_at limit declaration ts = width_at ts >>= λ range. declarators_at limit (declaration range.0) range.1
 
--- an initial construct, from behind its keyword (9.9.1)
-unfoldable pub initial_at : Reader Stmt → ℕ → Reader Item
-initial_at statement place ts = do
+-- an initial or an always construct, from behind its keyword (9.9.1, 9.9.2)
+unfoldable pub procedure_at : Reader Stmt → (Stmt → Item) → Reader Item
+procedure_at statement construct ts = do
   body ← statement ts
-  Ok (Initial place body.0, body.1)
+  Ok (construct body.0, body.1)
 
 -- an item, from behind its first symbol, by that symbol's kind and place (12.1)
 unfoldable pub item_by : (limit : ℕ) → Reader Stmt → SymbolKind → ℕ → Reader Item
@@ -134,7 +134,8 @@ item_by limit statement (symbol.Keyword keyword.Reg) place ts = ranged_at limit 
 item_by limit statement (symbol.Keyword keyword.Localparam) place ts = declarators_at limit (LocalParameters place) ts
 item_by limit statement (symbol.Keyword keyword.Assign) place ts = declarators_at limit (Assignments place) ts
 item_by limit statement symbol.Name place ts = declarators_at limit (Instances place) ts
-item_by limit statement (symbol.Keyword keyword.Initial) place ts = initial_at statement place ts
+item_by limit statement (symbol.Keyword keyword.Initial) place ts = procedure_at statement (Initial place) ts
+item_by limit statement (symbol.Keyword keyword.Always) place ts = procedure_at statement (Always place) ts
 item_by limit statement _ place ts = Err (Unexpected (length ts + 1))
 
 -- an item, with the reader of statements (12.1)

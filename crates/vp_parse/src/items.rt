@@ -1,11 +1,12 @@
 // Items, read from left to right (docs/FORMATS.md, "Grammar").
-ghost use Rattle.std.specs.Prelude.{◌≡◌, ◌<◌, ◌≤◌, ◌+◌, ◌^◌, length, Some, IfOk};
+ghost use Rattle.std.specs.Prelude.{◌≡◌, ◌<◌, ◌≤◌, ◌+◌, ◌^◌, length, IfOk};
 ghost use Rattle.vp_lex.specs.declared.token.Punctuator.TheVariants as punctuator;
 ghost use Rattle.vp_parse_expr.specs.declared.symbol.SymbolKind.TheVariants as symbol;
-ghost use Rattle.vp_parse_expr.specs.Stopping.{Gives, Unexpected, behind, stop_told};
+ghost use Rattle.vp_parse_expr.specs.Stopping.{Gives, behind, terminal};
 ghost use Rattle.vp_parse_stmt.specs.Placing.{stmt_into, value_into};
+ghost use Rattle.vp_parse.specs.declared.source.Item.TheVariants as item_of;
 ghost use Rattle.vp_parse.specs.Layout.{first_place};
-ghost use Rattle.vp_parse.specs.Placing.{connected_into, connection_into, connections_into, declarator_by_into, declarator_into, declarators_into, further_into, initial_into, instance_into, item_into, items_into, lists_in, named_into, net_into, optional_into, ordered_into, part_into, sized_into, valued_into, width_into};
+ghost use Rattle.vp_parse.specs.Placing.{connected_into, connection_into, connections_into, declarator_by_into, declarator_into, declarators_into, further_into, instance_into, item_into, items_into, lists_in, named_into, net_into, optional_into, ordered_into, procedure_into, sized_into, valued_into, width_into};
 ghost use Rattle.vp_parse.specs.Reading.{is_end};
 ghost use Rattle.vp_parse.specs.Weight.{weight};
 
@@ -14,7 +15,7 @@ use vp_lex::{Keyword, Punctuator};
 use vp_parse_expr::{
     Stop, Symbol, SymbolKind, is_kind, is_next, literal, name, range, skip, unexpected,
 };
-use vp_parse_stmt::{statement, value};
+use vp_parse_stmt::{statement, target, value};
 
 /// What the declarators of an item declare.
 #[derive(Clone, Copy)]
@@ -307,6 +308,17 @@ fn declarator_behind<'a>(
     }
 }
 
+/// The place of the name with which a declarator begins, of an assignment that of its target, and what follows.
+fn declared(declaration: Declaration, symbols: &[Symbol]) -> Result<(u32, &[Symbol]), Stop>
+    ensures read { Gives (λ found. (found.0, found.1.now)) result (terminal symbol.Name symbols.now) }
+    ensures shorter { IfOk result (λ found. length found.1.now + 1 ≡ length symbols.now) }
+{
+    match declaration {
+        Declaration::Assignments => target(symbols),
+        _ => name(symbols),
+    }
+}
+
 /// A declarator of a declaration.
 #[tactic(auto, unfolding(crate::specs::Placing::declarator_into))]
 fn declarator<'a>(
@@ -320,7 +332,7 @@ fn declarator<'a>(
     ensures lighter { IfOk result (λ rest. weight arena.new rest.now < weight arena.old symbols.now) }
     ensures shorter { IfOk result (λ rest. length rest.now < length symbols.now) }
 {
-    let (name, rest) = name(symbols)?;
+    let (name, rest) = declared(declaration, symbols)?;
     declarator_behind(arena, limit, declaration, name, rest)
 }
 
@@ -386,7 +398,7 @@ fn declarators<'a>(
 // ---- items
 
 /// An `initial`, from behind its keyword, whose statements and expressions nest at most so deep.
-#[tactic(auto, unfolding(crate::specs::Placing::initial_into))]
+#[tactic(auto, unfolding(crate::specs::Placing::procedure_into))]
 fn initial<'a>(
     arena: &mut Arena,
     limit: u32,
@@ -394,7 +406,7 @@ fn initial<'a>(
     symbols: &'a [Symbol],
 ) -> Result<&'a [Symbol], Stop>
     requires { weight arena.old symbols.now < 2 ^ 32 }
-    ensures read { Gives (λ rest. (lists_in arena.new, rest.now)) result (initial_into (stmt_into limit limit) keyword (lists_in arena.old) symbols.now) }
+    ensures read { Gives (λ rest. (lists_in arena.new, rest.now)) result (procedure_into (stmt_into limit limit) (item_of.Initial keyword) (lists_in arena.old) symbols.now) }
     ensures lighter { IfOk result (λ rest. weight arena.new rest.now ≤ weight arena.old symbols.now) }
     ensures shorter { IfOk result (λ rest. length rest.now < length symbols.now) }
 {
@@ -403,15 +415,22 @@ fn initial<'a>(
     Ok(rest)
 }
 
-/// Where no item begins that is read. An `always` is left out.
-fn no_item(symbols: &[Symbol]) -> Stop
-    ensures { stop_told result ≡ Some (Unexpected (length symbols.now)) }
+/// An `always`, from behind its keyword, whose statements and expressions nest at most so deep.
+#[tactic(auto, unfolding(crate::specs::Placing::procedure_into))]
+fn always<'a>(
+    arena: &mut Arena,
+    limit: u32,
+    keyword: u32,
+    symbols: &'a [Symbol],
+) -> Result<&'a [Symbol], Stop>
+    requires { weight arena.old symbols.now < 2 ^ 32 }
+    ensures read { Gives (λ rest. (lists_in arena.new, rest.now)) result (procedure_into (stmt_into limit limit) (item_of.Always keyword) (lists_in arena.old) symbols.now) }
+    ensures lighter { IfOk result (λ rest. weight arena.new rest.now ≤ weight arena.old symbols.now) }
+    ensures shorter { IfOk result (λ rest. length rest.now < length symbols.now) }
 {
-    if is_next(SymbolKind::Keyword(Keyword::Always), symbols) {
-        Stop::LeftOut(symbols.len())
-    } else {
-        unexpected(symbols)
-    }
+    let (body, rest) = statement(&mut arena.parts, limit, limit, symbols)?;
+    arena.items.push(Item::Always { keyword, body })?;
+    Ok(rest)
 }
 
 /// An item of a module.
@@ -442,7 +461,8 @@ fn item<'a>(arena: &mut Arena, limit: u32, symbols: &'a [Symbol]) -> Result<&'a 
         }
         SymbolKind::Name => declarators(arena, limit, Declaration::Instances(first.place), rest),
         SymbolKind::Keyword(Keyword::Initial) => initial(arena, limit, first.place, rest),
-        _ => Err(no_item(symbols)),
+        SymbolKind::Keyword(Keyword::Always) => always(arena, limit, first.place, rest),
+        _ => Err(unexpected(symbols)),
     }
 }
 

@@ -9,6 +9,6 @@ mod source;
 
 pub use fault::ParseError;
 pub use parsing::{DEPTH_LIMIT, parse};
-pub use source::{Connection, DeclaredRange, Direction, Item, Module, Source, Span, earlier};
+pub use source::{Connection, DeclaredRange, Direction, Item, Module, Source, earlier};
 pub use vp_parse_expr::{BinaryOperator, Expression, Range, Selection, UnaryOperator};
-pub use vp_parse_stmt::Statement;
+pub use vp_parse_stmt::{Choice, Edge, EventTerm, Span, Statement};

@@ -15,14 +15,22 @@ ghost use Rattle.vp_parse.specs.Whole.{AreWhole};
 use crate::fault::ParseError;
 use crate::items::items;
 use crate::ports::header;
-use crate::source::{Arena, Module, Source, Span};
+use crate::source::{Arena, Module, Source};
 use std::alloc::Global;
 use vp_lex::{Keyword, Punctuator, Token};
 use vp_list::{Sequence, Text};
 use vp_parse_expr::{Stop, Symbol, SymbolKind, name, skip, symbols};
+use vp_parse_stmt::Span;
 
 /// How deep statements may nest, and expressions.
 pub const DEPTH_LIMIT: u32 = 64;
+
+/// The places of a list from one up to another.
+fn span(first: u32, end: u32) -> Span
+    ensures { result ≡ record { first = first; end = end } }
+{
+    Span { first, end }
+}
 
 /// A module, whose statements and expressions nest at most so deep.
 #[tactic(auto, unfolding(crate::specs::Placing::module_into))]
@@ -36,30 +44,23 @@ fn module<'a>(
     ensures lighter { IfOk result (λ found. weight arena.new found.1.now < weight arena.old symbols.now) }
     ensures shorter { IfOk result (λ found. length found.1.now < length symbols.now) }
 {
-    let (first_item, first_statement, first_expression) = arena.ends();
+    let before = arena.ends();
     let rest = skip(SymbolKind::Keyword(Keyword::Module), symbols)?;
     let (name, rest) = name(rest)?;
     let rest = header(arena, rest)?;
-    let (ports, _, _) = arena.ends();
+    let ports = arena.ends().items;
     let rest = skip(SymbolKind::Punctuator(Punctuator::Semicolon), rest)?;
     let rest = items(arena, limit, rest)?;
     let rest = skip(SymbolKind::Keyword(Keyword::Endmodule), rest)?;
-    let (item, statement, expression) = arena.ends();
+    let after = arena.ends();
     let module = Module {
         name,
-        items: Span {
-            first: first_item,
-            end: item,
-        },
+        items: span(before.items, after.items),
         ports,
-        statements: Span {
-            first: first_statement,
-            end: statement,
-        },
-        expressions: Span {
-            first: first_expression,
-            end: expression,
-        },
+        statements: span(before.statements, after.statements),
+        expressions: span(before.expressions, after.expressions),
+        terms: span(before.terms, after.terms),
+        choices: span(before.choices, after.choices),
     };
     Ok((module, rest))
 }
@@ -157,6 +158,8 @@ fn source_with(
         connections: Sequence::from_vec(arena.connections),
         statements: Sequence::from_vec(arena.parts.statements),
         expressions: Sequence::from_vec(arena.parts.expressions),
+        terms: Sequence::from_vec(arena.parts.terms),
+        choices: Sequence::from_vec(arena.parts.choices),
     })
 }
 
@@ -165,7 +168,7 @@ pub fn parse(alloc: Global, text: &str, tokens: &[Token]) -> Result<Source, Pars
     requires { length tokens.now ≤ TEXT_LIMIT }
     // What is found lies in the source as a derivation of the symbols says.
     ensures found { IfOk result (λ source. (d : Derivation) × IsDerivation d (symbols_of text.now tokens.now) × IsSourceOf text.now tokens.now d source) }
-    // Its modules hold all expressions and statements that are found.
+    // Its modules hold all expressions, statements, terms of events and choices of cases that are found.
     ensures whole { IfOk result (λ source. AreWhole source) }
     // What is refused has no derivation, unless memory ran out.
     ensures none { IfErr result (λ e. (e ≡ error.NoMemory) ⊎ ((d : Derivation) → IsDerivation d (symbols_of text.now tokens.now) → ⊥)) }

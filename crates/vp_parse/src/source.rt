@@ -1,11 +1,11 @@
-ghost use Rattle.std.specs.Prelude.{◌≡◌, ◌+◌, ◌<◌, ◌^◌, length, vec_len};
+ghost use Rattle.std.specs.Prelude.{◌≡◌, ◌<◌, ◌^◌, [], vec_len};
 ghost use Rattle.vp_parse.specs.Places.{earlier};
 
 use std::alloc::Global;
 use vp_lex::Token;
 use vp_list::{Sequence, Text};
 use vp_parse_expr::{Expression, Range};
-use vp_parse_stmt::Statement;
+use vp_parse_stmt::{Choice, EventTerm, Span, Statement};
 
 /// The range of a declaration, and the token of its bracket (clause 4.3.1).
 #[derive(Clone, Copy)]
@@ -75,17 +75,15 @@ pub enum Item {
         keyword: u32,
         body: u32,
     },
+    /// An `always`, by its keyword, and its statement (clause 9.9.2).
+    Always {
+        keyword: u32,
+        body: u32,
+    },
 }
 
-/// The places of a list from `first` up to `end`.
-#[derive(Clone, Copy, PartialEq, Eq)]
-pub struct Span {
-    pub first: u32,
-    pub end: u32,
-}
-
-/// A module: the token of its name, its items, of which those up to `ports` are its ports, and its statements and
-/// expressions.
+/// A module: the token of its name, its items, of which those up to `ports` are its ports, and its statements, expressions,
+/// terms of events and choices of cases.
 #[derive(Clone, Copy, PartialEq, Eq)]
 pub struct Module {
     pub name: u32,
@@ -93,6 +91,8 @@ pub struct Module {
     pub ports: u32,
     pub statements: Span,
     pub expressions: Span,
+    pub terms: Span,
+    pub choices: Span,
 }
 
 /// What a text says: its modules, in order, with the lists that they name, its tokens and itself.
@@ -106,6 +106,8 @@ pub struct Source {
     pub connections: Sequence<Connection>,
     pub statements: Sequence<Statement>,
     pub expressions: Sequence<Expression>,
+    pub terms: Sequence<EventTerm>,
+    pub choices: Sequence<Choice>,
 }
 
 impl Source {
@@ -149,6 +151,16 @@ pub fn earlier(one: Option<u32>, other: Option<u32>) -> Option<u32>
     }
 }
 
+/// Where the lists of a source end, of which each module has a part.
+#[derive(Clone, Copy)]
+pub struct Ends {
+    pub items: u32,
+    pub statements: u32,
+    pub expressions: u32,
+    pub terms: u32,
+    pub choices: u32,
+}
+
 /// The lists of a source while it is read.
 #[derive(Drop)]
 pub struct Arena {
@@ -158,8 +170,9 @@ pub struct Arena {
 }
 
 impl Arena {
-    ghost use Rattle.vp_parse.specs.Layout.{no_parts};
+    ghost use Rattle.vp_parse.specs.Layout.{ends_of, no_parts};
     ghost use Rattle.vp_parse.specs.Placing.{lists_in};
+    ghost use Rattle.vp_parse.specs.Weight.{weight};
 
     /// No items, and no parts of them.
     pub fn new(alloc: Global) -> Arena
@@ -168,6 +181,8 @@ impl Arena {
         ensures connections { vec_len result.connections ≡ 0 }
         ensures statements { vec_len result.parts.statements ≡ 0 }
         ensures expressions { vec_len result.parts.expressions ≡ 0 }
+        ensures terms { vec_len result.parts.terms ≡ 0 }
+        ensures choices { vec_len result.parts.choices ≡ 0 }
     {
         Arena {
             items: Vec::new(alloc),
@@ -176,13 +191,17 @@ impl Arena {
         }
     }
 
-    /// Where its items, statements and expressions end.
-    pub fn ends(&self) -> (u32, u32, u32)
-        requires { vec_len self.now.items + vec_len self.now.parts.statements + vec_len self.now.parts.expressions < 2 ^ 32 }
-        ensures { result ≡ (length (lists_in self.now).items, length (lists_in self.now).parts.statements, length (lists_in self.now).parts.expressions) }
+    /// Where its lists end.
+    pub fn ends(&self) -> Ends
+        requires { weight self.now [] < 2 ^ 32 }
+        ensures { result ≡ ends_of (lists_in self.now) }
     {
-        let items = self.items.len() as u32;
-        let statements = self.parts.statements.len() as u32;
-        (items, statements, self.parts.expressions.len() as u32)
+        Ends {
+            items: self.items.len() as u32,
+            statements: self.parts.statements.len() as u32,
+            expressions: self.parts.expressions.len() as u32,
+            terms: self.parts.terms.len() as u32,
+            choices: self.parts.choices.len() as u32,
+        }
     }
 }

@@ -30,6 +30,7 @@ same_is symbol.String symbol.String = refl
 same_is symbol.SystemName symbol.SystemName = refl
 same_is symbol.OtherBase symbol.OtherBase = refl
 same_is symbol.ShortBase symbol.ShortBase = refl
+same_is symbol.Finish symbol.Finish = refl
 same_is (symbol.Keyword j) (symbol.Keyword k) = rw (keyword_tag j, keyword_tag k) refl
 same_is (symbol.Punctuator p) (symbol.Punctuator q) = rw (punctuator_tag p, punctuator_tag q) refl
 same_is _ _ = refl

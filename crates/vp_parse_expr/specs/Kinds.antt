@@ -95,6 +95,7 @@ sort_number (symbol.Punctuator p) = 5
 sort_number symbol.SystemName = 6
 sort_number symbol.OtherBase = 7
 sort_number symbol.ShortBase = 8
+sort_number symbol.Finish = 9
 
 -- what a kind says beside its sort
 abbrev pub kind_value : SymbolKind → ℕ

@@ -1,5 +1,5 @@
 -- What the grammar sees of a text's tokens.
-use Rattle.std.specs.Prelude.{ℕ, ◌+◌, ◌-◌, ◌*◌, ◌==◌, ◌||◌, Bool, nat_lt, min, if◌then◌else◌, List, ◌∷◌, fold, Option, Some, None, option_map}
+use Rattle.std.specs.Prelude.{ℕ, ◌+◌, ◌-◌, ◌*◌, ◌==◌, ◌||◌, Bool, nat_lt, min, if◌then◌else◌, List, ◌∷◌, fold, Option, Some, None, option_map, codes, bytes_eq}
 use Rattle.std.specs.Char.{is_ascii_digit}
 use Rattle.std.specs.Int.{is_in_range}
 use Rattle.std.specs.List.{enumerate_from, filter_map, list_any}
@@ -76,6 +76,10 @@ base_kind _ = symbol.OtherBase
 
 -- ---- symbols
 
+-- what the grammar sees of a system name (17.4.1)
+abbrev pub system_kind : List ℕ → SymbolKind
+system_kind word = if bytes_eq word (codes "$finish") then symbol.Finish else symbol.SystemName
+
 -- what the grammar sees of a token of a kind, by its text; nothing of a compiler directive (annex A)
 abbrev pub kind_seen : List ℕ → TokenKind → Option SymbolKind
 kind_seen word token.Name = Some symbol.Name
@@ -84,7 +88,7 @@ kind_seen word token.Number = Some (symbol.Number (decimal_value word))
 kind_seen word token.Base = Some (base_kind word)
 kind_seen word token.String = Some symbol.String
 kind_seen word (token.Punctuator p) = Some (symbol.Punctuator p)
-kind_seen word token.SystemName = Some symbol.SystemName
+kind_seen word token.SystemName = Some (system_kind word)
 kind_seen word token.Directive = None
 
 -- what the grammar sees of a token: nothing, if it stands on the line of a pragma or a timescale (19.8 and 19.10)

@@ -85,6 +85,7 @@ by_numbers symbol.String symbol.String s v = refl
 by_numbers symbol.SystemName symbol.SystemName s v = refl
 by_numbers symbol.OtherBase symbol.OtherBase s v = refl
 by_numbers symbol.ShortBase symbol.ShortBase s v = refl
+by_numbers symbol.Finish symbol.Finish s v = refl
 by_numbers (symbol.Keyword k) (symbol.Keyword l) s v = ap (λ (k : Keyword). symbol.Keyword k) (keyword_same k l v)
 by_numbers (symbol.Punctuator p) (symbol.Punctuator q) s v = ap (λ (p : Punctuator). symbol.Punctuator p) (punctuator_same p q v)
 by_numbers _ _ s v = absurd (omega arith)

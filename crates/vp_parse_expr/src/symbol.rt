@@ -1,7 +1,7 @@
 ghost use Rattle.std.specs.Prelude.{◌≡◌, ◌≤◌, ◌<◌, length, IfOk, vec_len};
 ghost use Rattle.vp_lex.specs.Bytes.{is_any_digit};
 ghost use Rattle.vp_lex.specs.declared.token.TheConstants.{TEXT_LIMIT};
-ghost use Rattle.vp_parse_expr.specs.Symbols.{base_kind, base_value as value_of_digits, digit_of, digits_kind as kind_of_digits, unknown_kind as kind_of_unknown, known_kind as kind_of_known, has_unknown as any_unknown, radix_of, with_base_digit as one_more_of, with_digit as one_more, decimal_value, symbol_kind as kind_of, symbols_of};
+ghost use Rattle.vp_parse_expr.specs.Symbols.{base_kind, base_value as value_of_digits, digit_of, digits_kind as kind_of_digits, unknown_kind as kind_of_unknown, known_kind as kind_of_known, has_unknown as any_unknown, radix_of, with_base_digit as one_more_of, with_digit as one_more, decimal_value, system_kind as kind_of_system, symbol_kind as kind_of, symbols_of};
 
 use std::alloc::{AllocError, Global};
 use vp_lex::{Keyword, Punctuator, Token, TokenKind};
@@ -23,11 +23,14 @@ pub enum SymbolKind {
     String,
     Keyword(Keyword),
     Punctuator(Punctuator),
+    /// A system name, but `$finish`.
     SystemName,
     /// A signed base part, or a decimal one with x, z or ?.
     OtherBase,
     /// An unsigned base part of known digits with a value of at most 32 bits: it stands behind a size, or alone.
     ShortBase,
+    /// The system name `$finish`.
+    Finish,
 }
 
 /// A token that the grammar sees, with its place.
@@ -170,6 +173,17 @@ fn base_part_kind(part: &[u8]) -> SymbolKind
     }
 }
 
+/// What the grammar sees of a system name.
+fn system_kind(word: &str) -> SymbolKind
+    ensures { result ≡ kind_of_system word.now }
+{
+    if word == "$finish" {
+        SymbolKind::Finish
+    } else {
+        SymbolKind::SystemName
+    }
+}
+
 /// What the grammar sees of a token; none of a directive.
 fn symbol_kind(text: &str, token: Token) -> Option<SymbolKind>
     ensures { result ≡ kind_of text.now token }
@@ -184,7 +198,7 @@ fn symbol_kind(text: &str, token: Token) -> Option<SymbolKind>
         TokenKind::Base => Some(base_part_kind(token.text(text).as_bytes())),
         TokenKind::String => Some(SymbolKind::String),
         TokenKind::Punctuator(punctuator) => Some(SymbolKind::Punctuator(punctuator)),
-        TokenKind::SystemName => Some(SymbolKind::SystemName),
+        TokenKind::SystemName => Some(system_kind(token.text(text))),
         TokenKind::Directive => None,
     }
 }

@@ -3,6 +3,7 @@ pub mod Reading
 pub mod Layout
 pub mod Placing
 pub mod Weight
+pub mod Following
 pub mod Takes
 pub mod Again
 pub mod Raise

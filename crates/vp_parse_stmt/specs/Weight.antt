@@ -6,4 +6,4 @@ use Rattle.vp_parse_expr.specs.declared.symbol.Symbol.{Symbol}
 -- the parts in the arena, and two for each symbol that is left
 abbrev pub weight : Arena → List Symbol → ℕ
 weight arena symbols =
-    vec_len arena.statements + vec_len arena.expressions + 2 * length symbols
+    vec_len arena.statements + vec_len arena.expressions + vec_len arena.terms + vec_len arena.choices + 2 * length symbols

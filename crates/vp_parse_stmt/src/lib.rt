@@ -2,7 +2,11 @@
 #![tactic(auto)]
 
 mod arena;
+mod delay;
+mod event;
 mod parsing;
+mod values;
 
-pub use arena::{Arena, Statement};
-pub use parsing::{statement, value};
+pub use arena::{Arena, Choice, Edge, EventTerm, Span, Statement};
+pub use parsing::{statement, target};
+pub use values::value;

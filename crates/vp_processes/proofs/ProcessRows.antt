@@ -1,5 +1,5 @@
 -- The processes of small sources. Each row is an equation that holds by computation.
-use Rattle.std.proofs.Common.{◌≡◌, ℕ, List, [], ◌∷◌, Option, Some, None, Result, Ok, Err, refl}
+use Rattle.std.proofs.Common.{◌≡◌, ℕ, true, false, List, [], ◌∷◌, Option, Some, None, Result, Ok, Err, refl}
 use Rattle.std.specs.Prelude.{codes}
 use Rattle.std.specs.Fmt.{digits}
 use Rattle.std.specs.Str.{chars, is_utf8}
@@ -11,13 +11,13 @@ use Rattle.vp_parse_expr.specs.declared.node.Expression.{Expression}
 use Rattle.vp_parse_expr.specs.declared.node.Expression.TheVariants as expression
 use Rattle.vp_parse_expr.specs.declared.node.Selection.TheVariants as selection_of
 use Rattle.vp_parse_expr.specs.declared.operator.UnaryOperator.TheVariants as unary
+use Rattle.vp_parse_stmt.specs.declared.arena.Span.{Span}
 use Rattle.vp_parse_stmt.specs.declared.arena.Statement.{Statement}
 use Rattle.vp_parse_stmt.specs.declared.arena.Statement.TheVariants as statement
 use Rattle.vp_parse.specs.declared.source.Connection.{Connection}
 use Rattle.vp_parse.specs.declared.source.Direction.TheVariants as direction
 use Rattle.vp_parse.specs.declared.source.Source.{Source}
 use Rattle.vp_parse.specs.declared.source.Module.{Module}
-use Rattle.vp_parse.specs.declared.source.Span.{Span}
 use Rattle.vp_parse.specs.declared.source.Item.{Item}
 use Rattle.vp_parse.specs.declared.source.Item.TheVariants as item
 use Rattle.vp_processes.specs.declared.process.Process.TheVariants as process
@@ -47,6 +47,8 @@ source text modules items connections statements expressions = record {
   connections = connections;
   statements = statements;
   expressions = expressions;
+  terms = [];
+  choices = [];
 }
 
 -- the design of a source in the open text
@@ -57,8 +59,8 @@ open_design s = design_of s (record { envelopes = []; viewports = [] })
 abbrev inverters : List Connection → Elaborated
 inverters connections =
     open_design (source (codes "module inv(input wire a, output wire y);\n  assign y = ~a;\nendmodule\nmodule top;\n  reg r;\n  wire y1, y2;\n  localparam W = 4'd9;\n  inv u(.a(r), .y(y1)), v(.a(y1), .y(y2));\n  initial r = 1'b1;\nendmodule\n")
-    (record { name = 1; items = span 0 3; ports = 2; statements = span 0 0; expressions = span 0 2 }
-    ∷ record { name = 20; items = span 3 10; ports = 3; statements = span 0 1; expressions = span 2 8 } ∷ [])
+    (record { name = 1; items = span 0 3; ports = 2; statements = span 0 0; expressions = span 0 2; terms = span 0 0; choices = span 0 0 }
+    ∷ record { name = 20; items = span 3 10; ports = 3; statements = span 0 1; expressions = span 2 8; terms = span 0 0; choices = span 0 0 } ∷ [])
     (item.Port 5 direction.Input None ∷ item.Port 9 direction.Output None ∷ item.Assignment 13 1
     ∷ item.Reg 23 None ∷ item.Net 26 None ∷ item.Net 28 None ∷ item.LocalParameter 31 2
     ∷ item.Instance 37 36 0 2 ∷ item.Instance 52 36 2 4 ∷ item.Initial 67 0 ∷ [])
@@ -71,9 +73,9 @@ inverters connections =
 abbrev nested : Elaborated
 nested =
     open_design (source (codes "module leaf(output wire y);\nendmodule\nmodule mid(input wire b);\n  wire w;\n  leaf l(.y(w));\nendmodule\nmodule top;\n  reg r;\n  mid m(.b(r));\nendmodule\n")
-    (record { name = 1; items = span 0 1; ports = 1; statements = span 0 0; expressions = span 0 0 }
-    ∷ record { name = 10; items = span 1 4; ports = 2; statements = span 0 0; expressions = span 0 1 }
-    ∷ record { name = 32; items = span 4 6; ports = 4; statements = span 0 0; expressions = span 1 2 } ∷ [])
+    (record { name = 1; items = span 0 1; ports = 1; statements = span 0 0; expressions = span 0 0; terms = span 0 0; choices = span 0 0 }
+    ∷ record { name = 10; items = span 1 4; ports = 2; statements = span 0 0; expressions = span 0 1; terms = span 0 0; choices = span 0 0 }
+    ∷ record { name = 32; items = span 4 6; ports = 4; statements = span 0 0; expressions = span 1 2; terms = span 0 0; choices = span 0 0 } ∷ [])
     (item.Port 5 direction.Output None
     ∷ item.Port 14 direction.Input None ∷ item.Net 18 None ∷ item.Instance 21 20 0 1
     ∷ item.Reg 35 None ∷ item.Instance 38 37 1 2 ∷ [])
@@ -84,8 +86,8 @@ nested =
 abbrev procedure_first : Elaborated
 procedure_first =
     open_design (source (codes "module leaf(input wire a);\nendmodule\nmodule top;\n  reg r;\n  initial r = 1'b1;\n  leaf l(r);\nendmodule\n")
-    (record { name = 1; items = span 0 1; ports = 1; statements = span 0 0; expressions = span 0 0 }
-    ∷ record { name = 10; items = span 1 4; ports = 1; statements = span 0 1; expressions = span 0 2 } ∷ [])
+    (record { name = 1; items = span 0 1; ports = 1; statements = span 0 0; expressions = span 0 0; terms = span 0 0; choices = span 0 0 }
+    ∷ record { name = 10; items = span 1 4; ports = 1; statements = span 0 1; expressions = span 0 2; terms = span 0 0; choices = span 0 0 } ∷ [])
     (item.Port 5 direction.Input None ∷ item.Reg 13 None ∷ item.Initial 15 0 ∷ item.Instance 22 21 0 1 ∷ [])
     (connection 24 None (Some 1) ∷ [])
     (statement.Assign 16 selection_of.Whole 0 ∷ [])
@@ -100,7 +102,7 @@ processes_of_inverters :
     ∷ process.Inward (object_of 10) (object_of 0) 5
     ∷ process.Outward (object_of 11) (object_of 3)
     ∷ process.Assignment (object_of 12) (object_of 9) (object_of 11) 1
-    ∷ process.Procedure (object_of 13) (object_of 0) 0
+    ∷ process.Procedure (object_of 13) (object_of 0) false 0
     ∷ []
 unfolding digits is_utf8 chars encode_utf8 further_limit
 processes_of_inverters = refl
@@ -114,7 +116,7 @@ processes_of_other_connections :
     ∷ process.Inward (object_of 10) (object_of 0) 5
     ∷ process.Outward (object_of 11) (object_of 3)
     ∷ process.Assignment (object_of 12) (object_of 9) (object_of 11) 1
-    ∷ process.Procedure (object_of 13) (object_of 0) 0
+    ∷ process.Procedure (object_of 13) (object_of 0) false 0
     ∷ []
 unfolding digits is_utf8 chars encode_utf8 further_limit
 processes_of_other_connections = refl
@@ -131,8 +133,27 @@ processes_of_nested = refl
 -- in the order of the text
 processes_of_procedure_first :
     processes_of procedure_first
-    ≡ process.Procedure (object_of 2) (object_of 0) 0
+    ≡ process.Procedure (object_of 2) (object_of 0) false 0
     ∷ process.Inward (object_of 4) (object_of 0) 1
     ∷ []
 unfolding digits is_utf8 chars encode_utf8 further_limit
 processes_of_procedure_first = refl
+
+-- an initial before an always
+abbrev procedures : Elaborated
+procedures =
+    open_design (source (codes "module m;\n  reg r;\n  initial r = 1'b1;\n  always #5 r = ~r;\nendmodule\n")
+    (record { name = 1; items = span 0 3; ports = 0; statements = span 0 3; expressions = span 0 3; terms = span 0 0; choices = span 0 0 } ∷ [])
+    (item.Reg 4 None ∷ item.Initial 6 0 ∷ item.Always 12 2 ∷ [])
+    []
+    (statement.Assign 7 selection_of.Whole 0 ∷ statement.Assign 15 selection_of.Whole 2 ∷ statement.Delay 5 1 ∷ [])
+    (expression.Literal 9 1 10 ∷ whole 18 ∷ expression.Unary unary.Negation 17 1 ∷ []))
+
+-- only the always begins again
+processes_of_procedures :
+    processes_of procedures
+    ≡ process.Procedure (object_of 2) (object_of 0) false 0
+    ∷ process.Procedure (object_of 3) (object_of 0) true 2
+    ∷ []
+unfolding digits is_utf8 chars encode_utf8 further_limit
+processes_of_procedures = refl

@@ -1,5 +1,5 @@
 -- What a simulator runs of a design, in order: procedures, continuous assignments, and connections of ports.
-use Rattle.std.specs.Prelude.{◌≡◌, ℕ, ◌+◌, ◌==◌, Bool, false, if◌then◌else◌, List, [], ◌∷◌, ◌++◌, length, slice_get, Option, Some, None}
+use Rattle.std.specs.Prelude.{◌≡◌, ℕ, ◌+◌, ◌==◌, Bool, true, false, if◌then◌else◌, List, [], ◌∷◌, ◌++◌, length, slice_get, Option, Some, None}
 use Rattle.std.specs.List.{flat_map, position}
 use Rattle.std.specs.Option.{option_and_then, option_map_or}
 use Rattle.std.specs.Str.{bytes_eq}
@@ -98,9 +98,11 @@ assignment_process source nodes outer id target value =
 abbrev pub instance_processes : Source → List Node → (outer : ℕ) → (id : ℕ) → Item → declared.Module → List Process
 instance_processes source nodes outer id i m = port_processes source nodes outer id (connections_of source i) 0 (ports_in source m)
 
--- the processes that the object of a number gives, which is this item in the instance of another (clauses 6.1, 9.9 and 12.3.9.2)
+-- the processes that the object of a number gives, which is this item in the instance of another; an always repeats, an initial does
+-- not (clauses 6.1, 9.9.1, 9.9.2 and 12.3.9.2)
 abbrev pub item_processes : Source → List Node → (outer : ℕ) → (id : ℕ) → Item → List Process
-item_processes source nodes outer id (item.Initial keyword body) = process.Procedure (object_of id) (object_of outer) body ∷ []
+item_processes source nodes outer id (item.Initial keyword body) = process.Procedure (object_of id) (object_of outer) false body ∷ []
+item_processes source nodes outer id (item.Always keyword body) = process.Procedure (object_of id) (object_of outer) true body ∷ []
 item_processes source nodes outer id (item.Assignment target value) = listed (assignment_process source nodes outer id target value)
 item_processes source nodes outer id i = option_map_or (instance_processes source nodes outer id i) (definition_of source i) []
 

@@ -16,6 +16,8 @@ pub enum Process {
     Procedure {
         object: ObjectId,
         instance: ObjectId,
+        /// It is an `always`, which begins again when it is over (clause 9.9.2).
+        repeats: bool,
         body: u32,
     },
     /// A continuous assignment (clause 6.1): its object, the instance in which it stands, the net that it drives, and the
@@ -269,6 +271,13 @@ fn add_item_processes(
         Item::Initial { body, .. } => processes.push(Process::Procedure {
             object,
             instance,
+            repeats: false,
+            body,
+        })?,
+        Item::Always { body, .. } => processes.push(Process::Procedure {
+            object,
+            instance,
+            repeats: true,
             body,
         })?,
         Item::Assignment { target, value } => {

@@ -24,6 +24,7 @@ not_full opening s true (Some (error.Sim sim.Finished)) none = cc
 not_full opening s true (Some (error.Sim sim.Idle)) none = cc
 not_full opening s true (Some (error.Sim sim.SlotNotDone)) none = cc
 not_full opening s true (Some (error.Sim sim.NoSuchChoice)) none = cc
+not_full opening s true (Some (error.Sim sim.TimeLimit)) none = cc
 not_full opening s true (Some (error.Sim sim.NoMemory)) none = cc
 
 -- the room in the log of a world

@@ -1,7 +1,7 @@
-pub mod Beginning
+pub mod Rising
+pub mod Lists
+pub mod Hearing
+pub mod Woken
 pub mod Stacking
-pub mod Choosing
-pub mod Marking
-pub mod Fans
 pub mod StepRows
 pub mod NetRows

@@ -3,36 +3,37 @@ use Rattle.std.proofs.Common.{◌≡◌, ℕ, false, List, [], ◌∷◌, Option
 use Rattle.vp_bits.specs.declared.bit.Bit.{Bit}
 use Rattle.vp_bits.specs.declared.bit.Bit.TheVariants.{Zero, One, Unknown, HighImpedance}
 use Rattle.vp_elab.specs.Built.{Elaborated}
-use Rattle.vp_expr.specs.declared.operand.Operand.TheVariants.{Object, Constant, Applied}
+use Rattle.vp_expr.specs.declared.operand.Operand.TheVariants.{Object, Applied}
 use Rattle.vp_expr.specs.declared.operand.Unary.TheVariants.{Negation}
-use Rattle.vp_expr.specs.declared.tables.Action.TheVariants.{Assign}
-use Rattle.vp_expr.specs.declared.tables.Process.TheVariants.{Procedure, Assignment, Connection}
+use Rattle.vp_expr.specs.declared.tables.Process.TheVariants.{Assignment, Connection}
 use Rattle.vp_expr.specs.declared.tables.Tables.{Tables}
-use Rattle.vp_expr.specs.declared.tables.Target.TheVariants.{Whole}
+use Rattle.vp_strata.specs.declared.event.Event.{Event}
+use Rattle.vp_strata.specs.declared.event.Event.TheVariants.{Evaluation, NetUpdate}
+use Rattle.vp_strata.specs.Events.{eligible_places}
+use Rattle.vp_strata.specs.Queues.{no_events, with_active}
 use Rattle.vp_sim.specs.declared.change.Change.{Change}
-use Rattle.vp_sim.specs.declared.event.Event.{Event}
-use Rattle.vp_sim.specs.declared.event.Event.TheVariants.{Evaluation, Update}
 use Rattle.vp_sim.specs.declared.fault.SimError.{SimError}
 use Rattle.vp_sim.specs.declared.fault.SimError.TheVariants.{Idle, NoSuchChoice}
-use Rattle.vp_sim.specs.Events.{eligible_places}
-use Rattle.vp_sim.specs.Fanouts.{fanout_of}
-use Rattle.vp_sim.specs.States.{Goes, Outcome, Refuses, State, step_by}
+use Rattle.vp_sim.specs.declared.waiting.Waiting.{Waiting}
+use Rattle.vp_sim.specs.declared.waiting.Waiting.TheVariants.{Nothing}
+use Rattle.vp_sim.specs.States.{Goes, Outcome, Refuses, State, put_by, step_by}
 
 -- a design of no text: the tables say what runs
 abbrev no_design : Elaborated
 no_design = record {
-  source = record { text = []; tokens = []; modules = []; connections = []; items = []; statements = []; expressions = [] };
+  source = record { text = []; tokens = []; modules = []; connections = []; items = []; statements = []; expressions = []; terms = []; choices = [] };
   tree = record { nodes = []; viewports = []; authors = [] };
 }
 
-abbrev begun : List (List Bit) → (remaining : List (List ℕ)) → List Event → State
-begun values remaining active = record {
+abbrev running : List (List Bit) → List Waiting → List Event → State
+running values waiting active = record {
   design = no_design;
   time = 0;
   finished = false;
   values = values;
-  remaining = remaining;
-  active = active;
+  remaining = [];
+  waiting = waiting;
+  queue = with_active no_events active;
 }
 
 -- the outcome of these steps, one after another
@@ -48,7 +49,7 @@ told (Refuses e) = Err e
 
 -- the active events
 abbrev active_in : Outcome → List Event
-active_in (Goes s change) = s.active
+active_in (Goes s change) = s.queue.active
 active_in (Refuses e) = []
 
 -- the values of the objects
@@ -59,21 +60,21 @@ values_in (Refuses e) = []
 abbrev changed : ℕ → List Bit → Result (Option Change) SimError
 changed object value = Ok (Some (record { object = record { 0 = object }; value = value }))
 
--- ---- `reg a; wire y1, y2; initial a = 1'b1; assign y1 = ~a; assign y2 = ~y1;`, whose objects are 0 to 6
+-- ---- `reg a; wire y1, y2; assign y1 = ~a; assign y2 = ~y1;`, whose objects are 0 to 5
 
 abbrev chain : Tables
 chain = record {
   operands =
-      Object (record { 0 = 1 }) 1 ∷ Applied Negation 0 ∷ Object (record { 0 = 2 }) 1 ∷ Applied Negation 2
-      ∷ Constant (One ∷ []) false ∷ [];
-  widths = 1 ∷ 1 ∷ 1 ∷ 1 ∷ 1 ∷ 1 ∷ 1 ∷ [];
-  sizes = 1 ∷ 1 ∷ 1 ∷ 1 ∷ 1 ∷ [];
-  actions = Assign (Whole (record { 0 = 1 }) 1) (record { place = 4; size = 1 }) ∷ [];
+      Object (record { 0 = 1 }) 1 ∷ Applied Negation 0 ∷ Object (record { 0 = 2 }) 1 ∷ Applied Negation 2 ∷ [];
+  widths = 1 ∷ 1 ∷ 1 ∷ 1 ∷ 1 ∷ 1 ∷ [];
+  sizes = 1 ∷ 1 ∷ 1 ∷ 1 ∷ [];
+  actions = [];
   processes =
-      Procedure (record { 0 = 4 }) (record { 0 = 0 }) 0
-      ∷ Assignment (record { 0 = 5 }) (record { 0 = 2 }) (record { 0 = 0 }) (record { place = 1; size = 1 })
-      ∷ Assignment (record { 0 = 6 }) (record { 0 = 3 }) (record { 0 = 0 }) (record { place = 3; size = 1 })
+      Assignment (record { 0 = 4 }) (record { 0 = 2 }) (record { 0 = 0 }) (record { place = 1; size = 1 })
+      ∷ Assignment (record { 0 = 5 }) (record { 0 = 3 }) (record { 0 = 0 }) (record { place = 3; size = 1 })
       ∷ [];
+  awaited = [];
+  awaited_ends = [];
 }
 
 abbrev x : List Bit
@@ -85,59 +86,59 @@ z = HighImpedance ∷ []
 -- the outcome of steps from the start
 abbrev behind : List ℕ → Outcome
 behind ks =
-    steps chain (Goes (begun (x ∷ x ∷ z ∷ z ∷ x ∷ x ∷ x ∷ []) ((0 ∷ []) ∷ [] ∷ [] ∷ []) (Evaluation 0 ∷ Evaluation 1 ∷ Evaluation 2 ∷ [])) None)
-    ks
+    steps chain (Goes (running (x ∷ x ∷ z ∷ z ∷ x ∷ x ∷ []) (Nothing ∷ Nothing ∷ []) (Evaluation 0 ∷ Evaluation 1 ∷ [])) None) ks
 
--- the initial sets a, of which y1 is made; that is evaluated once, since its evaluation is active already
-a_is_set : told (behind (0 ∷ [])) ≡ changed 1 (One ∷ [])
-a_is_set = refl
-
-evaluated_once : active_in (behind (0 ∷ [])) ≡ Evaluation 1 ∷ Evaluation 2 ∷ []
-evaluated_once = refl
+-- a value from outside for a, behind an outcome
+abbrev a_is : List Bit → Outcome → Outcome
+a_is value (Goes s change) = put_by chain s 1 value
+a_is value (Refuses e) = Refuses e
 
 -- the evaluations change nothing: their updates are active
-both_evaluated : active_in (behind (0 ∷ 0 ∷ 0 ∷ [])) ≡ Update 1 (Zero ∷ []) ∷ Update 2 x ∷ []
+both_evaluated : active_in (behind (0 ∷ 0 ∷ [])) ≡ NetUpdate 0 x ∷ NetUpdate 1 x ∷ []
 both_evaluated = refl
 
-nothing_told : told (behind (0 ∷ 0 ∷ [])) ≡ Ok None
+nothing_told : told (behind (0 ∷ [])) ≡ Ok None
 nothing_told = refl
 
--- y1 changes, and y2 is evaluated again
-y1_changes : told (behind (0 ∷ 0 ∷ 0 ∷ 0 ∷ [])) ≡ changed 2 (Zero ∷ [])
+-- y1 changes, and y2 is evaluated again, since it waits for y1
+y1_changes : told (behind (0 ∷ 0 ∷ 0 ∷ [])) ≡ changed 2 x
 y1_changes = refl
 
-y2_wakes : active_in (behind (0 ∷ 0 ∷ 0 ∷ 0 ∷ [])) ≡ Update 2 x ∷ Evaluation 2 ∷ []
+y2_wakes : active_in (behind (0 ∷ 0 ∷ 0 ∷ [])) ≡ NetUpdate 1 x ∷ Evaluation 1 ∷ []
 y2_wakes = refl
 
--- y2 gets the value that it had before, and then the one that it has
-y2_changes_at_last : told (behind (0 ∷ 0 ∷ 0 ∷ 0 ∷ 0 ∷ 0 ∷ 0 ∷ [])) ≡ changed 3 (One ∷ [])
-y2_changes_at_last = refl
-
-done : values_in (behind (0 ∷ 0 ∷ 0 ∷ 0 ∷ 0 ∷ 0 ∷ 0 ∷ [])) ≡ x ∷ (One ∷ []) ∷ (Zero ∷ []) ∷ (One ∷ []) ∷ x ∷ x ∷ x ∷ []
+-- y2 gets a value, and then the same again
+done : values_in (behind (0 ∷ 0 ∷ 0 ∷ 0 ∷ 0 ∷ 0 ∷ [])) ≡ x ∷ x ∷ x ∷ x ∷ x ∷ x ∷ []
 done = refl
 
-idle : told (behind (0 ∷ 0 ∷ 0 ∷ 0 ∷ 0 ∷ 0 ∷ 0 ∷ 0 ∷ [])) ≡ Err Idle
+idle : told (behind (0 ∷ 0 ∷ 0 ∷ 0 ∷ 0 ∷ 0 ∷ 0 ∷ [])) ≡ Err Idle
 idle = refl
 
--- y1 is evaluated before a is set, and again behind that: of its two updates the older is eligible
-two_updates : active_in (behind (1 ∷ 0 ∷ 2 ∷ [])) ≡ Evaluation 2 ∷ Update 1 x ∷ Update 1 (Zero ∷ []) ∷ []
+-- a changes, and y1 follows, and y2
+a_wakes : active_in (a_is (One ∷ []) (behind (0 ∷ 0 ∷ 0 ∷ 0 ∷ 0 ∷ 0 ∷ []))) ≡ Evaluation 0 ∷ []
+a_wakes = refl
+
+follow : values_in (steps chain (a_is (One ∷ []) (behind (0 ∷ 0 ∷ 0 ∷ 0 ∷ 0 ∷ 0 ∷ []))) (0 ∷ 0 ∷ 0 ∷ 0 ∷ [])) ≡ x ∷ (One ∷ []) ∷ (Zero ∷ []) ∷ (One ∷ []) ∷ x ∷ x ∷ []
+follow = refl
+
+-- y1 is evaluated before a changes, and again behind that: of its two updates the older is eligible
+abbrev twice : Outcome
+twice = steps chain (a_is (One ∷ []) (behind (0 ∷ []))) (2 ∷ [])
+
+two_updates : active_in twice ≡ Evaluation 1 ∷ NetUpdate 0 x ∷ NetUpdate 0 (Zero ∷ []) ∷ []
 two_updates = refl
 
-older_first : eligible_places chain.processes (active_in (behind (1 ∷ 0 ∷ 2 ∷ []))) ≡ 0 ∷ 1 ∷ []
+older_first : eligible_places (active_in twice) ≡ 0 ∷ 1 ∷ []
 older_first = refl
 
-newer_not_yet : told (behind (1 ∷ 0 ∷ 2 ∷ 2 ∷ [])) ≡ Err NoSuchChoice
+newer_not_yet : told (steps chain twice (2 ∷ [])) ≡ Err NoSuchChoice
 newer_not_yet = refl
 
-older_taken : told (behind (1 ∷ 0 ∷ 2 ∷ 1 ∷ [])) ≡ changed 2 x
+older_taken : told (steps chain twice (1 ∷ [])) ≡ changed 2 x
 older_taken = refl
 
-newer_then : told (behind (1 ∷ 0 ∷ 2 ∷ 1 ∷ 1 ∷ [])) ≡ changed 2 (Zero ∷ [])
+newer_then : told (steps chain twice (1 ∷ 1 ∷ [])) ≡ changed 2 (Zero ∷ [])
 newer_then = refl
-
--- an update that changes nothing enables nothing
-unchanged : active_in (steps chain (Goes (begun (x ∷ x ∷ x ∷ z ∷ []) [] (Update 1 x ∷ [])) None) (0 ∷ [])) ≡ []
-unchanged = refl
 
 -- ---- a port of one bit, object 1, that is connected outwards to a net of two bits, object 2
 
@@ -148,17 +149,16 @@ port = record {
   sizes = [];
   actions = [];
   processes = Connection (record { 0 = 1 }) (record { 0 = 2 }) ∷ [];
+  awaited = [];
+  awaited_ends = [];
 }
 
 abbrev connected : List ℕ → Outcome
 connected ks =
-    steps port (Goes (begun (x ∷ (One ∷ []) ∷ (HighImpedance ∷ HighImpedance ∷ []) ∷ []) ([] ∷ []) (Evaluation 0 ∷ [])) None) ks
-
-waits_for_the_port : fanout_of port 1 ≡ 0 ∷ []
-waits_for_the_port = refl
+    steps port (Goes (running (x ∷ (One ∷ []) ∷ (HighImpedance ∷ HighImpedance ∷ []) ∷ []) (Nothing ∷ []) (Evaluation 0 ∷ [])) None) ks
 
 -- its value is extended to the net's width
-extended : active_in (connected (0 ∷ [])) ≡ Update 0 (One ∷ Zero ∷ []) ∷ []
+extended : active_in (connected (0 ∷ [])) ≡ NetUpdate 0 (One ∷ Zero ∷ []) ∷ []
 extended = refl
 
 net_changes : told (connected (0 ∷ 0 ∷ [])) ≡ changed 2 (One ∷ Zero ∷ [])

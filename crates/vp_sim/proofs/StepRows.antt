@@ -1,146 +1,260 @@
--- A simulation, computed step by step. Each row is an equation that holds by computation.
-use Rattle.std.proofs.Common.{◌≡◌, ℕ, false, List, [], ◌∷◌, Option, Some, None, Result, Ok, Err, refl}
-use Rattle.std.specs.Prelude.{codes}
-use Rattle.std.specs.Str.{chars, is_utf8}
-use Rattle.std.proofs.Math.Utf8.{encode}
-use Rattle.vp_bits.specs.declared.bit.Bit.TheVariants.{One}
-use Rattle.vp_lex.specs.declared.token.Token.{Token}
-use Rattle.vp_lex.specs.declared.token.TokenKind.TheVariants.{Name}
-use Rattle.vp_parse_expr.specs.declared.node.Expression.TheVariants as expression
-use Rattle.vp_parse_expr.specs.declared.node.Selection.TheVariants as selection
-use Rattle.vp_parse_stmt.specs.declared.arena.Statement.TheVariants as statement
-use Rattle.vp_parse.specs.declared.source.Item.TheVariants as item
-use Rattle.vp_elab.specs.declared.object.Kind.{Kind}
-use Rattle.vp_elab.specs.declared.object.Kind.TheVariants.{Module, Reg, Initial}
+-- Events and what they do to a state, computed one by one. Each row is an equation that holds by computation.
+use Rattle.std.proofs.Common.{◌≡◌, ℕ, true, false, List, [], ◌∷◌, Option, Some, None, Result, Ok, Err, refl}
+use Rattle.vp_bits.specs.declared.bit.Bit.{Bit}
+use Rattle.vp_bits.specs.declared.bit.Bit.TheVariants.{Zero, One, Unknown}
 use Rattle.vp_elab.specs.Built.{Elaborated}
-use Rattle.vp_elab.specs.Tree.{Node}
-use Rattle.vp_expr.specs.Arena.{sizes_in}
-use Rattle.vp_expr.specs.declared.tables.Process.TheVariants.{Procedure}
+use Rattle.vp_parse_stmt.specs.declared.arena.Edge.TheVariants.{Any, Posedge, Negedge}
+use Rattle.vp_expr.specs.declared.tables.Process.TheVariants.{Procedure, Connection}
 use Rattle.vp_expr.specs.declared.tables.Tables.{Tables}
-use Rattle.vp_expr.specs.Tables.{actions_of, operands_of, sizes_of, widths_of}
+use Rattle.vp_statement.specs.declared.effect.Effect.{Effect}
+use Rattle.vp_statement.specs.declared.effect.Effect.TheVariants as effect
+use Rattle.vp_strata.specs.declared.event.Delayed.TheVariants as later
+use Rattle.vp_strata.specs.declared.event.Event.TheVariants.{Evaluation, NetUpdate}
+use Rattle.vp_strata.specs.declared.event.NonblockingUpdate.{NonblockingUpdate}
+use Rattle.vp_strata.specs.Queues.{Queue, no_events, with_active}
 use Rattle.vp_sim.specs.declared.change.Change.{Change}
 use Rattle.vp_sim.specs.declared.fault.SimError.{SimError}
-use Rattle.vp_sim.specs.declared.fault.SimError.TheVariants.{Idle, SlotNotDone, NoSuchChoice}
-use Rattle.vp_sim.specs.States.{Goes, Outcome, Refuses, advance, source_by, start_by, step_by}
+use Rattle.vp_sim.specs.declared.fault.SimError.TheVariants.{Finished, Idle, SlotNotDone, NoSuchChoice, TimeLimit}
+use Rattle.vp_sim.specs.declared.waiting.Waiting.{Waiting}
+use Rattle.vp_sim.specs.declared.waiting.Waiting.TheVariants as wait
+use Rattle.vp_sim.specs.States.{Goes, Outcome, Refuses, State, advance, performed, put_by, rest_of, source_by, step_by}
+use Rattle.vp_sim.specs.Waking.{is_of}
 
--- ---- `reg a, b; initial begin a = 1 'b1; begin end b = a; end` in a module, of which the lists below name the words alone
-
-abbrev word : ℕ → ℕ → Token
-word from to = record { kind = Name; start = from; end = to; line = 1; column = 1; directive = false }
-
-abbrev object : List ℕ → Kind → Node
-object name kind = record {
-  path =
-      record { name = codes "top"; place = 0; envelope = 0; in_module = None }
-      ∷ record { name = name; place = 0; envelope = 0; in_module = Some (codes "top") }
-      ∷ [];
-  kind = kind;
-  width = 1;
-  lowest = None;
-  line = 1;
-  definition = None;
+-- a design of no text: the tables say what runs
+abbrev no_design : Elaborated
+no_design = record {
+  source = record { text = []; tokens = []; modules = []; connections = []; items = []; statements = []; expressions = []; terms = []; choices = [] };
+  tree = record { nodes = []; viewports = []; authors = [] };
 }
 
-abbrev design : Elaborated
-design = record {
-  source = record {
-    text = codes "top a b 'b1";
-    tokens = word 0 3 ∷ word 4 5 ∷ word 6 7 ∷ word 8 11 ∷ [];
-    modules =
-        record {
-          name = 0;
-          items = record { first = 0; end = 3 };
-          ports = 0;
-          statements = record { first = 0; end = 7 };
-          expressions = record { first = 0; end = 2 };
-        }
-        ∷ [];
-    connections = [];
-    items = item.Reg 1 None ∷ item.Reg 2 None ∷ item.Initial 9 6 ∷ [];
-    statements =
-        statement.Empty ∷ statement.Assign 1 selection.Whole 0 ∷ statement.Then 0 1
-        ∷ statement.Empty ∷ statement.Then 2 3
-        ∷ statement.Assign 2 selection.Whole 1 ∷ statement.Then 4 5 ∷ [];
-    expressions = expression.Literal 9 1 3 ∷ expression.Name 1 selection.Whole ∷ [];
-  };
-  tree = record {
-    nodes =
-        record {
-          path = record { name = codes "top"; place = 0; envelope = 0; in_module = None } ∷ [];
-          kind = Module;
-          width = 1;
-          lowest = None;
-          line = 1;
-          definition = Some (codes "top");
-        }
-        ∷ object (codes "a") Reg ∷ object (codes "b") Reg ∷ object (codes "initial@1:1") Initial ∷ [];
-    viewports = [];
-    authors = [];
-  };
-}
+abbrev x : List Bit
+x = Unknown ∷ []
 
--- its tables, with object 3 as the only process
+abbrev one : List Bit
+one = One ∷ []
+
+-- two connections outwards, of object 1 to the net 2 and of object 2 to the net 3, and a procedure without statements
 abbrev tables : Tables
 tables = record {
-  operands = operands_of design;
-  widths = widths_of design;
-  sizes = sizes_of design;
-  actions = actions_of design (sizes_of design);
-  processes = Procedure (record { 0 = 3 }) (record { 0 = 0 }) 6 ∷ [];
+  operands = [];
+  widths = 1 ∷ 1 ∷ 1 ∷ 1 ∷ [];
+  sizes = [];
+  actions = [];
+  processes =
+      Connection (record { 0 = 1 }) (record { 0 = 2 }) ∷ Connection (record { 0 = 2 }) (record { 0 = 3 })
+      ∷ Procedure (record { 0 = 0 }) (record { 0 = 0 }) true 7 ∷ [];
+  awaited = [];
+  awaited_ends = [];
 }
+
+-- a state of these at time 5
+abbrev at_five : (waiting : List Waiting) → Queue → State
+at_five waiting q = record {
+  design = no_design;
+  time = 5;
+  finished = false;
+  values = x ∷ x ∷ x ∷ x ∷ [];
+  remaining = [] ∷ [] ∷ (9 ∷ []) ∷ [];
+  waiting = waiting;
+  queue = q;
+}
+
+abbrev none_wait : List Waiting
+none_wait = wait.Nothing ∷ wait.Nothing ∷ wait.Nothing ∷ []
+
+abbrev both_wait : List Waiting
+both_wait = wait.Operands ∷ wait.Operands ∷ wait.Nothing ∷ []
 
 -- what is told of an outcome: what changed, or the refusal
 abbrev told : Outcome → Result (Option Change) SimError
 told (Goes s change) = Ok change
 told (Refuses e) = Err e
 
--- the outcome of these steps, one after another
+-- what is behind an outcome
+abbrev behind : {X : Type 0} → (State → X) → Outcome → Option X
+behind f (Goes s change) = Some (f s)
+behind f (Refuses e) = None
+
+abbrev queue_behind : Outcome → Option Queue
+queue_behind o = behind (λ s. s.queue) o
+
+abbrev waits_behind : Outcome → Option (List Waiting)
+waits_behind o = behind (λ s. s.waiting) o
+
+abbrev change : (object : ℕ) → List Bit → Change
+change object value = record { object = record { 0 = object }; value = value }
+
+-- the event of the procedure, process 2, which is active alone, does this
+abbrev does : Effect → Outcome
+does e = performed tables (at_five both_wait (with_active no_events (Evaluation 2 ∷ []))) 0 2 (rest_of tables true 7 (9 ∷ []) e) e
+
+-- ---- delays
+
+-- `#0` is inactive
+no_delay : queue_behind (does (effect.Pauses 0 4)) ≡ Some (record no_events { inactive = 2 ∷ [] })
+no_delay = refl
+
+-- `#3` goes on at 8
+delayed : queue_behind (does (effect.Pauses 3 4)) ≡ Some (record no_events { future = record { time = 8; event = later.Evaluation 2 } ∷ [] })
+delayed = refl
+
+-- it goes on with its statement, and does not begin again
+goes_on : behind (λ s. s.remaining) (does (effect.Pauses 0 4)) ≡ Some ([] ∷ [] ∷ (4 ∷ []) ∷ [])
+goes_on = refl
+
+-- an always begins again where nothing remains, and its event keeps its place
+begins_again : behind (λ s. s.remaining) (does effect.Nothing) ≡ Some ([] ∷ [] ∷ (7 ∷ []) ∷ [])
+begins_again = refl
+
+keeps_its_place : queue_behind (does effect.Nothing) ≡ Some (with_active no_events (Evaluation 2 ∷ []))
+keeps_its_place = refl
+
+-- of an initial nothing remains
+initial_ends : rest_of tables false 7 (9 ∷ []) effect.Nothing ≡ []
+initial_ends = refl
+
+-- a test goes on with the last of its statements first
+proceeds : behind (λ s. s.remaining) (does (effect.Proceeds (Some 1) None (Some 3))) ≡ Some ([] ∷ [] ∷ (1 ∷ 3 ∷ []) ∷ [])
+proceeds = refl
+
+-- 2^62 is too late
+too_late : told (does (effect.Pauses 4611686018427387899 4)) ≡ Err TimeLimit
+too_late = refl
+
+just_in_time : told (does (effect.Pauses 4611686018427387898 4)) ≡ Ok None
+just_in_time = refl
+
+-- ---- nonblocking assignments
+
+abbrev sets : (process object : ℕ) → List Bit → NonblockingUpdate
+sets process object value = record { process = process; object = object; place = Some 0; value = value }
+
+-- an update is made at the end of the current time
+deferred : queue_behind (does (effect.Defers 1 (Some 0) one 0)) ≡ Some (record no_events { active = Evaluation 2 ∷ []; nonblocking = sets 2 1 one ∷ [] })
+deferred = refl
+
+-- or at the end of a later one
+deferred_later : queue_behind (does (effect.Defers 1 (Some 0) one 2)) ≡ Some (record no_events { active = Evaluation 2 ∷ []; future = record { time = 7; event = later.Nonblocking (sets 2 1 one) } ∷ [] })
+deferred_later = refl
+
 abbrev steps : Outcome → List ℕ → Outcome
 steps outcome [] = outcome
 steps (Refuses e) (k ∷ ks) = Refuses e
-steps (Goes s change) (k ∷ ks) = steps (step_by tables s k) ks
+steps (Goes s c) (k ∷ ks) = steps (step_by tables s k) ks
 
-abbrev behind : List ℕ → Outcome
-behind ks = steps (Goes (start_by tables design) None) ks
+abbrev from : (waiting : List Waiting) → Queue → List ℕ → Outcome
+from waiting q ks = steps (Goes (at_five waiting q) None) ks
 
--- an advance behind these steps
-abbrev advanced : Outcome → Outcome
-advanced (Refuses e) = Refuses e
-advanced (Goes s change) = advance s
+-- what went on by `#0` is evaluated before updates of nonblocking assignments
+inactive_first : queue_behind (from none_wait (record no_events { inactive = 0 ∷ []; nonblocking = sets 2 1 one ∷ [] }) (0 ∷ [])) ≡ Some (record no_events { active = NetUpdate 0 x ∷ []; nonblocking = sets 2 1 one ∷ [] })
+inactive_first = refl
 
--- the first assignment, by the process that is object 3
-first_step : told (behind (0 ∷ [])) ≡ Ok (Some (record { object = record { 0 = 1 }; value = One ∷ [] }))
-unfolding is_utf8 chars encode sizes_in
-first_step = refl
+-- the oldest update of a nonblocking assignment is made first
+oldest_first : told (from none_wait (record no_events { nonblocking = sets 2 1 one ∷ sets 2 1 (Zero ∷ []) ∷ [] }) (0 ∷ [])) ≡ Ok (Some (change 1 one))
+oldest_first = refl
 
-first_source : source_by tables (start_by tables design) 0 ≡ record { 0 = 3 }
-unfolding is_utf8 chars encode sizes_in
-first_source = refl
+newest_waits : told (from none_wait (record no_events { nonblocking = sets 2 1 one ∷ sets 2 1 (Zero ∷ []) ∷ [] }) (1 ∷ [])) ≡ Err NoSuchChoice
+newest_waits = refl
 
--- the empty block is an event that changes nothing
-second_step : told (behind (0 ∷ 0 ∷ [])) ≡ Ok None
-unfolding is_utf8 chars encode sizes_in
-second_step = refl
+newest_then : told (from none_wait (record no_events { nonblocking = sets 2 1 one ∷ sets 2 1 (Zero ∷ []) ∷ [] }) (0 ∷ 0 ∷ [])) ≡ Ok (Some (change 1 (Zero ∷ [])))
+newest_then = refl
 
--- the second assignment reads what the first one wrote
-third_step : told (behind (0 ∷ 0 ∷ 0 ∷ [])) ≡ Ok (Some (record { object = record { 0 = 2 }; value = One ∷ [] }))
-unfolding is_utf8 chars encode sizes_in
-third_step = refl
+-- a number that is no object changes nothing
+no_object : told (from none_wait (record no_events { nonblocking = sets 2 9 one ∷ [] }) (0 ∷ [])) ≡ Ok None
+no_object = refl
 
--- then nothing is left, and there is no future event
-fourth_step : told (behind (0 ∷ 0 ∷ 0 ∷ 0 ∷ [])) ≡ Err Idle
-unfolding is_utf8 chars encode sizes_in
-fourth_step = refl
+-- ---- waking
 
-advance_at_the_end : told (advanced (behind (0 ∷ 0 ∷ 0 ∷ []))) ≡ Err Idle
-unfolding is_utf8 chars encode sizes_in
+-- a change of object 1 wakes what waits for it, and that waits no more
+wakes_its_reader : queue_behind (does (effect.Assigns 1 (Some 0) one)) ≡ Some (with_active no_events (Evaluation 2 ∷ Evaluation 0 ∷ []))
+wakes_its_reader = refl
+
+waits_no_more : waits_behind (does (effect.Assigns 1 (Some 0) one)) ≡ Some (wait.Nothing ∷ wait.Operands ∷ wait.Nothing ∷ [])
+waits_no_more = refl
+
+-- an assignment of the value that is there wakes nobody
+unchanged : queue_behind (does (effect.Assigns 1 (Some 0) x)) ≡ Some (with_active no_events (Evaluation 2 ∷ []))
+unchanged = refl
+
+-- so does an update
+unchanged_update : queue_behind (from both_wait (with_active no_events (NetUpdate 0 x ∷ [])) (0 ∷ [])) ≡ Some no_events
+unchanged_update = refl
+
+-- an update of a net wakes what reads the net
+net_wakes : queue_behind (from both_wait (with_active no_events (NetUpdate 0 one ∷ [])) (0 ∷ [])) ≡ Some (with_active no_events (Evaluation 1 ∷ []))
+net_wakes = refl
+
+-- what is active already waits for nothing, and is not evaluated twice
+not_twice : queue_behind (from none_wait (with_active no_events (NetUpdate 0 one ∷ Evaluation 1 ∷ [])) (0 ∷ [])) ≡ Some (with_active no_events (Evaluation 1 ∷ []))
+not_twice = refl
+
+-- a continuous process waits for its operands again, and its update is active
+drives : queue_behind (from none_wait (with_active no_events (Evaluation 1 ∷ [])) (0 ∷ [])) ≡ Some (with_active no_events (NetUpdate 1 x ∷ []))
+drives = refl
+
+waits_again : waits_behind (from none_wait (with_active no_events (Evaluation 1 ∷ [])) (0 ∷ [])) ≡ Some (wait.Nothing ∷ wait.Operands ∷ wait.Nothing ∷ [])
+waits_again = refl
+
+-- a procedure that waits is not active, and a wait tests again when it is woken
+awaits : queue_behind (does (effect.Awaits 9 9)) ≡ Some no_events
+awaits = refl
+
+tests_again : behind (λ s. s.remaining) (does (effect.Awaits 9 9)) ≡ Some ([] ∷ [] ∷ (9 ∷ []) ∷ [])
+tests_again = refl
+
+waits_for_its_statement : waits_behind (does (effect.Awaits 9 9)) ≡ Some (wait.Operands ∷ wait.Operands ∷ wait.Statement 9 ∷ [])
+waits_for_its_statement = refl
+
+-- a posedge is from x to 1, and none is from 1 to x; a negedge is from 1 to x
+x_to_one : is_of x (change 1 one) (record { edge = Posedge; object = 1 }) ≡ true
+x_to_one = refl
+
+one_to_x : is_of one (change 1 x) (record { edge = Posedge; object = 1 }) ≡ false
+one_to_x = refl
+
+one_to_x_falls : is_of one (change 1 x) (record { edge = Negedge; object = 1 }) ≡ true
+one_to_x_falls = refl
+
+-- of a vector the least significant bit counts
+other_bits : is_of (Zero ∷ Zero ∷ []) (change 1 (Zero ∷ One ∷ [])) (record { edge = Posedge; object = 1 }) ≡ false
+other_bits = refl
+
+-- a change of another object is not awaited
+other_object : is_of x (change 2 one) (record { edge = Any; object = 1 }) ≡ false
+other_object = refl
+
+-- ---- values from outside, advances, and the end
+
+put_wakes : queue_behind (put_by tables (at_five both_wait no_events) 1 (One ∷ Zero ∷ [])) ≡ Some (with_active no_events (Evaluation 0 ∷ []))
+put_wakes = refl
+
+-- the value is cut to the object's width
+put_cuts : told (put_by tables (at_five both_wait no_events) 1 (One ∷ Zero ∷ [])) ≡ Ok (Some (change 1 one))
+put_cuts = refl
+
+-- an update with a delay is a nonblocking event of its time
+advanced : queue_behind (advance (at_five none_wait (record no_events { future = record { time = 8; event = later.Nonblocking (sets 2 1 one) } ∷ [] }))) ≡ Some (record no_events { nonblocking = sets 2 1 one ∷ [] })
+advanced = refl
+
+time_goes_on : behind (λ s. s.time) (advance (at_five none_wait (record no_events { future = record { time = 8; event = later.Evaluation 2 } ∷ [] }))) ≡ Some 8
+time_goes_on = refl
+
+advance_too_early : told (advance (at_five none_wait (record no_events { inactive = 2 ∷ []; future = record { time = 8; event = later.Evaluation 2 } ∷ [] }))) ≡ Err SlotNotDone
+advance_too_early = refl
+
+advance_at_the_end : told (advance (at_five none_wait no_events)) ≡ Err Idle
 advance_at_the_end = refl
 
--- one process has one event
-no_such_choice : told (behind (1 ∷ [])) ≡ Err NoSuchChoice
-unfolding is_utf8 chars encode sizes_in
-no_such_choice = refl
+step_at_the_end : told (from none_wait no_events (0 ∷ [])) ≡ Err Idle
+step_at_the_end = refl
 
-advance_too_early : told (advanced (behind (0 ∷ []))) ≡ Err SlotNotDone
-unfolding is_utf8 chars encode sizes_in
-advance_too_early = refl
+-- behind $finish nothing goes on
+finishes : behind (λ s. s.finished) (does effect.Finishes) ≡ Some true
+finishes = refl
+
+step_when_finished : told (step_by tables (record (at_five none_wait (with_active no_events (Evaluation 1 ∷ []))) { finished = true }) 0) ≡ Err Finished
+step_when_finished = refl
+
+-- the object of an update is that of the process that made it
+source : source_by tables (at_five none_wait (record no_events { nonblocking = sets 1 3 one ∷ [] })) 0 ≡ record { 0 = 2 }
+source = refl

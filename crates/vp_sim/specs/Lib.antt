@@ -1,5 +1,5 @@
 pub mod Faults
-pub mod Statements
-pub mod Fanouts
-pub mod Events
+pub mod Changes
+pub mod Waking
+pub mod Listening
 pub mod States

@@ -1,173 +1,277 @@
 -- A state of a simulation, and its steps (clause 11.3).
-use Rattle.std.specs.Prelude.{◌≡◌, ℕ, Bool, true, false, if◌then◌else◌, List, [], ◌∷◌, ◌++◌, drop, length, map, slice_get, slice_index_or, slice_set, Option, Some, None, option_and_then}
-use Rattle.std.specs.List.{remove}
+use Rattle.std.specs.Prelude.{◌≡◌, ℕ, ◌+◌, ◌≤◌, ◌==◌, ◌&&◌, nat_le, Bool, true, false, if◌then◌else◌, List, [], ◌∷◌, ◌++◌, drop, length, map, replicate, slice_get, slice_index_or, slice_set, Option, Some, None, option_and_then, option_to_list}
 use Rattle.std.specs.Option.{option_map_or}
 use Rattle.vp_bits.specs.declared.bit.Bit.{Bit}
-use Rattle.vp_bits.specs.Vector.{resized, same_bits}
+use Rattle.vp_bits.specs.Vector.{resized}
 use Rattle.vp_elab.specs.declared.object.ObjectId.{ObjectId}
 use Rattle.vp_elab.specs.Built.{Elaborated}
 use Rattle.vp_elab.specs.Tree.{below}
-use Rattle.vp_expr.specs.declared.tables.Action.{Action}
-use Rattle.vp_expr.specs.declared.tables.Action.TheVariants.{Nothing, Then, Assign}
 use Rattle.vp_expr.specs.declared.tables.Process.{Process}
 use Rattle.vp_expr.specs.declared.tables.Process.TheVariants.{Procedure, Assignment, Connection}
 use Rattle.vp_expr.specs.declared.tables.Tables.{Tables}
 use Rattle.vp_expr.specs.Arena.{value_in}
-use Rattle.vp_expr.specs.Evaluation.{eval, given_to, slot_of}
+use Rattle.vp_expr.specs.Evaluation.{eval}
 use Rattle.vp_expr.specs.Start.{start_of}
 use Rattle.vp_expr.specs.Tables.{process_object, tables_of}
+use Rattle.vp_statement.specs.declared.effect.Effect.{Effect}
+use Rattle.vp_statement.specs.declared.effect.Effect.TheVariants as effect
+use Rattle.vp_statement.specs.Effects.{effect_at}
+use Rattle.vp_statement.specs.Walking.{behind_event, next_event}
+use Rattle.vp_strata.specs.declared.event.Delayed.{Delayed}
+use Rattle.vp_strata.specs.declared.event.Delayed.TheVariants as later
+use Rattle.vp_strata.specs.declared.event.Event.{Event}
+use Rattle.vp_strata.specs.declared.event.Event.TheVariants.{Evaluation, NetUpdate, Nonblocking}
+use Rattle.vp_strata.specs.declared.event.NonblockingUpdate.{NonblockingUpdate}
+use Rattle.vp_strata.specs.declared.strata.TheConstants.{TIME_LIMIT}
+use Rattle.vp_strata.specs.Events.{process_of}
+use Rattle.vp_strata.specs.Queues.{Queue, activated, advanced, first_time, is_done, no_events, peeked, ready, scheduled, taken, with_active, with_future, with_inactive, with_nonblocking}
 use Rattle.vp_sim.specs.declared.change.Change.{Change}
-use Rattle.vp_sim.specs.declared.event.Event.{Event}
-use Rattle.vp_sim.specs.declared.event.Event.TheVariants.{Evaluation, Update}
 use Rattle.vp_sim.specs.declared.fault.SimError.{SimError}
-use Rattle.vp_sim.specs.declared.fault.SimError.TheVariants.{Finished, Idle, SlotNotDone, NoSuchChoice, NoMemory}
-use Rattle.vp_sim.specs.Events.{eligible_places, with_evaluations}
-use Rattle.vp_sim.specs.Fanouts.{fanout_of, net_at, object_at}
-use Rattle.vp_sim.specs.Statements.{behind_event, next_event, whole_of}
+use Rattle.vp_sim.specs.declared.fault.SimError.TheVariants.{Finished, Idle, SlotNotDone, NoSuchChoice, TimeLimit, NoMemory}
+use Rattle.vp_sim.specs.declared.waiting.Waiting.{Waiting}
+use Rattle.vp_sim.specs.declared.waiting.Waiting.TheVariants as wait
+use Rattle.vp_sim.specs.Changes.{change_of, net_at, set_change, updated_by, values_behind}
+use Rattle.vp_sim.specs.Listening.{AreHeard, IsHeard, count_of}
+use Rattle.vp_sim.specs.Waking.{awaited_by, roused, woken_by}
 
--- a state: the design, the time, whether $finish was executed, the value of each object, what remains of each process, and the
--- active events, the oldest first (clause 11.3)
+-- a state: the design, the time, whether $finish was executed, the value of each object, what remains of each process, what each waits
+-- for, and the event queue (clause 11.3)
 pub record State : Type 0 where
   pub design : Elaborated
   pub time : ℕ
   pub finished : Bool
   pub values : List (List Bit)
   pub remaining : List (List ℕ)
-  pub active : List Event
+  pub waiting : List Waiting
+  pub queue : Queue
 
 -- what a step does: it goes on to a state, with at most one change, or it is refused
 pub data Outcome : Type 0 where
   Goes : State → Option Change → Outcome
   Refuses : SimError → Outcome
 
--- ---- values
+-- ---- changes
 
--- what changes where an object that has a value is given another: nothing, if that is the same at the object's width
--- (clauses 5.6 and 9.2.1)
-abbrev pub change_of : ℕ → Option (List Bit) → List Bit → Option Change
-change_of object None value = None
-change_of object (Some old) value =
-    if same_bits old (resized (length old) value)
-    then None
-    else Some (record { object = record { 0 = object }; value = resized (length old) value })
+-- the queue behind these processes were woken: they are evaluated (clause 11.3)
+abbrev pub with_evaluations : Queue → (processes : List ℕ) → Queue
+with_evaluations q processes = with_active q (q.active ++ map Evaluation processes)
 
--- the values behind a change
-abbrev pub values_behind : List (List Bit) → Option Change → List (List Bit)
-values_behind values None = values
-values_behind values (Some change) = slice_set values change.object.0 change.value
+-- the processes that a change wakes, if there is one
+abbrev pub woken : Tables → State → Option Change → List ℕ
+woken tables s None = []
+woken tables s (Some change) = woken_by tables (value_in s.values change.object.0) change s.waiting
 
--- what the evaluation of a procedure's event changes: a blocking assignment its target, in the procedure's instance (clause 9.2.1)
-abbrev pub changed_by : Tables → List (List Bit) → (instance : ObjectId) → Action → Option Change
-changed_by tables values instance Nothing = None
-changed_by tables values instance (Then list last) = None
-changed_by tables values instance (Assign t value) =
-    change_of (object_at instance (slot_of t)) (slice_get values (object_at instance (slot_of t)))
-    (given_to tables (drop instance.0 values) t (eval tables (drop instance.0 values) value))
-
--- what the update of a net changes, if there is one (clause 11.2)
-abbrev pub updated_by : List (List Bit) → Option ObjectId → List Bit → Option Change
-updated_by values None value = None
-updated_by values (Some net) value = change_of net.0 (slice_get values net.0) value
-
--- ---- steps
-
--- the processes that wait for a change, if there is one
-abbrev pub fanout_behind : Tables → Option Change → List ℕ
-fanout_behind tables None = []
-fanout_behind tables (Some change) = fanout_of tables change.object.0
-
--- a state behind a change, if there is one: the processes that wait for it are evaluated (clause 11.3)
+-- a state behind a change, if there is one: the object has its value, and the processes that it wakes wait no more and are evaluated
+-- (clause 11.3)
 abbrev pub changed : Tables → State → Option Change → State
 changed tables s change = record s {
   values = values_behind s.values change;
-  active = with_evaluations s.active (fanout_behind tables change);
+  waiting = roused s.waiting (woken tables s change);
+  queue = with_evaluations s.queue (woken tables s change);
 }
 
--- a state behind the event at a place among the active ones, which is over
-abbrev pub over : State → (place : ℕ) → State
-over s place = record s { active = remove s.active place }
-
--- the active events behind that of a procedure: it keeps its place while something remains (profile)
-abbrev pub active_behind : List Event → (place : ℕ) → (rest : List ℕ) → List Event
-active_behind active place [] = remove active place
-active_behind active place (r ∷ rs) = active
-
--- a state in which this remains of a process, whose event stands at a place among the active ones
-abbrev pub with_rest : State → (place process : ℕ) → (rest : List ℕ) → State
-with_rest s place process rest = record s {
-  remaining = slice_set s.remaining process rest;
-  active = active_behind s.active place rest;
-}
-
--- the state behind an event of a procedure, which stands at a place among the active ones
-abbrev pub performed : Tables → State → (place process : ℕ) → (rest : List ℕ) → Option Change → State
-performed tables s place process rest change = changed tables (with_rest s place process rest) change
-
--- the evaluation of a procedure: one event's worth of what remains of it (profile)
-abbrev pub turn : Tables → State → (place process : ℕ) → (instance : ObjectId) → (remaining : List ℕ) → Outcome
-turn tables s place process instance [] = Goes (over s place) None
-turn tables s place process instance (r ∷ rs) =
-    Goes
-    (performed tables s place process (behind_event tables.actions (r ∷ rs))
-    (changed_by tables s.values instance (next_event tables.actions (r ∷ rs))))
-    (changed_by tables s.values instance (next_event tables.actions (r ∷ rs)))
-
--- the evaluation of a continuous process is over: the update of its net is active, with a value that is cut or extended to the
--- net's width (clauses 5.6 and 11.3)
-abbrev pub scheduled : State → (place process : ℕ) → (net : ObjectId) → (value : List Bit) → State
-scheduled s place process net value = record s {
-  active = remove s.active place ++ Update process (resized (length (value_in s.values net.0)) value) ∷ [];
-}
-
--- the evaluation of a process, if there is one: of a continuous one, its value now (clauses 6.1, 11.3 and 12.3.9.2)
-abbrev pub evaluated : Tables → State → (place process : ℕ) → Option Process → Outcome
-evaluated tables s place process None = Goes (over s place) None
-evaluated tables s place process (Some (Procedure object instance body)) =
-    turn tables s place process instance (slice_index_or s.remaining process [])
-evaluated tables s place process (Some (Assignment object net instance value)) =
-    Goes (scheduled s place process net (eval tables (drop instance.0 s.values) value)) None
-evaluated tables s place process (Some (Connection port net)) =
-    Goes (scheduled s place process net (value_in s.values port.0)) None
+-- a state without the k-th of the eligible events, which is over
+abbrev pub over : State → (k : ℕ) → State
+over s k = record s { queue = taken s.queue k }
 
 -- an update that makes this change, if it makes one (clause 11.3)
-abbrev pub updated : Tables → State → (place : ℕ) → Option Change → Outcome
-updated tables s place change = Goes (changed tables (over s place) change) change
+abbrev pub updated : Tables → State → (k : ℕ) → Option Change → Outcome
+updated tables s k change = Goes (changed tables (over s k) change) change
 
--- the event at a place among the active ones
-abbrev pub happened : Tables → State → (place : ℕ) → Option Event → Outcome
-happened tables s place None = Refuses NoSuchChoice
-happened tables s place (Some (Evaluation process)) = evaluated tables s place process (slice_get tables.processes process)
-happened tables s place (Some (Update process value)) =
-    updated tables s place (updated_by s.values (net_at tables.processes process) value)
+-- ---- the event of a procedure
 
--- the event at the place that was chosen, if there is one
-abbrev pub taken : Tables → State → Option ℕ → Outcome
-taken tables s None = Refuses NoSuchChoice
-taken tables s (Some place) = happened tables s place (slice_get s.active place)
+-- what remains of a procedure behind an event: an always begins again where nothing does (clause 9.9.2)
+abbrev pub again : (repeats : Bool) → (body : ℕ) → (rest : List ℕ) → List ℕ
+again true body [] = body ∷ []
+again true body (r ∷ rs) = r ∷ rs
+again false body rest = rest
 
--- a step takes one of the eligible events, if any event is active (clause 11.3)
-abbrev pub step_in : Tables → State → ℕ → List Event → Outcome
-step_in tables s k [] = Refuses Idle
-step_in tables s k (e ∷ es) = taken tables s (slice_get (eligible_places tables.processes (e ∷ es)) k)
+-- the statements with which a procedure goes on behind its event, the next one last
+abbrev pub follows : Effect → List ℕ
+follows effect.Nothing = []
+follows (effect.Assigns object place value) = []
+follows (effect.Defers object place value delay) = []
+follows (effect.Pauses amount next) = next ∷ []
+follows (effect.Awaits place next) = next ∷ []
+follows (effect.Proceeds third second next) = option_to_list third ++ (option_to_list second ++ option_to_list next)
+follows effect.Finishes = []
 
--- a step by the tables of the design, unless $finish was executed
-abbrev pub step_by : Tables → State → ℕ → Outcome
-step_by tables s k = if s.finished then Refuses Finished else step_in tables s k s.active
+-- the event of a procedure is over where the procedure pauses or waits, and where nothing remains of it; else it keeps its place
+-- (profile)
+abbrev pub is_over : Effect → (rest : List ℕ) → Bool
+is_over (effect.Pauses amount next) rest = true
+is_over (effect.Awaits place next) rest = true
+is_over e [] = true
+is_over e (r ∷ rs) = false
+
+-- the queue behind the k-th of the eligible events, if that is over
+abbrev pub taken_if : Bool → Queue → (k : ℕ) → Queue
+taken_if true q k = taken q k
+taken_if false q k = q
+
+-- a state behind the event of a process, the k-th, of which this remains
+abbrev pub left : State → (k : ℕ) → (process : ℕ) → (rest : List ℕ) → Effect → State
+left s k process rest e = record s {
+  remaining = slice_set s.remaining process rest;
+  queue = taken_if (is_over e rest) s.queue k;
+}
+
+-- a state in which this happens so much later
+abbrev pub delayed : State → (delay : ℕ) → Delayed → State
+delayed s delay event = record s {
+  queue = with_future s.queue (scheduled (record { time = s.time + delay; event = event }) s.queue.future);
+}
+
+-- a process pauses: for no time it is inactive, else it goes on later (clauses 9.7.1 and 11.3)
+abbrev pub paused : State → (process : ℕ) → (amount : ℕ) → State
+paused s process amount =
+    if amount == 0
+    then record s { queue = with_inactive s.queue (s.queue.inactive ++ process ∷ []) }
+    else delayed s amount (later.Evaluation process)
+
+-- an update of a nonblocking assignment is made at the end of this time, or of a later one (clause 9.2.2)
+abbrev pub deferred : State → (delay : ℕ) → NonblockingUpdate → State
+deferred s delay update =
+    if delay == 0
+    then record s { queue = with_nonblocking s.queue (s.queue.nonblocking ++ update ∷ []) }
+    else delayed s delay (later.Nonblocking update)
+
+-- a state behind what the event of a procedure does
+abbrev pub done : Tables → State → (process : ℕ) → Effect → State
+done tables s process effect.Nothing = s
+done tables s process (effect.Assigns object place value) = changed tables s (set_change s.values object place value)
+done tables s process (effect.Defers object place value delay) =
+    deferred s delay (record { process = process; object = object; place = place; value = value })
+done tables s process (effect.Pauses amount next) = paused s process amount
+done tables s process (effect.Awaits place next) = record s { waiting = slice_set s.waiting process (wait.Statement place) }
+done tables s process (effect.Proceeds third second next) = s
+done tables s process effect.Finishes = record s { finished = true }
+
+-- what the event of a procedure changes at once: a blocking assignment its target (clause 9.2.1)
+abbrev pub change_by : List (List Bit) → Effect → Option Change
+change_by values effect.Nothing = None
+change_by values (effect.Assigns object place value) = set_change values object place value
+change_by values (effect.Defers object place value delay) = None
+change_by values (effect.Pauses amount next) = None
+change_by values (effect.Awaits place next) = None
+change_by values (effect.Proceeds third second next) = None
+change_by values effect.Finishes = None
+
+-- so much later the event of a procedure makes something happen
+abbrev pub delay_of : Effect → ℕ
+delay_of effect.Nothing = 0
+delay_of (effect.Assigns object place value) = 0
+delay_of (effect.Defers object place value delay) = delay
+delay_of (effect.Pauses amount next) = amount
+delay_of (effect.Awaits place next) = 0
+delay_of (effect.Proceeds third second next) = 0
+delay_of effect.Finishes = 0
+
+-- what happens so much later would happen at 2^62 or later (profile)
+abbrev pub is_late : (time : ℕ) → (delay : ℕ) → Bool
+is_late time delay = nat_le 1 delay && nat_le TIME_LIMIT (time + delay)
+
+-- what remains of a procedure behind its next event, which does this
+abbrev pub rest_of : Tables → (repeats : Bool) → (body : ℕ) → (remaining : List ℕ) → Effect → List ℕ
+rest_of tables repeats body remaining e = again repeats body (behind_event tables.actions remaining ++ follows e)
+
+-- the k-th of the eligible events, of a process, does this, and this remains of the process
+abbrev pub performed : Tables → State → (k : ℕ) → (process : ℕ) → (rest : List ℕ) → Effect → Outcome
+performed tables s k process rest e =
+    if is_late s.time (delay_of e)
+    then Refuses TimeLimit
+    else Goes (done tables (left s k process rest e) process e) (change_by s.values e)
+
+-- what the next event of a procedure does, of which this remains
+abbrev pub next_effect : Tables → State → (instance : ObjectId) → (remaining : List ℕ) → Effect
+next_effect tables s instance remaining =
+    effect_at s.design instance (drop instance.0 s.values) (next_event tables.actions remaining)
+
+-- the evaluation of a procedure: one event's worth of what remains of it (profile)
+abbrev pub turn : Tables → State → (k : ℕ) → (process : ℕ) → (instance : ObjectId) → (repeats : Bool) → (body : ℕ) → (remaining : List ℕ) → Outcome
+turn tables s k process instance repeats body [] = Goes (over s k) None
+turn tables s k process instance repeats body (r ∷ rs) =
+    performed tables s k process
+    (rest_of tables repeats body (r ∷ rs) (next_effect tables s instance (r ∷ rs)))
+    (next_effect tables s instance (r ∷ rs))
+
+-- ---- the event of a continuous process
+
+-- a state with one more active event
+abbrev pub with_event : State → Event → State
+with_event s event = record s { queue = with_active s.queue (s.queue.active ++ event ∷ []) }
+
+-- the evaluation of a continuous process is over: it waits for its operands again, and the update of its net is active, with a value that
+-- is cut or extended to the net's width (clauses 5.6, 6.1 and 11.3)
+abbrev pub driven : State → (k : ℕ) → (process : ℕ) → (net : ObjectId) → (value : List Bit) → State
+driven s k process net value =
+    with_event (record s { waiting = slice_set s.waiting process wait.Operands; queue = taken s.queue k })
+    (NetUpdate process (resized (length (value_in s.values net.0)) value))
+
+-- the evaluation of a process, if there is one: of a continuous one, its value now (clauses 6.1, 11.3 and 12.3.9.2)
+abbrev pub evaluated : Tables → State → (k : ℕ) → (process : ℕ) → Option Process → Outcome
+evaluated tables s k process None = Goes (over s k) None
+evaluated tables s k process (Some (Procedure object instance repeats body)) =
+    turn tables s k process instance repeats body (slice_index_or s.remaining process [])
+evaluated tables s k process (Some (Assignment object net instance value)) =
+    Goes (driven s k process net (eval tables (drop instance.0 s.values) value)) None
+evaluated tables s k process (Some (Connection port net)) = Goes (driven s k process net (value_in s.values port.0)) None
+
+-- ---- steps
+
+-- the k-th of the eligible events happens, if there is one
+abbrev pub happened : Tables → State → (k : ℕ) → Option Event → Outcome
+happened tables s k None = Refuses NoSuchChoice
+happened tables s k (Some (Evaluation process)) = evaluated tables s k process (slice_get tables.processes process)
+happened tables s k (Some (NetUpdate process value)) = updated tables s k (updated_by s.values (net_at tables.processes process) value)
+happened tables s k (Some (Nonblocking u)) = updated tables s k (set_change s.values u.object u.place u.value)
+
+-- a state behind the activation that a step begins with (clause 11.4)
+abbrev pub begun : State → State
+begun s = record s { queue = activated s.queue }
+
+-- a step by the tables of the design takes one of the eligible events, unless $finish was executed (clauses 11.3 and 11.4)
+abbrev pub step_by : Tables → State → (k : ℕ) → Outcome
+step_by tables s k =
+    if s.finished
+    then Refuses Finished
+    else if is_done s.queue then Refuses Idle else happened tables (begun s) k (peeked s.queue k)
 
 -- a step
 abbrev pub step : State → ℕ → Outcome
 step s k = step_by (tables_of s.design) s k
 
--- time goes on where no event is active; there is no future event yet (clause 11.3)
-abbrev pub advance_in : List Event → Outcome
-advance_in [] = Refuses Idle
-advance_in (e ∷ es) = Refuses SlotNotDone
+-- time goes on to this one, if there is one (clause 11.4)
+abbrev pub advanced_to : State → Option ℕ → Outcome
+advanced_to s None = Refuses Idle
+advanced_to s (Some time) = Goes (record s { time = time; queue = advanced s.queue }) None
 
--- an advance, unless $finish was executed
+-- time goes on to that of the next future event where nothing is left to do at the current time, unless $finish was executed (clause
+-- 11.4)
 abbrev pub advance : State → Outcome
-advance s = if s.finished then Refuses Finished else advance_in s.active
+advance s =
+    if s.finished
+    then Refuses Finished
+    else if is_done s.queue then advanced_to s (first_time s.queue.future) else Refuses SlotNotDone
+
+-- an object is given a value from outside by the tables of the design, unless $finish was executed (profile)
+abbrev pub put_by : Tables → State → (object : ℕ) → (value : List Bit) → Outcome
+put_by tables s object value =
+    if s.finished
+    then Refuses Finished
+    else Goes (changed tables s (change_of object (slice_get s.values object) value)) (change_of object (slice_get s.values object) value)
+
+-- an object is given a value from outside
+abbrev pub put : State → (object : ℕ) → (value : List Bit) → Outcome
+put s object value = put_by (tables_of s.design) s object value
 
 -- ---- the start
+
+-- what a process does: the statement of a procedure, and no statement of another (clause 9.9)
+abbrev pub whole_of : Process → List ℕ
+whole_of (Procedure object instance repeats body) = body ∷ []
+whole_of (Assignment object net instance value) = []
+whole_of (Connection port net) = []
 
 -- at the start every process is evaluated, in the order of the objects (clauses 6.1 and 9.9, profile)
 abbrev pub start_by : Tables → Elaborated → State
@@ -177,9 +281,11 @@ start_by tables design = record {
   finished = false;
   values = map (start_of design) design.tree.nodes;
   remaining = map whole_of tables.processes;
-  active = map Evaluation (below (length tables.processes));
+  waiting = replicate (length tables.processes) wait.Nothing;
+  queue = with_active no_events (map Evaluation (below (length tables.processes)));
 }
 
+-- the start of a simulation of a design
 abbrev pub start : Elaborated → State
 start design = start_by (tables_of design) design
 
@@ -187,29 +293,24 @@ start design = start_by (tables_of design) design
 
 -- nothing is left to do at the current time
 abbrev pub slot_done : State → Bool
-slot_done s = elim s.active [ [] ↦ true | e ∷ es ↦ false ]
+slot_done s = is_done s.queue
 
--- the time of the next future event; there is none yet
+-- the time of the next future event
 abbrev pub next_time : State → Option ℕ
-next_time s = None
+next_time s = first_time s.queue.future
 
--- the places of the eligible events among the active ones
+-- the places of the eligible events among the active ones, behind the activation that a step begins with
 abbrev pub eligible : State → List ℕ
-eligible s = eligible_places (tables_of s.design).processes s.active
-
--- the process of an event
-abbrev pub process_of : Event → ℕ
-process_of (Evaluation process) = process
-process_of (Update process value) = process
+eligible s = ready s.queue
 
 -- the object of the process whose event is the k-th that is eligible; the first object where there is none
 abbrev pub source_by : Tables → State → ℕ → ObjectId
 source_by tables s k =
     option_map_or process_object
-    (option_and_then (λ event. slice_get tables.processes (process_of event))
-    (option_and_then (slice_get s.active) (slice_get (eligible_places tables.processes s.active) k)))
+    (option_and_then (λ event. slice_get tables.processes (process_of event)) (peeked s.queue k))
     (record { 0 = 0 })
 
+-- the object of the process whose event is the k-th that is eligible
 abbrev pub source_of : State → ℕ → ObjectId
 source_of s k = source_by (tables_of s.design) s k
 
@@ -223,7 +324,29 @@ abbrev pub Explains : Outcome → SimError → Type 0
 Explains (Goes s c) e = e ≡ NoMemory
 Explains (Refuses r) e = e ≡ r
 
--- there is a value for each object of a design, and a mark for each process
-pub record IsSized (design : Elaborated) (values : List (List Bit)) (marks : ℕ) : Type 0 where
+-- ---- a state as it is kept
+
+-- there is a value for each object of a design, what each process waits for, and each process that waits is heard
+pub record IsWhole (design : Elaborated) (values : List (List Bit)) (count : ℕ) (waiting : List Waiting) (lists : List (List ℕ)) : Type 0 where
   pub objects : length values ≡ length design.tree.nodes
-  pub processes : marks ≡ length (tables_of design).processes
+  pub processes : count ≡ length (tables_of design).processes
+  pub waits : length waiting ≡ length (tables_of design).processes
+  pub heard : AreHeard (tables_of design) lists waiting
+
+-- a state, how many more events its queue takes without memory, and the listeners of each object
+pub record Running : Type 0 where
+  pub state : State
+  pub spare : ℕ
+  pub lists : List (List ℕ)
+
+-- nothing that the event of a procedure does will want memory: there is room for the evaluations of all that may wait for its change, and
+-- for one more event, and what it awaits is heard
+abbrev pub IsReady : Tables → (lists : List (List ℕ)) → (spare : ℕ) → (process : ℕ) → Option Change → Effect → Type 0
+IsReady tables lists spare process change effect.Nothing = Unit {0}
+IsReady tables lists spare process change (effect.Assigns object place value) = count_of lists change ≤ spare
+IsReady tables lists spare process change (effect.Defers object place value delay) = 1 ≤ spare
+IsReady tables lists spare process change (effect.Pauses amount next) = 1 ≤ spare
+IsReady tables lists spare process change (effect.Awaits place next) =
+    IsHeard lists (awaited_by tables (wait.Statement place) process) process
+IsReady tables lists spare process change (effect.Proceeds third second next) = Unit {0}
+IsReady tables lists spare process change effect.Finishes = Unit {0}

@@ -19,6 +19,9 @@ pub enum SimError {
     /// There are not so many eligible events (802).
     #[error("no such choice")]
     NoSuchChoice,
+    /// An event would come at 2^62 or later (805).
+    #[error("time limit")]
+    TimeLimit,
     /// Want of memory (806).
     #[error("no memory")]
     NoMemory,
@@ -36,6 +39,7 @@ impl SimError {
             SimError::Idle => 801,
             SimError::SlotNotDone => 803,
             SimError::NoSuchChoice => 802,
+            SimError::TimeLimit => 805,
             SimError::NoMemory => 806,
         }
     }

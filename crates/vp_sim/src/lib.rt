@@ -2,16 +2,19 @@
 #![tactic(auto)]
 
 mod change;
-mod eligible;
-mod event;
-mod fanout;
+mod events;
 mod fault;
-mod region;
+mod listeners;
+mod machine;
+mod procedure;
+mod processes;
 mod sim;
 mod stacks;
-mod statement;
+mod steps;
+mod waiting;
+mod waking;
 
 pub use change::Change;
-pub use event::Event;
 pub use fault::SimError;
 pub use sim::Sim;
+pub use waiting::Waiting;

@@ -1,6 +1,6 @@
 ghost use Rattle.std.specs.Prelude.{◌≡◌, ◌++◌, ◌-◌, ◌<◌, [], ◌∷◌, length, map, slice_index_or, slice_set, take, option_map, IfOk, IfSome, OnErr, OnOk};
 ghost use Rattle.std.specs.Option.{option_map_or};
-ghost use Rattle.vp_sim.specs.Statements.{whole_of};
+ghost use Rattle.vp_sim.specs.States.{whole_of};
 
 use std::alloc::{AllocError, Global};
 use std::marker::Model;

@@ -19,6 +19,7 @@ use Rattle.vp_elab.specs.declared.object.Kind.TheVariants.{Module, Reg, Initial}
 use Rattle.vp_elab.specs.Tree.{Node, Tree}
 use Rattle.vp_expr.specs.Arena.{sizes_in}
 use Rattle.vp_expr.specs.Tables.{tables_of}
+use Rattle.vp_statement.specs.Effects.{effect_at}
 use Rattle.vp_policy.specs.declared.denial.By.TheVariants as by
 use Rattle.vp_policy.specs.Users.{Member}
 use Rattle.vp_world.specs.declared.event.SessionId.{SessionId}
@@ -86,6 +87,8 @@ source = record {
         ports = 0;
         statements = record { first = 0; end = 5 };
         expressions = record { first = 0; end = 2 };
+        terms = record { first = 0; end = 0 };
+        choices = record { first = 0; end = 0 };
       }
       ∷ [];
   connections = [];
@@ -93,6 +96,8 @@ source = record {
   statements =
       statement.Empty ∷ statement.Assign 1 selection.Whole 0 ∷ statement.Then 0 1 ∷ statement.Assign 2 selection.Whole 1 ∷ statement.Then 2 3 ∷ [];
   expressions = expression.Literal 9 1 3 ∷ expression.Name 1 selection.Whole ∷ [];
+  terms = [];
+  choices = [];
 }
 
 abbrev ann : Member
@@ -157,7 +162,7 @@ value_read : answered (opens ∷ asks (codes "top.a") ∷ []) (reads 1) ≡ repl
 value_read = refl
 
 value_behind_a_step : answered (opens ∷ asks (codes "top.a") ∷ runs ∷ steps 0 ∷ []) (reads 1) ≡ reply.Value (One ∷ [])
-unfolding digits is_utf8 chars encode sizes_in tables_of
+unfolding digits is_utf8 chars encode sizes_in tables_of effect_at
 value_behind_a_step = refl
 
 time_read : answered (opens ∷ []) (event.Ask first request.Time) ≡ reply.Time 0 false
@@ -203,15 +208,15 @@ advance_before_a_run : refused (opens ∷ []) event.Advance ≡ Some error.Beyon
 advance_before_a_run = refl
 
 no_such_choice : refused (opens ∷ runs ∷ []) (steps 1) ≡ Some (error.Sim sim.NoSuchChoice)
-unfolding digits is_utf8 chars encode sizes_in tables_of
+unfolding digits is_utf8 chars encode sizes_in tables_of effect_at
 no_such_choice = refl
 
 idle : refused (opens ∷ runs ∷ steps 0 ∷ steps 0 ∷ []) (steps 0) ≡ Some (error.Sim sim.Idle)
-unfolding digits is_utf8 chars encode sizes_in tables_of
+unfolding digits is_utf8 chars encode sizes_in tables_of effect_at
 idle = refl
 
 no_future : refused (opens ∷ runs ∷ steps 0 ∷ steps 0 ∷ []) event.Advance ≡ Some (error.Sim sim.Idle)
-unfolding digits is_utf8 chars encode sizes_in tables_of
+unfolding digits is_utf8 chars encode sizes_in tables_of effect_at
 no_future = refl
 
 -- a full log is told before the goal, and behind a session that is not open
@@ -230,5 +235,5 @@ legal :
     (entry opens (reply.Opened first) None ∷ entry (asks (codes "top.k")) hidden None ∷ entry runs reply.Done None
     ∷ entry (steps 0) reply.Done (Some (record { object = record { 0 = 1 }; value = One ∷ [] }))
     ∷ entry (event.Close first) reply.Done None ∷ [])
-unfolding digits is_utf8 chars encode sizes_in tables_of
+unfolding digits is_utf8 chars encode sizes_in tables_of effect_at
 legal = (refl, refl, (refl, refl, (refl, refl, (refl, refl, (refl, refl, tt)))))

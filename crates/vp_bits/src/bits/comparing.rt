@@ -1,5 +1,5 @@
 ghost use Rattle.std.specs.Prelude.{◌≡◌, [], ◌∷◌, Some, length};
-ghost use Rattle.vp_bits.specs.Comparing.{less, equal, case_equal, bit_of_answer};
+ghost use Rattle.vp_bits.specs.Comparing.{less, equal, case_equal, casez_matches, bit_of_answer};
 
 use super::without;
 use crate::{Bit, Bits};
@@ -30,6 +30,17 @@ impl Bits {
     {
         let differing = (self.aval ^ other.aval) | (self.bval ^ other.bval);
         Bits::of_test(differing == 0)
+    }
+
+    /// Whether two vectors of one width match where a z of either matches any bit (IEEE Std 1364-2005,
+    /// 9.5.1, `casez`).
+    pub fn casez_matches(self, other: Bits) -> bool
+        requires { length self ≡ length other }
+        ensures { result ≡ casez_matches self other }
+    {
+        let differing = (self.aval ^ other.aval) | (self.bval ^ other.bval);
+        let z = without(self.bval, self.aval) | without(other.bval, other.aval);
+        without(differing, z) == 0
     }
 
     /// The relation `<` on two vectors of one width, as unsigned numbers, as a vector of one bit: x

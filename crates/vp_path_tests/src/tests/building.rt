@@ -4,6 +4,7 @@ ghost use Rattle.vp_lex.specs.declared.token.TheConstants.{TEXT_LIMIT};
 
 use std::alloc::Global;
 use vp_elab::{Design, elaborate};
+use vp_expr::{Checked, check};
 use vp_lex::tokens;
 use vp_parse::{Source, parse};
 use vp_pragma::{Envelopes, envelopes};
@@ -30,4 +31,11 @@ pub fn design_of(alloc: Global, text: &str) -> Option<Design>
 {
     let envelopes = envelopes_of(alloc, text)?;
     elaborate(alloc, source_of(alloc, text)?, envelopes).ok()
+}
+
+/// The design of a text, checked.
+pub fn checked_of(alloc: Global, text: &str) -> Option<Checked>
+    requires { length text.now ≤ TEXT_LIMIT }
+{
+    check(alloc, design_of(alloc, text)?).ok()
 }

@@ -1,17 +1,14 @@
-//! What a design with a policy answers beside the program: closed envelopes, copies of a simulation, and a world's limits and log.
+//! What a design with a policy answers beside the program: closed envelopes, and a world's limits and log.
 //! The helpers are short and give plain answers, which keeps each test's proof short.
 ghost use Rattle.std.specs.Prelude.{IfSome};
 ghost use Rattle.vp_world.specs.Events.{IsWellFormed};
 
-use crate::tests::building::design_of;
+use crate::tests::building::{checked_of, design_of};
 use std::alloc::Global;
 use std::sync::Arc;
-use vp_bits::Bits;
 use vp_elab::{Design, ObjectId};
-use vp_expr::{Checked, check};
 use vp_list::{Sequence, Text};
 use vp_policy::{Policy, UserId};
-use vp_sim::Sim;
 use vp_world::{Event, Limits, Reply, Request, SessionId, World, WorldError};
 
 /// The README's design. Its objects are `top` (0), `a` (1), `k` (2) and the process (3).
@@ -33,11 +30,6 @@ const ANN: SessionId = SessionId {
     user: UserId(0),
     opens: 1,
 };
-
-/// The design, checked.
-fn checked(alloc: Global) -> Option<Checked> {
-    check(alloc, design_of(alloc, DESIGN)?).ok()
-}
 
 /// The policy, read.
 fn policy(alloc: Global) -> Option<Policy> {
@@ -61,89 +53,6 @@ fn closed_envelopes(rt: HostRuntime) {
         let numbers = closed(rt.alloc(), scope).expect(&rt, "numbers");
         assert_eq!(rt; numbers.as_slice(), want);
     }
-}
-
-/// A simulation of the design.
-fn simulation(alloc: Global) -> Option<Sim> {
-    let checked = Arc::new(alloc, checked(alloc)?).ok()?;
-    Sim::new(alloc, checked).ok()
-}
-
-/// The object that a step changes, or the number of its refusal.
-fn stepped(simulation: &mut Sim, k: usize) -> u32 {
-    match simulation.step(k) {
-        Ok(Some(change)) => change.object.0,
-        Ok(None) => u32::MAX,
-        Err(error) => error.code(),
-    }
-}
-
-/// The number of the refusal of an advance.
-fn advanced(simulation: &mut Sim) -> u32 {
-    match simulation.advance() {
-        Ok(()) => u32::MAX,
-        Err(error) => error.code(),
-    }
-}
-
-/// What comes of steps and advances of a new simulation.
-fn turns_of(simulation: &mut Sim) -> [u32; 6] {
-    [
-        stepped(simulation, 1),
-        advanced(simulation),
-        stepped(simulation, 0),
-        stepped(simulation, 0),
-        stepped(simulation, 0),
-        advanced(simulation),
-    ]
-}
-
-/// The same of a simulation of the design.
-fn turns(alloc: Global) -> Option<[u32; 6]> {
-    Some(turns_of(&mut simulation(alloc)?))
-}
-
-#[test]
-fn steps_and_advances(rt: HostRuntime) {
-    assert_eq!(rt; turns(rt.alloc()), Some([802, 803, 1, 2, 801, 801]));
-}
-
-/// The process whose event comes first in a simulation.
-fn first_source_of(simulation: &Sim) -> Option<ObjectId> {
-    if simulation.eligible() > 0 {
-        Some(simulation.source(0))
-    } else {
-        None
-    }
-}
-
-/// The process whose event comes first.
-fn first_source(alloc: Global) -> Option<ObjectId> {
-    first_source_of(&simulation(alloc)?)
-}
-
-#[test]
-fn source_of_the_first_event(rt: HostRuntime) {
-    assert_eq!(rt; first_source(rt.alloc()), Some(ObjectId(3)));
-}
-
-/// The value of `top.a` in a copy of a simulation that takes a step.
-fn value_in_copy(simulation: &Sim) -> Option<Bits> {
-    let mut copy = simulation.try_clone().ok()?;
-    let _changed = stepped(&mut copy, 0);
-    Some(copy.value(ObjectId(1)))
-}
-
-/// The value of `top.a` in a copy of a new simulation that takes a step, and then in the simulation itself.
-fn values_of_both(alloc: Global) -> Option<(Bits, Bits)> {
-    let simulation = simulation(alloc)?;
-    Some((value_in_copy(&simulation)?, simulation.value(ObjectId(1))))
-}
-
-#[test]
-fn copy_of_a_simulation(rt: HostRuntime) {
-    let both = (Bits::of_number(1, 1), Bits::unknown(1));
-    assert_eq!(rt; values_of_both(rt.alloc()), Some(both));
 }
 
 /// What happens to a world.
@@ -221,7 +130,7 @@ fn outcomes(alloc: Global, world: &mut World, deeds: &[Deed]) -> Option<Vec<u64>
 
 /// A world of the design and the policy, with these limits.
 fn world(alloc: Global, limits: Limits) -> Option<World> {
-    let checked = Arc::new(alloc, checked(alloc)?).ok()?;
+    let checked = Arc::new(alloc, checked_of(alloc, DESIGN)?).ok()?;
     World::new(alloc, checked, policy(alloc)?, limits).ok()
 }
 

@@ -1,7 +1,7 @@
 use Rattle.std.proofs.Common.{◌∙◌, sym, arith}
 use Rattle.std.proofs.lemmas.Result.{err_from_is_err_and}
-use Rattle.vp_parse_stmt.specs.Placing.{Made, lists_in, stmt_into}
-use Rattle.vp_parse_stmt.proofs.Loops.{chain_starts, chain_turn, chain_fails, chain_done, stmt_step, stmt_none}
+use Rattle.vp_parse_stmt.specs.Placing.{Made, MadeItems, lists_in, stmt_into}
+use Rattle.vp_parse_stmt.proofs.Loops.{chain_starts, chain_turn, chain_fails, chain_done, stmt_step, stmt_none, item_turn, item_fails, items_done}
 use Rattle.vp_parse_stmt.proofs.parsing.+statement.Goals as goal
 
 pub list-loop-arena-init : goal.list-loop-arena-init
@@ -34,3 +34,20 @@ statement-returns-then-depth-eq0-clause-read t c = stmt_none c.args.limit c.args
 
 pub statement-returns-clause-read : goal.statement-returns-clause-read
 statement-returns-clause-read t c = rw (stmt_step c.args.limit c.args.depth (lists_in c.args.arena.now) c.args.symbols.now c.if-depth-eq0.false) c.form.ensures.read
+
+pub further_items-returns-in_err-after-clause-read : goal.further_items-returns-in_err-after-clause-read
+further_items-returns-in_err-after-clause-read t c =
+    let p = err_from_is_err_and c.from_residual.result c.from_residual.ensures.1 in
+    rw (p.1, p.2) (item_fails c.args.limit (stmt_into c.args.limit c.args.depth) c.loop-arena.may c.loop-arena.choices.items (lists_in c.loop-arena.arena) c.loop-arena.rest.now _ c.in_err-after.field-0.0 (sym c.items_go_on.ensures ∙ c.loop-arena-test.true) c.in_err-after.ensures.read c.loop-arena.invariant.goes_on)
+
+pub further_items-loop-arena-preserved : goal.further_items-loop-arena-preserved
+further_items-loop-arena-preserved t c =
+    let e : MadeItems = (c.item.new.choices.items, lists_in c.item.new.arena, c.in_ok-after.after.now) in
+    record {
+      lighter = omega (arith, c.in_ok-after.ensures.lighter);
+      no_longer = omega (arith, c.in_ok-after.ensures.shorter);
+      goes_on = rw c.may_still-may.ensures (item_turn c.args.limit (stmt_into c.args.limit c.args.depth) c.loop-arena.may c.loop-arena.choices.items (lists_in c.loop-arena.arena) c.loop-arena.rest.now _ e (sym c.items_go_on.ensures ∙ c.loop-arena-test.true) c.in_ok-after.ensures.read c.in_ok-after.ensures.shorter c.loop-arena.invariant.goes_on);
+    }
+
+pub further_items-returns-clause-read : goal.further_items-returns-clause-read
+further_items-returns-clause-read t c = items_done c.args.limit (stmt_into c.args.limit c.args.depth) c.loop-arena.may c.loop-arena.choices.items (lists_in c.loop-arena.arena) c.loop-arena.rest.now _ (sym c.items_go_on.ensures ∙ c.loop-arena-test.false) c.loop-arena.invariant.goes_on

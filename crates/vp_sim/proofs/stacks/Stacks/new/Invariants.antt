@@ -1,5 +1,5 @@
 use Rattle.std.proofs.Common.{◌≡◌, take, map}
-use Rattle.vp_sim.specs.Statements.{whole_of}
+use Rattle.vp_sim.specs.States.{whole_of}
 use Rattle.vp_sim.proofs.stacks.Stacks.new.Given as goal
 
 -- the stacks of the processes so far

@@ -1,7 +1,0 @@
-use Rattle.std.proofs.Common.{◌≡◌, ◌-◌, length}
-use Rattle.vp_sim.specs.Statements.{first_event}
-use Rattle.vp_sim.proofs.statement.first_event.Given as goal
-
--- the first event of this part is that of the whole
-abbrev pub invariant-begin : goal.invariant-begin
-invariant-begin l = first_event l.actions (length l.actions - l._turn) l.here ≡ first_event l.actions (length l.actions) l.fn.place

@@ -1,0 +1,243 @@
+ghost use Rattle.std.specs.Prelude.{◌≡◌, ◌++◌, length, map, replicate, None, Some, IfErr, IfOk, OnErr, OnOk, IsOkUnless};
+ghost use Rattle.std.specs.Arc.{arc_value};
+ghost use Rattle.vp_elab.specs.Tree.{below};
+ghost use Rattle.vp_strata.specs.declared.event.Event.TheVariants.{Evaluation};
+ghost use Rattle.vp_strata.specs.Events.{process_of};
+ghost use Rattle.vp_strata.specs.Queues.{no_events, with_active};
+ghost use Rattle.vp_expr.specs.Tables.{tables_of};
+ghost use Rattle.vp_sim.specs.declared.fault.SimError.TheVariants.{NoMemory};
+ghost use Rattle.vp_sim.specs.States.{Explains, Goes, IsStep, Refuses, advance, advanced_to, eligible, next_time, put, slot_done, source_of, start, step};
+
+use crate::change::Change;
+use crate::fault::SimError;
+use crate::listeners::Listeners;
+use crate::machine::Machine;
+use crate::processes::process_at;
+use crate::stacks::Stacks;
+use crate::waiting::Waiting;
+use std::alloc::Global;
+use std::sync::Arc;
+use vp_bits::Bits;
+use vp_elab::ObjectId;
+use vp_expr::{Checked, Values};
+use vp_strata::{Event, Strata, StrataError};
+
+/// The event queue at the start: so many processes are evaluated, in order.
+fn first_queue(alloc: Global, processes: usize) -> Result<Strata, StrataError>
+    ensures queue { IfOk result (λ q. q.queue ≡ with_active no_events (map Evaluation (below processes))) }
+    ensures processes { IfOk result (λ q. q.processes ≡ processes) }
+{
+    let mut queue = Strata::new(alloc, processes)?;
+    queue.room(processes)?;
+    for process in 0..processes {
+        queue.push_active(process)?;
+    }
+    Ok(queue)
+}
+
+/// The event of a process.
+fn process_of(event: Event) -> usize
+    ensures { result ≡ process_of event }
+{
+    match event {
+        Event::Evaluation { process } | Event::NetUpdate { process, .. } => process,
+        Event::Nonblocking { update } => update.process,
+    }
+}
+
+impl Machine {
+    /// A simulation of a design in which nothing has happened; or want of memory (806).
+    pub fn new(alloc: Global, checked: Arc<Checked>) -> Result<Machine, SimError>
+        ensures state { IfOk result (λ m. m.state ≡ start (arc_value checked)) }
+        ensures err { IsOkUnless result NoMemory }
+    {
+        let Ok(values) = Values::new(alloc, &checked) else {
+            return Err(SimError::NoMemory);
+        };
+        let count = checked.tables().processes.len();
+        let Ok(queue) = first_queue(alloc, count) else {
+            return Err(SimError::NoMemory);
+        };
+        let stacks = Stacks::new(alloc, checked.tables().processes.as_slice())?;
+        let waiting = vec![in alloc; Waiting::Nothing; count]?;
+        let listeners = Listeners::new(alloc, checked)?;
+        Ok(Machine {
+            alloc,
+            listeners,
+            time: 0,
+            finished: false,
+            values,
+            stacks,
+            waiting,
+            queue,
+            scratch: Vec::new(alloc),
+        })
+    }
+
+    /// The same simulation again; or want of memory (806).
+    pub fn try_clone(&self) -> Result<Machine, SimError>
+        ensures state { IfOk result (λ m. m.state ≡ self.now.state) }
+        ensures err { IsOkUnless result NoMemory }
+    {
+        let Ok(values) = self.values.try_clone(self.alloc) else {
+            return Err(SimError::NoMemory);
+        };
+        let Ok(queue) = self.queue.try_clone(self.alloc) else {
+            return Err(SimError::NoMemory);
+        };
+        let stacks = self.stacks.try_clone(self.alloc)?;
+        let waiting = Vec::from_slice(self.alloc, &self.waiting)?;
+        let listeners = self.listeners.try_clone()?;
+        Ok(Machine {
+            alloc: self.alloc,
+            listeners,
+            time: self.time,
+            finished: self.finished,
+            values,
+            stacks,
+            waiting,
+            queue,
+            scratch: Vec::new(self.alloc),
+        })
+    }
+
+    /// The values of the objects.
+    pub fn values(&self) -> &Values
+        ensures { result.now ≡ self.now.state.values }
+    {
+        &self.values
+    }
+
+    /// The current time, in time units.
+    pub fn time(&self) -> u64
+        ensures { result ≡ self.now.state.time }
+    {
+        self.time
+    }
+
+    /// The time of the next future event, in time units.
+    pub fn next_time(&self) -> Option<u64>
+        ensures { result ≡ next_time self.now.state }
+    {
+        self.queue.next_time()
+    }
+
+    /// `$finish` was executed.
+    pub fn finished(&self) -> bool
+        ensures { result ≡ self.now.state.finished }
+    {
+        self.finished
+    }
+
+    /// Nothing is left to do at the current time.
+    pub fn slot_done(&self) -> bool
+        ensures { result ≡ slot_done self.now.state }
+    {
+        self.queue.is_done()
+    }
+
+    /// How many events a step can take.
+    pub fn eligible(&self) -> usize
+        ensures { result ≡ length (eligible self.now.state) }
+    {
+        self.queue.eligible()
+    }
+
+    /// The object of the process whose event is the k-th of those that a step can take; the first object where there is none.
+    pub fn source(&self, k: usize) -> ObjectId
+        ensures { result ≡ source_of self.now.state k }
+    {
+        let Some(event) = self.queue.peek(k) else {
+            return ObjectId(0);
+        };
+        match process_at(self.listeners.checked(), process_of(event)) {
+            Some(process) => process.object(),
+            None => ObjectId(0),
+        }
+    }
+
+    /// Takes the k-th of the events that a step can take, and tells what it changed; else the refusal (804, 801, 802, 805, 806).
+    pub fn step(&mut self, k: usize) -> Result<Option<Change>, SimError>
+        ensures ok { IfOk result (λ change. step self.old.state k ≡ Goes self.new.state change) }
+        ensures refused { IfErr result (λ e. Explains (step self.old.state k) e) }
+        ensures unchanged { OnErr result (self.new.state ≡ self.old.state) }
+    {
+        let change = match self.event(k)? {
+            Event::Evaluation { process } => return self.evaluate(k, process),
+            Event::NetUpdate { process, value } => self.change_by_net(process, value),
+            Event::Nonblocking { update } => {
+                self.set_change(update.object, update.place, update.value)
+            }
+        };
+        self.update(k, &change)?;
+        Ok(change)
+    }
+
+    /// A step that takes the k-th of the events is legal; else its refusal (804, 801, 802, 805).
+    pub fn check_step(&self, k: usize) -> Result<(), SimError>
+        ensures ok { OnOk result (IsStep (step self.now.state k)) }
+        ensures refused { IfErr result (λ e. step self.now.state k ≡ Refuses e) }
+    {
+        match self.event(k)? {
+            Event::Evaluation { process } => self.check_evaluation(process),
+            Event::NetUpdate { .. } | Event::Nonblocking { .. } => Ok(()),
+        }
+    }
+
+    /// The time to which an advance goes on; else its refusal (804, 803, 801).
+    fn time_ahead(&self) -> Result<u64, SimError>
+        ensures ok { IfOk result (λ time. advance self.now.state ≡ advanced_to self.now.state (Some time)) }
+        ensures refused { IfErr result (λ e. advance self.now.state ≡ Refuses e) }
+    {
+        if self.finished {
+            return Err(SimError::Finished);
+        }
+        if !self.queue.is_done() {
+            return Err(SimError::SlotNotDone);
+        }
+        match self.queue.next_time() {
+            Some(time) => Ok(time),
+            None => Err(SimError::Idle),
+        }
+    }
+
+    /// An advance is legal; else its refusal (804, 803, 801).
+    pub fn check_advance(&self) -> Result<(), SimError>
+        ensures ok { OnOk result (IsStep (advance self.now.state)) }
+        ensures refused { IfErr result (λ e. advance self.now.state ≡ Refuses e) }
+    {
+        self.time_ahead()?;
+        Ok(())
+    }
+
+    /// Goes on to the time of the next future event; else the refusal (804, 803, 801, 806).
+    pub fn advance(&mut self) -> Result<(), SimError>
+        ensures ok { OnOk result (advance self.old.state ≡ Goes self.new.state None) }
+        ensures refused { IfErr result (λ e. Explains (advance self.old.state) e) }
+        ensures unchanged { OnErr result (self.new.state ≡ self.old.state) }
+    {
+        let time = self.time_ahead()?;
+        match self.queue.advance() {
+            Ok(()) => {
+                self.time = time;
+                Ok(())
+            }
+            Err(_) => Err(SimError::NoMemory),
+        }
+    }
+
+    /// Gives an object a value at once, and tells what changed; else the refusal (804, 806).
+    pub fn put(&mut self, object: ObjectId, value: Bits) -> Result<Option<Change>, SimError>
+        ensures ok { IfOk result (λ change. put self.old.state object.0 value ≡ Goes self.new.state change) }
+        ensures refused { IfErr result (λ e. Explains (put self.old.state object.0 value) e) }
+        ensures unchanged { OnErr result (self.new.state ≡ self.old.state) }
+    {
+        if self.finished {
+            return Err(SimError::Finished);
+        }
+        let change = self.change_to(object, value);
+        self.room_for(&change)?;
+        self.change(&change);
+        Ok(change)
+    }
+}

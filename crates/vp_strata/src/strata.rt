@@ -1,0 +1,345 @@
+ghost use Rattle.std.specs.Prelude.{◌≡◌, ◌<◌, ◌≤◌, ◌+◌, ◌++◌, ◌∷◌, [], drop, length, slice_get, Err, IfErr, IfOk, IsOk, OnErr, OnOk};
+ghost use Rattle.vp_strata.specs.declared.fault.StrataError.TheVariants.{NoMemory, TimeLimit};
+ghost use Rattle.vp_strata.specs.declared.event.Event.TheVariants.{Evaluation, NetUpdate};
+ghost use Rattle.vp_strata.specs.Queues.{activated, advanced, first_time, inactive_activated, is_done, no_events, nonblocking_activated, peeked, put_in, ready, scheduled, taken, with_active, with_future, with_inactive, with_nonblocking};
+
+use crate::active::ActiveRegion;
+use crate::copies::copied;
+use crate::event::{Delayed, Event, NonblockingUpdate, Timed};
+use crate::fault::StrataError;
+use crate::future::FutureRegion;
+use std::alloc::{AllocError, Global};
+use std::collections::VecDeque;
+use std::marker::Model;
+use vp_bits::Bits;
+
+/// No event is scheduled at this time or later, in time units (profile).
+pub const TIME_LIMIT: u64 = 1 << 62;
+
+/// The event queue (IEEE Std 1364-2005, 11.3). A contract sees its four lists, how many more events it takes without memory, and the
+/// number of processes, by which events name them.
+#[derive(Drop)]
+pub struct Strata {
+    active: ActiveRegion,
+    inactive: VecDeque<usize>,
+    nonblocking: VecDeque<NonblockingUpdate>,
+    future: FutureRegion,
+    /// So many events can be pushed without memory.
+    spare: usize,
+}
+
+impl Model for Strata {
+    ghost use Rattle.std.specs.Prelude.{◌+◌, ◌≤◌};
+    ghost use Rattle.std.specs.VecDeque.{deque_capacity, deque_len};
+    ghost use Rattle.vp_strata.specs.Queues.{Regions};
+
+    ghost Value = { Regions };
+
+    ghost view = { λ s. record { queue = record { active = s.active.events; inactive = s.inactive.items; nonblocking = s.nonblocking.items; future = s.future.events }; spare = s.spare; processes = s.active.processes } };
+
+    ghost invariant = { λ s. (s.spare + deque_len s.inactive + deque_len s.nonblocking ≤ s.active.room) × (deque_len s.inactive + s.spare ≤ deque_capacity s.inactive) × (deque_len s.nonblocking + s.spare ≤ deque_capacity s.nonblocking) × (s.spare ≤ s.future.room) };
+}
+
+impl Strata {
+    /// The empty queue of so many processes. An `Err` is want of memory (701).
+    pub fn new(alloc: Global, processes: usize) -> Result<Strata, StrataError>
+        ensures queue { IfOk result (λ s. s.queue ≡ no_events) }
+        ensures processes { IfOk result (λ s. s.processes ≡ processes) }
+        ensures memory { IfErr result (λ e. e ≡ NoMemory) }
+    {
+        Ok(Strata {
+            active: ActiveRegion::new(alloc, processes)?,
+            inactive: VecDeque::new(alloc),
+            nonblocking: VecDeque::new(alloc),
+            future: FutureRegion::new(alloc),
+            spare: 0,
+        })
+    }
+
+    /// The same events again. An `Err` is want of memory (701).
+    pub fn try_clone(&self, alloc: Global) -> Result<Strata, StrataError>
+        ensures queue { IfOk result (λ s. s.queue ≡ self.now.queue) }
+        ensures processes { IfOk result (λ s. s.processes ≡ self.now.processes) }
+        ensures memory { IfErr result (λ e. e ≡ NoMemory) }
+    {
+        let mut active = self.active.try_clone(alloc)?;
+        let inactive = copied(alloc, &self.inactive)?;
+        let nonblocking = copied(alloc, &self.nonblocking)?;
+        active.reserve_all(0, inactive.len(), nonblocking.len())?;
+        let future = self.future.try_clone(alloc)?;
+        Ok(Strata {
+            active,
+            inactive,
+            nonblocking,
+            future,
+            spare: 0,
+        })
+    }
+
+    /// Makes room: the next `count` events that are pushed need no memory. An `Err` is want of memory (701). No event changes.
+    pub fn room(&mut self, count: usize) -> Result<(), StrataError>
+        ensures spare { OnOk result (count ≤ self.new.spare) }
+        ensures no_less { self.old.spare ≤ self.new.spare }
+        ensures queue { self.new.queue ≡ self.old.queue }
+        ensures processes { self.new.processes ≡ self.old.processes }
+        ensures memory { IfErr result (λ e. e ≡ NoMemory) }
+    {
+        if count <= self.spare {
+            return Ok(());
+        }
+        self.active
+            .reserve_all(count, self.inactive.len(), self.nonblocking.len())?;
+        self.inactive.reserve(count)?;
+        self.nonblocking.reserve(count)?;
+        self.future.reserve(count)?;
+        self.spare = count;
+        Ok(())
+    }
+
+    /// Makes room for an event, if there is none.
+    fn room_for_one(&mut self) -> Result<(), StrataError>
+        ensures spare { OnOk result (1 ≤ self.new.spare) }
+        ensures no_less { self.old.spare ≤ self.new.spare }
+        ensures sure { 1 ≤ self.old.spare → IsOk result }
+        ensures queue { self.new.queue ≡ self.old.queue }
+        ensures processes { self.new.processes ≡ self.old.processes }
+        ensures memory { IfErr result (λ e. e ≡ NoMemory) }
+    {
+        if self.spare == 0 {
+            self.room(1)
+        } else {
+            Ok(())
+        }
+    }
+
+    /// The evaluation of a process becomes active. An `Err` is want of memory (701), and changes no event.
+    pub fn push_active(&mut self, process: usize) -> Result<(), StrataError>
+        ensures queue { OnOk result (self.new.queue ≡ with_active self.old.queue (self.old.queue.active ++ Evaluation process ∷ [])) }
+        ensures unchanged { OnErr result (self.new.queue ≡ self.old.queue) }
+        ensures spare { self.old.spare ≤ self.new.spare + 1 }
+        ensures sure { 1 ≤ self.old.spare → IsOk result }
+        ensures processes { self.new.processes ≡ self.old.processes }
+        ensures memory { IfErr result (λ e. e ≡ NoMemory) }
+    {
+        self.room_for_one()?;
+        self.active.push_evaluation(process);
+        self.spare -= 1;
+        Ok(())
+    }
+
+    /// An update of the net that a process drives becomes active. An `Err` is want of memory (701), and changes no event.
+    pub fn push_net_update(&mut self, process: usize, value: Bits) -> Result<(), StrataError>
+        requires { process < self.old.processes }
+        ensures queue { OnOk result (self.new.queue ≡ with_active self.old.queue (self.old.queue.active ++ NetUpdate process value ∷ [])) }
+        ensures unchanged { OnErr result (self.new.queue ≡ self.old.queue) }
+        ensures spare { self.old.spare ≤ self.new.spare + 1 }
+        ensures sure { 1 ≤ self.old.spare → IsOk result }
+        ensures processes { self.new.processes ≡ self.old.processes }
+        ensures memory { IfErr result (λ e. e ≡ NoMemory) }
+    {
+        self.room_for_one()?;
+        self.active.push_net_update(process, value);
+        self.spare -= 1;
+        Ok(())
+    }
+
+    /// One more process is inactive: it goes on behind the active events (9.7.1). An `Err` is want of memory (701), and changes no event.
+    pub fn push_inactive(&mut self, process: usize) -> Result<(), StrataError>
+        ensures queue { OnOk result (self.new.queue ≡ with_inactive self.old.queue (self.old.queue.inactive ++ process ∷ [])) }
+        ensures unchanged { OnErr result (self.new.queue ≡ self.old.queue) }
+        ensures spare { self.old.spare ≤ self.new.spare + 1 }
+        ensures sure { 1 ≤ self.old.spare → IsOk result }
+        ensures processes { self.new.processes ≡ self.old.processes }
+        ensures memory { IfErr result (λ e. e ≡ NoMemory) }
+    {
+        self.room_for_one()?;
+        self.inactive.push_back_reserved(process);
+        self.spare -= 1;
+        Ok(())
+    }
+
+    /// One more update of a nonblocking assignment, at the current time (9.2.2). An `Err` is want of memory (701), and changes no event.
+    pub fn push_nba(&mut self, update: NonblockingUpdate) -> Result<(), StrataError>
+        ensures queue { OnOk result (self.new.queue ≡ with_nonblocking self.old.queue (self.old.queue.nonblocking ++ update ∷ [])) }
+        ensures unchanged { OnErr result (self.new.queue ≡ self.old.queue) }
+        ensures spare { self.old.spare ≤ self.new.spare + 1 }
+        ensures sure { 1 ≤ self.old.spare → IsOk result }
+        ensures processes { self.new.processes ≡ self.old.processes }
+        ensures memory { IfErr result (λ e. e ≡ NoMemory) }
+    {
+        self.room_for_one()?;
+        self.nonblocking.push_back_reserved(update);
+        self.spare -= 1;
+        Ok(())
+    }
+
+    /// One more future event, at a time in time units. A time of 2^62 or more is refused (702); another `Err` is want of memory
+    /// (701). Each changes no event.
+    pub fn push_future(&mut self, time: u64, event: Delayed) -> Result<(), StrataError>
+        ensures late { TIME_LIMIT ≤ time → result ≡ Err TimeLimit }
+        ensures memory { time < TIME_LIMIT → IfErr result (λ e. e ≡ NoMemory) }
+        ensures queue { OnOk result (self.new.queue ≡ with_future self.old.queue (scheduled (record { time = time; event = event }) self.old.queue.future)) }
+        ensures unchanged { OnErr result (self.new.queue ≡ self.old.queue) }
+        ensures spare { self.old.spare ≤ self.new.spare + 1 }
+        ensures sure { 1 ≤ self.old.spare → time < TIME_LIMIT → IsOk result }
+        ensures processes { self.new.processes ≡ self.old.processes }
+    {
+        if time >= TIME_LIMIT {
+            return Err(StrataError::TimeLimit);
+        }
+        self.room_for_one()?;
+        self.future.schedule(time, event);
+        self.spare -= 1;
+        Ok(())
+    }
+
+    /// How many events are eligible, behind the activation that a step would make.
+    pub fn eligible(&self) -> usize
+        ensures { result ≡ length (ready self.now.queue) }
+    {
+        if !self.active.events().is_empty() {
+            return self.active.count_eligible();
+        }
+        if !self.inactive.is_empty() {
+            return self.inactive.len();
+        }
+        self.nonblocking.len().min(1)
+    }
+
+    /// The k-th of the eligible events, counted from 0, behind the activation that a step would make; none where there are not so many.
+    pub fn peek(&self, k: usize) -> Option<Event>
+        ensures { result ≡ peeked self.now.queue k }
+    {
+        if !self.active.events().is_empty() {
+            let place = self.active.eligible_place(k)?;
+            return self.active.events().get(place).copied();
+        }
+        if !self.inactive.is_empty() {
+            let process = *self.inactive.get(k)?;
+            return Some(Event::Evaluation { process });
+        }
+        if k > 0 {
+            return None;
+        }
+        let update = *self.nonblocking.front()?;
+        Some(Event::Nonblocking { update })
+    }
+
+    /// Takes the k-th of the active events that are eligible, counted from 0, if there is one.
+    pub fn take(&mut self, k: usize)
+        ensures queue { self.new.queue ≡ taken self.old.queue k }
+        ensures spare { self.new.spare ≡ self.old.spare }
+        ensures processes { self.new.processes ≡ self.old.processes }
+    {
+        if let Some(place) = self.active.eligible_place(k) {
+            self.active.remove(place);
+        }
+    }
+
+    /// How many processes are inactive, and how many updates of nonblocking assignments there are.
+    pub fn waiting(&self) -> (usize, usize)
+        ensures { result ≡ (length self.now.queue.inactive, length self.now.queue.nonblocking) }
+    {
+        (self.inactive.len(), self.nonblocking.len())
+    }
+
+    /// Nothing is left to do at the current time.
+    pub fn is_done(&self) -> bool
+        ensures { result ≡ is_done self.now.queue }
+    {
+        self.active.events().is_empty() && self.inactive.is_empty() && self.nonblocking.is_empty()
+    }
+
+    /// The time of the next future event, in time units; none where there is none.
+    pub fn next_time(&self) -> Option<u64>
+        ensures { result ≡ first_time self.now.queue.future }
+    {
+        self.future.first_time()
+    }
+
+    /// All inactive processes become active.
+    fn activate_inactive(&mut self)
+        requires { self.old.queue.active ≡ [] }
+        ensures queue { self.new.queue ≡ inactive_activated self.old.queue }
+        ensures spare { self.new.spare ≡ self.old.spare }
+        ensures processes { self.new.processes ≡ self.old.processes }
+    {
+        for _ in 0..self.inactive.len() {
+            if let Some(process) = self.inactive.pop_front() {
+                self.active.push_evaluation(process);
+            }
+        }
+    }
+
+    /// All updates of nonblocking assignments become active.
+    fn activate_nonblocking(&mut self)
+        requires { self.old.queue.active ≡ [] }
+        ensures queue { self.new.queue ≡ nonblocking_activated self.old.queue }
+        ensures spare { self.new.spare ≡ self.old.spare }
+        ensures processes { self.new.processes ≡ self.old.processes }
+    {
+        for _ in 0..self.nonblocking.len() {
+            if let Some(update) = self.nonblocking.pop_front() {
+                self.active.push_nonblocking(update);
+            }
+        }
+    }
+
+    /// While no event is active, all inactive events are activated, or if there are none, all updates of nonblocking assignments (11.4).
+    pub fn activate(&mut self)
+        ensures queue { self.new.queue ≡ activated self.old.queue }
+        ensures spare { self.new.spare ≡ self.old.spare }
+        ensures processes { self.new.processes ≡ self.old.processes }
+    {
+        if !self.active.events().is_empty() {
+            return;
+        }
+        if self.inactive.is_empty() {
+            self.activate_nonblocking();
+        } else {
+            self.activate_inactive();
+        }
+    }
+
+    /// Takes the first future event.
+    fn pop_future(&mut self) -> Option<Timed>
+        ensures first { result ≡ slice_get self.old.queue.future 0 }
+        ensures queue { self.new.queue ≡ with_future self.old.queue (drop 1 self.old.queue.future) }
+        ensures spare { self.new.spare ≡ self.old.spare }
+        ensures processes { self.new.processes ≡ self.old.processes }
+    {
+        self.future.pop()
+    }
+
+    /// Time goes on to that of the first future event, if there is one: the processes that go on then become active, and the updates are
+    /// nonblocking events of that time (11.4). An `Err` is want of memory (701), and changes no event.
+    pub fn advance(&mut self) -> Result<(), StrataError>
+        ensures queue { OnOk result (self.new.queue ≡ advanced self.old.queue) }
+        ensures unchanged { OnErr result (self.new.queue ≡ self.old.queue) }
+        ensures processes { self.new.processes ≡ self.old.processes }
+        ensures memory { IfErr result (λ e. e ≡ NoMemory) }
+    {
+        let due = self.future.count_first();
+        self.room(due)?;
+        for _ in 0..due {
+            if let Some(event) = self.pop_future() {
+                self.put(event.event)?;
+            }
+        }
+        Ok(())
+    }
+
+    /// What was delayed happens now.
+    fn put(&mut self, event: Delayed) -> Result<(), StrataError>
+        requires { 1 ≤ self.old.spare }
+        ensures queue { self.new.queue ≡ put_in self.old.queue event }
+        ensures spare { self.old.spare ≤ self.new.spare + 1 }
+        ensures sure { IsOk result }
+        ensures processes { self.new.processes ≡ self.old.processes }
+    {
+        match event {
+            Delayed::Evaluation { process } => self.push_active(process),
+            Delayed::Nonblocking { update } => self.push_nba(update),
+        }
+    }
+}
