@@ -1,11 +1,5 @@
-//! Tests alone: each public call that takes memory, called with ample memory, gives the answer that the documents name.
-//! A call that only ever answers want of memory would be proved; here it fails.
-//!
-//! The calls that a script makes are tested through it: the cases of `vp_script_cases` compare each byte that it
-//! prints. They call `Text::copy`, `tokens`, `envelopes`, `parse`, `elaborate`, `check`, `Policy::read`, `Values::new`,
-//! `Sim::new` and `step`, `World::new` and `apply`, `Session::handle_by_name`, `vp_json`'s `read`, `Bits::to_bin`, `request`,
-//! `reply_line` and `session`. Here stand those that it does not make, what it cannot ask of a world, what faults,
-//! vectors, tokens and dialogues show by themselves, and scripts whose texts are too long for a stored case.
+//! Tests alone: dialogues, command lines, and scripts whose texts are too long for a stored case, each with the bytes that the documents
+//! name. What the calls below them answer by themselves is tested in `vp_part_tests`.
 #![tactic(auto)]
 
 #[cfg(test)]

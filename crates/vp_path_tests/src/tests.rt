@@ -1,11 +1,3 @@
-mod building;
 mod commands;
-mod designs;
 mod dialogues;
-mod queues;
 mod scripts;
-mod simulations;
-mod tokens;
-mod vectors;
-mod views;
-mod worlds;

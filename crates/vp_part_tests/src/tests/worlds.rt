@@ -7,6 +7,7 @@ use crate::tests::building::{checked_of, design_of};
 use std::alloc::Global;
 use std::sync::Arc;
 use vp_elab::{Design, ObjectId};
+use vp_expr::Checked;
 use vp_list::{Sequence, Text};
 use vp_policy::{Policy, UserId};
 use vp_world::{Event, Limits, Reply, Request, SessionId, World, WorldError};
@@ -31,14 +32,29 @@ const ANN: SessionId = SessionId {
     opens: 1,
 };
 
+/// The policy for a design, read.
+fn policy_for(alloc: Global, design: &Design) -> Option<Policy> {
+    Policy::read(alloc, POLICY, design).ok()
+}
+
 /// The policy, read.
 fn policy(alloc: Global) -> Option<Policy> {
-    Policy::read(alloc, POLICY, &design_of(alloc, DESIGN)?).ok()
+    policy_for(alloc, &design_of(alloc, DESIGN)?)
+}
+
+/// The envelopes of a scope of a design that are closed to Ann under a policy.
+fn closed_under(
+    alloc: Global,
+    policy: &Policy,
+    design: &Design,
+    scope: Option<ObjectId>,
+) -> Option<Sequence<u8>> {
+    policy.closed(alloc, design, UserId(0), scope).ok()
 }
 
 /// The envelopes of a scope of a design that are closed to Ann.
 fn closed_in(alloc: Global, design: &Design, scope: Option<ObjectId>) -> Option<Sequence<u8>> {
-    policy(alloc)?.closed(alloc, design, UserId(0), scope).ok()
+    closed_under(alloc, &policy_for(alloc, design)?, design, scope)
 }
 
 /// The envelopes of a scope of the design that are closed to Ann.
@@ -128,17 +144,26 @@ fn outcomes(alloc: Global, world: &mut World, deeds: &[Deed]) -> Option<Vec<u64>
     Some(outcomes)
 }
 
-/// A world of the design and the policy, with these limits.
-fn world(alloc: Global, limits: Limits) -> Option<World> {
-    let checked = Arc::new(alloc, checked_of(alloc, DESIGN)?).ok()?;
-    World::new(alloc, checked, policy(alloc)?, limits).ok()
+/// A world of a checked design and a policy, with these limits.
+fn world_of(alloc: Global, checked: Checked, policy: Policy, limits: Limits) -> Option<World> {
+    let checked = Arc::new(alloc, checked).ok()?;
+    World::new(alloc, checked, policy, limits).ok()
 }
 
-/// What comes of deeds in a new world, and how long its log is then.
-fn history(alloc: Global, limits: Limits, deeds: &[Deed]) -> Option<(Vec<u64>, usize)> {
-    let mut world = world(alloc, limits)?;
-    let outcomes = outcomes(alloc, &mut world, deeds)?;
+/// A world of the design and the policy, with these limits.
+fn world(alloc: Global, limits: Limits) -> Option<World> {
+    world_of(alloc, checked_of(alloc, DESIGN)?, policy(alloc)?, limits)
+}
+
+/// What comes of deeds in a world, and how long its log is then.
+fn history_of(alloc: Global, world: &mut World, deeds: &[Deed]) -> Option<(Vec<u64>, usize)> {
+    let outcomes = outcomes(alloc, world, deeds)?;
     Some((outcomes, world.log().len()))
+}
+
+/// The same in a new world.
+fn history(alloc: Global, limits: Limits, deeds: &[Deed]) -> Option<(Vec<u64>, usize)> {
+    history_of(alloc, &mut world(alloc, limits)?, deeds)
 }
 
 #[test]

@@ -21,10 +21,19 @@ endmodule
 const POLICY: &[u8] =
     b"{\"users\":[{\"name\":\"ann\",\"token\":\"t1\",\"open\":\"list+read\",\"run\":true}]}";
 
+/// The policy for a design, read.
+fn policy_for(alloc: Global, design: &Design) -> Option<Policy> {
+    Policy::read(alloc, POLICY, design).ok()
+}
+
+/// What Ann sees of a design under a policy.
+fn view_under(alloc: Global, policy: &Policy, design: &Design) -> Option<View> {
+    policy.view(alloc, design, UserId(0)).ok()
+}
+
 /// What Ann sees of a design.
 fn view_in(alloc: Global, design: &Design) -> Option<View> {
-    let policy = Policy::read(alloc, POLICY, design).ok()?;
-    policy.view(alloc, design, UserId(0)).ok()
+    view_under(alloc, &policy_for(alloc, design)?, design)
 }
 
 /// What Ann sees of the design.
@@ -32,10 +41,14 @@ fn view(alloc: Global) -> Option<View> {
     view_in(alloc, &design_of(alloc, DESIGN)?)
 }
 
+/// How many objects a view has, and whether its user may let the design run.
+fn count_and_run_of(view: &View) -> (usize, bool) {
+    (view.objects().len(), view.may_run())
+}
+
 /// How many objects Ann sees, and whether she may let the design run.
 fn count_and_run(alloc: Global) -> Option<(usize, bool)> {
-    let view = view(alloc)?;
-    Some((view.objects().len(), view.may_run()))
+    Some(count_and_run_of(&view(alloc)?))
 }
 
 #[test]

@@ -1,0 +1,60 @@
+//! What is declared in the scopes of a design. Each function asks one question, which keeps each proof short.
+
+use crate::tests::building::design_of;
+use std::alloc::Global;
+use vp_elab::{Design, ObjectId};
+use vp_list::Sequence;
+
+/// Two top modules, one of them with a reg and two instances, each of which has two ports and an assignment.
+const DESIGN: &str = "module inv(input wire a, output wire y);
+  assign y = ~a;
+endmodule
+module top;
+  reg r;
+  inv u(r), v(.a(r));
+endmodule
+module other;
+endmodule
+";
+
+/// The top modules of the design.
+fn roots(alloc: Global) -> Option<Sequence<ObjectId>> {
+    design_of(alloc, DESIGN)?.roots(alloc).ok()
+}
+
+#[test]
+fn top_modules(rt: HostRuntime) {
+    let roots = roots(rt.alloc()).expect(&rt, "roots");
+    assert_eq!(rt; roots.as_slice(), [ObjectId(0), ObjectId(10)].as_slice());
+}
+
+/// What is declared in a scope of a design.
+fn children_in(alloc: Global, design: &Design, scope: ObjectId) -> Option<Sequence<ObjectId>> {
+    design.children(alloc, scope).ok()
+}
+
+/// What is declared in a scope of the design.
+fn children(alloc: Global, scope: u32) -> Option<Sequence<ObjectId>> {
+    children_in(alloc, &design_of(alloc, DESIGN)?, ObjectId(scope))
+}
+
+#[test]
+fn declared_in_a_top_module(rt: HostRuntime) {
+    let children = children(rt.alloc(), 0).expect(&rt, "children");
+    let wanted = [ObjectId(1), ObjectId(2), ObjectId(6)];
+    assert_eq!(rt; children.as_slice(), wanted.as_slice());
+}
+
+#[test]
+fn declared_in_an_instance(rt: HostRuntime) {
+    let children = children(rt.alloc(), 2).expect(&rt, "children");
+    let wanted = [ObjectId(3), ObjectId(4), ObjectId(5)];
+    assert_eq!(rt; children.as_slice(), wanted.as_slice());
+}
+
+#[test]
+fn declared_in_the_other_instance(rt: HostRuntime) {
+    let children = children(rt.alloc(), 6).expect(&rt, "children");
+    let wanted = [ObjectId(7), ObjectId(8), ObjectId(9)];
+    assert_eq!(rt; children.as_slice(), wanted.as_slice());
+}
