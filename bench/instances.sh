@@ -3,10 +3,8 @@
 # often. The last is to take at most twice what the first two take together. Wants crates/vp_served/out/vp_served, which `rt run` in crates/vp_served builds.
 set -eu
 top=$(cd "$(dirname "$0")/.." && pwd)
-program=$top/crates/vp_served/out/vp_served
+. "$top/bench/common.sh"
 count=${1:-20000}
-work=$(mktemp -d)
-trap 'rm -rf "$work"' EXIT
 echo '{"users":[]}' > "$work/policy.json"
 : > "$work/script"
 

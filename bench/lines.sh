@@ -3,16 +3,14 @@
 # Wants crates/vp_served/out/vp_served, which `rt run` in crates/vp_served builds.
 set -eu
 top=$(cd "$(dirname "$0")/.." && pwd)
-program=$top/crates/vp_served/out/vp_served
-work=$(mktemp -d)
-trap 'rm -rf "$work"' EXIT
+. "$top/bench/common.sh"
 echo 'module top; reg a; endmodule' > "$work/design.v"
-echo '{"users":[{"name":"ann","token":"t1","open":"list+read","run":true}]}' > "$work/policy.json"
+echo "$one_user" > "$work/policy.json"
 
 # Runs a script of an `open` and so many copies of a line, through a pipe; tells lines answered, peak memory and time.
 run() {
     {
-        echo '{"op":"open","user":"ann","token":"t1"}'
+        echo "$opening"
         yes "$2" | head -n "$1"
     } | python3 -c '
 import resource, subprocess, sys, time

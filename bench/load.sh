@@ -3,10 +3,8 @@
 # Wants iverilog (Debian's package) and crates/vp_served/out/vp_served, which `rt run` in crates/vp_served builds.
 set -eu
 top=$(cd "$(dirname "$0")/.." && pwd)
-program=$top/crates/vp_served/out/vp_served
+. "$top/bench/common.sh"
 bytes=${1:-1048576}
-work=$(mktemp -d)
-trap 'rm -rf "$work"' EXIT
 # Modules of a counter's size, each instantiated by the next, eight deep, up to so many bytes; the last begins a new tower.
 awk -v limit="$((bytes - 400))" 'BEGIN {
     size = 0; n = 0
@@ -22,19 +20,9 @@ awk -v limit="$((bytes - 400))" 'BEGIN {
 echo '{"users":[]}' > "$work/policy.json"
 : > "$work/script"
 
-# The shortest of nine runs of a command, in microseconds.
-shortest() {
-    for _ in 1 2 3 4 5 6 7 8 9; do
-        begin=$(date +%s%N)
-        "$@" > "$work/out" 2>&1 || true
-        end=$(date +%s%N)
-        echo "$(((end - begin) / 1000))"
-    done | sort -n | head -n 1
-}
-run_ours() { "$program" run "$work/design.v" "$work/policy.json" < "$work/script"; }
-ours=$(shortest run_ours)
+ours=$(shortest_of 9 serve design script)
 echo "bytes: $(wc -c < "$work/design.v"), modules: $(grep -c '^module' "$work/design.v")"
 echo "program: $ours us; it said: $(head -n 1 "$work/out")"
-theirs=$(shortest iverilog -t null "$work/design.v")
+theirs=$(shortest_of 9 iverilog -t null "$work/design.v")
 echo "iverilog -t null: $theirs us; it said: $(head -n 1 "$work/out")"
 echo "ratio: $((ours * 100 / theirs)) %"
