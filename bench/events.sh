@@ -34,13 +34,13 @@ idle() {
     echo 'module top; reg never; reg [31:0] count; initial count = 0; always #1 count = count + 1;'
     for i in $(seq 1000); do echo "reg r$i; always @(never) r$i = 1;"; done
 }
-# How many events there are until a time, as Loddrume counts them: each statement of a procedure that is executed, and each update.
+# How many events there are until a time: each statement that a procedure executes (a delay or event control is one too), and each nonblocking update.
 events_of() {
     awk -v until="$until" -v name="$1" 'BEGIN {
-        if (name == "chain") { falls = until / 2; events = 3 * until; for (i = 1; i <= 16; i++) { events += 3 * falls; falls /= 2 } }
-        if (name == "pipeline") events = 3 * until + (until / 2) * 33 * 4
-        if (name == "bus") events = (until / 40) * (3 + 1000 * 3)
-        if (name == "idle") events = 3 * until
+        events = 2 * until
+        if (name == "chain") { falls = until / 2; for (i = 1; i <= 16; i++) { events += 2 * int(falls); falls /= 2 } }
+        if (name == "pipeline") events += int(until / 2) * 33 * 3
+        if (name == "bus") events = int(until / 40) * (2 + 1000 * 2)
         printf "%d\n", events
     }'
 }

@@ -13,6 +13,7 @@ use Rattle.vp_parse_expr.specs.Grammar.{Range, Expr, Name, Sized, Based, Number,
 use Rattle.vp_parse_expr.specs.Layout.{put_expr, put_parts, put_range, put_selection, with_node}
 use Rattle.vp_parse.specs.declared.source.Module.{Module}
 use Rattle.vp_parse.specs.Whole.{AreWhole}
+use Rattle.vp_parse.proofs.GrowingParts.{expr_last, expr_more, longer}
 use Rattle.vp_elab.specs.Built.{Elaborated}
 use Rattle.vp_elab.specs.Elaboration.{range_width}
 use Rattle.vp_expr.specs.declared.operand.Infix.{Infix}
@@ -217,33 +218,6 @@ mutual
       (grown_twice (terms_in d m os nodes) (terms_in d m os x.1) ts h.more k.more h.grown k.grown)
       (appended_made ts x.0 y.0 (parts_term d m l) (expr_term d m e) (later (terms_in d m os x.1) k.more ts x.0 (parts_term d m l) k.grown h.inside h.is) k.is)
 
--- the place of a derivation is the last of those of its parts
-parts_last : (opening : ℕ) (l : Parts) (nodes : List node.Expression) → length (put_parts opening l nodes).1 ≡ (put_parts opening l nodes).0 + 1
-parts_last opening (First e) nodes = length_push (put_expr e nodes).1 _
-parts_last opening (More l comma e) nodes = length_push (put_expr e (put_parts opening l nodes).1).1 _
-
-expr_last : (e : Expr) (nodes : List node.Expression) → length (put_expr e nodes).1 ≡ (put_expr e nodes).0 + 1
-expr_last (Name place s) nodes = length_push (put_selection s nodes).1 _
-expr_last (Sized place size kind digits) nodes = length_push nodes _
-expr_last (Based digits) nodes = length_push nodes _
-expr_last (Number place number) nodes = length_push nodes _
-expr_last (Group opening e closing) nodes = expr_last e nodes
-expr_last (Unary o place e) nodes = length_push (put_expr e nodes).1 _
-expr_last (Binary o a place b) nodes = length_push (put_expr b (put_expr a nodes).1).1 _
-expr_last (Conditional c question a colon b) nodes = length_push (put_expr b (put_expr a (put_expr c nodes).1).1).1 _
-expr_last (Concatenation opening l closing) nodes = parts_last opening l nodes
-expr_last (Replication opening count_place n inner_opening l inner_closing closing) nodes = length_push (put_parts inner_opening l nodes).1 _
-
--- its parts stand behind those before it
-expr_behind : (d : Elaborated) (e : Expr) (nodes : List node.Expression) → length nodes ≤ length (put_expr e nodes).1
-expr_behind d e nodes =
-    let x = put_expr e nodes in
-    let free = expr_stands d None [] e nodes (omega arith) in
-    let long = ap length free.grown in
-    let first = count d None [] nodes (omega arith) in
-    let all = count d None [] x.1 (omega arith) in
-    omega (arith, length-append (terms_in d None [] nodes) free.more)
-
 -- the terms of the first operands are among those of all
 kept : (os rest all : List Operand) (place : ℕ) → all ≡ os ++ rest → place < length (terms_of os) → term_at all place ≡ part_in (terms_of os) place
 kept os rest all place split inside =
@@ -257,7 +231,7 @@ term_derived d m place e whole s =
     let x = put_expr e s.before in
     let scope = scope_of d m in
     let last = expr_last e s.before in
-    let more = expr_behind d e s.before in
+    let more = longer (expr_more e s.before) in
     let there = s.there in
     let from = s.from in
     let to = s.to in

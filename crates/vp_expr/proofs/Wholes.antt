@@ -23,7 +23,7 @@ in_range xs a b h k =
     ∙ ap (λ (x : Bool). cond x (slice_range xs a b) []) (le-leb b (length xs) k)
 
 -- spans without a gap go up
-gapless_up : (from : ℕ) (spans : List Span) (to : ℕ) → AreGapless from spans to → from ≤ to
+pub gapless_up : (from : ℕ) (spans : List Span) (to : ℕ) → AreGapless from spans to → from ≤ to
 gapless_up from [] to h = omega arith
 gapless_up from (s ∷ spans) to h =
     let start = h.0 in

@@ -1,219 +1,223 @@
--- The parts of a derivation are laid out behind what is there: no list of parts becomes shorter.
-use Rattle.std.proofs.Common.{ℕ, ◌≤◌, List, [], ◌∷◌, ◌++◌, length, Some, arith}
+-- Laying out the parts of a derivation keeps what the lists had, and adds its own behind.
+use Rattle.std.proofs.Common.{◌≡◌, ◌∙◌, ℕ, ◌+◌, ◌≤◌, List, [], ◌∷◌, ◌++◌, length, refl, sym, ap, append_assoc, append-nil, arith}
 use Rattle.std.proofs.lemmas.List.{length-append, length_push}
 use Rattle.vp_parse_expr.specs.declared.node.Expression as node
-use Rattle.vp_parse_expr.specs.Grammar.{Expr, Name, Sized, Based, Number, Group, Unary, Binary, Conditional, Concatenation, Replication, Selection, Whole, Bit, Part, Parts, First, More as MoreParts}
+use Rattle.vp_parse_expr.specs.Grammar.{Expr, Name, Sized, Based, Number, Group, Unary, Binary, Conditional, Concatenation, Replication, Selection, Whole, Bit, Part, Parts, First, More}
 use Rattle.vp_parse_expr.specs.Layout.{put_expr, put_parts, put_selection}
 use Rattle.vp_parse_stmt.specs.declared.arena.Choice.{Choice}
 use Rattle.vp_parse_stmt.specs.declared.arena.EventTerm.{EventTerm}
 use Rattle.vp_parse_stmt.specs.declared.arena.Statement.{Statement}
-use Rattle.vp_parse_stmt.specs.declared.arena.Statement.TheVariants as statement_of
-use Rattle.vp_parse_stmt.specs.Grammar.{Stmt, Assign, Block, Null, Nonblocking, Delayed, Awaited, Wait, When, Choose, While, Forever, For, Case, Finish, Stmts, Empty, Then, Items, Last, More, Item, Labels, Default, LabelList, Only, Also, TermList, Single, Further, Level, Event, Any, AnyGrouped, Change, Terms}
-use Rattle.vp_parse_stmt.specs.Layout as layout
-use Rattle.vp_parse_stmt.specs.Layout.{choices_of, put_blocking, put_event, put_item, put_items, put_labels, put_stmt, put_stmts, put_target, put_term, put_terms, put_value, with_choices, with_statement}
+use Rattle.vp_parse_stmt.specs.Grammar as grammar
+use Rattle.vp_parse_stmt.specs.Layout.{Lists, put_blocking, put_event, put_item, put_items, put_labels, put_stmt, put_stmts, put_target, put_term, put_terms, put_value, with_choices, with_statement}
+
+-- a list that has another at its head
+pub record Extends {X : Type 0} (first all : List X) : Type 0 where
+  pub more : List X
+  pub is : all ≡ first ++ more
+
+pub same : {X : Type 0} (xs : List X) → Extends xs xs
+same xs = record { more = []; is = sym (append-nil xs) }
+
+pub pushed : {X : Type 0} (xs : List X) (y : X) → Extends xs (xs ++ y ∷ [])
+pushed xs y = record { more = y ∷ []; is = refl }
+
+pub twice : {X : Type 0} {a b c : List X} → Extends a b → Extends b c → Extends a c
+twice {a = a} h k = record { more = h.more ++ k.more; is = k.is ∙ ap (λ l. l ++ k.more) h.is ∙ append_assoc a h.more k.more }
+
+pub longer : {X : Type 0} {a b : List X} → Extends a b → length a ≤ length b
+longer {a = a} h = let l = ap length h.is in omega (arith, length-append a h.more)
 
 -- ---- expressions
 
--- one more behind lists that are as long
-one_more : (before after : List node.Expression) (n : node.Expression) → length before ≤ length after → length before ≤ length (after ++ n ∷ [])
-one_more before after n h = omega (arith, length_push after n)
-
-longer : (a b c : List node.Expression) → length a ≤ length b → length b ≤ length c → length a ≤ length c
-longer a b c h k = omega arith
-
 mutual
-  expr_grows : (e : Expr) (nodes : List node.Expression) → length nodes ≤ length (put_expr e nodes).1
-  expr_grows (Name place s) nodes = one_more nodes (put_selection s nodes).1 _ (selection_grows s nodes)
-  expr_grows (Sized place size kind digits) nodes = one_more nodes nodes _ (omega arith)
-  expr_grows (Based digits) nodes = one_more nodes nodes _ (omega arith)
-  expr_grows (Number place number) nodes = one_more nodes nodes _ (omega arith)
-  expr_grows (Group opening e closing) nodes = expr_grows e nodes
-  expr_grows (Unary o place e) nodes = one_more nodes (put_expr e nodes).1 _ (expr_grows e nodes)
-  expr_grows (Binary o a place b) nodes =
-      let x : List node.Expression = (put_expr a nodes).1 in
-      let y : List node.Expression = (put_expr b x).1 in
-      one_more nodes y _ (longer nodes x y (expr_grows a nodes) (expr_grows b x))
-  expr_grows (Conditional c question a colon b) nodes =
-      let x : List node.Expression = (put_expr c nodes).1 in
-      let y : List node.Expression = (put_expr a x).1 in
-      let z : List node.Expression = (put_expr b y).1 in
-      one_more nodes z _ (longer nodes y z (longer nodes x y (expr_grows c nodes) (expr_grows a x)) (expr_grows b y))
-  expr_grows (Concatenation opening l closing) nodes = parts_grow opening l nodes
-  expr_grows (Replication opening count_place n inner_opening l inner_closing closing) nodes =
-      one_more nodes (put_parts inner_opening l nodes).1 _ (parts_grow inner_opening l nodes)
+  pub expr_more : (e : Expr) (nodes : List node.Expression) → Extends nodes (put_expr e nodes).1
+  expr_more (Name place s) nodes = twice (selection_more s nodes) (pushed (put_selection s nodes).1 _)
+  expr_more (Sized place size kind digits) nodes = pushed nodes _
+  expr_more (Based digits) nodes = pushed nodes _
+  expr_more (Number place number) nodes = pushed nodes _
+  expr_more (Group opening e closing) nodes = expr_more e nodes
+  expr_more (Unary o place e) nodes = twice (expr_more e nodes) (pushed (put_expr e nodes).1 _)
+  expr_more (Binary o a place b) nodes =
+      let x = put_expr a nodes in
+      twice (expr_more a nodes) (twice (expr_more b x.1) (pushed (put_expr b x.1).1 _))
+  expr_more (Conditional c question a colon b) nodes =
+      let x = put_expr c nodes in
+      let y = put_expr a x.1 in
+      twice (expr_more c nodes) (twice (expr_more a x.1) (twice (expr_more b y.1) (pushed (put_expr b y.1).1 _)))
+  expr_more (Concatenation opening l closing) nodes = parts_more opening l nodes
+  expr_more (Replication opening count_place n inner_opening l inner_closing closing) nodes =
+      twice (parts_more inner_opening l nodes) (pushed (put_parts inner_opening l nodes).1 _)
 
-  selection_grows : (s : Selection) (nodes : List node.Expression) → length nodes ≤ length (put_selection s nodes).1
-  selection_grows Whole nodes = omega arith
-  selection_grows (Bit opening e closing) nodes = expr_grows e nodes
-  selection_grows (Part r) nodes = omega arith
+  selection_more : (s : Selection) (nodes : List node.Expression) → Extends nodes (put_selection s nodes).1
+  selection_more Whole nodes = same nodes
+  selection_more (Bit opening e closing) nodes = expr_more e nodes
+  selection_more (Part r) nodes = same nodes
 
-  parts_grow : (opening : ℕ) (l : Parts) (nodes : List node.Expression) → length nodes ≤ length (put_parts opening l nodes).1
-  parts_grow opening (First e) nodes = one_more nodes (put_expr e nodes).1 _ (expr_grows e nodes)
-  parts_grow opening (MoreParts l comma e) nodes =
-      let x : List node.Expression = (put_parts opening l nodes).1 in
-      let y : List node.Expression = (put_expr e x).1 in
-      one_more nodes y _ (longer nodes x y (parts_grow opening l nodes) (expr_grows e x))
+  parts_more : (opening : ℕ) (l : Parts) (nodes : List node.Expression) → Extends nodes (put_parts opening l nodes).1
+  parts_more opening (First e) nodes = twice (expr_more e nodes) (pushed (put_expr e nodes).1 _)
+  parts_more opening (More l comma e) nodes =
+      let x = put_parts opening l nodes in
+      twice (parts_more opening l nodes) (twice (expr_more e x.1) (pushed (put_expr e x.1).1 _))
 
--- ---- statements
+parts_last : (opening : ℕ) (l : Parts) (nodes : List node.Expression) → length (put_parts opening l nodes).1 ≡ (put_parts opening l nodes).0 + 1
+parts_last opening (First e) nodes = length_push (put_expr e nodes).1 _
+parts_last opening (More l comma e) nodes = length_push (put_expr e (put_parts opening l nodes).1).1 _
 
--- no list is shorter than before
-pub record Grows (before after : layout.Lists) : Type 0 where
-  pub statements : length before.statements ≤ length after.statements
-  pub expressions : length before.expressions ≤ length after.expressions
-  pub terms : length before.terms ≤ length after.terms
-  pub choices : length before.choices ≤ length after.choices
+-- the place of an expression is the last of those of its parts
+pub expr_last : (e : Expr) (nodes : List node.Expression) → length (put_expr e nodes).1 ≡ (put_expr e nodes).0 + 1
+expr_last (Name place s) nodes = length_push (put_selection s nodes).1 _
+expr_last (Sized place size kind digits) nodes = length_push nodes _
+expr_last (Based digits) nodes = length_push nodes _
+expr_last (Number place number) nodes = length_push nodes _
+expr_last (Group opening e closing) nodes = expr_last e nodes
+expr_last (Unary o place e) nodes = length_push (put_expr e nodes).1 _
+expr_last (Binary o a place b) nodes = length_push (put_expr b (put_expr a nodes).1).1 _
+expr_last (Conditional c question a colon b) nodes = length_push (put_expr b (put_expr a (put_expr c nodes).1).1).1 _
+expr_last (Concatenation opening l closing) nodes = parts_last opening l nodes
+expr_last (Replication opening count_place n inner_opening l inner_closing closing) nodes = length_push (put_parts inner_opening l nodes).1 _
 
-pub stays : (lists : layout.Lists) → Grows lists lists
-stays lists = record {
-  statements = omega arith;
-  expressions = omega arith;
-  terms = omega arith;
-  choices = omega arith;
+-- ---- lists
+
+-- lists that have others at their heads
+pub record Grows (first all : Lists) : Type 0 where
+  pub statements : Extends first.statements all.statements
+  pub expressions : Extends first.expressions all.expressions
+  pub terms : Extends first.terms all.terms
+  pub choices : Extends first.choices all.choices
+
+pub unchanged : (lists : Lists) → Grows lists lists
+unchanged lists = record {
+  statements = same lists.statements;
+  expressions = same lists.expressions;
+  terms = same lists.terms;
+  choices = same lists.choices;
 }
 
-pub grows_on : (a b c : layout.Lists) → Grows a b → Grows b c → Grows a c
-grows_on a b c h k = record {
-  statements = omega (arith, h.statements, k.statements);
-  expressions = omega (arith, h.expressions, k.expressions);
-  terms = omega (arith, h.terms, k.terms);
-  choices = omega (arith, h.choices, k.choices);
+pub onward : {a b c : Lists} → Grows a b → Grows b c → Grows a c
+onward h k = record {
+  statements = twice h.statements k.statements;
+  expressions = twice h.expressions k.expressions;
+  terms = twice h.terms k.terms;
+  choices = twice h.choices k.choices;
 }
 
-more_statements : (lists : layout.Lists) (statements : List Statement) → length lists.statements ≤ length statements → Grows lists (record lists { statements = statements })
-more_statements lists statements h = record {
-  statements = h;
-  expressions = omega arith;
-  terms = omega arith;
-  choices = omega arith;
+pub statement_grows : (n : Statement) (lists : Lists) → Grows lists (with_statement n lists).1
+statement_grows n lists = record {
+  statements = pushed lists.statements n;
+  expressions = same lists.expressions;
+  terms = same lists.terms;
+  choices = same lists.choices;
 }
 
-more_expressions : (lists : layout.Lists) (expressions : List node.Expression) → length lists.expressions ≤ length expressions → Grows lists (record lists { expressions = expressions })
-more_expressions lists expressions h = record {
-  statements = omega arith;
+expressions_grow : (lists : Lists) (expressions : List node.Expression) → Extends lists.expressions expressions → Grows lists (record lists { expressions = expressions })
+expressions_grow lists expressions h = record {
+  statements = same lists.statements;
   expressions = h;
-  terms = omega arith;
-  choices = omega arith;
+  terms = same lists.terms;
+  choices = same lists.choices;
 }
 
-more_terms : (lists : layout.Lists) (terms : List EventTerm) → length lists.terms ≤ length terms → Grows lists (record lists { terms = terms })
-more_terms lists terms h = record {
-  statements = omega arith;
-  expressions = omega arith;
+pub value_grows : (e : Expr) (lists : Lists) → Grows lists (put_value e lists).1
+value_grows e lists = expressions_grow lists (put_expr e lists.expressions).1 (expr_more e lists.expressions)
+
+pub target_grows : (s : Selection) (lists : Lists) → Grows lists (put_target s lists).1
+target_grows s lists = expressions_grow lists (put_selection s lists.expressions).1 (selection_more s lists.expressions)
+
+pub blocking_grows : (target : ℕ) (s : Selection) (e : Expr) (lists : Lists) → Grows lists (put_blocking target s e lists).1
+blocking_grows target s e lists =
+    let x = put_target s lists in
+    let v = put_value e x.1 in
+    onward (target_grows s lists) (onward (value_grows e x.1) (statement_grows _ v.1))
+
+terms_grow : (lists : Lists) (terms : List EventTerm) → Extends lists.terms terms → Grows lists (record lists { terms = terms })
+terms_grow lists terms h = record {
+  statements = same lists.statements;
+  expressions = same lists.expressions;
   terms = h;
-  choices = omega arith;
+  choices = same lists.choices;
 }
 
-more_choices : (lists : layout.Lists) (choices : List Choice) → length lists.choices ≤ length choices → Grows lists (record lists { choices = choices })
-more_choices lists choices h = record {
-  statements = omega arith;
-  expressions = omega arith;
-  terms = omega arith;
-  choices = h;
+-- terms behind others are those of the derivation
+pub terms_are : (l : grammar.TermList) (terms : List EventTerm) → put_terms l terms ≡ terms ++ put_terms l []
+terms_are (grammar.Single t) terms = refl
+terms_are (grammar.Further t separator place l) terms =
+    terms_are l (terms ++ put_term t ∷ [])
+    ∙ append_assoc terms (put_term t ∷ []) (put_terms l [])
+    ∙ ap (λ own. terms ++ own) (sym (terms_are l (put_term t ∷ [])))
+
+pub event_grows : (e : grammar.Event) (lists : Lists) → Grows lists (put_event e lists).1
+event_grows (grammar.Any star) lists = unchanged lists
+event_grows (grammar.AnyGrouped opening star closing) lists = unchanged lists
+event_grows (grammar.Change name) lists = terms_grow lists _ (pushed lists.terms (put_term (grammar.Level name)))
+event_grows (grammar.Terms opening l closing) lists =
+    terms_grow lists (put_terms l lists.terms) (record { more = put_terms l []; is = terms_are l lists.terms })
+
+pub labels_grow : (l : grammar.LabelList) (labels : List ℕ) (lists : Lists) → Grows lists (put_labels l labels lists).1
+labels_grow (grammar.Only e) labels lists = value_grows e lists
+labels_grow (grammar.Also e comma l) labels lists =
+    let v = put_value e lists in
+    onward (value_grows e lists) (labels_grow l (labels ++ v.0 ∷ []) v.1)
+
+pub choices_grow : (choices : List Choice) (lists : Lists) → Grows lists (with_choices choices lists).1
+choices_grow choices lists = record {
+  statements = same lists.statements;
+  expressions = same lists.expressions;
+  terms = same lists.terms;
+  choices = record { more = choices; is = refl };
 }
 
-pub value_grows : (e : Expr) (lists : layout.Lists) → Grows lists (put_value e lists).1
-value_grows e lists = more_expressions lists (put_expr e lists.expressions).1 (expr_grows e lists.expressions)
-
-target_grows : (s : Selection) (lists : layout.Lists) → Grows lists (put_target s lists).1
-target_grows s lists = more_expressions lists (put_selection s lists.expressions).1 (selection_grows s lists.expressions)
-
-with_grows : (s : Statement) (lists : layout.Lists) → Grows lists (with_statement s lists).1
-with_grows s lists = more_statements lists (lists.statements ++ s ∷ []) (omega (arith, length_push lists.statements s))
-
--- one more statement behind lists that grew
-then_grows : (before after : layout.Lists) (s : Statement) → Grows before after → Grows before (with_statement s after).1
-then_grows before after s h = grows_on before after _ h (with_grows s after)
-
-set_grows : (target : ℕ) (selection : Selection) (value : Expr) (lists : layout.Lists) → Grows lists (put_blocking target selection value lists).1
-set_grows target selection value lists =
-    let x : layout.Lists = (put_target selection lists).1 in
-    let y : layout.Lists = (put_value value x).1 in
-    then_grows lists y _ (grows_on lists x y (target_grows selection lists) (value_grows value x))
-
-terms_grow : (l : TermList) (terms : List EventTerm) → length terms ≤ length (put_terms l terms)
-terms_grow (Single t) terms = omega (arith, length_push terms (put_term t))
-terms_grow (Further t separator place l) terms =
-    let h = terms_grow l (terms ++ put_term t ∷ []) in omega (arith, h, length_push terms (put_term t))
-
-event_grows : (e : Event) (lists : layout.Lists) → Grows lists (put_event e lists).1
-event_grows (Any star) lists = stays lists
-event_grows (AnyGrouped opening star closing) lists = stays lists
-event_grows (Change name) lists = more_terms lists (put_terms (Single (Level name)) lists.terms) (terms_grow (Single (Level name)) lists.terms)
-event_grows (Terms opening l closing) lists = more_terms lists (put_terms l lists.terms) (terms_grow l lists.terms)
-
-labels_grow : (l : LabelList) (labels : List ℕ) (lists : layout.Lists) → Grows lists (put_labels l labels lists).1
-labels_grow (Only e) labels lists = value_grows e lists
-labels_grow (Also e comma l) labels lists =
-    let v : ℕ × layout.Lists = put_value e lists in
-    grows_on lists v.1 _ (value_grows e lists) (labels_grow l (labels ++ v.0 ∷ []) v.1)
-
-choices_grow : (choices : List Choice) (lists : layout.Lists) → Grows lists (with_choices choices lists).1
-choices_grow choices lists = more_choices lists (lists.choices ++ choices) (omega (arith, length-append lists.choices choices))
+-- a statement behind an expression, and one of both
+guarded_grows : (e : Expr) (s : grammar.Stmt) (lists : Lists) (n : Statement) → (let c = put_value e lists in Grows c.1 (put_stmt s c.1).1) → Grows lists (with_statement n (put_stmt s (put_value e lists).1).1).1
+guarded_grows e s lists n h = onward (value_grows e lists) (onward h (statement_grows n (put_stmt s (put_value e lists).1).1))
 
 mutual
-  pub stmt_grows : (s : Stmt) (lists : layout.Lists) → Grows lists (put_stmt s lists).1
-  stmt_grows (Assign target selection equals value semicolon) lists = set_grows target selection value lists
-  stmt_grows (Block begin body end) lists =
-      let x : ℕ × layout.Lists = with_statement statement_of.Empty lists in
-      grows_on lists x.1 _ (with_grows statement_of.Empty lists) (stmts_grow body x.0 x.1)
-  stmt_grows (Null semicolon) lists = with_grows _ lists
-  stmt_grows (Nonblocking target selection arrow hold value semicolon) lists =
-      let x : layout.Lists = (put_target selection lists).1 in
-      let y : layout.Lists = (put_value value x).1 in
-      then_grows lists y _ (grows_on lists x y (target_grows selection lists) (value_grows value x))
-  stmt_grows (Delayed hash delay body) lists = then_grows lists (put_stmt body lists).1 _ (stmt_grows body lists)
-  stmt_grows (Awaited at_place event body) lists =
-      let x : layout.Lists = (put_event event lists).1 in
-      let y : layout.Lists = (put_stmt body x).1 in
-      then_grows lists y _ (grows_on lists x y (event_grows event lists) (stmt_grows body x))
-  stmt_grows (Wait wait opening value closing body) lists =
-      let x : layout.Lists = (put_value value lists).1 in
-      let y : layout.Lists = (put_stmt body x).1 in
-      then_grows lists y _ (grows_on lists x y (value_grows value lists) (stmt_grows body x))
-  stmt_grows (When if_place opening value closing first) lists =
-      let x : layout.Lists = (put_value value lists).1 in
-      let y : layout.Lists = (put_stmt first x).1 in
-      then_grows lists y _ (grows_on lists x y (value_grows value lists) (stmt_grows first x))
-  stmt_grows (Choose if_place opening value closing first else_place second) lists =
-      let x : layout.Lists = (put_value value lists).1 in
-      let y : layout.Lists = (put_stmt first x).1 in
-      let z : layout.Lists = (put_stmt second y).1 in
-      then_grows lists z _ (grows_on lists y z (grows_on lists x y (value_grows value lists) (stmt_grows first x)) (stmt_grows second y))
-  stmt_grows (While while_place opening value closing body) lists =
-      let x : layout.Lists = (put_value value lists).1 in
-      let y : layout.Lists = (put_stmt body x).1 in
-      then_grows lists y _ (grows_on lists x y (value_grows value lists) (stmt_grows body x))
-  stmt_grows (Forever forever body) lists = then_grows lists (put_stmt body lists).1 _ (stmt_grows body lists)
-  stmt_grows (For for_place opening target selection equals value first_semicolon condition second_semicolon step_target step_selection step_equals step closing body) lists =
-      let a : layout.Lists = (put_blocking target selection value lists).1 in
-      let c : layout.Lists = (put_value condition a).1 in
-      let z : layout.Lists = (put_blocking step_target step_selection step c).1 in
-      let b : layout.Lists = (put_stmt body z).1 in
-      let w : layout.Lists = (with_statement (statement_of.While (put_value condition a).0 (put_stmt body z).0 (Some (put_blocking step_target step_selection step c).0)) b).1 in
-      then_grows lists w _
-      (then_grows lists b _
-      (grows_on lists a b (set_grows target selection value lists)
-      (grows_on a c b (value_grows condition a) (grows_on c z b (set_grows step_target step_selection step c) (stmt_grows body z)))))
-  stmt_grows (Case sort case_place opening value closing items endcase) lists =
-      let x : layout.Lists = (put_value value lists).1 in
-      let y : List Choice × layout.Lists = put_items items x in
-      let z : layout.Lists = (with_choices y.0 y.1).1 in
-      then_grows lists z _ (grows_on lists x z (value_grows value lists) (grows_on x y.1 z (items_grow items x) (choices_grow y.0 y.1)))
-  stmt_grows (Finish finish argument semicolon) lists = with_grows _ lists
+  pub stmt_grows : (s : grammar.Stmt) (lists : Lists) → Grows lists (put_stmt s lists).1
+  stmt_grows (grammar.Assign target s equals value semicolon) lists = blocking_grows target s value lists
+  stmt_grows (grammar.Block begin body end) lists =
+      let b = with_statement _ lists in
+      onward (statement_grows _ lists) (stmts_grow body b.0 b.1)
+  stmt_grows (grammar.Null semicolon) lists = statement_grows _ lists
+  stmt_grows (grammar.Nonblocking target s arrow hold value semicolon) lists =
+      let x = put_target s lists in
+      let v = put_value value x.1 in
+      onward (target_grows s lists) (onward (value_grows value x.1) (statement_grows _ v.1))
+  stmt_grows (grammar.Delayed hash delay body) lists = onward (stmt_grows body lists) (statement_grows _ (put_stmt body lists).1)
+  stmt_grows (grammar.Awaited at_place event body) lists =
+      let e = put_event event lists in
+      onward (event_grows event lists) (onward (stmt_grows body e.1) (statement_grows _ (put_stmt body e.1).1))
+  stmt_grows (grammar.Wait wait opening value closing body) lists = guarded_grows value body lists _ (stmt_grows body (put_value value lists).1)
+  stmt_grows (grammar.When if_place opening value closing first) lists = guarded_grows value first lists _ (stmt_grows first (put_value value lists).1)
+  stmt_grows (grammar.Choose if_place opening value closing first else_place second) lists =
+      let c = put_value value lists in
+      let a = put_stmt first c.1 in
+      onward (value_grows value lists) (onward (stmt_grows first c.1) (onward (stmt_grows second a.1) (statement_grows _ (put_stmt second a.1).1)))
+  stmt_grows (grammar.While while_place opening value closing body) lists = guarded_grows value body lists _ (stmt_grows body (put_value value lists).1)
+  stmt_grows (grammar.Forever forever body) lists = onward (stmt_grows body lists) (statement_grows _ (put_stmt body lists).1)
+  stmt_grows (grammar.For for_place opening target s equals value first_semicolon condition second_semicolon step_target step_s step_equals step closing body) lists =
+      let a = put_blocking target s value lists in
+      let c = put_value condition a.1 in
+      let z = put_blocking step_target step_s step c.1 in
+      let b = put_stmt body z.1 in
+      onward (blocking_grows target s value lists) (onward (value_grows condition a.1) (onward (blocking_grows step_target step_s step c.1) (onward (stmt_grows body z.1) (onward (statement_grows _ b.1) (statement_grows _ _)))))
+  stmt_grows (grammar.Case sort case_place opening value closing items endcase) lists =
+      let v = put_value value lists in
+      let x = put_items items v.1 in
+      onward (value_grows value lists) (onward (items_grow items v.1) (onward (choices_grow x.0 x.1) (statement_grows _ _)))
+  stmt_grows (grammar.Finish finish argument semicolon) lists = statement_grows _ lists
 
-  item_grows : (i : Item) (lists : layout.Lists) → Grows lists (put_item i lists).1
-  item_grows (Labels l colon s) lists =
-      let w : layout.Lists = (put_labels l [] lists).1 in grows_on lists w _ (labels_grow l [] lists) (stmt_grows s w)
-  item_grows (Default default_place colon s) lists = stmt_grows s lists
+  pub stmts_grow : (l : grammar.Stmts) (chain : ℕ) (lists : Lists) → Grows lists (put_stmts l chain lists).1
+  stmts_grow grammar.Empty chain lists = unchanged lists
+  stmts_grow (grammar.Then s l) chain lists =
+      let x = put_stmt s lists in
+      let y = with_statement _ x.1 in
+      onward (stmt_grows s lists) (onward (statement_grows _ x.1) (stmts_grow l y.0 y.1))
 
-  items_grow : (l : Items) (lists : layout.Lists) → Grows lists (put_items l lists).1
-  items_grow (Last i) lists = item_grows i lists
-  items_grow (More i l) lists =
-      let x : layout.Lists = (put_item i lists).1 in grows_on lists x _ (item_grows i lists) (items_grow l x)
+  pub item_grows : (i : grammar.Item) (lists : Lists) → Grows lists (put_item i lists).1
+  item_grows (grammar.Labels l colon s) lists =
+      let w = put_labels l [] lists in
+      onward (labels_grow l [] lists) (stmt_grows s w.1)
+  item_grows (grammar.Default default_place colon s) lists = stmt_grows s lists
 
-  stmts_grow : (l : Stmts) (chain : ℕ) (lists : layout.Lists) → Grows lists (put_stmts l chain lists).1
-  stmts_grow Empty chain lists = stays lists
-  stmts_grow (Then s l) chain lists =
-      let x : ℕ × layout.Lists = put_stmt s lists in
-      let y : ℕ × layout.Lists = with_statement (statement_of.Then chain x.0) x.1 in
-      grows_on lists x.1 _ (stmt_grows s lists) (grows_on x.1 y.1 _ (with_grows _ x.1) (stmts_grow l y.0 y.1))
+  pub items_grow : (l : grammar.Items) (lists : Lists) → Grows lists (put_items l lists).1
+  items_grow (grammar.Last i) lists = item_grows i lists
+  items_grow (grammar.More i l) lists = onward (item_grows i lists) (items_grow l (put_item i lists).1)

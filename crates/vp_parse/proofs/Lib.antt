@@ -8,5 +8,6 @@ pub mod LayoutRows
 pub mod Loops
 pub mod Placed
 pub mod Raise
+pub mod Standing
 pub mod Takes
 pub mod Within

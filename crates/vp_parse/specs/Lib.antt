@@ -7,3 +7,4 @@ pub mod Layout
 pub mod Placing
 pub mod Told
 pub mod Whole
+pub mod Standing

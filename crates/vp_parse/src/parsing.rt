@@ -8,6 +8,7 @@ ghost use Rattle.vp_parse.specs.Grammar.{Derivation, IsDerivation};
 ghost use Rattle.vp_parse.specs.Layout.{IsSourceOf, lists_of};
 ghost use Rattle.vp_parse.specs.Placing.{lists_in, module_into, modules_into};
 ghost use Rattle.vp_parse.specs.Reading.{read};
+ghost use Rattle.vp_parse.specs.Standing.{ProceduresStand};
 ghost use Rattle.vp_parse.specs.Told.{Tells, stopped_at as stop_at, place_told, line_told};
 ghost use Rattle.vp_parse.specs.Weight.{weight};
 ghost use Rattle.vp_parse.specs.Whole.{AreWhole};
@@ -170,6 +171,8 @@ pub fn parse(alloc: Global, text: &str, tokens: &[Token]) -> Result<Source, Pars
     ensures found { IfOk result (λ source. (d : Derivation) × IsDerivation d (symbols_of text.now tokens.now) × IsSourceOf text.now tokens.now d source) }
     // Its modules hold all expressions, statements, terms of events and choices of cases that are found.
     ensures whole { IfOk result (λ source. AreWhole source) }
+    // Each procedure of what is found has an item in its module, which names the place where its statement stands.
+    ensures procedures { IfOk result (λ source. (d : Derivation) → IsSourceOf text.now tokens.now d source → ProceduresStand source d) }
     // What is refused has no derivation, unless memory ran out.
     ensures none { IfErr result (λ e. (e ≡ error.NoMemory) ⊎ ((d : Derivation) → IsDerivation d (symbols_of text.now tokens.now) → ⊥)) }
     // The fault is the one at which reading stops.

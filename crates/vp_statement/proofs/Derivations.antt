@@ -12,6 +12,7 @@ use Rattle.vp_parse_stmt.specs.declared.arena.Statement.TheVariants as statement
 use Rattle.vp_parse_stmt.specs.Grammar.{Stmt, Assign, Block, Null, Nonblocking, Delayed, Awaited, Wait, When, Choose, While, Forever, For, Case, Finish, Stmts, Empty, Then, Items, Last, More, Item, Labels, Default, LabelList, Only, Also, Event, Any, AnyGrouped, Change, Terms, Level, delay_amount}
 use Rattle.vp_parse_stmt.specs.Layout.{Lists, awaited, choices_of, is_wild, put_blocking, put_event, put_hold, put_item, put_items, put_labels, put_stmt, put_stmts, put_target, put_term, put_terms, put_value, with_choices, with_statement}
 use Rattle.vp_parse.specs.declared.source.Module.{Module}
+use Rattle.vp_parse.specs.Standing.{StatementStandsAt}
 use Rattle.vp_parse.specs.Whole.{AreWhole}
 use Rattle.vp_elab.specs.Built.{Elaborated}
 use Rattle.vp_expr.specs.Awaits.{awaited_by, choices_at, reads_of}
@@ -19,8 +20,8 @@ use Rattle.vp_expr.specs.Derived.{StandsAt}
 use Rattle.vp_expr.specs.Tables.{action_of, operands_of, scope_of, sizes_of, tables_of}
 use Rattle.vp_expr.specs.declared.tables.Action.TheVariants.{Nothing}
 use Rattle.vp_expr.proofs.Wholes.{in_range}
-use Rattle.vp_statement.specs.Derived.{AreItems, AreLabels, AreTerms, IsActionOf, IsAssignment, IsChain, IsItem, IsSelected, Runs, StatementStandsAt}
-use Rattle.vp_statement.proofs.Growing.{Extends, Grows, blocking_grows, choices_grow, event_grows, expr_last, items_grow, item_grows, labels_grow, longer, statement_grows, stmt_grows, stmts_grow, target_grows, terms_are, value_grows}
+use Rattle.vp_statement.specs.Derived.{AreItems, AreLabels, AreTerms, IsActionOf, IsAssignment, IsChain, IsItem, IsSelected, Runs}
+use Rattle.vp_parse.proofs.GrowingParts.{Extends, Grows, blocking_grows, choices_grow, event_grows, expr_last, items_grow, item_grows, labels_grow, longer, statement_grows, stmt_grows, stmts_grow, target_grows, terms_are, twice, value_grows}
 use Rattle.vp_statement.proofs.Places.{made_at}
 
 -- what stands at a place runs there
@@ -66,15 +67,12 @@ module _ (d : Elaborated) (m : Module) (number : ℕ) (whole : AreWhole d.source
     statements_to : length lists.statements ≤ m.statements.end
     expressions_to : length lists.expressions ≤ m.expressions.end
 
-  shorter : {X : Type 0} {a b c : List X} → Extends a b → Extends b c → Extends a c
-  shorter {a = a} h k = record { more = h.more ++ k.more; is = k.is ∙ ap (λ l. l ++ k.more) h.is ∙ append_assoc a h.more k.more }
-
   earlier : {a b : Lists} → Grows a b → Within b → Within a
   earlier h k = record {
-    statements = shorter h.statements k.statements;
-    expressions = shorter h.expressions k.expressions;
-    terms = shorter h.terms k.terms;
-    choices = shorter h.choices k.choices;
+    statements = twice h.statements k.statements;
+    expressions = twice h.expressions k.expressions;
+    terms = twice h.terms k.terms;
+    choices = twice h.choices k.choices;
     statements_to = (let l = longer h.statements in let s = k.statements_to in omega arith);
     expressions_to = (let l = longer h.expressions in let e = k.expressions_to in omega arith);
   }
@@ -273,7 +271,7 @@ module _ (d : Elaborated) (m : Module) (number : ℕ) (whole : AreWhole d.source
         (x.0, y.0, refl, item_runs i lists b (earlier (items_grow l x.1) w), items_run l x.1 (later (item_grows i lists) b) w)
 
 -- at the place of a derivation runs what it says
-pub derived : (d : Elaborated) (m : Module) (place : ℕ) (s : Stmt) → AreWhole d.source → StatementStandsAt d m place s → IsActionOf d m place s
+pub derived : (d : Elaborated) (m : Module) (place : ℕ) (s : Stmt) → AreWhole d.source → StatementStandsAt d.source m place s → IsActionOf d m place s
 derived d m place s whole h =
     subst (λ (p : ℕ). IsActionOf d m p s) (sym h.there)
     (stmt_runs d m h.number whole h.one s h.before

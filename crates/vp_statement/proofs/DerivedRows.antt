@@ -6,10 +6,11 @@ use Rattle.vp_parse_stmt.specs.declared.arena.Statement.TheVariants as statement
 use Rattle.vp_parse_stmt.specs.Grammar.{Stmt, Block, Null, Delayed, While, Empty, Then, Plain}
 use Rattle.vp_parse_stmt.specs.Layout.{no_parts}
 use Rattle.vp_parse.specs.declared.source.Module as declared
+use Rattle.vp_parse.specs.Standing.{StatementStandsAt}
 use Rattle.vp_elab.specs.Built.{Elaborated}
 use Rattle.vp_expr.specs.Derived.{StandsAt}
 use Rattle.vp_expr.specs.Tables.{tables_of}
-use Rattle.vp_statement.specs.Derived.{IsActionOf, StatementStandsAt}
+use Rattle.vp_statement.specs.Derived.{IsActionOf}
 
 -- `begin #5 ; while (1) ; end`
 abbrev block : Stmt
@@ -48,7 +49,7 @@ design = record {
 }
 
 -- the block stands at the place of its last statement
-stands : StatementStandsAt design m 6 block
+stands : StatementStandsAt design.source m 6 block
 stands = record {
   number = 0;
   one = refl;

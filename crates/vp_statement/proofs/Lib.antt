@@ -1,5 +1,4 @@
 pub mod Beginning
-pub mod Growing
 pub mod Places
 pub mod Derivations
 pub mod Rows

@@ -6,16 +6,7 @@ use Rattle.vp_list.specs.Lists.{range_of}
 use Rattle.vp_parse.specs.declared.source.Module.{Module}
 use Rattle.vp_parse.specs.Whole.{AreGapless}
 use Rattle.vp_parse_stmt.specs.declared.arena.Span.{Span}
-use Rattle.vp_expr.proofs.Wholes.{in_range}
-
--- spans without a gap go up to their end
-up_to : (from : ℕ) (spans : List Span) (to : ℕ) → AreGapless from spans to → from ≤ to
-up_to from [] to h = omega arith
-up_to from (s ∷ spans) to h =
-    let start = h.0 in
-    let up = h.1 in
-    let rest = up_to s.end spans to h.2 in
-    omega arith
+use Rattle.vp_expr.proofs.Wholes.{gapless_up, in_range}
 
 module _ {X Y : Type 0} (span : Module → Span) (made : Module → X → Y) (xs : List X) (x0 : X) (y0 : Y) where
   -- the part of a module, and what is made of it
@@ -67,7 +58,7 @@ module _ {X Y : Type 0} (span : Module → Span) (made : Module → X → Y) (xs
       let is : x ≡ m = cc in
       let start : (span m).first ≡ from = ap (λ (y : Module). (span y).first) (sym is) ∙ h.0 in
       let ends : (span x).end ≡ (span m).end = ap (λ (y : Module). (span y).end) is in
-      let last = up_to (span x).end (map span ms) (length xs) h.2 in
+      let last = gapless_up (span x).end (map span ms) (length xs) h.2 in
       let up : (span m).first ≤ (span m).end = omega arith in
       let inside : (span m).end ≤ length xs = omega arith in
       let n = owned m up inside in
@@ -78,7 +69,7 @@ module _ {X Y : Type 0} (span : Module → Span) (made : Module → X → Y) (xs
   made_there m (x ∷ ms) (suc k) from place h e low high =
       let start = h.0 in
       let up = h.1 in
-      let last = up_to (span x).end (map span ms) (length xs) h.2 in
+      let last = gapless_up (span x).end (map span ms) (length xs) h.2 in
       let first = begins m ms k (span x).end h.2 e in
       let n : length (own x) ≡ (span x).end - (span x).first = owned x up last in
       get_or-append_right (own x) (flat_map own ms) (length (own x)) (place - from) y0 refl (omega arith)

@@ -1,5 +1,5 @@
--- What the tables have for the statement of a derivation, and where a derivation stands in a design (clause 9).
-use Rattle.std.specs.Prelude.{◌≡◌, ◌≤◌, ℕ, List, [], ◌∷◌, ◌++◌, length, slice_get, slice_index_or, Option, Some, None}
+-- What the tables have for the statement of a derivation (clause 9).
+use Rattle.std.specs.Prelude.{◌≡◌, ℕ, List, [], ◌∷◌, ◌++◌, slice_index_or, Option, Some, None}
 use Rattle.vp_parse_expr.specs.declared.node.Selection.{Selection}
 use Rattle.vp_parse_expr.specs.declared.node.Selection.TheVariants as selection
 use Rattle.vp_parse_expr.specs.Grammar as expression
@@ -9,7 +9,7 @@ use Rattle.vp_parse_stmt.specs.declared.arena.Span.{Span}
 use Rattle.vp_parse_stmt.specs.declared.arena.Statement.{Statement}
 use Rattle.vp_parse_stmt.specs.declared.arena.Statement.TheVariants as statement
 use Rattle.vp_parse_stmt.specs.Grammar.{Stmt, Assign, Block, Null, Nonblocking, Delayed, Awaited, Wait, When, Choose, While, Forever, For, Case, Finish, Stmts, Empty, Then, Items, Last, More, Item, Labels, Default, LabelList, Only, Also, Event, Any, AnyGrouped, Change, Terms, Level, delay_amount}
-use Rattle.vp_parse_stmt.specs.Layout.{Lists, awaited, choices_of, is_wild, put_hold, put_stmt, put_term, put_terms}
+use Rattle.vp_parse_stmt.specs.Layout.{awaited, choices_of, is_wild, put_hold, put_term, put_terms}
 use Rattle.vp_parse.specs.declared.source.Module as declared
 use Rattle.vp_elab.specs.Built.{Elaborated}
 use Rattle.vp_expr.specs.Awaits.{awaited_by, awaits_of, choices_at, reads_of, terms_at}
@@ -101,22 +101,3 @@ abbrev mutual
   AreItems design m choices (Last i) = IsItem design m choices i
   AreItems design m choices (More i l) =
       (first : List Choice) × (others : List Choice) × (choices ≡ first ++ others) × IsItem design m first i × AreItems design m others l
-
--- ---- places
-
--- the derivation of a statement stands at a place of a design, in a module: its parts are laid out behind others, its statements and
--- expressions in the spans of the module, and the whole has this place
-pub record StatementStandsAt (design : Elaborated) (m : declared.Module) (place : ℕ) (s : Stmt) : Type 0 where
-  pub number : ℕ
-  pub one : slice_get design.source.modules number ≡ Some m
-  pub before : Lists
-  pub behind : Lists
-  pub statements : design.source.statements ≡ (put_stmt s before).1.statements ++ behind.statements
-  pub expressions : design.source.expressions ≡ (put_stmt s before).1.expressions ++ behind.expressions
-  pub terms : design.source.terms ≡ (put_stmt s before).1.terms ++ behind.terms
-  pub choices : design.source.choices ≡ (put_stmt s before).1.choices ++ behind.choices
-  pub there : place ≡ (put_stmt s before).0
-  pub statements_from : m.statements.first ≤ length before.statements
-  pub statements_to : length (put_stmt s before).1.statements ≤ m.statements.end
-  pub expressions_from : m.expressions.first ≤ length before.expressions
-  pub expressions_to : length (put_stmt s before).1.expressions ≤ m.expressions.end

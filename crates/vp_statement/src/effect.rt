@@ -1,9 +1,10 @@
 ghost use Rattle.std.specs.Prelude.{◌≡◌, drop, length};
 ghost use Rattle.vp_expr.specs.Tables.{tables_of};
 ghost use Rattle.vp_parse.specs.declared.source.Module.{Module};
+ghost use Rattle.vp_parse.specs.Standing.{StatementStandsAt};
 ghost use Rattle.vp_parse.specs.Whole.{AreWhole};
 ghost use Rattle.vp_parse_stmt.specs.Grammar.{Stmt};
-ghost use Rattle.vp_statement.specs.Derived.{IsActionOf, StatementStandsAt};
+ghost use Rattle.vp_statement.specs.Derived.{IsActionOf};
 ghost use Rattle.vp_statement.specs.Effects.{assigned, choices_in, chosen, cut_to, default_of, deferred, effect_at, effect_by, holds, is_taken, matches, object_at, proceeds, turned, waited};
 
 use crate::walk::action_at;
@@ -289,7 +290,7 @@ fn effect_by(
 #[tactic(auto, unfolding(crate::specs::Effects::effect_at))]
 pub fn effect_of(checked: &Checked, values: &Values, instance: ObjectId, place: u32) -> Effect
     ensures effect { result ≡ effect_at checked.now instance (drop instance.0 values.now) place }
-    ensures derived { AreWhole checked.now.source → (m : Module) (s : Stmt) → StatementStandsAt checked.now m place s → IsActionOf checked.now m place s }
+    ensures derived { AreWhole checked.now.source → (m : Module) (s : Stmt) → StatementStandsAt checked.now.source m place s → IsActionOf checked.now m place s }
 {
     let action = action_at(checked.tables().actions.as_slice(), place);
     effect_by(checked, values, instance, place, action)
