@@ -9,5 +9,6 @@ pub mod Loops
 pub mod Placed
 pub mod Raise
 pub mod Standing
+mod StandingRows
 pub mod Takes
 pub mod Within
