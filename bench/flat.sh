@@ -1,11 +1,11 @@
 #!/bin/sh
 # Whether a step costs the same in a large design, beside procedures that sleep, and behind a long log: the instructions (callgrind) of a time unit of a
 # counter, alone, beside 30,000 regs, beside 3,000 procedures that wait, and from time 10,000 on. Wants valgrind (Debian's package) and
-# crates/vp_served/out/vp_served, which `rt run` in crates/vp_served builds. Takes the time units that are counted (2000).
+# crates/vp_served/out/vp_served, which `rt run` in crates/vp_served builds. Takes the time units that are counted (8000).
 set -eu
 top=$(cd "$(dirname "$0")/.." && pwd)
 . "$top/bench/common.sh"
-units=${1:-2000}
+units=${1:-8000}
 counter='reg [31:0] count; initial count = 0; always #1 count = count + 1;'
 echo "module top; $counter endmodule" > "$work/alone.v"
 {
