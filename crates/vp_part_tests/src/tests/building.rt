@@ -3,6 +3,7 @@ ghost use Rattle.std.specs.Prelude.{◌≤◌, length};
 ghost use Rattle.vp_lex.specs.declared.token.TheConstants.{TEXT_LIMIT};
 
 use std::alloc::Global;
+use std::sync::Arc;
 use vp_elab::{Design, elaborate};
 use vp_expr::{Checked, check};
 use vp_lex::tokens;
@@ -26,7 +27,7 @@ fn source_of(alloc: Global, text: &str) -> Option<Source>
 }
 
 /// The design of a text, with its objects.
-pub fn design_of(alloc: Global, text: &str) -> Option<Design>
+fn design_of(alloc: Global, text: &str) -> Option<Design>
     requires { length text.now ≤ TEXT_LIMIT }
 {
     let envelopes = envelopes_of(alloc, text)?;
@@ -34,8 +35,15 @@ pub fn design_of(alloc: Global, text: &str) -> Option<Design>
 }
 
 /// The design of a text, checked.
-pub fn checked_of(alloc: Global, text: &str) -> Option<Checked>
+fn checked_of(alloc: Global, text: &str) -> Option<Checked>
     requires { length text.now ≤ TEXT_LIMIT }
 {
     check(alloc, design_of(alloc, text)?).ok()
+}
+
+/// The same to be shared, whose owner lets it go by one call.
+pub fn shared_of(alloc: Global, text: &str) -> Option<Arc<Checked>>
+    requires { length text.now ≤ TEXT_LIMIT }
+{
+    Arc::new(alloc, checked_of(alloc, text)?).ok()
 }

@@ -1,6 +1,6 @@
 //! What is declared in the scopes of a design. Each function asks one question, which keeps each proof short.
 
-use crate::tests::building::design_of;
+use crate::tests::building::shared_of;
 use std::alloc::Global;
 use vp_elab::{Design, ObjectId};
 use vp_list::Sequence;
@@ -17,9 +17,15 @@ module other;
 endmodule
 ";
 
+/// The top modules of a design.
+fn roots_of(alloc: Global, design: &Design) -> Option<Sequence<ObjectId>> {
+    design.roots(alloc).ok()
+}
+
 /// The top modules of the design.
 fn roots(alloc: Global) -> Option<Sequence<ObjectId>> {
-    design_of(alloc, DESIGN)?.roots(alloc).ok()
+    let checked = shared_of(alloc, DESIGN)?;
+    roots_of(alloc, checked.design())
 }
 
 #[test]
@@ -35,7 +41,8 @@ fn children_in(alloc: Global, design: &Design, scope: ObjectId) -> Option<Sequen
 
 /// What is declared in a scope of the design.
 fn children(alloc: Global, scope: u32) -> Option<Sequence<ObjectId>> {
-    children_in(alloc, &design_of(alloc, DESIGN)?, ObjectId(scope))
+    let checked = shared_of(alloc, DESIGN)?;
+    children_in(alloc, checked.design(), ObjectId(scope))
 }
 
 #[test]

@@ -2,9 +2,8 @@
 ghost use Rattle.std.specs.Prelude.{◌≤◌, length};
 ghost use Rattle.vp_lex.specs.declared.token.TheConstants.{TEXT_LIMIT};
 
-use crate::tests::building::checked_of;
+use crate::tests::building::shared_of;
 use std::alloc::Global;
-use std::sync::Arc;
 use vp_bits::Bits;
 use vp_elab::ObjectId;
 use vp_sim::Sim;
@@ -25,8 +24,7 @@ const NOTHING: u32 = u32::MAX;
 fn simulation(alloc: Global, text: &str) -> Option<Sim>
     requires { length text.now ≤ TEXT_LIMIT }
 {
-    let checked = Arc::new(alloc, checked_of(alloc, text)?).ok()?;
-    Sim::new(alloc, checked).ok()
+    Sim::new(alloc, shared_of(alloc, text)?).ok()
 }
 
 /// The object that a step changes, or the number of its refusal.

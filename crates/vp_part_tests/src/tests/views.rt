@@ -1,6 +1,6 @@
 //! What a user sees of a design.
 
-use crate::tests::building::design_of;
+use crate::tests::building::shared_of;
 use std::alloc::Global;
 use vp_elab::Design;
 use vp_list::Text;
@@ -38,7 +38,8 @@ fn view_in(alloc: Global, design: &Design) -> Option<View> {
 
 /// What Ann sees of the design.
 fn view(alloc: Global) -> Option<View> {
-    view_in(alloc, &design_of(alloc, DESIGN)?)
+    let checked = shared_of(alloc, DESIGN)?;
+    view_in(alloc, checked.design())
 }
 
 /// How many objects a view has, and whether its user may let the design run.

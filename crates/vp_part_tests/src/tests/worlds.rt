@@ -3,11 +3,9 @@
 ghost use Rattle.std.specs.Prelude.{IfSome};
 ghost use Rattle.vp_world.specs.Events.{IsWellFormed};
 
-use crate::tests::building::{checked_of, design_of};
+use crate::tests::building::shared_of;
 use std::alloc::Global;
-use std::sync::Arc;
 use vp_elab::{Design, ObjectId};
-use vp_expr::Checked;
 use vp_list::{Sequence, Text};
 use vp_policy::{Policy, UserId};
 use vp_world::{Event, Limits, Reply, Request, SessionId, World, WorldError};
@@ -39,7 +37,8 @@ fn policy_for(alloc: Global, design: &Design) -> Option<Policy> {
 
 /// The policy, read.
 fn policy(alloc: Global) -> Option<Policy> {
-    policy_for(alloc, &design_of(alloc, DESIGN)?)
+    let checked = shared_of(alloc, DESIGN)?;
+    policy_for(alloc, checked.design())
 }
 
 /// The envelopes of a scope of a design that are closed to Ann under a policy.
@@ -59,7 +58,8 @@ fn closed_in(alloc: Global, design: &Design, scope: Option<ObjectId>) -> Option<
 
 /// The envelopes of a scope of the design that are closed to Ann.
 fn closed(alloc: Global, scope: Option<ObjectId>) -> Option<Sequence<u8>> {
-    closed_in(alloc, &design_of(alloc, DESIGN)?, scope)
+    let checked = shared_of(alloc, DESIGN)?;
+    closed_in(alloc, checked.design(), scope)
 }
 
 #[test]
@@ -144,15 +144,10 @@ fn outcomes(alloc: Global, world: &mut World, deeds: &[Deed]) -> Option<Vec<u64>
     Some(outcomes)
 }
 
-/// A world of a checked design and a policy, with these limits.
-fn world_of(alloc: Global, checked: Checked, policy: Policy, limits: Limits) -> Option<World> {
-    let checked = Arc::new(alloc, checked).ok()?;
-    World::new(alloc, checked, policy, limits).ok()
-}
-
 /// A world of the design and the policy, with these limits.
 fn world(alloc: Global, limits: Limits) -> Option<World> {
-    world_of(alloc, checked_of(alloc, DESIGN)?, policy(alloc)?, limits)
+    let checked = shared_of(alloc, DESIGN)?;
+    World::new(alloc, checked, policy(alloc)?, limits).ok()
 }
 
 /// What comes of deeds in a world, and how long its log is then.
