@@ -286,7 +286,8 @@ impl Present {
         }
     }
 
-    fn check_step(&self, k: usize, full: bool) -> Result<(), WorldError>
+    /// Step k is not refused (1304, 1305, 1308).
+    pub fn check_step(&self, k: usize, full: bool) -> Result<(), WorldError>
         ensures accepted { OnOk result (refusal_of self.now.opening full self.now.state (event.Step k) ≡ None) }
         ensures refused { IfErr result (λ e. refusal_of self.now.opening full self.now.state (event.Step k) ≡ Some e) }
     {
@@ -297,7 +298,8 @@ impl Present {
         self.sim.check_step(k).map_err(WorldError::Sim)
     }
 
-    fn check_advance(&self, full: bool) -> Result<(), WorldError>
+    /// An Advance is not refused (1304, 1305, 1308).
+    pub fn check_advance(&self, full: bool) -> Result<(), WorldError>
         ensures accepted { OnOk result (refusal_of self.now.opening full self.now.state event.Advance ≡ None) }
         ensures refused { IfErr result (λ e. refusal_of self.now.opening full self.now.state event.Advance ≡ Some e) }
     {
@@ -326,8 +328,15 @@ impl Present {
             },
             Event::Ask { session, request } => self.ask(*session, request),
             Event::Close { session } => Ok(self.close(*session)),
-            Event::Step(k) => self.step(*k),
-            Event::Advance => self.advance(),
+            Event::Step(k) => Ok(Answer {
+                told: Reply::Done,
+                kept: Reply::Done,
+                change: self.step(*k)?,
+            }),
+            Event::Advance => {
+                self.advance()?;
+                Ok(done())
+            }
         }
     }
 
@@ -370,37 +379,29 @@ impl Present {
         done()
     }
 
-    /// Takes the k-th of the events that a step can take.
-    fn step(&mut self, k: usize) -> Result<Answer, WorldError>
+    /// Takes the k-th of the events that a step can take, and tells what it changes; or want of memory (1307), which leaves the world as it was.
+    pub fn step(&mut self, k: usize) -> Result<Option<Change>, WorldError>
         requires { IsStep (sim.step self.old.state.run k) }
-        ensures told { IfOk result (λ a. a.told ≡ reply.Done) }
-        ensures kept { IfOk result (λ a. a.kept ≡ reply.Done) }
-        ensures change { IfOk result (λ a. a.change ≡ change_of (sim.step self.old.state.run k)) }
+        ensures change { IfOk result (λ change. change ≡ change_of (sim.step self.old.state.run k)) }
         ensures after { OnOk result (self.new ≡ record { opening = self.old.opening; state = stepped self.old.state (sim.step self.old.state.run k) }) }
         ensures refused { IsOkUnless result world_error.NoMemory }
         ensures unchanged { OnErr result (self.new ≡ self.old) }
     {
         match self.sim.step(k) {
-            Ok(change) => Ok(Answer {
-                told: Reply::Done,
-                kept: Reply::Done,
-                change,
-            }),
+            Ok(change) => Ok(change),
             Err(_) => Err(WorldError::NoMemory),
         }
     }
 
-    /// Goes on to the time of the next event.
-    fn advance(&mut self) -> Result<Answer, WorldError>
-        ensures told { IfOk result (λ a. a.told ≡ reply.Done) }
-        ensures kept { IfOk result (λ a. a.kept ≡ reply.Done) }
-        ensures change { IfOk result (λ a. a.change ≡ change_of (sim.advance self.old.state.run)) }
+    /// Goes on to the time of the next event; or want of memory (1307), which leaves the world as it was.
+    pub fn advance(&mut self) -> Result<(), WorldError>
+        ensures change { OnOk result (change_of (sim.advance self.old.state.run) ≡ None) }
         ensures after { OnOk result (self.new ≡ record { opening = self.old.opening; state = stepped self.old.state (sim.advance self.old.state.run) }) }
         ensures refused { IsOkUnless result world_error.NoMemory }
         ensures unchanged { OnErr result (self.new ≡ self.old) }
     {
         match self.sim.advance() {
-            Ok(()) => Ok(done()),
+            Ok(()) => Ok(()),
             Err(_) => Err(WorldError::NoMemory),
         }
     }

@@ -1,5 +1,6 @@
 ghost use Rattle.std.specs.Prelude.{◌≡◌, ◌++◌, ◌∷◌, [], None, IfErr, IfOk, IsOkUnless, OnErr, OnOk};
 ghost use Rattle.std.specs.Arc.{arc_value};
+ghost use Rattle.vp_world.specs.declared.event.Event.TheVariants as event;
 ghost use Rattle.vp_world.specs.declared.fault.WorldError.TheVariants.{NoMemory};
 ghost use Rattle.vp_world.specs.Events.{IsWellFormed};
 ghost use Rattle.vp_world.specs.History.{Explains, IsLegal, answer, entry_of, refusal_behind, state_behind};
@@ -66,6 +67,66 @@ impl World {
     /// Advance by a full log, by a goal that does not reach so far (1305) or by the simulation (1308); and each for want of
     /// memory (1307). A refusal leaves the world as it was.
     pub fn apply(&mut self, event: Event) -> Result<Reply, WorldError>
+        requires { IsWellFormed event }
+        ensures accepted { OnOk result (refusal_behind self.old.opening self.old.log event ≡ None) }
+        ensures reply { IfOk result (λ reply. reply ≡ answer self.old.opening (state_behind self.old.opening self.old.log) event) }
+        ensures logged { OnOk result (self.new ≡ record { opening = self.old.opening; log = self.old.log ++ entry_of self.old.opening (state_behind self.old.opening self.old.log) event ∷ [] }) }
+        ensures refused { IfErr result (λ e. Explains (refusal_behind self.old.opening self.old.log event) e) }
+        ensures unchanged { OnErr result (self.new ≡ self.old) }
+    {
+        match event {
+            Event::Step(k) => self.apply_step(k),
+            Event::Advance => self.apply_advance(),
+            other => self.apply_other(other),
+        }
+    }
+
+    /// The same for a Step, whose entry is made in its place.
+    fn apply_step(&mut self, k: usize) -> Result<Reply, WorldError>
+        ensures accepted { OnOk result (refusal_behind self.old.opening self.old.log (event.Step k) ≡ None) }
+        ensures reply { IfOk result (λ reply. reply ≡ answer self.old.opening (state_behind self.old.opening self.old.log) (event.Step k)) }
+        ensures logged { OnOk result (self.new ≡ record { opening = self.old.opening; log = self.old.log ++ entry_of self.old.opening (state_behind self.old.opening self.old.log) (event.Step k) ∷ [] }) }
+        ensures refused { IfErr result (λ e. Explains (refusal_behind self.old.opening self.old.log (event.Step k)) e) }
+        ensures unchanged { OnErr result (self.new ≡ self.old) }
+    {
+        let full = self.log.len() >= self.present.log_limit();
+        self.present.check_step(k, full)?;
+        self.log.reserve(1)?;
+        let change = self.present.step(k)?;
+        self.log.push_reserved(Entry {
+            event: Event::Step(k),
+            reply: Reply::Done,
+            change,
+            time: self.present.time(),
+            finished: self.present.finished(),
+        });
+        Ok(Reply::Done)
+    }
+
+    /// The same for an Advance.
+    fn apply_advance(&mut self) -> Result<Reply, WorldError>
+        ensures accepted { OnOk result (refusal_behind self.old.opening self.old.log event.Advance ≡ None) }
+        ensures reply { IfOk result (λ reply. reply ≡ answer self.old.opening (state_behind self.old.opening self.old.log) event.Advance) }
+        ensures logged { OnOk result (self.new ≡ record { opening = self.old.opening; log = self.old.log ++ entry_of self.old.opening (state_behind self.old.opening self.old.log) event.Advance ∷ [] }) }
+        ensures refused { IfErr result (λ e. Explains (refusal_behind self.old.opening self.old.log event.Advance) e) }
+        ensures unchanged { OnErr result (self.new ≡ self.old) }
+    {
+        let full = self.log.len() >= self.present.log_limit();
+        self.present.check_advance(full)?;
+        self.log.reserve(1)?;
+        self.present.advance()?;
+        self.log.push_reserved(Entry {
+            event: Event::Advance,
+            reply: Reply::Done,
+            change: None,
+            time: self.present.time(),
+            finished: self.present.finished(),
+        });
+        Ok(Reply::Done)
+    }
+
+    /// The same for any event.
+    fn apply_other(&mut self, event: Event) -> Result<Reply, WorldError>
         requires { IsWellFormed event }
         ensures accepted { OnOk result (refusal_behind self.old.opening self.old.log event ≡ None) }
         ensures reply { IfOk result (λ reply. reply ≡ answer self.old.opening (state_behind self.old.opening self.old.log) event) }

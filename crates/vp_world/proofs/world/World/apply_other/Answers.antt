@@ -2,7 +2,7 @@ use Rattle.std.proofs.Common.{rules, ◌≡◌, ◌++◌, ◌∷◌, [], None, S
 use Rattle.vp_world.specs.declared.entry.Entry.{Entry}
 use Rattle.vp_world.specs.History.{refusal_behind, state_behind}
 use Rattle.vp_world.proofs.Logs.{entry_is, explained, keeps_more}
-use Rattle.vp_world.proofs.world.World.apply.Goals as goal
+use Rattle.vp_world.proofs.world.World.apply_other.Goals as goal
 
 pub returns-in_err-check-clause-refused : goal.returns-in_err-check-clause-refused
 returns-in_err-check-clause-refused c =

@@ -1,0 +1,18 @@
+use Rattle.std.proofs.Common.{rules, ◌≡◌, ◌++◌, ◌∷◌, [], None, refl, sym}
+use Rattle.vp_world.specs.declared.entry.Entry.{Entry}
+use Rattle.vp_world.specs.declared.event.Event.TheVariants as event
+use Rattle.vp_world.specs.declared.reply.Reply.TheVariants as reply
+use Rattle.vp_world.specs.History.{refusal_behind, state_behind}
+use Rattle.vp_world.proofs.Logs.{entry_is, keeps_more}
+use Rattle.vp_world.proofs.world.World.apply_advance.Goals as goal
+
+pub invariant_of-self-2 : goal.invariant_of-self-2
+invariant_of-self-2 c =
+    let w = c.self.inside.present in
+    let log = c.self.inside.log.items in
+    let done = c.in_ok-advance.ensures {u = tt} in
+    let entry : Entry = record { event = event.Advance; reply = reply.Done; change = None; time = c.time.result; finished = c.finished.result } in
+    let added : c.push_reserved.new.self.items ≡ log ++ entry ∷ [] = search rules in
+    let accepted : refusal_behind w.opening log (event.Advance) ≡ None = search rules in
+    keeps_more w c.advance.new.self log c.push_reserved.new.self.items entry c.self.invariant done.after added accepted
+    (entry_is w.opening w.state (state_behind w.opening log) entry c.self.invariant.state refl (sym done.change) (search rules) (search rules))
