@@ -15,7 +15,8 @@ pub enum Waiting {
 impl Waiting {
     /// What is waited for is the same.
     pub fn is_same(self, other: Waiting) -> bool
-        ensures { result ≡ true → self ≡ other }
+        ensures same { result ≡ true → self ≡ other }
+        ensures differs { self ≡ other → result ≡ true }
     {
         match (self, other) {
             (Waiting::Nothing, Waiting::Nothing) | (Waiting::Operands, Waiting::Operands) => true,
