@@ -1,4 +1,4 @@
-//! Designs of texts. Each function has few values of its own, which keeps its proof short.
+//! Designs of texts, and a policy for them. Each function has few values of its own, which keeps its proof short.
 ghost use Rattle.std.specs.Prelude.{◌≤◌, length};
 ghost use Rattle.vp_lex.specs.declared.token.TheConstants.{TEXT_LIMIT};
 
@@ -8,6 +8,7 @@ use vp_elab::{Design, elaborate};
 use vp_expr::{Checked, check};
 use vp_lex::tokens;
 use vp_parse::{Source, parse};
+use vp_policy::Policy;
 use vp_pragma::{Envelopes, envelopes};
 
 /// The envelopes of a text.
@@ -46,4 +47,13 @@ pub fn shared_of(alloc: Global, text: &str) -> Option<Arc<Checked>>
     requires { length text.now ≤ TEXT_LIMIT }
 {
     Arc::new(alloc, checked_of(alloc, text)?).ok()
+}
+
+/// A policy with one user, who may find and read what stands in the open text and let the design run.
+const POLICY: &[u8] =
+    b"{\"users\":[{\"name\":\"ann\",\"token\":\"t1\",\"open\":\"list+read\",\"run\":true}]}";
+
+/// The policy for a design, read.
+pub fn policy_for(alloc: Global, design: &Design) -> Option<Policy> {
+    Policy::read(alloc, POLICY, design).ok()
 }

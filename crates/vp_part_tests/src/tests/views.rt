@@ -1,6 +1,6 @@
 //! What a user sees of a design.
 
-use crate::tests::building::shared_of;
+use crate::tests::building::{policy_for, shared_of};
 use std::alloc::Global;
 use vp_elab::Design;
 use vp_list::Text;
@@ -16,15 +16,6 @@ const DESIGN: &str = "module top;
 `pragma protect end
 endmodule
 ";
-
-/// A policy with one user.
-const POLICY: &[u8] =
-    b"{\"users\":[{\"name\":\"ann\",\"token\":\"t1\",\"open\":\"list+read\",\"run\":true}]}";
-
-/// The policy for a design, read.
-fn policy_for(alloc: Global, design: &Design) -> Option<Policy> {
-    Policy::read(alloc, POLICY, design).ok()
-}
 
 /// What Ann sees of a design under a policy.
 fn view_under(alloc: Global, policy: &Policy, design: &Design) -> Option<View> {

@@ -3,7 +3,7 @@
 ghost use Rattle.std.specs.Prelude.{IfSome};
 ghost use Rattle.vp_world.specs.Events.{IsWellFormed};
 
-use crate::tests::building::shared_of;
+use crate::tests::building::{policy_for, shared_of};
 use std::alloc::Global;
 use vp_elab::{Design, ObjectId};
 use vp_list::{Sequence, Text};
@@ -20,20 +20,11 @@ const DESIGN: &str = "module top;
 endmodule
 ";
 
-/// The README's policy.
-const POLICY: &[u8] =
-    b"{\"users\":[{\"name\":\"ann\",\"token\":\"t1\",\"open\":\"list+read\",\"run\":true}]}";
-
 /// Ann's first session.
 const ANN: SessionId = SessionId {
     user: UserId(0),
     opens: 1,
 };
-
-/// The policy for a design, read.
-fn policy_for(alloc: Global, design: &Design) -> Option<Policy> {
-    Policy::read(alloc, POLICY, design).ok()
-}
 
 /// The policy, read.
 fn policy(alloc: Global) -> Option<Policy> {
