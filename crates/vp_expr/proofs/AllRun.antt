@@ -13,11 +13,12 @@ use Rattle.vp_processes.specs.Processes as elaborated
 use Rattle.vp_elab.specs.Tree.{Node}
 use Rattle.vp_expr.specs.declared.tables.Process.TheVariants as process
 use Rattle.vp_expr.specs.declared.tables.Tables.{Tables}
-use Rattle.vp_expr.specs.Arena.{is_width}
-use Rattle.vp_expr.specs.Checks.{IsChecked}
-use Rattle.vp_expr.specs.Ids.{Sized}
-use Rattle.vp_expr.specs.Tables.{assignment_of, driven_size, process_of, sizes_of, tables_of, width_in, widths_of}
-use Rattle.vp_expr.proofs.Arenas.{each_fits, width_from}
+use Rattle.vp_operand.specs.Arena.{is_width}
+use Rattle.vp_expr.specs.Tables.{IsChecked, assignment_of, driven_size, process_of, tables_of}
+use Rattle.vp_operand.specs.Ids.{Sized}
+use Rattle.vp_resolve.specs.Names.{width_in}
+use Rattle.vp_resolve.specs.Operands.{sizes_of, widths_of}
+use Rattle.vp_operand.proofs.Arenas.{each_fits, width_from}
 
 -- an object has at most 64 bits
 width_there : (nodes : List Node) (i : ℕ) → list_all is_width (map (λ (n : Node). n.width) nodes) ≡ true → option_map_or (λ (n : Node). n.width) (slice_get nodes i) 0 ≤ 64

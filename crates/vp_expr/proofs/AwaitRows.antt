@@ -20,15 +20,16 @@ use Rattle.vp_elab.specs.declared.object.Kind.TheVariants.{Module, Reg}
 use Rattle.vp_elab.specs.Built.{Elaborated}
 use Rattle.vp_elab.specs.Tree.{Node, Step}
 use Rattle.vp_expr.specs.declared.awaited.Awaited.{Awaited}
-use Rattle.vp_expr.specs.declared.operand.Operand.{Operand}
-use Rattle.vp_expr.specs.declared.operand.Operand.TheVariants as operand
-use Rattle.vp_expr.specs.declared.operand.Slot.{Slot}
+use Rattle.vp_operand.specs.declared.operand.Operand.{Operand}
+use Rattle.vp_operand.specs.declared.operand.Operand.TheVariants as operand
+use Rattle.vp_operand.specs.declared.operand.Slot.{Slot}
 use Rattle.vp_expr.specs.declared.tables.Action.TheVariants as action
 use Rattle.vp_expr.specs.declared.tables.Target.TheVariants as target
 use Rattle.vp_expr.specs.Awaits.{awaits_of, cut_at, laid_of, reads_from, reads_in}
-use Rattle.vp_expr.specs.Checks.{bad_target, wide_target}
-use Rattle.vp_expr.specs.Ids.{Sized}
-use Rattle.vp_expr.specs.Tables.{actions_of, operands_of}
+use Rattle.vp_resolve.specs.Checks.{bad_target, wide_target}
+use Rattle.vp_operand.specs.Ids.{Sized}
+use Rattle.vp_expr.specs.Tables.{actions_of}
+use Rattle.vp_resolve.specs.Operands.{operands_of}
 
 -- a word of one letter
 abbrev word : ℕ → Token

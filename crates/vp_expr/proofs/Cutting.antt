@@ -7,7 +7,8 @@ use Rattle.vp_list.specs.Lists.{has_range, range_of}
 use Rattle.vp_elab.specs.Built.{Elaborated}
 use Rattle.vp_expr.specs.declared.awaited.Awaited.{Awaited}
 use Rattle.vp_expr.specs.Awaits.{awaits_of, cut_at, end_at, laid_behind}
-use Rattle.vp_expr.specs.Tables.{awaited_of, operands_of, tables_of}
+use Rattle.vp_expr.specs.Tables.{awaited_of, tables_of}
+use Rattle.vp_resolve.specs.Operands.{operands_of}
 use Rattle.vp_expr.proofs.Wholes.{in_range}
 
 -- all of these changes

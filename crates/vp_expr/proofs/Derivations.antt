@@ -16,20 +16,22 @@ use Rattle.vp_parse.specs.Whole.{AreWhole}
 use Rattle.vp_parse.proofs.GrowingParts.{expr_last, expr_more, longer}
 use Rattle.vp_elab.specs.Built.{Elaborated}
 use Rattle.vp_elab.specs.Elaboration.{range_width}
-use Rattle.vp_expr.specs.declared.operand.Infix.{Infix}
-use Rattle.vp_expr.specs.declared.operand.Infix.TheVariants as pair
-use Rattle.vp_expr.specs.declared.operand.Reduction.TheVariants as reduction
-use Rattle.vp_expr.specs.declared.operand.Unary.TheVariants as unary
-use Rattle.vp_expr.specs.declared.operand.Operand.{Operand}
-use Rattle.vp_expr.specs.declared.operand.Operand.TheVariants as operand
-use Rattle.vp_expr.specs.Arena.{blank, is_width, part_in, term_at, term_from, terms_of, value_in, with_term}
+use Rattle.vp_operand.specs.declared.operand.Infix.{Infix}
+use Rattle.vp_operand.specs.declared.operand.Infix.TheVariants as pair
+use Rattle.vp_operand.specs.declared.operand.Reduction.TheVariants as reduction
+use Rattle.vp_operand.specs.declared.operand.Unary.TheVariants as unary
+use Rattle.vp_operand.specs.declared.operand.Operand.{Operand}
+use Rattle.vp_operand.specs.declared.operand.Operand.TheVariants as operand
+use Rattle.vp_operand.specs.Arena.{blank, is_width, part_in, term_at, term_from, terms_of, value_in, with_term}
 use Rattle.vp_expr.specs.Derived.{StandsAt, derived_value, expr_term, named_term, parts_term}
-use Rattle.vp_expr.specs.Tables.{infix_of, lowest_in, named_operand, object_named, operand_of, operands_of, scope_of, slot_in, tables_of, unary_operand, width_in}
-use Rattle.vp_expr.specs.Terms as term
-use Rattle.vp_expr.specs.Terms.{Term, value}
+use Rattle.vp_expr.specs.Tables.{tables_of}
+use Rattle.vp_resolve.specs.Names.{lowest_in, object_named, scope_of, slot_in, width_in}
+use Rattle.vp_resolve.specs.Operands.{infix_of, named_operand, operand_of, operands_of, unary_operand}
+use Rattle.vp_operand.specs.Terms as term
+use Rattle.vp_operand.specs.Terms.{Term, value}
 use Rattle.vp_expr.specs.Evaluation.{eval}
-use Rattle.vp_expr.specs.Ids as ids
-use Rattle.vp_expr.proofs.Arenas.{grows_at, length-terms}
+use Rattle.vp_operand.specs.Ids as ids
+use Rattle.vp_operand.proofs.Arenas.{grows_at, length-terms}
 use Rattle.vp_expr.proofs.Wholes.{stand_behind}
 
 -- the terms of expressions in a list, by the object of their module; before those of the module stand other operands

@@ -12,11 +12,11 @@ use Rattle.vp_elab.specs.declared.object.Kind.{Kind}
 use Rattle.vp_elab.specs.declared.object.Kind.TheVariants.{Module, Reg}
 use Rattle.vp_elab.specs.Built.{Elaborated}
 use Rattle.vp_elab.specs.Tree.{Node, Step, find_in}
-use Rattle.vp_expr.specs.Arena.{blank, value_in}
+use Rattle.vp_operand.specs.Arena.{blank, value_in}
 use Rattle.vp_expr.specs.Derived.{StandsAt, derived_value, named_term}
-use Rattle.vp_expr.specs.Literals.{number_bits}
-use Rattle.vp_expr.specs.Terms as term
-use Rattle.vp_expr.specs.Terms.{Term, value}
+use Rattle.vp_operand.specs.Literals.{number_bits}
+use Rattle.vp_operand.specs.Terms as term
+use Rattle.vp_operand.specs.Terms.{Term, value}
 
 -- 7 - (2 + 1), whose symbols have the places 0 to 6
 abbrev difference : Expr

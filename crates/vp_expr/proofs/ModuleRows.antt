@@ -14,13 +14,15 @@ use Rattle.vp_parse.specs.Whole.{AreWhole}
 use Rattle.vp_elab.specs.declared.object.Kind.TheVariants.{Module, Reg}
 use Rattle.vp_elab.specs.Built.{Elaborated}
 use Rattle.vp_elab.specs.Tree.{Node, Step}
-use Rattle.vp_expr.specs.declared.operand.Operand.TheVariants as operand
+use Rattle.vp_operand.specs.declared.operand.Operand.TheVariants as operand
 use Rattle.vp_expr.specs.declared.tables.Action.TheVariants as action
 use Rattle.vp_expr.specs.declared.tables.Target.TheVariants as target
-use Rattle.vp_expr.specs.Checks.{bits_named, counted_sizes}
+use Rattle.vp_resolve.specs.Checks.{bits_named, counted_sizes}
 use Rattle.vp_expr.specs.Derived.{StandsAt, expr_term}
-use Rattle.vp_expr.specs.Tables.{actions_of, operands_of, scope_of}
-use Rattle.vp_expr.specs.Terms as term
+use Rattle.vp_expr.specs.Tables.{actions_of}
+use Rattle.vp_resolve.specs.Names.{scope_of}
+use Rattle.vp_resolve.specs.Operands.{operands_of}
+use Rattle.vp_operand.specs.Terms as term
 
 -- a word of one letter
 abbrev word : ℕ → Token

@@ -2,15 +2,15 @@
 use Rattle.std.proofs.Common.{◌≡◌, ◌∙◌, ◌&&◌, ℕ, Bool, true, false, cond, List, Some, None, ap, sym, refl}
 use Rattle.std.specs.List.{list_all}
 use Rattle.vp_elab.specs.Built.{Elaborated}
-use Rattle.vp_expr.specs.declared.operand.Operand.{Operand}
+use Rattle.vp_operand.specs.declared.operand.Operand.{Operand}
 use Rattle.vp_expr.specs.declared.awaited.Awaited.{Awaited}
 use Rattle.vp_expr.specs.declared.tables.Action.{Action}
 use Rattle.vp_expr.specs.declared.tables.Process.{Process}
 use Rattle.vp_expr.specs.declared.tables.Tables.{Tables}
-use Rattle.vp_expr.specs.Arena.{IsSized, fitting, is_width, sizes_in}
+use Rattle.vp_operand.specs.Arena.{IsSized, fitting, is_width, sizes_in}
 use Rattle.vp_expr.specs.Awaits.{awaits_of, laid_of}
-use Rattle.vp_expr.specs.Checks.{IsChecked}
-use Rattle.vp_expr.specs.Tables.{actions_of, all_fit, operands_of, processes_of, sizes_of, tables_of, widths_of}
+use Rattle.vp_expr.specs.Tables.{IsChecked, actions_of, processes_of, tables_of}
+use Rattle.vp_resolve.specs.Operands.{all_fit, operands_of, sizes_of, widths_of}
 
 pub tables_sized : (design : Elaborated) (t : Tables) → t ≡ tables_of design → list_all is_width t.sizes ≡ true → IsSized t.operands t.sizes
 unfolding tables_of

@@ -5,9 +5,9 @@ use Rattle.std.specs.Prelude.{slice_get}
 use borrow.Author.Tests.{ltb-true, ltb-false}
 use Rattle.vp_parse.specs.declared.source.Source.{Source}
 use Rattle.vp_parse_stmt.specs.declared.arena.Statement.{Statement}
-use Rattle.vp_expr.specs.declared.operand.Operand.{Operand}
+use Rattle.vp_operand.specs.declared.operand.Operand.{Operand}
 use Rattle.vp_expr.specs.Awaits.{reads_below, reads_from, reads_in, reads_made}
-use Rattle.vp_expr.proofs.Prefixes.{made_below, made_missing, past_end}
+use Rattle.vp_operand.proofs.Prefixes.{made_below, made_missing, past_end}
 
 module _ (source : Source) (operands : List Operand) (ss : List Statement) (end place : ℕ) where
   -- the statement that is found at a place before an end

@@ -13,8 +13,9 @@ use Rattle.vp_parse_stmt.specs.declared.arena.Span.{Span}
 use Rattle.vp_parse.specs.Whole.{AreGapless, AreWhole}
 use Rattle.vp_modules.specs.Items.{expressions_in, statements_in}
 use Rattle.vp_elab.specs.Built.{Elaborated}
-use Rattle.vp_expr.specs.declared.operand.Operand.{Operand}
-use Rattle.vp_expr.specs.Tables.{operand_of, operands_in, operands_of, scope_of}
+use Rattle.vp_operand.specs.declared.operand.Operand.{Operand}
+use Rattle.vp_resolve.specs.Names.{scope_of}
+use Rattle.vp_resolve.specs.Operands.{operand_of, operands_in, operands_of}
 
 -- a list has the items of a span that ends in it
 pub in_range : {X : Type 0} (xs : List X) (a b : ℕ) → a ≤ b → b ≤ length xs → range_of xs a b ≡ slice_range xs a b

@@ -15,17 +15,13 @@ use Rattle.vp_parse.specs.declared.source.Source.{Source}
 use Rattle.vp_modules.specs.Items.{statements_in}
 use Rattle.vp_elab.specs.Built.{Elaborated}
 use Rattle.vp_expr.specs.declared.awaited.Awaited.{Awaited}
-use Rattle.vp_expr.specs.declared.operand.Operand.{Operand}
-use Rattle.vp_expr.specs.declared.operand.Slot.{Slot}
-use Rattle.vp_expr.specs.Arena.{term_at}
-use Rattle.vp_expr.specs.Names.{object_named, scope_of, slot_in}
-use Rattle.vp_expr.specs.Reads.{reads, slot_at}
+use Rattle.vp_operand.specs.declared.operand.Operand.{Operand}
+use Rattle.vp_operand.specs.declared.operand.Slot.{Slot}
+use Rattle.vp_operand.specs.Arena.{term_at}
+use Rattle.vp_resolve.specs.Names.{object_named, scope_of, slot_in}
+use Rattle.vp_operand.specs.Reads.{reads, slot_at, slots_at}
 
 -- ---- what a statement reads (clause 9.7.5)
-
--- the slots that the expression at a place reads, those of indexes too
-abbrev pub slots_at : List Operand → (place : ℕ) → List Slot
-slots_at operands place = map slot_at (reads (term_at operands place))
 
 -- the slots that are read to select a target: those of its index
 abbrev pub index_slots : List Operand → Selection → List Slot

@@ -11,12 +11,13 @@ use Rattle.vp_parse.specs.Places.{word_at}
 use Rattle.vp_parse.specs.declared.source.Module as declared
 use Rattle.vp_elab.specs.Built.{Elaborated}
 use Rattle.vp_elab.specs.Elaboration.{range_width}
-use Rattle.vp_expr.specs.declared.operand.Operand.TheVariants as operand
-use Rattle.vp_expr.specs.Arena.{blank, is_width, term_from, value_in}
-use Rattle.vp_expr.specs.Literals.{based_bits, literal_bits, number_bits}
-use Rattle.vp_expr.specs.Tables.{infix_of, lowest_in, object_named, slot_in, unary_operand, width_in}
-use Rattle.vp_expr.specs.Terms as term
-use Rattle.vp_expr.specs.Terms.{Term, value}
+use Rattle.vp_operand.specs.declared.operand.Operand.TheVariants as operand
+use Rattle.vp_operand.specs.Arena.{blank, is_width, term_from, value_in}
+use Rattle.vp_operand.specs.Literals.{based_bits, literal_bits, number_bits}
+use Rattle.vp_resolve.specs.Names.{lowest_in, object_named, slot_in, width_in}
+use Rattle.vp_resolve.specs.Operands.{infix_of, unary_operand}
+use Rattle.vp_operand.specs.Terms as term
+use Rattle.vp_operand.specs.Terms.{Term, value}
 
 -- an operator on a term
 abbrev pub unary_term : UnaryOperator → Term → Term

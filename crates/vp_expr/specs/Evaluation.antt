@@ -6,9 +6,9 @@ use Rattle.vp_bits.specs.Arithmetic.{number_of}
 use Rattle.vp_expr.specs.declared.tables.Tables.{Tables}
 use Rattle.vp_expr.specs.declared.tables.Target.{Target}
 use Rattle.vp_expr.specs.declared.tables.Target.TheVariants as target
-use Rattle.vp_expr.specs.Arena.{term_at, value_at, value_in}
-use Rattle.vp_expr.specs.Terms.{index_place, own_value}
-use Rattle.vp_expr.specs.Ids.{Sized}
+use Rattle.vp_operand.specs.Arena.{term_at, value_at, value_in}
+use Rattle.vp_operand.specs.Terms.{index_place, own_value}
+use Rattle.vp_operand.specs.Ids.{Sized}
 
 -- the value of an expression, by its place and the size of its context (clause 5.4); one unknown bit behind the end
 abbrev pub eval : Tables → List (List Bit) → Sized → List Bit

@@ -1,16 +1,5 @@
-pub mod Faults
-pub mod Values
-pub mod Ids
-pub mod Terms
-pub mod Laws
-pub mod Arena
-pub mod Start
-pub mod Literals
-pub mod LiteralSteps
-pub mod Names
 pub mod Awaits
 pub mod Tables
+pub mod Start
 pub mod Evaluation
-pub mod Reads
 pub mod Derived
-pub mod Checks

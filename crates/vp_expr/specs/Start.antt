@@ -15,7 +15,7 @@ use Rattle.vp_elab.specs.Items.{node_item}
 use Rattle.vp_elab.specs.Tree.{Node}
 use Rattle.vp_elab.specs.declared.object.Kind.{Kind}
 use Rattle.vp_elab.specs.declared.object.Kind.TheVariants as kind
-use Rattle.vp_expr.specs.Literals.{literal_bits}
+use Rattle.vp_operand.specs.Literals.{literal_bits}
 
 -- ---- constants
 

@@ -1,17 +1,17 @@
 // Statements as actions, with slots in place of names.
 ghost use Rattle.std.specs.Prelude.{◌≡◌, ◌++◌, option_map, IfOk, OnOk};
-ghost use Rattle.vp_expr.specs.Tables.{action_for, action_of, actions_in, actions_of, assigned, conditional_action, named_target, object_named, own_sized, scope_of, selected_target, selector_for, sized_at, target_width, with_label};
+ghost use Rattle.vp_expr.specs.Tables.{action_for, action_of, actions_in, actions_of, assigned, conditional_action, named_target, own_sized, selected_target, selector_for, sized_at, target_width, with_label};
+ghost use Rattle.vp_resolve.specs.Names.{object_named, scope_of};
 
-use crate::id::ExprId;
-use crate::resolving::{lowest_in, object_named, part_place, scope_of, slot_in, width_in};
-use crate::sizes::{fitted, size_at};
 use crate::statement_reads::choices_at;
 use crate::tables::{Action, Target};
 use std::alloc::{AllocError, Global};
 use vp_elab::{Design, ObjectId, range_width};
 use vp_list::Sequence;
 use vp_modules::statements_of;
+use vp_operand::{ExprId, fitted, size_at};
 use vp_parse::{Choice, Module, Selection, Source, Span, Statement};
+use vp_resolve::{lowest_in, object_named, part_place, scope_of, slot_in, width_in};
 
 /// The expression at a place in a context of a size, in bits; none where no vector has that.
 pub fn sized_at(place: u32, size: u32) -> Option<ExprId>

@@ -2,16 +2,15 @@
 ghost use Rattle.std.specs.Prelude.{◌≡◌, ◌++◌, [], map, option_map, IfOk, OnOk};
 ghost use Rattle.std.specs.List.{filter_map, fold};
 ghost use Rattle.vp_expr.specs.Awaits.{any_change, awaited_by, awaits_in, awaits_of, cut_at, end_at, laid_behind, laid_of, reads_in, statements_of, term_change, terms_at};
-ghost use Rattle.vp_expr.specs.Names.{scope_of};
+ghost use Rattle.vp_resolve.specs.Names.{scope_of};
 
-use crate::operand::{Operand, Slot};
-use crate::reads::add_slots;
-use crate::resolving::{object_named, scope_of, slot_in};
 use crate::statement_reads::add_below;
 use std::alloc::{AllocError, Global};
 use vp_elab::{Design, ObjectId};
 use vp_modules::statements_of;
+use vp_operand::{Operand, Slot, add_slots};
 use vp_parse::{Edge, EventTerm, Module, Source, Span, Statement};
+use vp_resolve::{object_named, scope_of, slot_in};
 
 /// A change for which a statement waits: of the object at a slot, and which of its changes count (9.7.2).
 #[derive(Clone, Copy)]

@@ -1,18 +1,18 @@
 ghost use Rattle.std.specs.Prelude.{◌≡◌, ◌≤◌, [], slice_index_or, true, length, map, All, None, IfErr, IfOk, OnOk};
 ghost use Rattle.std.specs.List.{list_all};
 ghost use Rattle.vp_processes.specs.Processes.{processes_of};
-ghost use Rattle.vp_expr.specs.Arena.{is_width};
+ghost use Rattle.vp_operand.specs.Arena.{is_width};
 ghost use Rattle.vp_expr.specs.Awaits.{awaits_of};
-ghost use Rattle.vp_expr.specs.Checks.{Explains, IsChecked, refusal_of};
-ghost use Rattle.vp_expr.specs.Tables.{awaited_of, operands_of, tables_of};
+ghost use Rattle.vp_expr.specs.Tables.{IsChecked, awaited_of, tables_of};
+ghost use Rattle.vp_resolve.specs.Checks.{Explains, refusal_of};
+ghost use Rattle.vp_resolve.specs.Operands.{operands_of};
 
 use crate::awaited::{Awaited, cut_at};
-use crate::fault::ExprError;
-use crate::refusing::checked_tables;
-use crate::tables::Tables;
+use crate::tables::{Tables, tables_of};
 use std::alloc::Global;
 use std::marker::Model;
 use vp_elab::{Design, Object};
+use vp_resolve::{ExprError, operands_of, refuse};
 
 /// A design whose expressions are at most 64 bits wide, with the tables that a simulator runs. A contract sees the design,
 /// of which the tables are a function.
@@ -29,7 +29,7 @@ impl Model for Checked {
 
     ghost view = { λ c. c.design };
 
-    ghost use Rattle.vp_expr.specs.Checks.{IsChecked};
+    ghost use Rattle.vp_expr.specs.Tables.{IsChecked};
 
     ghost invariant = { λ c. IsChecked c.design c.tables };
 }
@@ -69,6 +69,21 @@ impl Checked {
         let tables = &self.tables;
         let ends = tables.awaited_ends.as_slice();
         cut_at(tables.awaited.as_slice(), ends, place as usize)
+    }
+}
+
+/// The tables of a design that is not refused; or the first refusal that holds, or want of memory.
+#[tactic(auto, unfolding(vp_resolve::specs::Checks::refusal_of))]
+fn checked_tables(alloc: Global, design: &Design) -> Result<Tables, ExprError>
+    ensures tables { IfOk result (λ tables. IsChecked design.now tables) }
+    ensures accepted { OnOk result (refusal_of design.now ≡ None) }
+    ensures refused { IfErr result (λ e. Explains (refusal_of design.now) e) }
+{
+    let operands = operands_of(alloc, design)?;
+    refuse(alloc, design, operands.as_slice())?;
+    match tables_of(alloc, design, operands)? {
+        Some(tables) => Ok(tables),
+        None => Err(ExprError::TooWide { line: 0 }),
     }
 }
 

@@ -1,44 +1,23 @@
-ghost use Rattle.std.specs.Prelude.{◌≡◌, ◌<◌, Some, drop, length, slice_get, IfSome, MatchOption, OnSome};
+ghost use Rattle.std.specs.Prelude.{◌≡◌, ◌<◌, ◌++◌, drop, length, map, IfSome, MatchOption, OnOk, OnSome};
 ghost use Rattle.vp_bits.specs.Vector.{IsWidth};
-ghost use Rattle.vp_expr.specs.Arena.{blank, term_below, term_made, value_in, IsSized};
+ghost use Rattle.vp_operand.specs.Arena.{blank, term_at, term_below, term_made, value_in, IsSized};
+ghost use Rattle.vp_operand.specs.Reads.{reads, slot_at};
 ghost use Rattle.vp_parse_expr.specs.Grammar.{Expr};
 ghost use Rattle.vp_parse.specs.declared.source.Module.{Module};
 ghost use Rattle.vp_parse.specs.Whole.{AreWhole};
 ghost use Rattle.vp_expr.specs.Derived.{StandsAt, derived_value};
 ghost use Rattle.vp_expr.specs.Evaluation.{eval, own_eval, place_set};
-ghost use Rattle.vp_expr.specs.Tables.{scope_of, tables_of};
-ghost use Rattle.vp_expr.specs.Terms.{size, value};
+ghost use Rattle.vp_expr.specs.Tables.{tables_of};
+ghost use Rattle.vp_resolve.specs.Names.{scope_of};
+ghost use Rattle.vp_operand.specs.Terms.{size, value};
 
 use crate::checked::Checked;
-use crate::id::ExprId;
-use crate::operand::{Infix, Operand};
-use crate::operators::{
-    applied, bit_at, combined, compared, index_place, joined, part_at, reduced, shifted,
-};
-use crate::sizes::size_at;
 use crate::tables::{Tables, Target};
 use crate::values::{Values, value_in};
+use std::alloc::AllocError;
 use vp_bits::{Bit, Bits};
 use vp_elab::ObjectId;
-
-/// The operand at a place; none behind the end.
-fn operand_at(operands: &[Operand], place: u32) -> Option<Operand>
-    ensures { result ≡ slice_get operands.now place }
-{
-    operands.get(place as usize).copied()
-}
-
-/// The operand at a place before an end; none elsewhere.
-pub fn operand_before(operands: &[Operand], end: usize, place: u32) -> Option<Operand>
-    ensures below { OnSome result (place < end) }
-    ensures found { IfSome result (λ o. Some o ≡ slice_get operands.now place) }
-    ensures term { MatchOption result (term_below operands.now end place ≡ blank) (λ o. term_below operands.now end place ≡ term_made operands.now place o) }
-{
-    if place as usize >= end {
-        return None;
-    }
-    operand_at(operands, place)
-}
+use vp_operand::{ExprId, Infix, Operand, Slot, add_slots, applied, bit_at, combined, compared, index_place, joined, operand_before, part_at, reduced, shifted, size_at};
 
 /// The operand at a place before an end, whose size is that of a vector; none elsewhere.
 fn operand_below(tables: &Tables, end: usize, place: u32) -> Option<Operand>
@@ -245,4 +224,12 @@ pub fn place_set(
         }
         Target::Part { place, .. } => Some(place),
     }
+}
+
+/// Adds the slots that the expression at a place of a design reads, those of indexes too, in the order of the text, to others. For
+/// want of memory it adds some of them. Takes memory.
+pub fn add_reads(checked: &Checked, place: u32, slots: &mut Vec<Slot>) -> Result<(), AllocError>
+    ensures { OnOk result (slots.new.items ≡ slots.old.items ++ map slot_at (reads (term_at (tables_of checked.now).operands place))) }
+{
+    add_slots(checked.tables().operands.as_slice(), place, slots)
 }

@@ -1,10 +1,10 @@
 // What statements read.
 ghost use Rattle.std.specs.Prelude.{◌≡◌, ◌++◌, if◌then◌else◌, nat_lt, slice_get, None, take, OnOk};
-ghost use Rattle.vp_expr.specs.Awaits.{body_reads, choice_reads, choices_at, index_slots, label_slots, optional_reads, reads_below, reads_in, reads_made, slots_at};
+ghost use Rattle.vp_expr.specs.Awaits.{body_reads, choice_reads, choices_at, index_slots, label_slots, optional_reads, reads_below, reads_in, reads_made};
+ghost use Rattle.vp_operand.specs.Reads.{slots_at};
 
-use crate::operand::{Operand, Slot};
-use crate::reads::add_slots;
 use std::alloc::AllocError;
+use vp_operand::{Operand, Slot, add_slots};
 use vp_parse::{Choice, Selection, Source, Span, Statement};
 
 /// The choices of a case.

@@ -1,19 +1,16 @@
-ghost use Rattle.std.specs.Prelude.{◌≡◌, ◌++◌, true, false, option_map, IfOk, IfSome, MatchOption, OnOk};
-ghost use Rattle.vp_expr.specs.Arena.{fitting};
-ghost use Rattle.vp_expr.specs.Checks.{IsChecked};
-ghost use Rattle.vp_expr.specs.Tables.{all_fit, assignment_of, operands_in, operands_of, process_of, processes_of, scope_of, widths_of};
+ghost use Rattle.std.specs.Prelude.{◌≡◌, true, false, IfOk, IfSome, MatchOption};
+ghost use Rattle.vp_operand.specs.Arena.{fitting};
+ghost use Rattle.vp_expr.specs.Tables.{IsChecked, assignment_of, process_of, processes_of};
+ghost use Rattle.vp_resolve.specs.Operands.{all_fit, operands_of, widths_of};
 
 use crate::actions::{actions_of, sized_at};
 use crate::awaited::{Awaited, awaits_of};
-use crate::id::ExprId;
-use crate::operand::{Operand, Slot};
-use crate::resolving::{operand_of, scope_of, width_in};
-use crate::sizes::{fitted, size_at, sizes_of};
 use std::alloc::{AllocError, Global};
 use vp_elab::{Design, ObjectId};
 use vp_list::Sequence;
-use vp_modules::expressions_of;
-use vp_parse::{Module, Span};
+use vp_operand::{ExprId, Operand, Slot, fitted, size_at, sizes_of};
+use vp_parse::Span;
+use vp_resolve::width_in;
 
 /// What of an object of an instance an assignment sets (clause 5.2.1).
 #[derive(Clone, Copy)]
@@ -218,34 +215,6 @@ fn process_of(design: &Design, sizes: &[u8], process: vp_processes::Process) -> 
         } => assignment_of(design, sizes, port, port, instance, value),
         vp_processes::Process::Outward { port, net } => Some(Process::Connection { port, net }),
     }
-}
-
-/// The expressions of a module as operands, behind others. Takes memory.
-fn add_operands(
-    design: &Design,
-    scope: Option<ObjectId>,
-    module: Module,
-    operands: &mut Vec<Operand>,
-) -> Result<(), AllocError>
-    requires { option_map (λ o. o.0) scope ≡ scope_of design.now «module» }
-    ensures { OnOk result (operands.new.items ≡ operands.old.items ++ operands_in design.now «module») }
-{
-    for expression in expressions_of(design.source(), module) {
-        operands.push(operand_of(design, scope, *expression))?;
-    }
-    Ok(())
-}
-
-/// The expressions of a design as operands, module by module. Takes memory.
-pub fn operands_of(alloc: Global, design: &Design) -> Result<Sequence<Operand>, AllocError>
-    ensures { IfOk result (λ operands. operands ≡ operands_of design.now) }
-{
-    let mut operands = Vec::new(alloc);
-    for (number, module) in design.source().modules.as_slice().iter().enumerate() {
-        let scope = scope_of(design, number);
-        add_operands(design, scope, *module, &mut operands)?;
-    }
-    Ok(Sequence::from_vec(operands))
 }
 
 /// The processes of a design, by the sizes of its expressions. Takes memory.

@@ -2,18 +2,18 @@ ghost use Rattle.std.specs.Prelude.{◌≡◌, ◌<◌, drop, replicate, length,
 ghost use Rattle.std.specs.Option.{option_map_or};
 ghost use Rattle.vp_bits.specs.declared.bit.Bit.TheVariants.{Unknown};
 ghost use Rattle.vp_bits.specs.Vector.{IsWidth};
-ghost use Rattle.vp_expr.specs.Arena.{value_in};
+ghost use Rattle.vp_operand.specs.Arena.{value_in};
 ghost use Rattle.vp_expr.specs.Start.{constant_at, item_constant, literal_constant, start_of, start_value};
-ghost use Rattle.vp_expr.specs.Values.{no_value};
+ghost use Rattle.vp_operand.specs.Values.{no_value};
 
 use crate::checked::Checked;
-use crate::fault::ExprError;
-use crate::literal::literal_bits;
 use std::alloc::Global;
 use std::marker::Model;
 use vp_bits::Bits;
 use vp_elab::{Design, Kind, Object, ObjectId};
+use vp_operand::literal_bits;
 use vp_parse::{Expression, Item, Source};
+use vp_resolve::ExprError;
 
 /// A value for each object of a design. A contract sees their list, by object number.
 #[derive(Drop)]

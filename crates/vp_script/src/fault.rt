@@ -3,7 +3,7 @@ ghost use Rattle.vp_script.specs.declared.fault.ServeFault.TheVariants.{Design, 
 
 use std::alloc::{AllocError, AllocFailed};
 use thiserror::Error;
-use vp_expr::ExprError;
+use vp_resolve::ExprError;
 use vp_lex::LexError;
 use vp_modules::ElabError;
 use vp_parse::ParseError;

@@ -7,10 +7,10 @@ use Rattle.std.proofs.lemmas.Bool.{cases_lt, cases_eq, eqb-true, eq-eqb, or_case
 use Rattle.std.proofs.lemmas.List.{get_or-set_same, get_or-set_other, get_or-replicate, get_or_past, length-replicate, map_push, take_more, length-set, length-map, get_or-map}
 use Rattle.std.proofs.lemmas.List.Folds.{list_any-append, list_any_at}
 use Rattle.vp_elab.specs.declared.object.ObjectId.{ObjectId}
-use Rattle.vp_expr.specs.declared.operand.Slot.{Slot}
+use Rattle.vp_operand.specs.declared.operand.Slot.{Slot}
 use Rattle.vp_expr.specs.declared.tables.Process.{Process}
 use Rattle.vp_expr.specs.declared.tables.Tables.{Tables}
-use Rattle.vp_expr.specs.Reads.{slot_at}
+use Rattle.vp_operand.specs.Reads.{slot_at}
 use Rattle.vp_expr.specs.Tables.{tables_of}
 use Rattle.vp_sim.specs.declared.waiting.Waiting.{Waiting}
 use Rattle.vp_sim.specs.declared.waiting.Waiting.TheVariants as wait

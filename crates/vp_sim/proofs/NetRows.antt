@@ -3,8 +3,8 @@ use Rattle.std.proofs.Common.{◌≡◌, ℕ, false, List, [], ◌∷◌, Option
 use Rattle.vp_bits.specs.declared.bit.Bit.{Bit}
 use Rattle.vp_bits.specs.declared.bit.Bit.TheVariants.{Zero, One, Unknown, HighImpedance}
 use Rattle.vp_elab.specs.Built.{Elaborated}
-use Rattle.vp_expr.specs.declared.operand.Operand.TheVariants.{Object, Applied}
-use Rattle.vp_expr.specs.declared.operand.Unary.TheVariants.{Negation}
+use Rattle.vp_operand.specs.declared.operand.Operand.TheVariants.{Object, Applied}
+use Rattle.vp_operand.specs.declared.operand.Unary.TheVariants.{Negation}
 use Rattle.vp_expr.specs.declared.tables.Process.TheVariants.{Assignment, Connection}
 use Rattle.vp_expr.specs.declared.tables.Tables.{Tables}
 use Rattle.vp_strata.specs.declared.event.Event.{Event}

@@ -5,7 +5,7 @@ use Rattle.vp_bits.specs.Vector.{resized, same_bits}
 use Rattle.vp_elab.specs.declared.object.ObjectId.{ObjectId}
 use Rattle.vp_expr.specs.declared.tables.Process.{Process}
 use Rattle.vp_expr.specs.declared.tables.Process.TheVariants.{Procedure, Assignment, Connection}
-use Rattle.vp_expr.specs.Terms.{set_in}
+use Rattle.vp_operand.specs.Terms.{set_in}
 use Rattle.vp_sim.specs.declared.change.Change.{Change}
 
 -- what changes where an object that has a value is given another: nothing, if that is the same at the object's width

@@ -9,7 +9,7 @@ use Rattle.vp_elab.specs.Tree.{below}
 use Rattle.vp_expr.specs.declared.tables.Process.{Process}
 use Rattle.vp_expr.specs.declared.tables.Process.TheVariants.{Procedure, Assignment, Connection}
 use Rattle.vp_expr.specs.declared.tables.Tables.{Tables}
-use Rattle.vp_expr.specs.Arena.{value_in}
+use Rattle.vp_operand.specs.Arena.{value_in}
 use Rattle.vp_expr.specs.Evaluation.{eval}
 use Rattle.vp_expr.specs.Start.{start_of}
 use Rattle.vp_expr.specs.Tables.{process_object, tables_of}

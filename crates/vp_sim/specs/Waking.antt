@@ -12,9 +12,9 @@ use Rattle.vp_parse_stmt.specs.declared.arena.Edge.TheVariants.{Any, Posedge, Ne
 use Rattle.vp_expr.specs.declared.tables.Process.{Process}
 use Rattle.vp_expr.specs.declared.tables.Process.TheVariants.{Procedure, Assignment, Connection}
 use Rattle.vp_expr.specs.declared.tables.Tables.{Tables}
-use Rattle.vp_expr.specs.Arena.{term_at}
+use Rattle.vp_operand.specs.Arena.{term_at}
 use Rattle.vp_expr.specs.Tables.{awaited_of}
-use Rattle.vp_expr.specs.Reads.{reads}
+use Rattle.vp_operand.specs.Reads.{reads}
 use Rattle.vp_sim.specs.declared.change.Change.{Change}
 use Rattle.vp_sim.specs.declared.waiting.Waiting.{Waiting}
 use Rattle.vp_sim.specs.declared.waiting.Waiting.TheVariants.{Nothing, Statement, Operands}

@@ -1,11 +1,10 @@
 ghost use Rattle.std.specs.Prelude.{◌≡◌, ◌==◌, ◌<◌, ℕ, [], All, length, map, slice_get, true, Some, IfOk, OnErr, OnOk};
 ghost use Rattle.std.specs.List.{AllPairs};
 ghost use Rattle.std.specs.Arc.{arc_value};
-ghost use Rattle.vp_expr.specs.Tables.{tables_of};
+ghost use Rattle.vp_expr.specs.Tables.{awaited_of, tables_of};
 ghost use Rattle.vp_sim.specs.Listening.{AreKept, AreListeners, IsHeard, has, listeners_of, may_listen, with_number, with_number_at};
-ghost use Rattle.vp_expr.specs.Arena.{term_at};
-ghost use Rattle.vp_expr.specs.Tables.{awaited_of};
-ghost use Rattle.vp_expr.specs.Reads.{reads};
+ghost use Rattle.vp_operand.specs.Arena.{term_at};
+ghost use Rattle.vp_operand.specs.Reads.{reads};
 ghost use Rattle.vp_sim.specs.Waking.{any_of, awaited_by, located, object_at, operand_terms, statement_terms, terms_of};
 
 use crate::processes::process_at;
@@ -14,7 +13,8 @@ use std::alloc::{AllocError, Global};
 use std::marker::Model;
 use std::sync::Arc;
 use vp_elab::ObjectId;
-use vp_expr::{Checked, ExprId, Process, Slot, add_reads};
+use vp_expr::{Checked, Process, add_reads};
+use vp_operand::{ExprId, Slot};
 
 /// A design, and of each object its listeners: the processes that have waited for its changes, rising. A process that waits for an
 /// object stands among them, and none is ever taken out. A contract sees the design and the listeners.

@@ -14,7 +14,8 @@ use crate::waiting::Waiting;
 use std::alloc::AllocError;
 use vp_bits::Bits;
 use vp_elab::ObjectId;
-use vp_expr::{Tables, set_in};
+use vp_expr::Tables;
+use vp_operand::set_in;
 use vp_statement::{Effect, effect_of, first_event, push_left_behind};
 use vp_strata::{Delayed, NonblockingUpdate, TIME_LIMIT};
 

@@ -1,7 +1,6 @@
 ghost use Rattle.std.specs.Prelude.{◌≡◌, ◌≤◌, ◌+◌, length, map, true};
 ghost use Rattle.std.specs.List.{list_any};
-ghost use Rattle.vp_expr.specs.Tables.{awaited_of};
-ghost use Rattle.vp_expr.specs.Tables.{tables_of};
+ghost use Rattle.vp_expr.specs.Tables.{awaited_of, tables_of};
 ghost use Rattle.vp_sim.specs.Listening.{AreHeard, listeners_of, may_listen};
 ghost use Rattle.vp_sim.specs.States.{with_evaluations};
 ghost use Rattle.vp_sim.specs.Waking.{counts, first_bit, is_continuous, is_negedge, is_of, is_posedge, located, roused, roused_one, statement_terms, terms_of, wakes, wakes_at, woken_alone, woken_by};

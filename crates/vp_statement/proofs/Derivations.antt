@@ -17,7 +17,9 @@ use Rattle.vp_parse.specs.Whole.{AreWhole}
 use Rattle.vp_elab.specs.Built.{Elaborated}
 use Rattle.vp_expr.specs.Awaits.{awaited_by, choices_at, reads_of}
 use Rattle.vp_expr.specs.Derived.{StandsAt}
-use Rattle.vp_expr.specs.Tables.{action_of, operands_of, scope_of, sizes_of, tables_of}
+use Rattle.vp_expr.specs.Tables.{action_of, tables_of}
+use Rattle.vp_resolve.specs.Names.{scope_of}
+use Rattle.vp_resolve.specs.Operands.{operands_of, sizes_of}
 use Rattle.vp_expr.specs.declared.tables.Action.TheVariants.{Nothing}
 use Rattle.vp_expr.proofs.Wholes.{in_range}
 use Rattle.vp_statement.specs.Derived.{AreItems, AreLabels, AreTerms, IsActionOf, IsAssignment, IsChain, IsItem, IsSelected, Runs}

@@ -14,7 +14,9 @@ use Rattle.vp_parse.specs.declared.source.Module as declared
 use Rattle.vp_elab.specs.Built.{Elaborated}
 use Rattle.vp_expr.specs.Awaits.{awaited_by, awaits_of, choices_at, reads_of, terms_at}
 use Rattle.vp_expr.specs.Derived.{StandsAt}
-use Rattle.vp_expr.specs.Tables.{action_of, operands_of, scope_of, sizes_of, tables_of}
+use Rattle.vp_expr.specs.Tables.{action_of, tables_of}
+use Rattle.vp_resolve.specs.Names.{scope_of}
+use Rattle.vp_resolve.specs.Operands.{operands_of, sizes_of}
 use Rattle.vp_statement.specs.Walking.{action_at}
 
 -- what the tables have at a place is a statement's: what it does, with slots in place of names and sizes for its expressions, and the

@@ -16,9 +16,9 @@ use Rattle.vp_expr.specs.declared.tables.Action.{Action}
 use Rattle.vp_expr.specs.declared.tables.Action.TheVariants as action
 use Rattle.vp_expr.specs.declared.tables.Tables.{Tables}
 use Rattle.vp_expr.specs.declared.tables.Target.{Target}
-use Rattle.vp_expr.specs.Arena.{is_width}
+use Rattle.vp_operand.specs.Arena.{is_width}
 use Rattle.vp_expr.specs.Evaluation.{eval, place_set, slot_of}
-use Rattle.vp_expr.specs.Ids.{Sized}
+use Rattle.vp_operand.specs.Ids.{Sized}
 use Rattle.vp_expr.specs.Tables.{tables_of, target_width}
 use Rattle.vp_statement.specs.declared.effect.Effect.{Effect}
 use Rattle.vp_statement.specs.declared.effect.Effect.TheVariants as effect

@@ -10,7 +10,8 @@ ghost use Rattle.vp_statement.specs.Effects.{assigned, choices_in, chosen, cut_t
 use crate::walk::action_at;
 use vp_bits::{Bit, Bits};
 use vp_elab::ObjectId;
-use vp_expr::{Action, Checked, ExprId, Slot, Target, Values, eval, place_set, target_width};
+use vp_expr::{Action, Checked, Target, Values, eval, place_set, target_width};
+use vp_operand::{ExprId, Slot};
 use vp_parse::{Choice, Source, Span};
 
 /// What one event of a procedure does. A value goes to so many bits of an object as it has, from a place on, of which that of the

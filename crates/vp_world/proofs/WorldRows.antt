@@ -17,7 +17,7 @@ use Rattle.vp_parse.specs.declared.source.Item.TheVariants as item
 use Rattle.vp_elab.specs.declared.object.Kind.{Kind}
 use Rattle.vp_elab.specs.declared.object.Kind.TheVariants.{Module, Reg, Initial}
 use Rattle.vp_elab.specs.Tree.{Node, Tree}
-use Rattle.vp_expr.specs.Arena.{sizes_in}
+use Rattle.vp_operand.specs.Arena.{sizes_in}
 use Rattle.vp_expr.specs.Tables.{tables_of}
 use Rattle.vp_statement.specs.Effects.{effect_at}
 use Rattle.vp_policy.specs.declared.denial.By.TheVariants as by

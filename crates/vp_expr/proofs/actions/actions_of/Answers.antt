@@ -1,6 +1,6 @@
 use Rattle.std.proofs.Common.{◌∙◌, ap}
 use Rattle.vp_parse.specs.declared.source.Source.{Source}
-use Rattle.vp_expr.proofs.Scopes.{scope_there}
+use Rattle.vp_resolve.proofs.Scopes.{scope_there}
 use Rattle.vp_expr.proofs.actions.actions_of.Goals as goal
 
 pub add_actions-requires : goal.add_actions-requires

@@ -1,5 +1,6 @@
 use Rattle.std.proofs.Common.{◌≡◌, ◌++◌, drop, map}
-use Rattle.vp_expr.specs.Tables.{action_of, actions_in, scope_of}
+use Rattle.vp_expr.specs.Tables.{action_of, actions_in}
+use Rattle.vp_resolve.specs.Names.{scope_of}
 use Rattle.vp_expr.proofs.actions.add_actions.Given as goal
 
 -- the actions so far, and those of what is left of the module

@@ -3,9 +3,9 @@ use Rattle.std.specs.Prelude.{OnOk, option_map}
 use Rattle.vp_parse.specs.declared.source.Source.{Source}
 use Rattle.vp_parse_stmt.specs.declared.arena.Statement.{Statement}
 use Rattle.vp_expr.specs.declared.awaited.Awaited.{Awaited}
-use Rattle.vp_expr.specs.declared.operand.Slot.{Slot}
+use Rattle.vp_operand.specs.declared.operand.Slot.{Slot}
 use Rattle.vp_expr.specs.Awaits.{any_change, awaited_by, part_reads, reads_below, reads_from, reads_in}
-use Rattle.vp_expr.proofs.Prefixes.{made_whole}
+use Rattle.vp_operand.proofs.Prefixes.{made_whole}
 use Rattle.vp_expr.proofs.awaited.add_awaited.Goals as goal
 
 pub returns-in_ok-add_below-in-AnyEvent : goal.returns-in_ok-add_below-in-AnyEvent

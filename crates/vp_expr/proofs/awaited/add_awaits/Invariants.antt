@@ -1,7 +1,7 @@
 use Rattle.std.proofs.Common.{◌≡◌, drop, map}
 use Rattle.std.specs.List.{fold}
 use Rattle.vp_expr.specs.Awaits.{awaited_by, awaits_in, laid_behind, reads_in}
-use Rattle.vp_expr.specs.Names.{scope_of}
+use Rattle.vp_resolve.specs.Names.{scope_of}
 use Rattle.vp_expr.proofs.awaited.add_awaits.Given as goal
 
 -- the changes so far, and behind them those of the statements of the module that are left

@@ -5,10 +5,10 @@ use Rattle.vp_parse.specs.declared.source.Source.{Source}
 use Rattle.vp_parse_stmt.specs.declared.arena.Statement.{Statement}
 use Rattle.vp_elab.specs.Built.{Elaborated}
 use Rattle.vp_expr.specs.declared.awaited.Awaited.{Awaited}
-use Rattle.vp_expr.specs.declared.operand.Operand.{Operand}
+use Rattle.vp_operand.specs.declared.operand.Operand.{Operand}
 use Rattle.vp_expr.specs.Awaits.{awaits_in, laid_behind, reads_in, reads_of, statements_of}
 use Rattle.vp_expr.proofs.Growing.{folds_left}
-use Rattle.vp_expr.proofs.Scopes.{scope_there}
+use Rattle.vp_resolve.proofs.Scopes.{scope_there}
 use Rattle.vp_expr.proofs.awaited.awaits_of.Goals as goal
 
 -- the changes of one more module behind those of others

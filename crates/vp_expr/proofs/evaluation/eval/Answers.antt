@@ -1,11 +1,11 @@
 use Rattle.std.proofs.Common.{◌∙◌, ℕ, List, ap, drop}
 use Rattle.vp_bits.specs.declared.bit.Bit.{Bit}
 use Rattle.vp_expr.specs.declared.tables.Tables.{Tables}
-use Rattle.vp_expr.specs.Arena.{term_below, value_at, value_in}
+use Rattle.vp_operand.specs.Arena.{term_below, value_at, value_in}
 use Rattle.vp_expr.specs.Evaluation.{eval}
 use Rattle.vp_expr.specs.Tables.{tables_of}
-use Rattle.vp_expr.specs.Terms.{Term, value}
-use Rattle.vp_expr.proofs.Arenas.{term_whole}
+use Rattle.vp_operand.specs.Terms.{Term, value}
+use Rattle.vp_operand.proofs.Arenas.{term_whole}
 use Rattle.vp_expr.proofs.Derivations.{value_derived}
 use Rattle.vp_expr.proofs.Sized.{tables_sized}
 use Rattle.vp_expr.proofs.evaluation.eval.Goals as goal

@@ -1,7 +1,7 @@
 use Rattle.std.proofs.Common.{◌≡◌, List, Some, subst}
 use Rattle.std.specs.Prelude.{slice_get, IfSome}
-use Rattle.vp_expr.specs.declared.operand.Operand.{Operand}
-use Rattle.vp_expr.proofs.Arenas.{found_fits}
+use Rattle.vp_operand.specs.declared.operand.Operand.{Operand}
+use Rattle.vp_operand.proofs.Arenas.{found_fits}
 use Rattle.vp_expr.proofs.evaluation.operand_below.Goals as goal
 
 pub returns-clause-fits : goal.returns-clause-fits

@@ -1,9 +1,9 @@
 use Rattle.std.proofs.Common.{◌∙◌, ℕ, ap}
 use Rattle.vp_expr.specs.declared.tables.Tables.{Tables}
-use Rattle.vp_expr.specs.Arena.{term_below, value_in}
+use Rattle.vp_operand.specs.Arena.{term_below, value_in}
 use Rattle.vp_expr.specs.Evaluation.{own_eval}
-use Rattle.vp_expr.specs.Terms.{Term, own_value}
-use Rattle.vp_expr.proofs.Arenas.{term_whole}
+use Rattle.vp_operand.specs.Terms.{Term, own_value}
+use Rattle.vp_operand.proofs.Arenas.{term_whole}
 use Rattle.vp_expr.proofs.Sized.{tables_sized}
 use Rattle.vp_expr.proofs.evaluation.own_eval.Goals as goal
 

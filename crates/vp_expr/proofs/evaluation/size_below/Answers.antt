@@ -1,6 +1,6 @@
 use Rattle.std.proofs.Common.{◌∙◌, ap, subst, get_or, sym, ℕ}
 use Rattle.vp_bits.specs.Vector.{IsWidth}
-use Rattle.vp_expr.proofs.Arenas.{size_before, size_behind, size_fits}
+use Rattle.vp_operand.proofs.Arenas.{size_before, size_behind, size_fits}
 use Rattle.vp_expr.proofs.evaluation.size_below.Goals as goal
 
 pub returns-then-place-end-clause-size : goal.returns-then-place-end-clause-size

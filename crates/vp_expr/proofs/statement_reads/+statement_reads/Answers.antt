@@ -1,7 +1,7 @@
 use Rattle.std.proofs.Common.{◌≡◌, ◌∙◌, ◌++◌, ltb, cond, None, Some, List, sym, ap, subst, append-nil, arith, append_assoc}
 use Rattle.std.specs.Prelude.{slice_get, OnOk}
 use Rattle.vp_parse_stmt.specs.declared.arena.Statement.TheVariants as statement
-use Rattle.vp_expr.specs.declared.operand.Slot.{Slot}
+use Rattle.vp_operand.specs.declared.operand.Slot.{Slot}
 use Rattle.vp_expr.specs.Awaits.{reads_below}
 use Rattle.vp_expr.proofs.StatementReads.{statement_found, statement_missing}
 use Rattle.vp_expr.proofs.statement_reads.+statement_reads.Goals as goal

@@ -1,7 +1,8 @@
 use Rattle.std.proofs.Common.{◌≡◌, ◌∙◌, Some, ap, sym}
-use Rattle.vp_expr.specs.Arena.{fitting, sizes_in}
+use Rattle.vp_operand.specs.Arena.{fitting, sizes_in}
 use Rattle.vp_expr.specs.Awaits.{awaits_of, laid_of}
-use Rattle.vp_expr.specs.Tables.{actions_of, processes_of, widths_of}
+use Rattle.vp_expr.specs.Tables.{actions_of, processes_of}
+use Rattle.vp_resolve.specs.Operands.{widths_of}
 use Rattle.vp_expr.proofs.Sized.{design_fits, tables_checked}
 use Rattle.vp_expr.proofs.tables.tables_of.Goals as goal
 use Rattle.vp_expr.proofs.tables.tables_of.Goals.{After-from_vec-2}

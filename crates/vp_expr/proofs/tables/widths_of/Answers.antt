@@ -1,7 +1,7 @@
 use Rattle.std.proofs.Common.{◌∙◌, Some, ap, sym}
-use Rattle.vp_expr.specs.Arena.{fitting, is_width}
-use Rattle.vp_expr.proofs.Arenas.{not_fitted}
-use Rattle.vp_expr.proofs.Fitting.{objects_unfit, widths_all, widths_more}
+use Rattle.vp_operand.specs.Arena.{fitting, is_width}
+use Rattle.vp_operand.proofs.Arenas.{not_fitted}
+use Rattle.vp_resolve.proofs.Fitting.{objects_unfit, widths_all, widths_more}
 use Rattle.vp_expr.proofs.tables.widths_of.Goals as goal
 
 pub returns-in_default : goal.returns-in_default

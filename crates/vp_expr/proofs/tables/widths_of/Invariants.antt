@@ -1,4 +1,4 @@
-use Rattle.vp_expr.proofs.Fitting.{AreWidths}
+use Rattle.vp_resolve.proofs.Fitting.{AreWidths}
 use Rattle.vp_expr.proofs.tables.widths_of.Given as goal
 
 -- the widths of the objects so far

@@ -1,9 +1,9 @@
 use Rattle.std.proofs.Common.{◌∙◌, sym, ap}
 use Rattle.std.specs.List.{list_all}
 use Rattle.vp_expr.specs.declared.tables.Tables.{Tables}
-use Rattle.vp_expr.specs.Arena.{is_width}
+use Rattle.vp_operand.specs.Arena.{is_width}
 use Rattle.vp_expr.specs.Tables.{tables_of}
-use Rattle.vp_expr.proofs.Fitting.{object_fits}
+use Rattle.vp_resolve.proofs.Fitting.{object_fits}
 use Rattle.vp_expr.proofs.checked.Checked.objects.Goals as goal
 
 pub returns-clause-fit : goal.returns-clause-fit

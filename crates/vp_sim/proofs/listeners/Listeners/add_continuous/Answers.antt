@@ -1,7 +1,7 @@
 use Rattle.std.proofs.Common.{◌∙◌, Option, Some, false, ap, get_or}
 use Rattle.std.specs.Option.{option_map_or}
-use Rattle.vp_expr.specs.Arena.{term_at}
-use Rattle.vp_expr.specs.Reads.{reads}
+use Rattle.vp_operand.specs.Arena.{term_at}
+use Rattle.vp_operand.specs.Reads.{reads}
 use Rattle.vp_expr.specs.Tables.{tables_of}
 use Rattle.vp_expr.specs.declared.tables.Process.{Process}
 use Rattle.vp_sim.specs.Listening.{listens_to}

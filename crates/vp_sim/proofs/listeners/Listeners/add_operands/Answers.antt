@@ -2,10 +2,10 @@ use Rattle.std.proofs.Common.{◌≡◌, ◌∙◌, ◌++◌, ℕ, true, List, a
 use Rattle.std.proofs.lemmas.List.Elements.{All-same}
 use Rattle.std.proofs.lemmas.Result.{IfOk-weaker}
 use Rattle.vp_elab.specs.Built.{Elaborated}
-use Rattle.vp_expr.specs.Arena.{term_at}
-use Rattle.vp_expr.specs.Reads.{reads, slot_at}
+use Rattle.vp_operand.specs.Arena.{term_at}
+use Rattle.vp_operand.specs.Reads.{reads, slot_at}
 use Rattle.vp_expr.specs.Tables.{tables_of}
-use Rattle.vp_expr.specs.declared.operand.Slot.{Slot}
+use Rattle.vp_operand.specs.declared.operand.Slot.{Slot}
 use Rattle.vp_sim.specs.Listening.{IsHeard, Listening, may_listen}
 use Rattle.vp_sim.specs.Waking.{Term, any_of, object_at}
 use Rattle.vp_sim.proofs.Hearing.{all_slots, at_slots}

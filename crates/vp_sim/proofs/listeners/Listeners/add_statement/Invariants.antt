@@ -1,6 +1,5 @@
 use Rattle.std.proofs.Common.{◌≡◌, map, take}
-use Rattle.vp_expr.specs.Tables.{awaited_of}
-use Rattle.vp_expr.specs.Tables.{tables_of}
+use Rattle.vp_expr.specs.Tables.{awaited_of, tables_of}
 use Rattle.vp_sim.specs.Listening.{AreKept, IsHeard}
 use Rattle.vp_sim.specs.Waking.{located}
 use Rattle.vp_sim.proofs.listeners.Listeners.add_statement.Given as goal

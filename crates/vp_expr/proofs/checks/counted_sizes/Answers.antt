@@ -1,9 +1,0 @@
-use Rattle.std.proofs.Common.{◌∙◌, ap}
-use Rattle.vp_parse.specs.declared.source.Source.{Source}
-use Rattle.vp_expr.proofs.Scopes.{scope_there}
-use Rattle.vp_expr.proofs.checks.counted_sizes.Goals as goal
-
-pub add_counted-requires : goal.add_counted-requires
-add_counted-requires c =
-    scope_there c.args.design.now c.as_slice-module-items.result.now c.loop-number.number _ _ (c.as_slice-module-items.ensures ∙ ap (λ (s : Source). s.modules) c.source.ensures)
-    c.scope_of-scope.ensures c.loop-number-test.true

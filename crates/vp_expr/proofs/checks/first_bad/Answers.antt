@@ -1,9 +1,0 @@
-use Rattle.std.proofs.Common.{◌∙◌, ap}
-use Rattle.vp_parse.specs.declared.source.Source.{Source}
-use Rattle.vp_expr.proofs.Scopes.{scope_there}
-use Rattle.vp_expr.proofs.checks.first_bad.Goals as goal
-
-pub bad_in-requires : goal.bad_in-requires
-bad_in-requires c =
-    scope_there c.args.design.now c.as_slice-module-items.result.now c.loop-number.number _ _ (c.as_slice-module-items.ensures ∙ ap (λ (s : Source). s.modules) c.source.ensures)
-    c.scope_of-scope.ensures c.loop-number-test.true

@@ -1,8 +1,0 @@
-use Rattle.std.proofs.Common.{◌≡◌, drop}
-use Rattle.vp_parse.specs.Places.{earlier, earliest}
-use Rattle.vp_expr.specs.Checks.{bad_in}
-use Rattle.vp_expr.proofs.checks.first_bad.Given as goal
-
-abbrev pub invariant-loop-number : goal.invariant-loop-number
-invariant-loop-number l =
-    earlier l.first (earliest (bad_in l.design) (drop l.number l.design.source.modules)) ≡ earliest (bad_in l.design) l.design.source.modules

@@ -1,9 +1,0 @@
-use Rattle.std.proofs.Common.{◌≡◌, drop}
-use Rattle.vp_parse.specs.Places.{earlier}
-use Rattle.vp_expr.specs.Checks.{first_wide_in}
-use Rattle.vp_expr.proofs.checks.first_wide_expression.Given as goal
-
--- the sizes that are left are those of the expressions of the modules that are left
-abbrev pub invariant-loop-module : goal.invariant-loop-module
-invariant-loop-module l =
-    earlier l.first (first_wide_in l.source (drop l.module-index l.source.modules) l.left) ≡ first_wide_in l.source l.source.modules l.sizes

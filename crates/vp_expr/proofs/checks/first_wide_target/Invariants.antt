@@ -1,8 +1,0 @@
-use Rattle.std.proofs.Common.{◌≡◌, drop}
-use Rattle.vp_parse.specs.Places.{earlier, earliest}
-use Rattle.vp_expr.specs.Checks.{wide_target}
-use Rattle.vp_expr.proofs.checks.first_wide_target.Given as goal
-
-abbrev pub invariant-loop-statement : goal.invariant-loop-statement
-invariant-loop-statement l =
-    earlier l.first (earliest wide_target (drop l.statement-index l.statements)) ≡ earliest wide_target l.statements

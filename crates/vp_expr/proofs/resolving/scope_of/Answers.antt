@@ -1,8 +1,0 @@
-use Rattle.std.proofs.Common.{◌∙◌}
-use Rattle.vp_expr.proofs.Scopes.{scope_by_name}
-use Rattle.vp_expr.proofs.resolving.scope_of.Goals as goal
-
-pub returns : goal.returns
-returns c =
-    let d = c.args.design.now in
-    c.first_instance.ensures ∙ scope_by_name d d.source.modules c.args.number

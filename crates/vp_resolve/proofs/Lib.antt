@@ -1,0 +1,4 @@
+pub mod Fitting
+pub mod Named
+pub mod Scopes
+pub mod Refused

@@ -1,0 +1,4 @@
+pub mod Faults
+pub mod Names
+pub mod Operands
+pub mod Checks

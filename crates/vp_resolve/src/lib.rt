@@ -1,0 +1,13 @@
+//! The expressions of a design resolved: slots in place of names, values in place of literals; and why they are refused.
+#![tactic(auto)]
+
+mod checks;
+mod fault;
+mod refusing;
+mod resolving;
+
+pub use fault::ExprError;
+pub use refusing::refuse;
+pub use resolving::{
+    lowest_in, object_named, operands_of, part_place, scope_of, slot_in, width_in,
+};
