@@ -1,14 +1,8 @@
 -- What a target's bits are set to at the place that an assignment sets is what the assignment gives the object as a whole.
-use Rattle.std.proofs.Common.{◌≡◌, ◌∙◌, ℕ, ◌+◌, ◌-◌, ◌≤◌, ◌&&◌, Bool, true, false, cond, leb, ltb, List, ◌++◌, Option, Some, None, drop, length, replicate, take, refl, ap, append-nil, arith}
-use Rattle.std.proofs.lemmas.Bool.{and_parts, le-leb}
-use Rattle.std.proofs.lemmas.List.{take_all}
-use Rattle.std.proofs.Math.Seq.{drop-length}
-use borrow.Author.Tests.{leb-true, ltb-true}
+use Rattle.std.proofs.Common.{◌≡◌, ℕ, ◌≤◌, List, length, ap, arith}
 use Rattle.vp_bits.specs.declared.bit.Bit.{Bit}
-use Rattle.vp_bits.specs.declared.bit.Bit.TheVariants.{Zero}
 use Rattle.vp_bits.specs.Vector.{resized}
 use Rattle.vp_bits.specs.Arithmetic.{number_of}
-use Rattle.vp_bits.specs.Shaping.{with_selected}
 use Rattle.vp_expr.specs.declared.tables.Tables.{Tables}
 use Rattle.vp_expr.specs.declared.tables.Target.{Target}
 use Rattle.vp_expr.specs.declared.tables.Target.TheVariants as target

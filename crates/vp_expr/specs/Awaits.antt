@@ -17,9 +17,8 @@ use Rattle.vp_elab.specs.Built.{Elaborated}
 use Rattle.vp_expr.specs.declared.awaited.Awaited.{Awaited}
 use Rattle.vp_operand.specs.declared.operand.Operand.{Operand}
 use Rattle.vp_operand.specs.declared.operand.Slot.{Slot}
-use Rattle.vp_operand.specs.Arena.{term_at}
 use Rattle.vp_resolve.specs.Names.{object_named, scope_of, slot_in}
-use Rattle.vp_operand.specs.Reads.{reads, slot_at, slots_at}
+use Rattle.vp_operand.specs.Reads.{slots_at}
 
 -- ---- what a statement reads (clause 9.7.5)
 

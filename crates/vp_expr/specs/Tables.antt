@@ -17,8 +17,6 @@ use Rattle.vp_processes.specs.Processes as elaborated
 use Rattle.vp_processes.specs.declared.process.Process as run
 use Rattle.vp_processes.specs.declared.process.Process.TheVariants as going
 use Rattle.vp_elab.specs.declared.object.ObjectId.{ObjectId}
-use Rattle.vp_operand.specs.declared.operand.Operand.{Operand}
-use Rattle.vp_operand.specs.declared.operand.Operand.TheVariants as operand
 use Rattle.vp_expr.specs.declared.awaited.Awaited.{Awaited}
 use Rattle.vp_expr.specs.declared.tables.Action.{Action}
 use Rattle.vp_expr.specs.declared.tables.Action.TheVariants as action

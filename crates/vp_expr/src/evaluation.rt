@@ -17,7 +17,10 @@ use crate::values::{Values, value_in};
 use std::alloc::AllocError;
 use vp_bits::{Bit, Bits};
 use vp_elab::ObjectId;
-use vp_operand::{ExprId, Infix, Operand, Slot, add_slots, applied, bit_at, combined, compared, index_place, joined, operand_before, part_at, reduced, shifted, size_at};
+use vp_operand::{
+    ExprId, Infix, Operand, Slot, add_slots, applied, bit_at, combined, compared, index_place,
+    joined, operand_before, part_at, reduced, shifted, size_at,
+};
 
 /// The operand at a place before an end, whose size is that of a vector; none elsewhere.
 fn operand_below(tables: &Tables, end: usize, place: u32) -> Option<Operand>

@@ -11,7 +11,9 @@ use std::alloc::{AllocError, Global};
 use vp_elab::{Design, ObjectId, range_width};
 use vp_modules::{expressions_of, items_of, statements_of};
 use vp_operand::{Operand, operand_size, sign_at, signs_of};
-use vp_parse::{BinaryOperator, DeclaredRange, Expression, Item, Module, Selection, Source, Statement, earlier};
+use vp_parse::{
+    BinaryOperator, DeclaredRange, Expression, Item, Module, Selection, Source, Statement, earlier,
+};
 
 /// The greatest width of a vector, in bits.
 const WIDTH_LIMIT: u64 = 64;

@@ -9,7 +9,10 @@ use vp_bits::Bits;
 use vp_elab::{Design, ObjectId, range_width};
 use vp_list::Sequence;
 use vp_modules::expressions_of;
-use vp_operand::{Binary, Comparison, Infix, Logical, Operand, Reduction, Shift, Slot, Unary, based_bits, fitted, literal_bits, number_bits};
+use vp_operand::{
+    Binary, Comparison, Infix, Logical, Operand, Reduction, Shift, Slot, Unary, based_bits, fitted,
+    literal_bits, number_bits,
+};
 use vp_parse::{BinaryOperator, Expression, Module, Range, Selection, UnaryOperator};
 
 /// The object in which the names of the module of a number are looked up: its first, since a name has the same slot in each

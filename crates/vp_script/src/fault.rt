@@ -3,12 +3,12 @@ ghost use Rattle.vp_script.specs.declared.fault.ServeFault.TheVariants.{Design, 
 
 use std::alloc::{AllocError, AllocFailed};
 use thiserror::Error;
-use vp_resolve::ExprError;
 use vp_lex::LexError;
 use vp_modules::ElabError;
 use vp_parse::ParseError;
 use vp_policy::PolicyError;
 use vp_pragma::PragmaError;
+use vp_resolve::ExprError;
 use vp_wire::WireError;
 use vp_world::WorldError;
 

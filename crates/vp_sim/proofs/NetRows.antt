@@ -11,11 +11,11 @@ use Rattle.vp_strata.specs.declared.event.Event.{Event}
 use Rattle.vp_strata.specs.declared.event.Event.TheVariants.{Evaluation, NetUpdate}
 use Rattle.vp_strata.specs.Events.{eligible_places}
 use Rattle.vp_strata.specs.Queues.{no_events, with_active}
-use Rattle.vp_sim.specs.declared.change.Change.{Change}
+use Rattle.vp_waking.specs.declared.change.Change.{Change}
 use Rattle.vp_sim.specs.declared.fault.SimError.{SimError}
 use Rattle.vp_sim.specs.declared.fault.SimError.TheVariants.{Idle, NoSuchChoice}
-use Rattle.vp_sim.specs.declared.waiting.Waiting.{Waiting}
-use Rattle.vp_sim.specs.declared.waiting.Waiting.TheVariants.{Nothing}
+use Rattle.vp_waking.specs.declared.waiting.Waiting.{Waiting}
+use Rattle.vp_waking.specs.declared.waiting.Waiting.TheVariants.{Nothing}
 use Rattle.vp_sim.specs.States.{Goes, Outcome, Refuses, State, put_by, step_by}
 
 -- a design of no text: the tables say what runs

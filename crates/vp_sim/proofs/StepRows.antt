@@ -12,13 +12,13 @@ use Rattle.vp_strata.specs.declared.event.Delayed.TheVariants as later
 use Rattle.vp_strata.specs.declared.event.Event.TheVariants.{Evaluation, NetUpdate}
 use Rattle.vp_strata.specs.declared.event.NonblockingUpdate.{NonblockingUpdate}
 use Rattle.vp_strata.specs.Queues.{Queue, no_events, with_active}
-use Rattle.vp_sim.specs.declared.change.Change.{Change}
+use Rattle.vp_waking.specs.declared.change.Change.{Change}
 use Rattle.vp_sim.specs.declared.fault.SimError.{SimError}
 use Rattle.vp_sim.specs.declared.fault.SimError.TheVariants.{Finished, Idle, SlotNotDone, NoSuchChoice, TimeLimit}
-use Rattle.vp_sim.specs.declared.waiting.Waiting.{Waiting}
-use Rattle.vp_sim.specs.declared.waiting.Waiting.TheVariants as wait
+use Rattle.vp_waking.specs.declared.waiting.Waiting.{Waiting}
+use Rattle.vp_waking.specs.declared.waiting.Waiting.TheVariants as wait
 use Rattle.vp_sim.specs.States.{Goes, Outcome, Refuses, State, advance, performed, put_by, rest_of, source_by, step_by}
-use Rattle.vp_sim.specs.Waking.{is_of}
+use Rattle.vp_waking.specs.Waking.{is_of}
 
 -- a design of no text: the tables say what runs
 abbrev no_design : Elaborated

@@ -1,5 +1,2 @@
 pub mod Faults
-pub mod Changes
-pub mod Waking
-pub mod Listening
 pub mod States

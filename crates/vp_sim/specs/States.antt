@@ -25,14 +25,14 @@ use Rattle.vp_strata.specs.declared.event.NonblockingUpdate.{NonblockingUpdate}
 use Rattle.vp_strata.specs.declared.strata.TheConstants.{TIME_LIMIT}
 use Rattle.vp_strata.specs.Events.{process_of}
 use Rattle.vp_strata.specs.Queues.{Queue, activated, advanced, first_time, is_done, no_events, peeked, ready, scheduled, taken, with_active, with_future, with_inactive, with_nonblocking}
-use Rattle.vp_sim.specs.declared.change.Change.{Change}
+use Rattle.vp_waking.specs.declared.change.Change.{Change}
 use Rattle.vp_sim.specs.declared.fault.SimError.{SimError}
 use Rattle.vp_sim.specs.declared.fault.SimError.TheVariants.{Finished, Idle, SlotNotDone, NoSuchChoice, TimeLimit, NoMemory}
-use Rattle.vp_sim.specs.declared.waiting.Waiting.{Waiting}
-use Rattle.vp_sim.specs.declared.waiting.Waiting.TheVariants as wait
-use Rattle.vp_sim.specs.Changes.{change_of, net_at, set_change, updated_by, values_behind}
-use Rattle.vp_sim.specs.Listening.{AreHeard, IsHeard, count_of}
-use Rattle.vp_sim.specs.Waking.{awaited_by, roused, woken_by}
+use Rattle.vp_waking.specs.declared.waiting.Waiting.{Waiting}
+use Rattle.vp_waking.specs.declared.waiting.Waiting.TheVariants as wait
+use Rattle.vp_waking.specs.Changes.{change_of, net_at, set_change, updated_by, values_behind}
+use Rattle.vp_waking.specs.Listening.{AreHeard, IsHeard, count_of}
+use Rattle.vp_waking.specs.Waking.{awaited_by, roused, with_evaluations, woken_by}
 
 -- a state: the design, the time, whether $finish was executed, the value of each object, what remains of each process, what each waits
 -- for, and the event queue (clause 11.3)
@@ -51,10 +51,6 @@ pub data Outcome : Type 0 where
   Refuses : SimError → Outcome
 
 -- ---- changes
-
--- the queue behind these processes were woken: they are evaluated (clause 11.3)
-abbrev pub with_evaluations : Queue → (processes : List ℕ) → Queue
-with_evaluations q processes = with_active q (q.active ++ map Evaluation processes)
 
 -- the processes that a change wakes, if there is one
 abbrev pub woken : Tables → State → Option Change → List ℕ

@@ -3,18 +3,16 @@ ghost use Rattle.vp_expr.specs.Tables.{tables_of};
 ghost use Rattle.vp_strata.specs.declared.event.Event.TheVariants.{NetUpdate};
 ghost use Rattle.vp_strata.specs.Queues.{with_active};
 ghost use Rattle.vp_sim.specs.declared.fault.SimError.TheVariants.{NoMemory};
-ghost use Rattle.vp_sim.specs.Changes.{change_of, net_at, updated_by};
+ghost use Rattle.vp_waking.specs.Changes.{change_of, net_at, updated_by};
 ghost use Rattle.vp_sim.specs.States.{Explains, Goes, IsStep, Refuses, advance, begun, driven, evaluated, happened, over, step, turn, with_event};
 
-use crate::change::{Change, change_of};
 use crate::fault::SimError;
 use crate::machine::Machine;
-use crate::processes::{net_at, process_at};
-use crate::waiting::Waiting;
 use vp_bits::Bits;
 use vp_elab::ObjectId;
 use vp_expr::{Process, eval};
 use vp_strata::Event;
+use vp_waking::{Change, Waiting, change_of, net_at, process_at};
 
 impl Machine {
     /// The event that a step takes, the k-th of the eligible ones; else the refusal (804, 801, 802).

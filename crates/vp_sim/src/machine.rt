@@ -4,22 +4,19 @@ ghost use Rattle.vp_expr.specs.Tables.{tables_of};
 ghost use Rattle.vp_strata.specs.declared.event.Event.TheVariants.{NetUpdate};
 ghost use Rattle.vp_strata.specs.Queues.{activated, advanced, taken, with_active};
 ghost use Rattle.vp_sim.specs.declared.fault.SimError.TheVariants.{NoMemory};
-ghost use Rattle.vp_sim.specs.Listening.{IsHeard, count_of};
+ghost use Rattle.vp_waking.specs.Listening.{IsHeard, count_of};
 ghost use Rattle.vp_sim.specs.States.{begun, changed, over, start};
-ghost use Rattle.vp_sim.specs.Waking.{awaited_by};
+ghost use Rattle.vp_waking.specs.Waking.{awaited_by};
 
-use crate::change::Change;
 use crate::fault::SimError;
-use crate::listeners::Listeners;
 use crate::stacks::Stacks;
-use crate::waiting::{Waiting, set_wait};
-use crate::waking::wake;
 use std::alloc::Global;
 use std::marker::Model;
 use std::sync::Arc;
 use vp_bits::Bits;
 use vp_expr::{Checked, Values};
 use vp_strata::Strata;
+use vp_waking::{Change, Listeners, Waiting, set_wait, wake};
 
 /// A simulation while an event happens. What takes memory comes before the first visible change. A contract sees the state, for how
 /// many more events there is room, and the listeners of each object.

@@ -3,14 +3,12 @@ ghost use Rattle.vp_expr.specs.Tables.{tables_of};
 ghost use Rattle.vp_statement.specs.Effects.{effect_at};
 ghost use Rattle.vp_statement.specs.Walking.{behind_event, first_event, left_behind, next_of};
 ghost use Rattle.vp_sim.specs.declared.fault.SimError.TheVariants.{NoMemory};
-ghost use Rattle.vp_sim.specs.Changes.{change_of, set_change, set_change_of};
+ghost use Rattle.vp_waking.specs.Changes.{change_of, set_change, set_change_of};
 ghost use Rattle.vp_sim.specs.States.{Explains, Goes, IsReady, begun, change_by, deferred, delay_of, delayed, done, follows, is_late, is_over, left, paused, rest_of, taken_if, turn};
 
-use crate::change::{Change, change_of};
 use crate::fault::SimError;
 use crate::machine::Machine;
 use crate::stacks::Stacks;
-use crate::waiting::Waiting;
 use std::alloc::AllocError;
 use vp_bits::Bits;
 use vp_elab::ObjectId;
@@ -18,6 +16,7 @@ use vp_expr::Tables;
 use vp_operand::set_in;
 use vp_statement::{Effect, effect_of, first_event, push_left_behind};
 use vp_strata::{Delayed, NonblockingUpdate, TIME_LIMIT};
+use vp_waking::{Change, Waiting, change_of};
 
 /// So much later the event of a procedure makes something happen.
 fn delay_of(effect: &Effect) -> u32

@@ -4,7 +4,6 @@ ghost use Rattle.vp_operand.specs.Values.{no_value};
 ghost use Rattle.vp_sim.specs.declared.fault.SimError.TheVariants.{NoMemory};
 ghost use Rattle.vp_sim.specs.States.{Explains, Goes, IsStep, Refuses, advance, eligible, next_time, put, slot_done, source_of, start, step};
 
-use crate::change::Change;
 use crate::fault::SimError;
 use crate::machine::Machine;
 use std::alloc::Global;
@@ -13,6 +12,7 @@ use std::sync::Arc;
 use vp_bits::Bits;
 use vp_elab::{Design, ObjectId};
 use vp_expr::{Checked, Values};
+use vp_waking::Change;
 
 /// A simulation of a design (IEEE Std 1364-2005, 11.3; docs/FORMATS.md, "Simulation"). A contract sees its state.
 #[derive(Drop)]

@@ -8,19 +8,16 @@ ghost use Rattle.vp_expr.specs.Tables.{tables_of};
 ghost use Rattle.vp_sim.specs.declared.fault.SimError.TheVariants.{NoMemory};
 ghost use Rattle.vp_sim.specs.States.{Explains, Goes, IsStep, Refuses, advance, advanced_to, eligible, next_time, put, slot_done, source_of, start, step};
 
-use crate::change::Change;
 use crate::fault::SimError;
-use crate::listeners::Listeners;
 use crate::machine::Machine;
-use crate::processes::process_at;
 use crate::stacks::Stacks;
-use crate::waiting::Waiting;
 use std::alloc::Global;
 use std::sync::Arc;
 use vp_bits::Bits;
 use vp_elab::ObjectId;
 use vp_expr::{Checked, Values};
 use vp_strata::{Event, Strata, StrataError};
+use vp_waking::{Change, Listeners, Waiting, process_at};
 
 /// The event queue at the start: so many processes are evaluated, in order.
 fn first_queue(alloc: Global, processes: usize) -> Result<Strata, StrataError>

@@ -30,7 +30,7 @@ use Rattle.vp_world.specs.declared.fault.WorldError.TheVariants as error
 use Rattle.vp_world.specs.declared.reply.Refusal.TheVariants as refusal
 use Rattle.vp_world.specs.declared.reply.Reply.{Reply}
 use Rattle.vp_world.specs.declared.reply.Reply.TheVariants as reply
-use Rattle.vp_sim.specs.declared.change.Change.{Change}
+use Rattle.vp_waking.specs.declared.change.Change.{Change}
 use Rattle.vp_sim.specs.declared.fault.SimError.TheVariants as sim
 use Rattle.vp_world.specs.declared.entry.Entry.{Entry}
 use Rattle.vp_world.specs.Worlds.{Opening, State, start}

@@ -3,7 +3,7 @@ use Rattle.std.specs.Prelude.{◌≡◌, ℕ, ◌+◌, ◌||◌, nat_le, nat_lt,
 use Rattle.std.specs.List.{remove}
 use Rattle.std.specs.Option.{option_map_or}
 use Rattle.vp_policy.specs.Users.{Member, login_of, member_at}
-use Rattle.vp_sim.specs.declared.change.Change.{Change}
+use Rattle.vp_waking.specs.declared.change.Change.{Change}
 use Rattle.vp_sim.specs.States as sim
 use Rattle.vp_vpi.specs.Observers.{Seat, no_handles, observer_of, with_handle}
 use Rattle.vp_world.specs.declared.entry.Entry.{Entry}

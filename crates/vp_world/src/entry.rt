@@ -1,6 +1,6 @@
 use crate::event::Event;
 use crate::reply::Reply;
-use vp_sim::Change;
+use vp_waking::Change;
 
 /// An entry of the log.
 #[derive(Drop)]

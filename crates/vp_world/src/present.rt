@@ -26,8 +26,9 @@ use vp_elab::Design;
 use vp_expr::Checked;
 use vp_list::Text;
 use vp_policy::{By, Denial, Policy, UserId};
-use vp_sim::{Change, Sim};
+use vp_sim::Sim;
 use vp_vpi::{Session, VpiError};
+use vp_waking::Change;
 
 /// A world without its log: a design with a policy, its simulation, and the sessions of its users. A contract sees how it began
 /// and its state.

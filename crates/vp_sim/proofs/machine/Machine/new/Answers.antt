@@ -1,8 +1,8 @@
 use Rattle.std.proofs.Common.{◌≡◌, arith, replicate}
 use Rattle.std.proofs.lemmas.Grind.{common_steps}
 use Rattle.vp_expr.specs.Tables.{tables_of}
-use Rattle.vp_sim.specs.declared.waiting.Waiting.TheVariants as wait
-use Rattle.vp_sim.proofs.Hearing.{all_nothing}
+use Rattle.vp_waking.specs.declared.waiting.Waiting.TheVariants as wait
+use Rattle.vp_waking.proofs.Hearing.{all_nothing}
 use Rattle.vp_sim.proofs.machine.Machine.new.Goals as goal
 
 pub invariant_of-result : goal.invariant_of-result

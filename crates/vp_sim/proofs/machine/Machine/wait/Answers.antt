@@ -1,11 +1,11 @@
 use Rattle.std.proofs.Common.{◌∙◌, List, ap, length, subst, sym}
 use Rattle.std.proofs.lemmas.List.{length-set}
 use Rattle.vp_expr.specs.Tables.{tables_of}
-use Rattle.vp_sim.specs.declared.waiting.Waiting.{Waiting}
-use Rattle.vp_sim.specs.Listening.{AreHeard, IsHeard}
+use Rattle.vp_waking.specs.declared.waiting.Waiting.{Waiting}
+use Rattle.vp_waking.specs.Listening.{AreHeard, IsHeard}
 use Rattle.vp_sim.specs.States.{Running}
-use Rattle.vp_sim.specs.Waking.{awaited_by}
-use Rattle.vp_sim.proofs.Hearing.{heard_set}
+use Rattle.vp_waking.specs.Waking.{awaited_by}
+use Rattle.vp_waking.proofs.Hearing.{heard_set}
 use Rattle.vp_sim.proofs.machine.Machine.wait.Goals as goal
 
 pub invariant_of-self : goal.invariant_of-self

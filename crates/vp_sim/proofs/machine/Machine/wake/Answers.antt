@@ -2,10 +2,10 @@ use Rattle.std.proofs.Common.{◌∙◌, List, ap, length, subst, sym}
 use Rattle.std.proofs.lemmas.List.{length-set}
 use Rattle.vp_bits.specs.declared.bit.Bit.{Bit}
 use Rattle.vp_expr.specs.Tables.{tables_of}
-use Rattle.vp_sim.specs.declared.waiting.Waiting.{Waiting}
-use Rattle.vp_sim.specs.Listening.{AreHeard}
-use Rattle.vp_sim.specs.Waking.{woken_by}
-use Rattle.vp_sim.proofs.Hearing.{heard_roused, length_roused}
+use Rattle.vp_waking.specs.declared.waiting.Waiting.{Waiting}
+use Rattle.vp_waking.specs.Listening.{AreHeard}
+use Rattle.vp_waking.specs.Waking.{woken_by}
+use Rattle.vp_waking.proofs.Hearing.{heard_roused, length_roused}
 use Rattle.vp_sim.proofs.machine.Machine.wake.Goals as goal
 
 pub invariant_of-self : goal.invariant_of-self

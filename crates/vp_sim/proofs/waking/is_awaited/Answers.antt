@@ -1,6 +1,0 @@
-use Rattle.vp_sim.specs.Waking.{is_of, located}
-use Rattle.vp_sim.proofs.Woken.{any_map}
-use Rattle.vp_sim.proofs.waking.is_awaited.Goals as goal
-
-pub loop-awaited-init : goal.loop-awaited-init
-loop-awaited-init c = any_map (is_of c.args.old c.args.change.now) (located c.args.instance) c.args.terms.now

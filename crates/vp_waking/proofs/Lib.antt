@@ -1,0 +1,4 @@
+pub mod Rising
+pub mod Lists
+pub mod Hearing
+pub mod Woken
