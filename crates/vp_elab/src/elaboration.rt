@@ -18,13 +18,14 @@ use crate::sight::check_viewports;
 use crate::sizes::{check_count, sizes_of};
 use std::alloc::{AllocError, Global};
 use vp_list::Sequence;
-use vp_modules::{ElabError, Resolved, check_modules};
+use vp_modules::{ElabError, Resolved, Tables, check_modules};
 use vp_parse::Source;
 use vp_pragma::Envelopes;
 
-/// What a design is made of beside its source, its envelopes and its names.
+/// What a design is made of beside its source and its envelopes.
 #[derive(Drop)]
 struct Parts {
+    tables: Tables,
     scopes: Sequence<Scope>,
     objects: Objects,
 }
@@ -76,16 +77,16 @@ fn all_objects(
     })
 }
 
-/// The parts of the design of a text whose modules are right; or the refusal that holds (507, 508). Takes memory.
-fn parts_of(
+/// The scopes and the objects of a text whose modules are right; or the refusal that holds (507, 508). Takes memory.
+fn placed(
     alloc: Global,
     source: &Source,
     envelopes: &Envelopes,
     resolved: &Resolved,
-) -> Result<Parts, ElabError>
+) -> Result<(Sequence<Scope>, Objects), ElabError>
     requires resolved { resolved.now ≡ resolved_in source.now }
     requires right { modules.refusal_of source.now ≡ None }
-    ensures built { IfOk result (λ p. IsBuilt source.now envelopes.now resolved.now.tables p.scopes p.objects) }
+    ensures built { IfOk result (λ p. IsBuilt source.now envelopes.now resolved.now.tables p.0 p.1) }
     ensures accepted { OnOk result (refusal_of source.now envelopes.now ≡ None) }
     ensures refused { IfErr result (λ e. Explains (refusal_of source.now envelopes.now) e) }
 {
@@ -102,7 +103,22 @@ fn parts_of(
     )?;
     let are_tops = resolved.tops.as_slice();
     let objects = all_objects(alloc, source, envelopes, definitions, are_tops)?;
-    Ok(Parts { scopes, objects })
+    Ok((scopes, objects))
+}
+
+/// The parts of the design of a text; or the first refusal that holds (501 to 509). Takes memory.
+fn parts_of(alloc: Global, source: &Source, envelopes: &Envelopes) -> Result<Parts, ElabError>
+    ensures built { IfOk result (λ p. IsBuilt source.now envelopes.now p.tables p.scopes p.objects) }
+    ensures accepted { OnOk result (refusal_of source.now envelopes.now ≡ None) }
+    ensures refused { IfErr result (λ e. Explains (refusal_of source.now envelopes.now) e) }
+{
+    let resolved = check_modules(alloc, source)?;
+    let (scopes, objects) = placed(alloc, source, envelopes, &resolved)?;
+    Ok(Parts {
+        tables: resolved.tables,
+        scopes,
+        objects,
+    })
 }
 
 /// The design of a source; or the first refusal that holds (501 to 509), or want of memory (510).
@@ -112,13 +128,6 @@ pub fn elaborate(alloc: Global, source: Source, envelopes: Envelopes) -> Result<
     ensures accepted { IfOk result (λ design. refusal_of source envelopes ≡ None) }
     ensures refused { IfErr result (λ e. Explains (refusal_of source envelopes) e) }
 {
-    let resolved = check_modules(alloc, &source)?;
-    let parts = parts_of(alloc, &source, &envelopes, &resolved)?;
-    Ok(Design::new(
-        source,
-        envelopes,
-        resolved.tables,
-        parts.scopes,
-        parts.objects,
-    ))
+    let parts = parts_of(alloc, &source, &envelopes)?;
+    Ok(Design::new(source, envelopes, parts.tables, parts.scopes, parts.objects))
 }

@@ -1,5 +1,5 @@
 ghost use Rattle.std.specs.Prelude.{◌≡◌, [], None, map, IfErr, IfOk, OnOk};
-ghost use Rattle.vp_modules.specs.Items.{definition_number};
+ghost use Rattle.vp_modules.specs.Items.{definition_number, is_top};
 ghost use Rattle.vp_modules.specs.Refusals.{Explains, refusal_of, refusal_of_instances, refusal_of_uses, twice_in};
 ghost use Rattle.vp_modules.specs.Tables.{resolved_in, tables_in};
 
@@ -79,6 +79,27 @@ fn check_uses(alloc: Global, source: &Source, tables: &Tables) -> Result<(), Ela
     Ok(())
 }
 
+/// Tests the items of a text by its names, and tells for each the number of the module that it instantiates, and which modules are
+/// top modules; or the first refusal behind that of a name declared twice. Takes memory.
+fn check_items(
+    alloc: Global,
+    source: &Source,
+    tables: &Tables,
+) -> Result<(Sequence<Option<usize>>, Sequence<bool>), ElabError>
+    requires tables { tables.now ≡ tables_in source.now }
+    requires once { twice_in source.now [] source.now.modules ≡ None }
+    ensures definitions { IfOk result (λ found. found.0 ≡ map (definition_number source.now) source.now.items) }
+    ensures tops { IfOk result (λ found. found.1 ≡ map (is_top source.now) source.now.modules) }
+    ensures right { OnOk result (refusal_of source.now ≡ None) }
+    ensures refused { IfErr result (λ e. Explains (refusal_of source.now) e) }
+{
+    let definitions = definitions_of(alloc, source, tables)?;
+    check_instances(alloc, source, tables, definitions.as_slice())?;
+    check_uses(alloc, source, tables)?;
+    let tops = tops_of(alloc, source, definitions.as_slice())?;
+    Ok((definitions, tops))
+}
+
 /// Tests the modules of a text: its names, the modules that its items instantiate and its top modules, or the first refusal. Takes memory.
 pub fn check_modules(alloc: Global, source: &Source) -> Result<Resolved, ElabError>
     ensures resolved { IfOk result (λ resolved. resolved ≡ resolved_in source.now) }
@@ -86,10 +107,7 @@ pub fn check_modules(alloc: Global, source: &Source) -> Result<Resolved, ElabErr
     ensures refused { IfErr result (λ e. Explains (refusal_of source.now) e) }
 {
     let tables = tables_of(alloc, source)?;
-    let definitions = definitions_of(alloc, source, &tables)?;
-    check_instances(alloc, source, &tables, definitions.as_slice())?;
-    check_uses(alloc, source, &tables)?;
-    let tops = tops_of(alloc, source, definitions.as_slice())?;
+    let (definitions, tops) = check_items(alloc, source, &tables)?;
     Ok(Resolved {
         tables,
         definitions,

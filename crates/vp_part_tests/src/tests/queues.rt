@@ -1,18 +1,27 @@
 //! An event queue by itself: its lists, which of its events may be taken, and its refusal of late times.
+ghost use Rattle.std.specs.Prelude.{◌≡◌};
+
 use std::alloc::Global;
 use vp_bits::Bits;
 use vp_strata::{Delayed, Event, NonblockingUpdate, Strata, TIME_LIMIT};
 
-/// A queue for three processes: two evaluations and two updates of one net are active, one process is inactive, one goes on at 7.
-fn queue(alloc: Global) -> Option<Strata> {
-    let mut queue = Strata::new(alloc, 3).ok()?;
+/// Two evaluations and two updates of one net become active, one process inactive, and one is to go on at 7.
+fn fill(queue: &mut Strata) -> Option<()>
+    requires { queue.old.processes ≡ 3 }
+{
     queue.push_active(0).ok()?;
     queue.push_net_update(1, Bits::of_number(1, 0)).ok()?;
     queue.push_net_update(1, Bits::of_number(1, 1)).ok()?;
     queue.push_inactive(2).ok()?;
     queue
         .push_future(7, Delayed::Evaluation { process: 0 })
-        .ok()?;
+        .ok()
+}
+
+/// A queue for three processes with what `fill` puts into it.
+fn queue(alloc: Global) -> Option<Strata> {
+    let mut queue = Strata::new(alloc, 3).ok()?;
+    fill(&mut queue)?;
     Some(queue)
 }
 
