@@ -5,7 +5,8 @@
 //! prints. They call `Text::copy`, `tokens`, `envelopes`, `parse`, `elaborate`, `check`, `Policy::read`, `Values::new`,
 //! `Sim::new` and `step`, `World::new` and `apply`, `Session::handle_by_name`, `vp_json`'s `read`, `Bits::to_bin`, `request`,
 //! `reply_line` and `session`. Here stand those that it does not make, and what faults, vectors, tokens, event queues,
-//! simulations and worlds show by themselves; `vp_path_tests` has whole dialogues, scripts and command lines.
+//! simulations and worlds show by themselves; then dialogues whose reader or writer fails, command lines, and scripts whose
+//! texts are too long for a stored case.
 #![tactic(auto)]
 
 #[cfg(test)]

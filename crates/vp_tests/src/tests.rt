@@ -1,6 +1,9 @@
 mod building;
+mod commands;
 mod designs;
+mod dialogues;
 mod queues;
+mod scripts;
 mod simulations;
 mod tokens;
 mod vectors;

@@ -1,3 +1,0 @@
-mod commands;
-mod dialogues;
-mod scripts;
