@@ -7,10 +7,10 @@ use Rattle.std.specs.Str.{bytes_eq}
 use Rattle.std.proofs.lemmas.List.{append-nil, length-append, length-map}
 use Rattle.std.proofs.lemmas.Option.{slice_get_within, slice_get-get_or, slice_get-map}
 use Rattle.std.proofs.lemmas.List.Quantifiers.{position-Some}
-use Rattle.vp_parse.specs.Places.{line_at, word_at}
-use Rattle.vp_parse.specs.declared.source.Source.{Source}
-use Rattle.vp_parse.specs.declared.source.Module.{Module}
-use Rattle.vp_parse.specs.declared.source.Item.{Item}
+use Rattle.vp_source.specs.Places.{line_at, word_at}
+use Rattle.vp_source.specs.declared.source.Source.{Source}
+use Rattle.vp_source.specs.declared.source.Module.{Module}
+use Rattle.vp_source.specs.declared.source.Item.{Item}
 use Rattle.vp_modules.specs.declared.tables.Tables.{Tables}
 use Rattle.vp_modules.specs.Items.{definition_of, is_top, item_name, items_in}
 use Rattle.vp_modules.specs.Refusals.{twice_in}

@@ -8,10 +8,10 @@ use Rattle.std.proofs.lemmas.List.{length-append, length-map, map-append}
 use Rattle.std.proofs.lemmas.Bool.{eqb-true}
 use Rattle.std.proofs.lemmas.List.Quantifiers.{position-Some}
 use Rattle.std.proofs.lemmas.Option.{get_or_from_slice_get, slice_get-map}
-use Rattle.vp_parse.specs.Places.{word_at}
-use Rattle.vp_parse.specs.declared.source.Source.{Source}
-use Rattle.vp_parse.specs.declared.source.Module.{Module}
-use Rattle.vp_parse.specs.declared.source.Item.{Item}
+use Rattle.vp_source.specs.Places.{word_at}
+use Rattle.vp_source.specs.declared.source.Source.{Source}
+use Rattle.vp_source.specs.declared.source.Module.{Module}
+use Rattle.vp_source.specs.declared.source.Item.{Item}
 use Rattle.vp_modules.specs.Items.{definition_number, definition_of, instantiates, is_top, item_name, items_in}
 use Rattle.vp_modules.specs.Refusals.{twice_in}
 use Rattle.vp_pragma.specs.declared.envelope.Envelope.{Envelope}

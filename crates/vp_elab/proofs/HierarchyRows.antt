@@ -7,19 +7,19 @@ use Rattle.std.specs.Char.{encode_utf8}
 use Rattle.vp_lex.specs.declared.fault.LexError.{LexError}
 use Rattle.vp_lex.specs.declared.token.Token.{Token}
 use Rattle.vp_lex.specs.Tokens.{tokens_of}
-use Rattle.vp_parse_expr.specs.declared.node.Expression.{Expression}
-use Rattle.vp_parse_expr.specs.declared.node.Expression.TheVariants as expression
-use Rattle.vp_parse_expr.specs.declared.node.Selection.TheVariants as selection_of
-use Rattle.vp_parse_expr.specs.declared.operator.UnaryOperator.TheVariants as unary
-use Rattle.vp_parse_stmt.specs.declared.arena.Edge.TheVariants as edge
-use Rattle.vp_parse_stmt.specs.declared.arena.Span.{Span}
-use Rattle.vp_parse_stmt.specs.declared.arena.Statement.TheVariants as statement
-use Rattle.vp_parse.specs.declared.source.Connection.{Connection}
-use Rattle.vp_parse.specs.declared.source.Direction.TheVariants as direction
-use Rattle.vp_parse.specs.declared.source.Source.{Source}
-use Rattle.vp_parse.specs.declared.source.Module.{Module}
-use Rattle.vp_parse.specs.declared.source.Item.{Item}
-use Rattle.vp_parse.specs.declared.source.Item.TheVariants as item
+use Rattle.vp_source.specs.declared.expression.Expression.{Expression}
+use Rattle.vp_source.specs.declared.expression.Expression.TheVariants as expression
+use Rattle.vp_source.specs.declared.expression.Selection.TheVariants as selection_of
+use Rattle.vp_source.specs.declared.operator.UnaryOperator.TheVariants as unary
+use Rattle.vp_source.specs.declared.statement.Edge.TheVariants as edge
+use Rattle.vp_source.specs.declared.statement.Span.{Span}
+use Rattle.vp_source.specs.declared.statement.Statement.TheVariants as statement
+use Rattle.vp_source.specs.declared.source.Connection.{Connection}
+use Rattle.vp_source.specs.declared.source.Direction.TheVariants as direction
+use Rattle.vp_source.specs.declared.source.Source.{Source}
+use Rattle.vp_source.specs.declared.source.Module.{Module}
+use Rattle.vp_source.specs.declared.source.Item.{Item}
+use Rattle.vp_source.specs.declared.source.Item.TheVariants as item
 use Rattle.vp_elab.specs.declared.object.Kind.{Kind}
 use Rattle.vp_elab.specs.declared.object.Kind.TheVariants as kind
 use Rattle.vp_elab.specs.Tree.{Step, Node, children_of}

@@ -6,9 +6,9 @@ use Rattle.std.specs.Option.{option_and_then, option_map_or}
 use Rattle.std.specs.Str.{bytes_eq}
 use Rattle.std.proofs.lemmas.List.{append-nil, length-map}
 use Rattle.std.proofs.lemmas.Option.{get_or_from_slice_get, slice_get-get_or, slice_get-map}
-use Rattle.vp_parse.specs.Places.{word_at}
-use Rattle.vp_parse.specs.declared.source.Source.{Source}
-use Rattle.vp_parse.specs.declared.source.Module.{Module}
+use Rattle.vp_source.specs.Places.{word_at}
+use Rattle.vp_source.specs.declared.source.Source.{Source}
+use Rattle.vp_source.specs.declared.source.Module.{Module}
 use Rattle.vp_modules.specs.declared.tables.Tables.{Tables}
 use Rattle.vp_modules.specs.Refusals.{twice_in}
 use Rattle.vp_pragma.specs.declared.envelope.Envelope.{Envelope}

@@ -9,11 +9,11 @@ use Rattle.std.proofs.lemmas.List.Quantifiers.{position-Some}
 use Rattle.std.proofs.lemmas.Option.{get_or_from_slice_get}
 use Rattle.std.proofs.lemmas.Slice.Eq.{bytes_eq-Decides}
 use Rattle.vp_list.specs.Lists.{has_range}
-use Rattle.vp_parse.specs.Places.{earlier, earliest, line_at, word_at}
-use Rattle.vp_parse.specs.declared.source.Source.{Source}
-use Rattle.vp_parse.specs.declared.source.Module.{Module}
-use Rattle.vp_parse.specs.declared.source.Item.{Item}
-use Rattle.vp_parse.specs.declared.source.Item.TheVariants as item
+use Rattle.vp_source.specs.Places.{earlier, earliest, line_at, word_at}
+use Rattle.vp_source.specs.declared.source.Source.{Source}
+use Rattle.vp_source.specs.declared.source.Module.{Module}
+use Rattle.vp_source.specs.declared.source.Item.{Item}
+use Rattle.vp_source.specs.declared.source.Item.TheVariants as item
 use Rattle.vp_modules.specs.declared.fault.ElabError.{ElabError}
 use Rattle.vp_modules.specs.declared.fault.ElabError.TheVariants.{Duplicate, UnknownModule, Recursive}
 use Rattle.vp_modules.specs.Items.{definition_number, definition_of, instantiated, is_among, item_name, item_place, items_in, module_named, module_number}

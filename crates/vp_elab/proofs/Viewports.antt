@@ -5,10 +5,10 @@ use Rattle.std.specs.Str.{bytes_eq}
 use Rattle.std.proofs.lemmas.List.{append_assoc}
 use Rattle.std.proofs.lemmas.Slice.Eq.{bytes_eq-Decides}
 use Rattle.std.proofs.Math.Bool.{and-false, or-false}
-use Rattle.vp_parse.specs.Places.{line_at, word_at}
-use Rattle.vp_parse.specs.declared.source.Source.{Source}
-use Rattle.vp_parse.specs.declared.source.Item.{Item}
-use Rattle.vp_parse.specs.declared.source.Module.{Module}
+use Rattle.vp_source.specs.Places.{line_at, word_at}
+use Rattle.vp_source.specs.declared.source.Source.{Source}
+use Rattle.vp_source.specs.declared.source.Item.{Item}
+use Rattle.vp_source.specs.declared.source.Module.{Module}
 use Rattle.vp_pragma.specs.declared.envelope.Envelope.{Envelope}
 use Rattle.vp_pragma.specs.Envelopes.{Viewport, envelope_at}
 use Rattle.vp_modules.specs.declared.fault.ElabError.TheVariants.{Duplicate}

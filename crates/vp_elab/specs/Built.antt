@@ -1,6 +1,6 @@
 -- What a design is, and how its tables belong to it.
 use Rattle.std.specs.Prelude.{◌≡◌, ◌≤◌, ℕ, List, length, map, suc, Option, None}
-use Rattle.vp_parse.specs.declared.source.Source.{Source}
+use Rattle.vp_source.specs.declared.source.Source.{Source}
 use Rattle.vp_modules.specs.declared.tables.Tables.{Tables}
 use Rattle.vp_modules.specs.Refusals as modules
 use Rattle.vp_modules.specs.Tables.{tables_in}

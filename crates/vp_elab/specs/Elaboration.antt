@@ -2,16 +2,16 @@
 use Rattle.std.specs.Prelude.{ℕ, zero, suc, ◌+◌, ◌-◌, List, [], ◌∷◌, ◌++◌, map, filter, Option, Some, None, option_map, slice_get}
 use Rattle.std.specs.List.{flat_map}
 use Rattle.std.specs.Option.{option_and_then, option_map_or}
-use Rattle.vp_parse_expr.specs.declared.node.Range.{Range}
-use Rattle.vp_parse_expr.specs.declared.node.Expression.{Expression}
-use Rattle.vp_parse_expr.specs.declared.node.Expression.TheVariants as expression
-use Rattle.vp_parse.specs.Places.{line_at, word_at}
-use Rattle.vp_parse.specs.declared.source.Direction.TheVariants as direction
-use Rattle.vp_parse.specs.declared.source.DeclaredRange.{DeclaredRange}
-use Rattle.vp_parse.specs.declared.source.Source.{Source}
-use Rattle.vp_parse.specs.declared.source.Module as declared
-use Rattle.vp_parse.specs.declared.source.Item.{Item}
-use Rattle.vp_parse.specs.declared.source.Item.TheVariants as item
+use Rattle.vp_source.specs.declared.expression.Range.{Range}
+use Rattle.vp_source.specs.declared.expression.Expression.{Expression}
+use Rattle.vp_source.specs.declared.expression.Expression.TheVariants as expression
+use Rattle.vp_source.specs.Places.{line_at, word_at}
+use Rattle.vp_source.specs.declared.source.Direction.TheVariants as direction
+use Rattle.vp_source.specs.declared.source.DeclaredRange.{DeclaredRange}
+use Rattle.vp_source.specs.declared.source.Source.{Source}
+use Rattle.vp_source.specs.declared.source.Module as declared
+use Rattle.vp_source.specs.declared.source.Item.{Item}
+use Rattle.vp_source.specs.declared.source.Item.TheVariants as item
 use Rattle.vp_modules.specs.Items.{definition_of, instantiated, is_top, item_name, item_place, items_in}
 use Rattle.vp_pragma.specs.declared.envelope.Envelope.{Envelope}
 use Rattle.vp_pragma.specs.Envelopes.{Protection, envelope_at}

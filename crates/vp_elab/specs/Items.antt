@@ -1,9 +1,9 @@
 -- The items that objects are, and the objects above them.
 use Rattle.std.specs.Prelude.{ℕ, List, [], ◌∷◌, slice_get, Option}
 use Rattle.std.specs.Option.{option_and_then}
-use Rattle.vp_parse.specs.declared.source.Source.{Source}
-use Rattle.vp_parse.specs.declared.source.Module as declared
-use Rattle.vp_parse.specs.declared.source.Item.{Item}
+use Rattle.vp_source.specs.declared.source.Source.{Source}
+use Rattle.vp_source.specs.declared.source.Module as declared
+use Rattle.vp_source.specs.declared.source.Item.{Item}
 use Rattle.vp_modules.specs.Items.{definition_of, item_named, items_in, module_named}
 use Rattle.vp_elab.specs.Tree.{Node, Step, find_named, last_step, names_of}
 

@@ -2,9 +2,9 @@
 use Rattle.std.specs.Prelude.{◌≡◌, ℕ, zero, suc, ◌+◌, ◌<◌, ◌==◌, nat_eq, Bool, false, if◌then◌else◌, List, [], ◌∷◌, ◌++◌, length, map, filter, position, slice_get, slice_index_or, Option, Some, None, option_and_then, option_map, IfSome, MatchOption}
 use Rattle.std.specs.List.{list_any}
 use Rattle.std.specs.Option.{option_map_or}
-use Rattle.vp_parse.specs.declared.source.Source.{Source}
-use Rattle.vp_parse.specs.declared.source.Item.{Item}
-use Rattle.vp_parse.specs.declared.source.Module as declared
+use Rattle.vp_source.specs.declared.source.Source.{Source}
+use Rattle.vp_source.specs.declared.source.Item.{Item}
+use Rattle.vp_source.specs.declared.source.Module as declared
 use Rattle.vp_modules.specs.Items.{definition_number, definition_of, is_top, item_place, items_in}
 use Rattle.vp_modules.specs.Tables.{module_names}
 use Rattle.vp_pragma.specs.declared.envelope.Envelope.{Envelope}

@@ -19,8 +19,8 @@ use std::alloc::{AllocError, Global};
 use std::marker::Model;
 use vp_list::Sequence;
 use vp_modules::{Names, Tables, items_of};
-use vp_parse::{Item, Module, Source};
 use vp_pragma::{Envelopes, Viewport};
+use vp_source::{Item, Module, Source};
 
 /// The objects of a design.
 #[derive(Drop)]

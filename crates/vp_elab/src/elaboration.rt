@@ -19,8 +19,8 @@ use crate::sizes::{check_count, sizes_of};
 use std::alloc::{AllocError, Global};
 use vp_list::Sequence;
 use vp_modules::{ElabError, Resolved, Tables, check_modules};
-use vp_parse::Source;
 use vp_pragma::Envelopes;
+use vp_source::Source;
 
 /// What a design is made of beside its source and its envelopes.
 #[derive(Drop)]

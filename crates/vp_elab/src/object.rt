@@ -4,8 +4,8 @@ ghost use Rattle.vp_elab.specs.Elaboration.{item_kind, item_range, literal_range
 ghost use Rattle.vp_elab.specs.Objects.{item_object, root_object};
 
 use vp_modules::place_of;
-use vp_parse::{DeclaredRange, Direction, Expression, Item, Module, Range, Source};
 use vp_pragma::Envelopes;
+use vp_source::{DeclaredRange, Direction, Expression, Item, Module, Range, Source};
 
 /// The greatest number of objects of a design.
 pub const OBJECT_LIMIT: usize = 65_536;

@@ -11,8 +11,8 @@ use crate::sizes::definitions_of;
 use std::alloc::{AllocError, Global};
 use vp_list::Sequence;
 use vp_modules::items_of;
-use vp_parse::{Module, Source};
 use vp_pragma::Envelopes;
+use vp_source::{Module, Source};
 
 /// How many steps a path may have.
 fn step_limit() -> u32

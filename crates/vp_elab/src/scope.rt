@@ -17,8 +17,8 @@ use std::alloc::{AllocError, Global};
 use std::marker::Model;
 use vp_list::Sequence;
 use vp_modules::{Names, Tables, items_of, place_of};
-use vp_parse::{Item, Module, Source};
 use vp_pragma::Envelopes;
+use vp_source::{Item, Module, Source};
 
 /// What the items of a module have in common in each of its instances.
 #[derive(Drop)]

@@ -15,8 +15,8 @@ ghost use Rattle.vp_elab.specs.Refusals.{is_on_any, is_on_item, unmatched_in};
 use std::alloc::{AllocError, Global};
 use vp_list::Sequence;
 use vp_modules::{ElabError, Names, Tables, items_of, place_of};
-use vp_parse::{Item, Module, Source};
 use vp_pragma::{Envelopes, Rights, Viewport};
+use vp_source::{Item, Module, Source};
 
 /// What the viewports that match an object open of it.
 #[derive(Clone, Copy)]

@@ -11,7 +11,7 @@ use crate::object::OBJECT_LIMIT;
 use std::alloc::{AllocError, Global};
 use vp_list::Sequence;
 use vp_modules::{ElabError, items_of};
-use vp_parse::{Item, Module, Source};
+use vp_source::{Item, Module, Source};
 
 /// More objects than there may be.
 const MANY: u32 = OBJECT_LIMIT as u32 + 1;

@@ -5,17 +5,17 @@ use Rattle.std.specs.Str.{chars, is_utf8}
 use Rattle.std.proofs.Math.Utf8.{encode}
 use Rattle.vp_lex.specs.declared.token.Token.{Token}
 use Rattle.vp_lex.specs.declared.token.TokenKind.TheVariants as token
-use Rattle.vp_parse_expr.specs.declared.node.Expression.TheVariants as node
-use Rattle.vp_parse_expr.specs.declared.node.Selection.TheVariants as selected_as
-use Rattle.vp_parse_expr.specs.declared.operator.BinaryOperator.TheVariants as between
-use Rattle.vp_parse_stmt.specs.declared.arena.Choice.{Choice}
-use Rattle.vp_parse_stmt.specs.declared.arena.Edge.{Edge}
-use Rattle.vp_parse_stmt.specs.declared.arena.Edge.TheVariants as edge
-use Rattle.vp_parse_stmt.specs.declared.arena.EventTerm.{EventTerm}
-use Rattle.vp_parse_stmt.specs.declared.arena.Span.{Span}
-use Rattle.vp_parse_stmt.specs.declared.arena.Statement.TheVariants as statement
-use Rattle.vp_parse.specs.declared.source.Module as declared
-use Rattle.vp_parse.specs.declared.source.Source.{Source}
+use Rattle.vp_source.specs.declared.expression.Expression.TheVariants as node
+use Rattle.vp_source.specs.declared.expression.Selection.TheVariants as selected_as
+use Rattle.vp_source.specs.declared.operator.BinaryOperator.TheVariants as between
+use Rattle.vp_source.specs.declared.statement.Choice.{Choice}
+use Rattle.vp_source.specs.declared.statement.Edge.{Edge}
+use Rattle.vp_source.specs.declared.statement.Edge.TheVariants as edge
+use Rattle.vp_source.specs.declared.statement.EventTerm.{EventTerm}
+use Rattle.vp_source.specs.declared.statement.Span.{Span}
+use Rattle.vp_source.specs.declared.statement.Statement.TheVariants as statement
+use Rattle.vp_source.specs.declared.source.Module as declared
+use Rattle.vp_source.specs.declared.source.Source.{Source}
 use Rattle.vp_elab.specs.declared.object.Kind.TheVariants.{Module, Reg}
 use Rattle.vp_elab.specs.Built.{Elaborated}
 use Rattle.vp_elab.specs.Tree.{Node, Step}

@@ -3,17 +3,17 @@ use Rattle.std.proofs.Common.{◌≡◌, ◌∙◌, ℕ, ◌<◌, Bool, true, fa
 use Rattle.std.proofs.lemmas.List.{drop-append-le, get_or_append_left, get_or_push, length-append, length-drop, length-map, length_push, map-append, append-nil}
 use Rattle.std.proofs.lemmas.List.Sums.{fold-append}
 use Rattle.vp_bits.specs.declared.bit.Bit as bits
-use Rattle.vp_parse_expr.specs.declared.node.Expression as node
-use Rattle.vp_parse_expr.specs.declared.node.Expression.TheVariants as node_of
-use Rattle.vp_parse_expr.specs.declared.node.Selection as selection
-use Rattle.vp_parse_expr.specs.declared.node.Selection.TheVariants as selected_as
-use Rattle.vp_parse_expr.specs.declared.operator.UnaryOperator.{UnaryOperator}
-use Rattle.vp_parse_expr.specs.declared.operator.UnaryOperator.TheVariants as before
-use Rattle.vp_parse_expr.specs.Grammar.{Range, Expr, Name, Sized, Based, Number, Group, Unary, Binary, Conditional, Concatenation, Replication, Selection, Whole, Bit, Part, Parts, First, More}
-use Rattle.vp_parse_expr.specs.Layout.{put_expr, put_parts, put_range, put_selection, with_node}
-use Rattle.vp_parse.specs.declared.source.Module.{Module}
-use Rattle.vp_parse.specs.Whole.{AreWhole}
-use Rattle.vp_parse.proofs.GrowingParts.{expr_last, expr_more, longer}
+use Rattle.vp_source.specs.declared.expression.Expression as node
+use Rattle.vp_source.specs.declared.expression.Expression.TheVariants as node_of
+use Rattle.vp_source.specs.declared.expression.Selection as selection
+use Rattle.vp_source.specs.declared.expression.Selection.TheVariants as selected_as
+use Rattle.vp_source.specs.declared.operator.UnaryOperator.{UnaryOperator}
+use Rattle.vp_source.specs.declared.operator.UnaryOperator.TheVariants as before
+use Rattle.vp_source.specs.ExprGrammar.{Range, Expr, Name, Sized, Based, Number, Group, Unary, Binary, Conditional, Concatenation, Replication, Selection, Whole, Bit, Part, Parts, First, More}
+use Rattle.vp_source.specs.ExprLayout.{put_expr, put_parts, put_range, put_selection, with_node}
+use Rattle.vp_source.specs.declared.source.Module.{Module}
+use Rattle.vp_source.specs.Whole.{AreWhole}
+use Rattle.vp_source.proofs.GrowingParts.{expr_last, expr_more, longer}
 use Rattle.vp_elab.specs.Built.{Elaborated}
 use Rattle.vp_elab.specs.Elaboration.{range_width}
 use Rattle.vp_operand.specs.declared.operand.Infix.{Infix}

@@ -4,10 +4,10 @@ use Rattle.std.specs.Prelude.{codes}
 use Rattle.std.specs.Str.{chars, is_utf8}
 use Rattle.std.proofs.Math.Utf8.{encode}
 use Rattle.vp_bits.specs.declared.bit.Bit.TheVariants.{Zero, One, Unknown}
-use Rattle.vp_parse_expr.specs.declared.node.Expression.TheVariants as node_of
-use Rattle.vp_parse_expr.specs.declared.operator.BinaryOperator.TheVariants.{Add, Subtract}
-use Rattle.vp_parse_expr.specs.Grammar.{Expr, Name, Number, Group, Binary, Selection, Whole, Bit}
-use Rattle.vp_parse.specs.declared.source.Module as declared
+use Rattle.vp_source.specs.declared.expression.Expression.TheVariants as node_of
+use Rattle.vp_source.specs.declared.operator.BinaryOperator.TheVariants.{Add, Subtract}
+use Rattle.vp_source.specs.ExprGrammar.{Expr, Name, Number, Group, Binary, Selection, Whole, Bit}
+use Rattle.vp_source.specs.declared.source.Module as declared
 use Rattle.vp_elab.specs.declared.object.Kind.{Kind}
 use Rattle.vp_elab.specs.declared.object.Kind.TheVariants.{Module, Reg}
 use Rattle.vp_elab.specs.Built.{Elaborated}

@@ -5,12 +5,12 @@ use Rattle.std.specs.Str.{chars, is_utf8}
 use Rattle.std.proofs.Math.Utf8.{encode}
 use Rattle.vp_lex.specs.declared.token.Token.{Token}
 use Rattle.vp_lex.specs.declared.token.TokenKind.TheVariants as token
-use Rattle.vp_parse_expr.specs.declared.node.Expression.TheVariants as node
-use Rattle.vp_parse_expr.specs.declared.node.Selection.TheVariants as selected_as
-use Rattle.vp_parse_expr.specs.Grammar.{Name, Whole}
-use Rattle.vp_parse_stmt.specs.declared.arena.Statement.TheVariants as statement
-use Rattle.vp_parse.specs.declared.source.Module as declared
-use Rattle.vp_parse.specs.Whole.{AreWhole}
+use Rattle.vp_source.specs.declared.expression.Expression.TheVariants as node
+use Rattle.vp_source.specs.declared.expression.Selection.TheVariants as selected_as
+use Rattle.vp_source.specs.ExprGrammar.{Name, Whole}
+use Rattle.vp_source.specs.declared.statement.Statement.TheVariants as statement
+use Rattle.vp_source.specs.declared.source.Module as declared
+use Rattle.vp_source.specs.Whole.{AreWhole}
 use Rattle.vp_elab.specs.declared.object.Kind.TheVariants.{Module, Reg}
 use Rattle.vp_elab.specs.Built.{Elaborated}
 use Rattle.vp_elab.specs.Tree.{Node, Step}

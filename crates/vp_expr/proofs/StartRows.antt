@@ -6,9 +6,9 @@ use Rattle.std.proofs.Math.Utf8.{encode}
 use Rattle.vp_bits.specs.declared.bit.Bit.TheVariants.{Zero, One, Unknown, HighImpedance}
 use Rattle.vp_lex.specs.declared.token.Token.{Token}
 use Rattle.vp_lex.specs.declared.token.TokenKind.TheVariants as token
-use Rattle.vp_parse_expr.specs.declared.node.Expression.TheVariants.{Literal, Number}
-use Rattle.vp_parse.specs.declared.source.Item.TheVariants.{LocalParameter, Reg}
-use Rattle.vp_parse.specs.declared.source.Source.{Source}
+use Rattle.vp_source.specs.declared.expression.Expression.TheVariants.{Literal, Number}
+use Rattle.vp_source.specs.declared.source.Item.TheVariants.{LocalParameter, Reg}
+use Rattle.vp_source.specs.declared.source.Source.{Source}
 use Rattle.vp_elab.specs.declared.object.Kind.TheVariants as kind
 use Rattle.vp_expr.specs.Start.{item_constant, start_value}
 

@@ -3,8 +3,8 @@ use Rattle.std.proofs.Common.{◌≡◌, ℕ, ◌<◌, ltb, cond, Bool, true, fa
 use Rattle.std.proofs.lemmas.List.{get_or_past}
 use Rattle.std.specs.Prelude.{slice_get}
 use borrow.Author.Tests.{ltb-true, ltb-false}
-use Rattle.vp_parse.specs.declared.source.Source.{Source}
-use Rattle.vp_parse_stmt.specs.declared.arena.Statement.{Statement}
+use Rattle.vp_source.specs.declared.source.Source.{Source}
+use Rattle.vp_source.specs.declared.statement.Statement.{Statement}
 use Rattle.vp_operand.specs.declared.operand.Operand.{Operand}
 use Rattle.vp_expr.specs.Awaits.{reads_below, reads_from, reads_in, reads_made}
 use Rattle.vp_operand.proofs.Prefixes.{made_below, made_missing, past_end}

@@ -6,11 +6,11 @@ use Rattle.std.proofs.lemmas.List.Folds.{drop_split}
 use Rattle.std.proofs.Math.Seq.{drop-length, take-append-add}
 use Rattle.std.specs.List.{flat_map, slice_range}
 use Rattle.vp_list.specs.Lists.{range_of}
-use Rattle.vp_parse_expr.specs.declared.node.Expression.{Expression}
-use Rattle.vp_parse.specs.declared.source.Module.{Module}
-use Rattle.vp_parse.specs.declared.source.Source.{Source}
-use Rattle.vp_parse_stmt.specs.declared.arena.Span.{Span}
-use Rattle.vp_parse.specs.Whole.{AreGapless, AreWhole}
+use Rattle.vp_source.specs.declared.expression.Expression.{Expression}
+use Rattle.vp_source.specs.declared.source.Module.{Module}
+use Rattle.vp_source.specs.declared.source.Source.{Source}
+use Rattle.vp_source.specs.declared.statement.Span.{Span}
+use Rattle.vp_source.specs.Whole.{AreGapless, AreWhole}
 use Rattle.vp_modules.specs.Items.{expressions_in, statements_in}
 use Rattle.vp_elab.specs.Built.{Elaborated}
 use Rattle.vp_operand.specs.declared.operand.Operand.{Operand}

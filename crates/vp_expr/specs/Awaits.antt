@@ -2,16 +2,16 @@
 use Rattle.std.specs.Prelude.{ℕ, ◌==◌, if◌then◌else◌, List, [], ◌∷◌, ◌++◌, length, map, slice_index_or, take, Option, Some, None, option_map}
 use Rattle.std.specs.List.{filter_map, flat_map, fold}
 use Rattle.vp_list.specs.Lists.{range_of}
-use Rattle.vp_parse_expr.specs.declared.node.Selection.{Selection}
-use Rattle.vp_parse_expr.specs.declared.node.Selection.TheVariants as selection
-use Rattle.vp_parse_stmt.specs.declared.arena.Choice.{Choice}
-use Rattle.vp_parse_stmt.specs.declared.arena.Edge.TheVariants as edge
-use Rattle.vp_parse_stmt.specs.declared.arena.EventTerm.{EventTerm}
-use Rattle.vp_parse_stmt.specs.declared.arena.Span.{Span}
-use Rattle.vp_parse_stmt.specs.declared.arena.Statement.{Statement}
-use Rattle.vp_parse_stmt.specs.declared.arena.Statement.TheVariants as statement
-use Rattle.vp_parse.specs.declared.source.Module as declared
-use Rattle.vp_parse.specs.declared.source.Source.{Source}
+use Rattle.vp_source.specs.declared.expression.Selection.{Selection}
+use Rattle.vp_source.specs.declared.expression.Selection.TheVariants as selection
+use Rattle.vp_source.specs.declared.statement.Choice.{Choice}
+use Rattle.vp_source.specs.declared.statement.Edge.TheVariants as edge
+use Rattle.vp_source.specs.declared.statement.EventTerm.{EventTerm}
+use Rattle.vp_source.specs.declared.statement.Span.{Span}
+use Rattle.vp_source.specs.declared.statement.Statement.{Statement}
+use Rattle.vp_source.specs.declared.statement.Statement.TheVariants as statement
+use Rattle.vp_source.specs.declared.source.Module as declared
+use Rattle.vp_source.specs.declared.source.Source.{Source}
 use Rattle.vp_modules.specs.Items.{statements_in}
 use Rattle.vp_elab.specs.Built.{Elaborated}
 use Rattle.vp_expr.specs.declared.awaited.Awaited.{Awaited}

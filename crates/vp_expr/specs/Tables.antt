@@ -2,14 +2,14 @@
 use Rattle.std.specs.Prelude.{◌≡◌, ℕ, ◌-◌, max, true, if◌then◌else◌, List, map, slice_index_or, Option, Some, None, option_map, option_and_then}
 use Rattle.std.specs.List.{filter_map, flat_map, fold, list_all}
 use Rattle.std.specs.Option.{option_map_or, unwrap_or}
-use Rattle.vp_parse_expr.specs.declared.node.Selection.{Selection}
-use Rattle.vp_parse_expr.specs.declared.node.Selection.TheVariants as selection
-use Rattle.vp_parse_stmt.specs.declared.arena.Choice.{Choice}
-use Rattle.vp_parse_stmt.specs.declared.arena.Span.{Span}
-use Rattle.vp_parse_stmt.specs.declared.arena.Statement.{Statement}
-use Rattle.vp_parse_stmt.specs.declared.arena.Statement.TheVariants as statement
-use Rattle.vp_parse.specs.declared.source.Module as declared
-use Rattle.vp_parse.specs.declared.source.Source.{Source}
+use Rattle.vp_source.specs.declared.expression.Selection.{Selection}
+use Rattle.vp_source.specs.declared.expression.Selection.TheVariants as selection
+use Rattle.vp_source.specs.declared.statement.Choice.{Choice}
+use Rattle.vp_source.specs.declared.statement.Span.{Span}
+use Rattle.vp_source.specs.declared.statement.Statement.{Statement}
+use Rattle.vp_source.specs.declared.statement.Statement.TheVariants as statement
+use Rattle.vp_source.specs.declared.source.Module as declared
+use Rattle.vp_source.specs.declared.source.Source.{Source}
 use Rattle.vp_modules.specs.Items.{statements_in}
 use Rattle.vp_elab.specs.Built.{Elaborated}
 use Rattle.vp_elab.specs.Elaboration.{range_width}

@@ -10,8 +10,8 @@ use vp_elab::{Design, ObjectId, range_width};
 use vp_list::Sequence;
 use vp_modules::statements_of;
 use vp_operand::{ExprId, fitted, size_at};
-use vp_parse::{Choice, Module, Selection, Source, Span, Statement};
 use vp_resolve::{lowest_in, object_named, part_place, scope_of, slot_in, width_in};
+use vp_source::{Choice, Module, Selection, Source, Span, Statement};
 
 /// The expression at a place in a context of a size, in bits; none where no vector has that.
 pub fn sized_at(place: u32, size: u32) -> Option<ExprId>

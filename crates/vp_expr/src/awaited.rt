@@ -9,8 +9,8 @@ use std::alloc::{AllocError, Global};
 use vp_elab::{Design, ObjectId};
 use vp_modules::statements_of;
 use vp_operand::{Operand, Slot, add_slots};
-use vp_parse::{Edge, EventTerm, Module, Source, Span, Statement};
 use vp_resolve::{object_named, scope_of, slot_in};
+use vp_source::{Edge, EventTerm, Module, Source, Span, Statement};
 
 /// A change for which a statement waits: of the object at a slot, and which of its changes count (9.7.2).
 #[derive(Clone, Copy)]

@@ -2,9 +2,9 @@ ghost use Rattle.std.specs.Prelude.{◌≡◌, ◌<◌, ◌++◌, drop, length, 
 ghost use Rattle.vp_bits.specs.Vector.{IsWidth};
 ghost use Rattle.vp_operand.specs.Arena.{blank, term_at, term_below, term_made, value_in, IsSized};
 ghost use Rattle.vp_operand.specs.Reads.{reads, slot_at};
-ghost use Rattle.vp_parse_expr.specs.Grammar.{Expr};
-ghost use Rattle.vp_parse.specs.declared.source.Module.{Module};
-ghost use Rattle.vp_parse.specs.Whole.{AreWhole};
+ghost use Rattle.vp_source.specs.ExprGrammar.{Expr};
+ghost use Rattle.vp_source.specs.declared.source.Module.{Module};
+ghost use Rattle.vp_source.specs.Whole.{AreWhole};
 ghost use Rattle.vp_expr.specs.Derived.{StandsAt, derived_value};
 ghost use Rattle.vp_expr.specs.Evaluation.{eval, own_eval, place_set};
 ghost use Rattle.vp_expr.specs.Tables.{tables_of};

@@ -5,7 +5,7 @@ ghost use Rattle.vp_operand.specs.Reads.{slots_at};
 
 use std::alloc::AllocError;
 use vp_operand::{Operand, Slot, add_slots};
-use vp_parse::{Choice, Selection, Source, Span, Statement};
+use vp_source::{Choice, Selection, Source, Span, Statement};
 
 /// The choices of a case.
 pub fn choices_at(source: &Source, span: Span) -> &[Choice]

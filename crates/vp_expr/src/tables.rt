@@ -9,8 +9,8 @@ use std::alloc::{AllocError, Global};
 use vp_elab::{Design, ObjectId};
 use vp_list::Sequence;
 use vp_operand::{ExprId, Operand, Slot, fitted, size_at, sizes_of};
-use vp_parse::Span;
 use vp_resolve::width_in;
+use vp_source::Span;
 
 /// What of an object of an instance an assignment sets (clause 5.2.1).
 #[derive(Clone, Copy)]

@@ -12,8 +12,8 @@ use std::marker::Model;
 use vp_bits::Bits;
 use vp_elab::{Design, Kind, Object, ObjectId};
 use vp_operand::literal_bits;
-use vp_parse::{Expression, Item, Source};
 use vp_resolve::ExprError;
+use vp_source::{Expression, Item, Source};
 
 /// A value for each object of a design. A contract sees their list, by object number.
 #[derive(Drop)]

@@ -9,10 +9,10 @@ use Rattle.std.specs.Option.{option_and_then, option_map_or}
 use Rattle.std.specs.Str.{bytes_eq}
 use Rattle.vp_list.specs.Lists.{range_of}
 use Rattle.vp_list.specs.Searches.{list_any-map}
-use Rattle.vp_parse.specs.Places.{word_at}
-use Rattle.vp_parse.specs.declared.source.Source.{Source}
-use Rattle.vp_parse.specs.declared.source.Module.{Module}
-use Rattle.vp_parse.specs.declared.source.Item.{Item}
+use Rattle.vp_source.specs.Places.{word_at}
+use Rattle.vp_source.specs.declared.source.Source.{Source}
+use Rattle.vp_source.specs.declared.source.Module.{Module}
+use Rattle.vp_source.specs.declared.source.Item.{Item}
 use Rattle.vp_modules.specs.Definitions.{definitions_in, is_marked, is_number}
 use Rattle.vp_modules.specs.Items.{definition_number, instantiated, items_in, module_named, module_number}
 use Rattle.vp_modules.specs.Refusals.{leads, leads_by, recursive, twice_in}

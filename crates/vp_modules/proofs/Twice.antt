@@ -1,9 +1,9 @@
 -- Names that are declared twice, module by module.
 use Rattle.std.proofs.Common.{◌≡◌, ℕ, suc, ◌+◌, ◌<◌, Bool, false, cond, List, [], ◌∷◌, ◌++◌, length, drop, get_or, Option, Some, None, ap, sym, subst, ◌∙◌, arith}
 use Rattle.std.proofs.Math.Seq.{drop-cons}
-use Rattle.vp_parse.specs.Places.{line_at, word_at}
-use Rattle.vp_parse.specs.declared.source.Source.{Source}
-use Rattle.vp_parse.specs.declared.source.Module.{Module}
+use Rattle.vp_source.specs.Places.{line_at, word_at}
+use Rattle.vp_source.specs.declared.source.Source.{Source}
+use Rattle.vp_source.specs.declared.source.Module.{Module}
 use Rattle.vp_modules.specs.declared.fault.ElabError.{ElabError}
 use Rattle.vp_modules.specs.declared.fault.ElabError.TheVariants.{Duplicate}
 use Rattle.vp_modules.specs.Items.{is_among, items_in}

@@ -4,16 +4,16 @@ use Rattle.std.specs.List.{list_any, position}
 use Rattle.std.specs.Option.{option_and_then, option_map_or}
 use Rattle.std.specs.Str.{bytes_eq}
 use Rattle.vp_list.specs.Lists.{range_of}
-use Rattle.vp_parse_expr.specs.declared.node.Expression.{Expression}
-use Rattle.vp_parse_stmt.specs.declared.arena.EventTerm.{EventTerm}
-use Rattle.vp_parse_stmt.specs.declared.arena.Statement.{Statement}
-use Rattle.vp_parse.specs.Places.{column_at, line_at, word_at}
-use Rattle.vp_parse.specs.declared.source.Connection.{Connection}
-use Rattle.vp_parse.specs.declared.source.Direction.TheVariants as direction
-use Rattle.vp_parse.specs.declared.source.Source.{Source}
-use Rattle.vp_parse.specs.declared.source.Module as declared
-use Rattle.vp_parse.specs.declared.source.Item.{Item}
-use Rattle.vp_parse.specs.declared.source.Item.TheVariants as item
+use Rattle.vp_source.specs.declared.expression.Expression.{Expression}
+use Rattle.vp_source.specs.declared.statement.EventTerm.{EventTerm}
+use Rattle.vp_source.specs.declared.statement.Statement.{Statement}
+use Rattle.vp_source.specs.Places.{column_at, line_at, word_at}
+use Rattle.vp_source.specs.declared.source.Connection.{Connection}
+use Rattle.vp_source.specs.declared.source.Direction.TheVariants as direction
+use Rattle.vp_source.specs.declared.source.Source.{Source}
+use Rattle.vp_source.specs.declared.source.Module as declared
+use Rattle.vp_source.specs.declared.source.Item.{Item}
+use Rattle.vp_source.specs.declared.source.Item.TheVariants as item
 
 -- a name is among these
 abbrev pub is_among : List (List ℕ) → List ℕ → Bool

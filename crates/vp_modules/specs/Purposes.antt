@@ -1,6 +1,6 @@
 -- What names are used for.
 use Rattle.std.specs.Prelude.{Bool}
-use Rattle.vp_parse.specs.declared.source.Item.{Item}
+use Rattle.vp_source.specs.declared.source.Item.{Item}
 use Rattle.vp_modules.specs.declared.operands.Purpose.{Purpose}
 use Rattle.vp_modules.specs.declared.operands.Purpose.TheVariants as purpose
 use Rattle.vp_modules.specs.Items.{is_operand, is_reg, is_signal}

@@ -3,18 +3,18 @@ use Rattle.std.specs.Prelude.{◌≡◌, ℕ, zero, suc, ◌+◌, nat_eq, not, �
 use Rattle.std.specs.List.{flat_map, list_any}
 use Rattle.std.specs.Option.{option_and_then, option_map_or}
 use Rattle.std.specs.Str.{bytes_eq}
-use Rattle.vp_parse_expr.specs.declared.node.Expression.{Expression}
-use Rattle.vp_parse_expr.specs.declared.node.Expression.TheVariants as expression
-use Rattle.vp_parse_expr.specs.declared.node.Selection.TheVariants as selection_of
-use Rattle.vp_parse_stmt.specs.declared.arena.Statement.{Statement}
-use Rattle.vp_parse_stmt.specs.declared.arena.Statement.TheVariants as statement
-use Rattle.vp_parse.specs.Places.{earlier, earliest, line_at, word_at}
-use Rattle.vp_parse.specs.declared.source.Connection.{Connection}
-use Rattle.vp_parse.specs.declared.source.Direction.TheVariants as direction
-use Rattle.vp_parse.specs.declared.source.Source.{Source}
-use Rattle.vp_parse.specs.declared.source.Module as declared
-use Rattle.vp_parse.specs.declared.source.Item.{Item}
-use Rattle.vp_parse.specs.declared.source.Item.TheVariants as item
+use Rattle.vp_source.specs.declared.expression.Expression.{Expression}
+use Rattle.vp_source.specs.declared.expression.Expression.TheVariants as expression
+use Rattle.vp_source.specs.declared.expression.Selection.TheVariants as selection_of
+use Rattle.vp_source.specs.declared.statement.Statement.{Statement}
+use Rattle.vp_source.specs.declared.statement.Statement.TheVariants as statement
+use Rattle.vp_source.specs.Places.{earlier, earliest, line_at, word_at}
+use Rattle.vp_source.specs.declared.source.Connection.{Connection}
+use Rattle.vp_source.specs.declared.source.Direction.TheVariants as direction
+use Rattle.vp_source.specs.declared.source.Source.{Source}
+use Rattle.vp_source.specs.declared.source.Module as declared
+use Rattle.vp_source.specs.declared.source.Item.{Item}
+use Rattle.vp_source.specs.declared.source.Item.TheVariants as item
 use Rattle.vp_modules.specs.declared.fault.ElabError.{ElabError}
 use Rattle.vp_modules.specs.declared.fault.ElabError.TheVariants.{Duplicate, UnknownModule, Recursive, Undeclared, BadTarget, BadConnection, MultipleDrivers, TooManyObjects, ViewportUnknown, NoMemory}
 use Rattle.vp_modules.specs.Items.{connections_of, definition_of, expressions_in, instantiated, is_among, is_input, is_net, is_operand, is_reg, is_signal, item_name, item_place, items_in, module_named, named_at, ports_in, statements_in, terms_in}

@@ -1,8 +1,8 @@
 -- The tables of a text's names.
 use Rattle.std.specs.Prelude.{ℕ, List, map}
-use Rattle.vp_parse.specs.Places.{word_at}
-use Rattle.vp_parse.specs.declared.source.Source.{Source}
-use Rattle.vp_parse.specs.declared.source.Module as declared
+use Rattle.vp_source.specs.Places.{word_at}
+use Rattle.vp_source.specs.declared.source.Source.{Source}
+use Rattle.vp_source.specs.declared.source.Module as declared
 use Rattle.vp_modules.specs.declared.tables.Tables.{Tables}
 use Rattle.vp_modules.specs.declared.resolved.Resolved.{Resolved}
 use Rattle.vp_modules.specs.Items.{definition_number, is_top, item_name, items_in}

@@ -10,7 +10,7 @@ use crate::names::Names;
 use crate::operands::{bad_target, undeclared};
 use crate::tables::Tables;
 use std::alloc::Global;
-use vp_parse::{Source, earlier};
+use vp_source::{Source, earlier};
 
 /// The first name of a text that is not declared in its module; `scopes` are the names of each module's items.
 pub fn first_undeclared(source: &Source, scopes: &[Names]) -> Option<u32>

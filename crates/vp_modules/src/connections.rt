@@ -11,7 +11,7 @@ use crate::lookup::named_at;
 use crate::names::Names;
 use crate::tables::Tables;
 use std::alloc::Global;
-use vp_parse::{Connection, Expression, Item, Module, Selection, Source, earlier};
+use vp_source::{Connection, Expression, Item, Module, Selection, Source, earlier};
 
 /// A module, with the names of its items.
 #[derive(Clone, Copy)]

@@ -7,7 +7,7 @@ use crate::names::Names;
 use crate::tables::Tables;
 use std::alloc::{AllocError, Global};
 use vp_list::Sequence;
-use vp_parse::{Item, Source};
+use vp_source::{Item, Source};
 
 /// The number of the module that an item instantiates, its index in the text.
 fn definition_number(source: &Source, modules: &Names, item: Item) -> Option<usize>

@@ -11,7 +11,7 @@ use crate::items::{connections_of, is_input, items_of};
 use crate::names::Names;
 use crate::tables::Tables;
 use std::alloc::{AllocError, Global};
-use vp_parse::{Connection, Direction, Item, Module, Source};
+use vp_source::{Connection, Direction, Item, Module, Source};
 
 /// The place of the net that a connection to a module's port, behind so many, drives.
 fn driven_from(

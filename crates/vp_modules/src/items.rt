@@ -1,9 +1,9 @@
 ghost use Rattle.std.specs.Prelude.{◌≡◌, string_bytes, IfOk};
-ghost use Rattle.vp_parse.specs.Places.{column_at, line_at};
+ghost use Rattle.vp_source.specs.Places.{column_at, line_at};
 ghost use Rattle.vp_modules.specs.Items.{connections_of, expressions_in, is_input, is_net, is_operand, is_reg, is_signal, item_name, item_place, items_in, ports_in, process_name, statements_in, terms_in};
 
 use std::alloc::{AllocError, Global};
-use vp_parse::{Connection, Direction, EventTerm, Expression, Item, Module, Source, Statement};
+use vp_source::{Connection, Direction, EventTerm, Expression, Item, Module, Source, Statement};
 
 /// The items of a module, its ports first.
 pub fn items_of(source: &Source, module: Module) -> &[Item]

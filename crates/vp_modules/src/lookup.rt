@@ -1,12 +1,12 @@
 ghost use Rattle.std.specs.Prelude.{◌≡◌, map, option_and_then, position, slice_get};
 ghost use Rattle.std.specs.Str.{bytes_eq};
-ghost use Rattle.vp_parse.specs.Places.{word_at};
+ghost use Rattle.vp_source.specs.Places.{word_at};
 ghost use Rattle.vp_modules.specs.Items.{item_name, item_named, items_in, module_named, named_at};
 ghost use Rattle.vp_modules.specs.Tables.{module_names, scope_in};
 
 use crate::items::items_of;
 use crate::names::Names;
-use vp_parse::{Item, Module, Source};
+use vp_source::{Item, Module, Source};
 
 /// The first of these values whose name, in the table of their names, is the one looked for.
 fn value_named<T: Copy>(values: &[T], names: &Names, name: &str) -> Option<T>

@@ -1,5 +1,5 @@
 ghost use Rattle.std.specs.Prelude.{◌≡◌, Some};
-ghost use Rattle.vp_parse.specs.Places.{earliest};
+ghost use Rattle.vp_source.specs.Places.{earliest};
 ghost use Rattle.vp_modules.specs.Items.{expressions_in, items_in, statements_in, terms_in};
 ghost use Rattle.vp_modules.specs.Purposes.{fits};
 ghost use Rattle.vp_modules.specs.Refusals.{assigned_by, bad_target, name_in, target_of, undeclared, unfit};
@@ -11,7 +11,7 @@ use crate::items::{
 };
 use crate::lookup::named_at;
 use crate::names::Names;
-use vp_parse::{Expression, Item, Module, Source, Statement, earlier};
+use vp_source::{Expression, Item, Module, Source, Statement, earlier};
 
 /// What a name is used for.
 #[derive(Clone, Copy)]

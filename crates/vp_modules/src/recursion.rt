@@ -1,6 +1,6 @@
 ghost use Rattle.std.specs.Prelude.{◌≡◌, ◌<◌, ℕ, [], ◌∷◌, ◌++◌, nat_eq, true, false, length, map, Some, None, slice_get, slice_index, slice_index_or, IfErr, IfOk, OnOk};
 ghost use Rattle.std.specs.List.{count_by, list_any};
-ghost use Rattle.vp_parse.specs.Places.{earlier, word_at};
+ghost use Rattle.vp_source.specs.Places.{earlier, word_at};
 ghost use Rattle.vp_modules.specs.Definitions.{AreSuspects, definitions_in, is_marked, is_member, is_number, is_up_to, with_number, with_numbers};
 ghost use Rattle.vp_modules.specs.Items.{definition_number};
 ghost use Rattle.vp_modules.specs.Refusals.{first_in, leads, recursive, twice_in};
@@ -9,7 +9,7 @@ ghost use Rattle.vp_modules.specs.declared.fault.ElabError.TheVariants.{NoMemory
 use crate::fault::ElabError;
 use crate::reached::Reached;
 use std::alloc::{AllocError, Global};
-use vp_parse::{Module, Source};
+use vp_source::{Module, Source};
 
 /// How many instances, one within the other, the quick test follows: a module at which no chain of so many begins does not lead to itself.
 const LONGEST_CHAIN: usize = 64;

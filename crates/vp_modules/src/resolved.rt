@@ -11,7 +11,7 @@ use crate::recursion::first_recursive;
 use crate::tables::{Tables, tables_of};
 use std::alloc::Global;
 use vp_list::Sequence;
-use vp_parse::Source;
+use vp_source::Source;
 
 /// A text whose modules are right.
 #[derive(Drop)]

@@ -1,5 +1,5 @@
 ghost use Rattle.std.specs.Prelude.{◌≡◌, false, List, [], ◌∷◌, ◌++◌, map, None, IfErr, IfOk, OnOk};
-ghost use Rattle.vp_parse.specs.Places.{word_at};
+ghost use Rattle.vp_source.specs.Places.{word_at};
 ghost use Rattle.vp_modules.specs.Items.{is_among, item_name, items_in};
 ghost use Rattle.vp_modules.specs.Tables.{module_names, scope_in, tables_in};
 ghost use Rattle.vp_modules.specs.Refusals.{Explains, twice, twice_in};
@@ -9,7 +9,7 @@ use crate::items::{items_of, name_of, place_of};
 use crate::names::Names;
 use std::alloc::Global;
 use vp_list::Sequence;
-use vp_parse::{Item, Module, Source};
+use vp_source::{Item, Module, Source};
 
 /// The names of a text.
 #[derive(Drop)]

@@ -6,12 +6,12 @@ use Rattle.vp_parse.specs.declared.fault.ParseError.{ParseError}
 use Rattle.vp_parse.specs.declared.fault.ParseError.TheVariants as error
 use Rattle.vp_parse_expr.specs.declared.reading.Stop as stop
 use Rattle.vp_parse_expr.specs.declared.reading.Stop.TheVariants as stop_of
-use Rattle.vp_parse.specs.declared.parsing.TheConstants.{DEPTH_LIMIT}
-use Rattle.vp_parse.specs.declared.source.Module as module_of
-use Rattle.vp_parse.specs.declared.source.Source.{Source}
-use Rattle.vp_parse_expr.specs.declared.symbol.Symbol.{Symbol}
-use Rattle.vp_parse.specs.Grammar.{Derivation, IsDerivation}
-use Rattle.vp_parse.specs.Layout.{Lists, no_parts, put_source, lists_of, IsSourceOf}
+use Rattle.vp_source.specs.declared.source.TheConstants.{DEPTH_LIMIT}
+use Rattle.vp_source.specs.declared.source.Module as module_of
+use Rattle.vp_source.specs.declared.source.Source.{Source}
+use Rattle.vp_source.specs.declared.symbol.Symbol.{Symbol}
+use Rattle.vp_source.specs.Grammar.{Derivation, IsDerivation}
+use Rattle.vp_source.specs.Layout.{Lists, no_parts, put_source, lists_of, IsSourceOf}
 use Rattle.vp_parse_expr.specs.Stopping.{Stop, Unexpected, TooDeep, Fails}
 use Rattle.vp_parse_expr.specs.Placed.{seen}
 use Rattle.vp_parse.specs.Reading.{read}

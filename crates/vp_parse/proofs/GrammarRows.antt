@@ -2,16 +2,16 @@
 use Rattle.std.proofs.Common.{◌≡◌, ℕ, zero, suc, ◌+◌, ◌-◌, List, [], ◌∷◌, ◌++◌, Some, None, Result, Ok, Err, refl}
 use Rattle.vp_lex.specs.declared.keyword.Keyword.TheVariants as keyword
 use Rattle.vp_lex.specs.declared.token.Punctuator.TheVariants as punctuator
-use Rattle.vp_parse_expr.specs.declared.symbol.Symbol.{Symbol}
-use Rattle.vp_parse_expr.specs.declared.symbol.SymbolKind.{SymbolKind}
-use Rattle.vp_parse_expr.specs.declared.symbol.SymbolKind.TheVariants as symbol
-use Rattle.vp_parse_expr.specs.Kinds.{symbol_at}
-use Rattle.vp_parse_expr.specs.Grammar.{Name, Sized, Whole, Part}
+use Rattle.vp_source.specs.declared.symbol.Symbol.{Symbol}
+use Rattle.vp_source.specs.declared.symbol.SymbolKind.{SymbolKind}
+use Rattle.vp_source.specs.declared.symbol.SymbolKind.TheVariants as symbol
+use Rattle.vp_source.specs.Kinds.{symbol_at}
+use Rattle.vp_source.specs.ExprGrammar.{Name, Sized, Whole, Part}
 use Rattle.vp_parse_expr.specs.Stopping.{Stop, Unexpected, TooDeep, terminal}
 use Rattle.vp_parse_expr.specs.Reading.{bound_by, bound_at, range_at, sized_at, number_at, bit_at, part_select_at, select_at, name_at, group_at, unary_at, part_at, further_part_at, further_parts_at, parts_at, concatenation_at, replication_at, braces_at, operand_by, operand_at, binary_at, more_at, conditional_at, choice_at, chain_at, expr_at, literal_by, literal_at}
-use Rattle.vp_parse_stmt.specs.Grammar as statement
-use Rattle.vp_parse_stmt.specs.Grammar.{Stmt, Assign, Block, Empty, Then}
-use Rattle.vp_parse.specs.Grammar.{Ordered, Named, Unconnected, Connected, Nets, Regs, LocalParameters, Instances, Plain, Valued, Instance, Item, Declares, Initial, Always, Input, Declared, Bare, NoHeader, Ports, Derivation}
+use Rattle.vp_source.specs.StmtGrammar as statement
+use Rattle.vp_source.specs.StmtGrammar.{Stmt, Assign, Block, Empty, Then}
+use Rattle.vp_source.specs.Grammar.{Ordered, Named, Unconnected, Connected, Nets, Regs, LocalParameters, Instances, Plain, Valued, Instance, Item, Declares, Initial, Always, Input, Declared, Bare, NoHeader, Ports, Derivation}
 use Rattle.vp_parse_stmt.specs.Reading.{stmts_at, amount_by, amount_at, grouped_delay_at, delay_at, later_at, hold_at, blocking_at, assign_at, nonblocking_at, set_at, assignment_at, block_at, edged_at, term_at, separator_by, separator_at, joined_at, further_terms_at, terms_at, terms_event_at, star_event_at, event_by, event_at, awaited_at, condition_at, guarded_at, second_at, else_at, if_at, stmt_by, form_at, stmt_at}
 use Rattle.vp_parse.specs.Reading.{further_at, width_at, value_at, ordered_at, named_at, connection_at, connected_at, connections_at, valued_at, net_at, instance_at, declarator_by, declarator_at, declarators_at, ranged_at, procedure_at, item_by, item_at, items_at, wire_at, output_at, direction_by, direction_at, declared_at, port_at, ports_at, listed_at, parentheses_at, header_at, module_at, modules_at, source_at, read}
 

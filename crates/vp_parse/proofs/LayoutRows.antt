@@ -1,18 +1,18 @@
 -- What the grammar sees of tokens, the lists of a source, and where an error is told, computed on examples.
 use Rattle.std.proofs.Common.{◌≡◌, false, List, [], ◌∷◌, Some, None, refl}
-use Rattle.vp_parse_expr.specs.declared.node.Expression.TheVariants as expression_of
-use Rattle.vp_parse_expr.specs.declared.node.Selection.TheVariants as selection_of
-use Rattle.vp_parse_stmt.specs.declared.arena.Edge.TheVariants as edge_of
-use Rattle.vp_parse_stmt.specs.declared.arena.Statement.TheVariants as statement_of
-use Rattle.vp_parse.specs.declared.source.Item.TheVariants as item_of
-use Rattle.vp_parse_expr.specs.Grammar.{Name, Sized, Whole}
-use Rattle.vp_parse_stmt.specs.Grammar.{Also, Assign, Block, Case, Default, Empty, Exact, Labels, Last, More, Null, Only, Then, Unmarked}
-use Rattle.vp_parse.specs.declared.source.Direction.TheVariants as direction_of
-use Rattle.vp_parse.specs.Grammar.{Ordered, Connected, Nets, Regs, Instances, Plain, Valued, Instance, Declares, Initial, OutputReg, Declared, Bare, NoHeader, Ports, Derivation}
-use Rattle.vp_parse.specs.Layout.{put_source}
-use Rattle.vp_parse_expr.specs.declared.symbol.Symbol.{Symbol}
-use Rattle.vp_parse_expr.specs.declared.symbol.SymbolKind.TheVariants as symbol
-use Rattle.vp_parse_expr.specs.Kinds.{symbol_at}
+use Rattle.vp_source.specs.declared.expression.Expression.TheVariants as expression_of
+use Rattle.vp_source.specs.declared.expression.Selection.TheVariants as selection_of
+use Rattle.vp_source.specs.declared.statement.Edge.TheVariants as edge_of
+use Rattle.vp_source.specs.declared.statement.Statement.TheVariants as statement_of
+use Rattle.vp_source.specs.declared.source.Item.TheVariants as item_of
+use Rattle.vp_source.specs.ExprGrammar.{Name, Sized, Whole}
+use Rattle.vp_source.specs.StmtGrammar.{Also, Assign, Block, Case, Default, Empty, Exact, Labels, Last, More, Null, Only, Then, Unmarked}
+use Rattle.vp_source.specs.declared.source.Direction.TheVariants as direction_of
+use Rattle.vp_source.specs.Grammar.{Ordered, Connected, Nets, Regs, Instances, Plain, Valued, Instance, Declares, Initial, OutputReg, Declared, Bare, NoHeader, Ports, Derivation}
+use Rattle.vp_source.specs.Layout.{put_source}
+use Rattle.vp_source.specs.declared.symbol.Symbol.{Symbol}
+use Rattle.vp_source.specs.declared.symbol.SymbolKind.TheVariants as symbol
+use Rattle.vp_source.specs.Kinds.{symbol_at}
 use Rattle.vp_parse.specs.Told.{place_told}
 use Rattle.vp_parse.proofs.GrammarRows.{clocked}
 

@@ -5,13 +5,13 @@ use Rattle.vp_lex.specs.declared.keyword.Keyword.TheVariants as keyword
 use Rattle.vp_lex.specs.declared.token.Punctuator.TheVariants as punctuator
 use Rattle.vp_parse_expr.specs.declared.reading.Stop as stop
 use Rattle.vp_parse_expr.specs.declared.reading.Stop.TheVariants as stop_of
-use Rattle.vp_parse.specs.declared.source.Module as module_of
-use Rattle.vp_parse_expr.specs.declared.symbol.Symbol.{Symbol}
-use Rattle.vp_parse_expr.specs.declared.symbol.SymbolKind.{SymbolKind}
-use Rattle.vp_parse_expr.specs.declared.symbol.SymbolKind.TheVariants as symbol
+use Rattle.vp_source.specs.declared.source.Module as module_of
+use Rattle.vp_source.specs.declared.symbol.Symbol.{Symbol}
+use Rattle.vp_source.specs.declared.symbol.SymbolKind.{SymbolKind}
+use Rattle.vp_source.specs.declared.symbol.SymbolKind.TheVariants as symbol
 use Rattle.vp_parse_expr.specs.Stopping.{Stop, is_next, behind, Fails}
 use Rattle.vp_parse_stmt.specs.Placing.{Placer}
-use Rattle.vp_parse.specs.Layout.{Lists, PortType}
+use Rattle.vp_source.specs.Layout.{Lists, PortType}
 use Rattle.vp_parse.specs.Placing.{Kept, Keeper, Made, further_into, item_into, items_into, next_type_into, port_into, ports_into, module_into, modules_into}
 
 -- a comma is next

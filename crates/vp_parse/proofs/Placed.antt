@@ -5,33 +5,33 @@ use Rattle.vp_lex.specs.declared.keyword.Keyword.TheVariants as keyword
 use Rattle.vp_lex.specs.declared.token.Punctuator.TheVariants as punctuator
 use Rattle.std.proofs.Math.Seq.{append_snoc}
 use Rattle.std.proofs.lemmas.List.{append-nil}
-use Rattle.vp_parse.specs.declared.source.Direction as direction
-use Rattle.vp_parse.specs.declared.source.Item as item
-use Rattle.vp_parse.specs.declared.source.Item.TheVariants as item_of
-use Rattle.vp_parse.specs.declared.source.Module as module_of
-use Rattle.vp_parse.specs.declared.source.DeclaredRange.{DeclaredRange}
+use Rattle.vp_source.specs.declared.source.Direction as direction
+use Rattle.vp_source.specs.declared.source.Item as item
+use Rattle.vp_source.specs.declared.source.Item.TheVariants as item_of
+use Rattle.vp_source.specs.declared.source.Module as module_of
+use Rattle.vp_source.specs.declared.source.DeclaredRange.{DeclaredRange}
 use Rattle.vp_parse.specs.declared.items.Declaration as declaration
 use Rattle.vp_parse.specs.declared.items.Declaration.TheVariants as declaration_of
-use Rattle.vp_parse_expr.specs.declared.symbol.Symbol.{Symbol}
-use Rattle.vp_parse_expr.specs.declared.symbol.SymbolKind.{SymbolKind}
-use Rattle.vp_parse_expr.specs.declared.symbol.SymbolKind.TheVariants as symbol
-use Rattle.vp_parse_expr.specs.declared.node.Range as range
-use Rattle.vp_parse_expr.specs.Kinds.{same_kind, symbol_at}
-use Rattle.vp_parse_expr.specs.Operators.{binary_sign}
-use Rattle.vp_parse_expr.specs.Grammar.{Expr, Name, Sized, Based, Number, Group, Unary, Binary, Conditional, Concatenation, Replication, Range, IsExpr, expr_text, range_text}
+use Rattle.vp_source.specs.declared.symbol.Symbol.{Symbol}
+use Rattle.vp_source.specs.declared.symbol.SymbolKind.{SymbolKind}
+use Rattle.vp_source.specs.declared.symbol.SymbolKind.TheVariants as symbol
+use Rattle.vp_source.specs.declared.expression.Range as range
+use Rattle.vp_source.specs.Kinds.{same_kind, symbol_at}
+use Rattle.vp_source.specs.Operators.{binary_sign}
+use Rattle.vp_source.specs.ExprGrammar.{Expr, Name, Sized, Based, Number, Group, Unary, Binary, Conditional, Concatenation, Replication, Range, IsExpr, expr_text, range_text}
 use Rattle.vp_parse_expr.specs.Takes.{Holds, IsTerminal, terminal_takes, IsRangeTaken, range_takes}
 use Rattle.vp_parse_expr.specs.Stopping.{Stop, ◌>>=◌, Reader, is_next, terminal, behind}
 use Rattle.vp_parse_expr.specs.Reading.{expr_at, range_at, literal_at}
 use Rattle.vp_parse_expr.specs.Placing.{Made as Placed, literal_into, range_into}
 use Rattle.vp_parse_expr.specs.Placed.{seen, bind_seen, last_seen, all_seen, if_seen, left, behind_seen, made as made_expr, literal_seen, made_range as kept_range, range_seen}
-use Rattle.vp_parse_stmt.specs.Grammar.{Stmt}
-use Rattle.vp_parse_stmt.specs.Layout as layout
-use Rattle.vp_parse_stmt.specs.Layout.{put_stmt, put_value}
+use Rattle.vp_source.specs.StmtGrammar.{Stmt}
+use Rattle.vp_source.specs.StmtLayout as layout
+use Rattle.vp_source.specs.StmtLayout.{put_stmt, put_value}
 use Rattle.vp_parse_stmt.specs.Placing.{Placer, Made as MadePart, value_into, stmt_into}
 use Rattle.vp_parse_stmt.specs.Placed.{Places, made as made_part, value_seen, stmt_seen}
 use Rattle.vp_parse_stmt.specs.Reading.{stmt_at}
-use Rattle.vp_parse.specs.Grammar.{Further, further_text, AreFurther, further_height, Connection, Ordered, Named, Connections, Unconnected, Connected, value_text, value_height, connection_text, IsAlike, connection_height, Declaration, Nets, Regs, LocalParameters, Assignments, Instances, Declarator, Valued, Item, Initial, Always, Direction, Port, Bare, PortList, Ports, Module, Derivation}
-use Rattle.vp_parse.specs.Layout.{Lists, no_parts, put_declared, with_item, with_connection, first_place, put_connection_by, put_connection, comma_at, put_connected, put_connections, put_declarator, put_further, put_procedure, put_item, put_items, PortType, put_direction, port_type, port_name, put_port, put_ports, scalar_input, put_header, put_module, put_modules, put_source}
+use Rattle.vp_source.specs.Grammar.{Further, further_text, AreFurther, further_height, Connection, Ordered, Named, Connections, Unconnected, Connected, value_text, value_height, connection_text, IsAlike, connection_height, Declaration, Nets, Regs, LocalParameters, Assignments, Instances, Declarator, Valued, Item, Initial, Always, Direction, Port, Bare, PortList, Ports, Module, Derivation}
+use Rattle.vp_source.specs.Layout.{Lists, no_parts, put_declared, with_item, with_connection, first_place, put_connection_by, put_connection, comma_at, put_connected, put_connections, put_declarator, put_further, put_procedure, put_item, put_items, PortType, put_direction, port_type, port_name, put_port, put_ports, scalar_input, put_header, put_module, put_modules, put_source}
 use Rattle.vp_parse.specs.Reading.{further_at, width_at, is_end, value_at, ordered_at, named_at, connection_at, connected_at, connections_at, valued_at, net_at, instance_at, declarator_by, declarator_at, declarators_at, ranged_at, procedure_at, item_by, item_at, items_at, wire_at, output_at, direction_by, direction_at, declared_at, port_at, ports_at, listed_at, parentheses_at, header_at, module_at, modules_at, source_at}
 use Rattle.vp_parse.specs.Placing.{Kept, Keeper, Made, further_into, width_into, part_into, optional_into, ordered_into, named_into, connection_into, connected_into, connections_into, valued_into, net_into, instance_into, sized_into, declarator_by_into, declarator_into, declarators_into, procedure_into, item_by_into, item_into, items_into, wire_into, output_into, direction_by_into, direction_into, port_type_into, next_type_into, port_into, ports_into, listed_into, parentheses_into, header_into, module_into, modules_into}
 use Rattle.vp_parse.proofs.Takes.{IsRead, value_takes, connection_takes, further_takes}

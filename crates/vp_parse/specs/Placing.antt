@@ -2,24 +2,24 @@
 use Rattle.std.specs.Prelude.{ℕ, zero, suc, ◌+◌, ◌==◌, Bool, List, [], ◌∷◌, ◌++◌, length, Option, Some, None, Result, Ok, Err, if◌then◌else◌}
 use Rattle.vp_lex.specs.declared.keyword.Keyword.TheVariants as keyword
 use Rattle.vp_lex.specs.declared.token.Punctuator.TheVariants as punctuator
-use Rattle.vp_parse_expr.specs.declared.symbol.Symbol.{Symbol}
-use Rattle.vp_parse_expr.specs.declared.symbol.SymbolKind.{SymbolKind}
-use Rattle.vp_parse_expr.specs.declared.symbol.SymbolKind.TheVariants as symbol
-use Rattle.vp_parse_expr.specs.Kinds.{same_kind}
+use Rattle.vp_source.specs.declared.symbol.Symbol.{Symbol}
+use Rattle.vp_source.specs.declared.symbol.SymbolKind.{SymbolKind}
+use Rattle.vp_source.specs.declared.symbol.SymbolKind.TheVariants as symbol
+use Rattle.vp_source.specs.Kinds.{same_kind}
 use Rattle.vp_parse_expr.specs.Stopping.{Stop, Unexpected, ◌>>=◌, refused, is_next, terminal, behind}
 use Rattle.vp_parse_expr.specs.Placing.{range_into, literal_into}
 use Rattle.vp_parse_stmt.specs.Placing.{Placer, lists_in as parts_in, stmt_into, value_into}
-use Rattle.vp_parse.specs.declared.source.Arena.{Arena}
-use Rattle.vp_parse.specs.declared.source.DeclaredRange.{DeclaredRange}
-use Rattle.vp_parse.specs.declared.source.Direction as direction
-use Rattle.vp_parse.specs.declared.source.Direction.TheVariants as direction_of
-use Rattle.vp_parse.specs.declared.source.Item as item
-use Rattle.vp_parse.specs.declared.source.Item.TheVariants as item_of
-use Rattle.vp_parse.specs.declared.source.Module as module_of
+use Rattle.vp_parse.specs.declared.arena.Arena.{Arena}
+use Rattle.vp_source.specs.declared.source.DeclaredRange.{DeclaredRange}
+use Rattle.vp_source.specs.declared.source.Direction as direction
+use Rattle.vp_source.specs.declared.source.Direction.TheVariants as direction_of
+use Rattle.vp_source.specs.declared.source.Item as item
+use Rattle.vp_source.specs.declared.source.Item.TheVariants as item_of
+use Rattle.vp_source.specs.declared.source.Module as module_of
 use Rattle.vp_parse.specs.declared.items.Declaration as declaration
 use Rattle.vp_parse.specs.declared.items.Declaration.TheVariants as declaration_of
 use Rattle.vp_parse.specs.declared.ports.PortType as ports
-use Rattle.vp_parse.specs.Layout.{Lists, PortType, first_place, with_item, with_connection, put_port}
+use Rattle.vp_source.specs.Layout.{Lists, PortType, first_place, with_item, with_connection, put_port}
 use Rattle.vp_parse.specs.Reading.{is_end}
 
 -- the lists of an arena

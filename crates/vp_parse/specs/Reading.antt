@@ -2,16 +2,16 @@
 use Rattle.std.specs.Prelude.{ℕ, zero, suc, ◌+◌, ◌==◌, ◌||◌, Bool, if◌then◌else◌, List, [], ◌∷◌, length, Option, Some, None, Result, Ok, Err}
 use Rattle.vp_lex.specs.declared.keyword.Keyword.TheVariants as keyword
 use Rattle.vp_lex.specs.declared.token.Punctuator.TheVariants as punctuator
-use Rattle.vp_parse.specs.declared.parsing.TheConstants.{DEPTH_LIMIT}
-use Rattle.vp_parse_expr.specs.declared.symbol.Symbol.{Symbol}
-use Rattle.vp_parse_expr.specs.declared.symbol.SymbolKind.{SymbolKind}
-use Rattle.vp_parse_expr.specs.declared.symbol.SymbolKind.TheVariants as symbol
-use Rattle.vp_parse_expr.specs.Grammar.{Expr, Range}
+use Rattle.vp_source.specs.declared.source.TheConstants.{DEPTH_LIMIT}
+use Rattle.vp_source.specs.declared.symbol.Symbol.{Symbol}
+use Rattle.vp_source.specs.declared.symbol.SymbolKind.{SymbolKind}
+use Rattle.vp_source.specs.declared.symbol.SymbolKind.TheVariants as symbol
+use Rattle.vp_source.specs.ExprGrammar.{Expr, Range}
 use Rattle.vp_parse_expr.specs.Stopping.{Stop, Unexpected, ◌>>=◌, Reader, refused, is_next, terminal}
 use Rattle.vp_parse_expr.specs.Reading.{expr_at, range_at, literal_at}
-use Rattle.vp_parse_stmt.specs.Grammar.{Stmt}
+use Rattle.vp_source.specs.StmtGrammar.{Stmt}
 use Rattle.vp_parse_stmt.specs.Reading.{stmt_at}
-use Rattle.vp_parse.specs.Grammar.{Further, Connection, Ordered, Named, Connections, Unconnected, Connected, Declaration, Nets, Regs, LocalParameters, Assignments, Instances, Declarator, Plain, Valued, Instance, Item, Declares, Initial, Always, Direction, Input, Output, OutputReg, Port, Declared, Bare, PortList, Header, NoHeader, Ports, Module, Derivation}
+use Rattle.vp_source.specs.Grammar.{Further, Connection, Ordered, Named, Connections, Unconnected, Connected, Declaration, Nets, Regs, LocalParameters, Assignments, Instances, Declarator, Plain, Valued, Instance, Item, Declares, Initial, Always, Direction, Input, Output, OutputReg, Port, Declared, Bare, PortList, Header, NoHeader, Ports, Module, Derivation}
 
 -- ---- lists with commas, ranges and values
 

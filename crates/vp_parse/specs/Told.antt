@@ -4,8 +4,8 @@ use Rattle.std.specs.Option.{option_and_then, option_map_or}
 use Rattle.vp_lex.specs.declared.token.Token.{Token}
 use Rattle.vp_parse.specs.declared.fault.ParseError.{ParseError}
 use Rattle.vp_parse.specs.declared.fault.ParseError.TheVariants as error
-use Rattle.vp_parse_expr.specs.declared.symbol.Symbol.{Symbol}
-use Rattle.vp_parse.specs.Grammar.{Derivation}
+use Rattle.vp_source.specs.declared.symbol.Symbol.{Symbol}
+use Rattle.vp_source.specs.Grammar.{Derivation}
 use Rattle.vp_parse_expr.specs.Stopping.{Stop, Unexpected, TooDeep}
 
 -- the symbol at which reading stops, with so many left; the last one at the end of the text

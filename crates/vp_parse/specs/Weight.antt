@@ -1,7 +1,7 @@
 -- What is read and what is left to read, weighed so that reading never makes it more.
 use Rattle.std.specs.Prelude.{ℕ, ◌+◌, List, vec_len}
-use Rattle.vp_parse.specs.declared.source.Arena.{Arena}
-use Rattle.vp_parse_expr.specs.declared.symbol.Symbol.{Symbol}
+use Rattle.vp_parse.specs.declared.arena.Arena.{Arena}
+use Rattle.vp_source.specs.declared.symbol.Symbol.{Symbol}
 use Rattle.vp_parse_stmt.specs.Weight.{weight as weight_of}
 
 -- the items and the connections in the arena, and its other parts with two for each symbol that is left

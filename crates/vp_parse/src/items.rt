@@ -1,21 +1,20 @@
 // Items, read from left to right (docs/FORMATS.md, "Grammar").
 ghost use Rattle.std.specs.Prelude.{◌≡◌, ◌<◌, ◌≤◌, ◌+◌, ◌^◌, length, IfOk};
 ghost use Rattle.vp_lex.specs.declared.token.Punctuator.TheVariants as punctuator;
-ghost use Rattle.vp_parse_expr.specs.declared.symbol.SymbolKind.TheVariants as symbol;
+ghost use Rattle.vp_source.specs.declared.symbol.SymbolKind.TheVariants as symbol;
 ghost use Rattle.vp_parse_expr.specs.Stopping.{Gives, behind, terminal};
 ghost use Rattle.vp_parse_stmt.specs.Placing.{stmt_into, value_into};
-ghost use Rattle.vp_parse.specs.declared.source.Item.TheVariants as item_of;
-ghost use Rattle.vp_parse.specs.Layout.{first_place};
+ghost use Rattle.vp_source.specs.declared.source.Item.TheVariants as item_of;
+ghost use Rattle.vp_source.specs.Layout.{first_place};
 ghost use Rattle.vp_parse.specs.Placing.{connected_into, connection_into, connections_into, declarator_by_into, declarator_into, declarators_into, further_into, instance_into, item_into, items_into, lists_in, named_into, net_into, optional_into, ordered_into, procedure_into, sized_into, valued_into, width_into};
 ghost use Rattle.vp_parse.specs.Reading.{is_end};
 ghost use Rattle.vp_parse.specs.Weight.{weight};
 
-use crate::source::{Arena, Connection, DeclaredRange, Item};
+use crate::arena::Arena;
 use vp_lex::{Keyword, Punctuator};
-use vp_parse_expr::{
-    Stop, Symbol, SymbolKind, is_kind, is_next, literal, name, range, skip, unexpected,
-};
+use vp_parse_expr::{Stop, is_kind, is_next, literal, name, range, skip, unexpected};
 use vp_parse_stmt::{statement, target, value};
+use vp_source::{Connection, DeclaredRange, Item, Symbol, SymbolKind};
 
 /// What the declarators of an item declare.
 #[derive(Clone, Copy)]

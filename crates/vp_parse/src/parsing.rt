@@ -4,27 +4,24 @@ ghost use Rattle.vp_lex.specs.declared.token.TheConstants.{TEXT_LIMIT};
 ghost use Rattle.vp_parse_expr.specs.Stopping.{Gives, Fails, Stop as Reason};
 ghost use Rattle.vp_parse_expr.specs.Symbols.{symbols_of};
 ghost use Rattle.vp_parse.specs.declared.fault.ParseError.TheVariants as error;
-ghost use Rattle.vp_parse.specs.Grammar.{Derivation, IsDerivation};
-ghost use Rattle.vp_parse.specs.Layout.{IsSourceOf, lists_of};
+ghost use Rattle.vp_source.specs.Grammar.{Derivation, IsDerivation};
+ghost use Rattle.vp_source.specs.Layout.{IsSourceOf, lists_of};
 ghost use Rattle.vp_parse.specs.Placing.{lists_in, module_into, modules_into};
 ghost use Rattle.vp_parse.specs.Reading.{read};
-ghost use Rattle.vp_parse.specs.Standing.{ProceduresStand};
+ghost use Rattle.vp_source.specs.Standing.{ProceduresStand};
 ghost use Rattle.vp_parse.specs.Told.{Tells, stopped_at as stop_at, place_told, line_told};
 ghost use Rattle.vp_parse.specs.Weight.{weight};
-ghost use Rattle.vp_parse.specs.Whole.{AreWhole};
+ghost use Rattle.vp_source.specs.Whole.{AreWhole};
 
+use crate::arena::Arena;
 use crate::fault::ParseError;
 use crate::items::items;
 use crate::ports::header;
-use crate::source::{Arena, Module, Source};
 use std::alloc::Global;
 use vp_lex::{Keyword, Punctuator, Token};
 use vp_list::{Sequence, Text};
-use vp_parse_expr::{Stop, Symbol, SymbolKind, name, skip, symbols};
-use vp_parse_stmt::Span;
-
-/// How deep statements may nest, and expressions.
-pub const DEPTH_LIMIT: u32 = 64;
+use vp_parse_expr::{Stop, name, skip, symbols};
+use vp_source::{DEPTH_LIMIT, Module, Source, Span, Symbol, SymbolKind};
 
 /// The places of a list from one up to another.
 fn span(first: u32, end: u32) -> Span

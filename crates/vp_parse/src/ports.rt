@@ -1,14 +1,15 @@
 // Ports, read from left to right (docs/FORMATS.md, "Grammar").
 ghost use Rattle.std.specs.Prelude.{◌≡◌, ◌<◌, ◌≤◌, ◌^◌, length, Some, IfOk};
 ghost use Rattle.vp_parse_expr.specs.Stopping.{Gives, Unexpected, stop_told};
-ghost use Rattle.vp_parse.specs.Layout.{put_port};
+ghost use Rattle.vp_source.specs.Layout.{put_port};
 ghost use Rattle.vp_parse.specs.Placing.{direction_into, header_into, listed_into, lists_in, next_type_into, output_into, parentheses_into, port_into, port_type_into, ports_into, type_shown, wire_into};
 ghost use Rattle.vp_parse.specs.Weight.{weight};
 
+use crate::arena::Arena;
 use crate::items::declared_range;
-use crate::source::{Arena, DeclaredRange, Direction, Item};
 use vp_lex::{Keyword, Punctuator};
-use vp_parse_expr::{Stop, Symbol, SymbolKind, is_next, name, skip, unexpected};
+use vp_parse_expr::{Stop, is_next, name, skip, unexpected};
+use vp_source::{DeclaredRange, Direction, Item, Symbol, SymbolKind};
 
 /// The direction of a port and its range.
 #[derive(Clone, Copy)]

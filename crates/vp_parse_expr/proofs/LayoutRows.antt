@@ -1,13 +1,13 @@
 -- What the grammar sees of base parts, and the list of an expression, computed on examples.
 use Rattle.std.proofs.Common.{◌≡◌, [], ◌∷◌, refl}
 use Rattle.std.specs.Prelude.{codes}
-use Rattle.vp_parse_expr.specs.declared.node.Expression.TheVariants as node_of
-use Rattle.vp_parse_expr.specs.declared.node.Selection.TheVariants as selection_of
-use Rattle.vp_parse_expr.specs.declared.operator.BinaryOperator.TheVariants as binary
-use Rattle.vp_parse_expr.specs.declared.symbol.SymbolKind.TheVariants as symbol
+use Rattle.vp_source.specs.declared.expression.Expression.TheVariants as node_of
+use Rattle.vp_source.specs.declared.expression.Selection.TheVariants as selection_of
+use Rattle.vp_source.specs.declared.operator.BinaryOperator.TheVariants as binary
+use Rattle.vp_source.specs.declared.symbol.SymbolKind.TheVariants as symbol
 use Rattle.vp_parse_expr.specs.Symbols.{base_kind}
-use Rattle.vp_parse_expr.specs.Grammar.{Expr, Name, Number, Group, Binary, Conditional, Replication, Whole, Bit, Part, First, More}
-use Rattle.vp_parse_expr.specs.Layout.{put_expr}
+use Rattle.vp_source.specs.ExprGrammar.{Expr, Name, Number, Group, Binary, Conditional, Replication, Whole, Bit, Part, First, More}
+use Rattle.vp_source.specs.ExprLayout.{put_expr}
 
 -- ---- base parts (IEEE Std 1364-2005, 3.5.1)
 

@@ -1,4 +1,3 @@
-pub mod SameKinds
 pub mod Seen
 pub mod Told
 pub mod Loops

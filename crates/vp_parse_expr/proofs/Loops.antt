@@ -1,13 +1,13 @@
 -- The loops of the reading into a list, one turn at a time, and one more level of depth.
 use Rattle.std.proofs.Common.{◌≡◌, ℕ, zero, suc, ◌+◌, ◌-◌, ◌≤◌, ◌<◌, List, [], ◌∷◌, length, Bool, true, false, Some, None, Result, Ok, Err, refl, sym, ap, ◌∙◌, arith}
 use Rattle.vp_lex.specs.declared.token.Punctuator.TheVariants as punctuator
-use Rattle.vp_parse_expr.specs.declared.node.Expression as node
-use Rattle.vp_parse_expr.specs.declared.operator.BinaryOperator.{BinaryOperator}
+use Rattle.vp_source.specs.declared.expression.Expression as node
+use Rattle.vp_source.specs.declared.operator.BinaryOperator.{BinaryOperator}
 use Rattle.vp_parse_expr.specs.declared.reading.Stop as stop
 use Rattle.vp_parse_expr.specs.declared.reading.Stop.TheVariants as stop_of
-use Rattle.vp_parse_expr.specs.declared.symbol.Symbol.{Symbol}
-use Rattle.vp_parse_expr.specs.declared.symbol.SymbolKind.TheVariants as symbol
-use Rattle.vp_parse_expr.specs.Operators.{binds}
+use Rattle.vp_source.specs.declared.symbol.Symbol.{Symbol}
+use Rattle.vp_source.specs.declared.symbol.SymbolKind.TheVariants as symbol
+use Rattle.vp_source.specs.Operators.{binds}
 use Rattle.vp_parse_expr.specs.Stopping.{Stop, TooDeep, Fails, is_next}
 use Rattle.vp_parse_expr.specs.Placing.{Made, Placer, further_part_into, further_parts_into, binary_into, more_into, chain_into, expr_into}
 

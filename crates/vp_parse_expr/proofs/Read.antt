@@ -1,13 +1,13 @@
 -- The public contracts, from the laws of reading and from what reading into a list gives.
 use Rattle.std.proofs.Common.{◌≡◌, ◌≢◌, ℕ, List, ◌⊎◌, inl, inr, Result, Ok, Err, refl, sym, ap, subst, ◌∙◌, arith}
 use Rattle.std.specs.Prelude.{IfOk, IfErr}
-use Rattle.vp_parse_expr.specs.declared.node.Expression as node
-use Rattle.vp_parse_expr.specs.declared.node.Range as range
+use Rattle.vp_source.specs.declared.expression.Expression as node
+use Rattle.vp_source.specs.declared.expression.Range as range
 use Rattle.vp_parse_expr.specs.declared.reading.Stop as stop
 use Rattle.vp_parse_expr.specs.declared.reading.Stop.TheVariants as stop_of
-use Rattle.vp_parse_expr.specs.declared.symbol.Symbol.{Symbol}
+use Rattle.vp_source.specs.declared.symbol.Symbol.{Symbol}
 use Rattle.vp_parse_expr.specs.Stopping.{Stop, Unexpected, TooDeep, Fails, Gives}
-use Rattle.vp_parse_expr.specs.Grammar.{Range, Expr, Selection}
+use Rattle.vp_source.specs.ExprGrammar.{Range, Expr, Selection}
 use Rattle.vp_parse_expr.specs.Reading.{range_at, expr_at, select_at}
 use Rattle.vp_parse_expr.specs.Placing.{Made, MadeSelection, range_into, select_into, expr_into}
 use Rattle.vp_parse_expr.specs.Takes.{Holds, IsWholeTaken, IsSelectionTaken, IsRangeTaken, whole_takes, selection_takes, range_takes}

@@ -5,9 +5,9 @@ use Rattle.std.specs.List.{enumerate_from, filter_map, cons_option}
 use Rattle.std.proofs.lemmas.List.{take_more, length-take-le}
 use Rattle.std.proofs.lemmas.List.Elements.{filter_map-append}
 use Rattle.vp_lex.specs.declared.token.Token.{Token}
-use Rattle.vp_parse_expr.specs.declared.symbol.Symbol.{Symbol}
-use Rattle.vp_parse_expr.specs.declared.symbol.SymbolKind.{SymbolKind}
-use Rattle.vp_parse_expr.specs.Kinds.{symbol_at}
+use Rattle.vp_source.specs.declared.symbol.Symbol.{Symbol}
+use Rattle.vp_source.specs.declared.symbol.SymbolKind.{SymbolKind}
+use Rattle.vp_source.specs.Kinds.{symbol_at}
 use Rattle.vp_parse_expr.specs.Symbols.{symbol_kind, symbols_of}
 
 enumerate_from-append : {X : Type 0} (n m : ℕ) (xs ys : List X) → n + length xs ≡ m → enumerate_from n (xs ++ ys) ≡ enumerate_from n xs ++ enumerate_from m ys

@@ -4,19 +4,19 @@ use Rattle.std.specs.Prelude.{nat_le, nat_lt}
 use Rattle.std.proofs.lemmas.Bool.{and_left, and_right, ne_eqb}
 use Rattle.vp_lex.specs.declared.token.Punctuator.{Punctuator}
 use Rattle.vp_lex.specs.declared.token.Punctuator.TheVariants as punctuator
-use Rattle.vp_parse_expr.specs.declared.operator.BinaryOperator.{BinaryOperator}
-use Rattle.vp_parse_expr.specs.declared.operator.BinaryOperator.TheVariants as binary
-use Rattle.vp_parse_expr.specs.declared.operator.UnaryOperator.{UnaryOperator}
-use Rattle.vp_parse_expr.specs.declared.operator.UnaryOperator.TheVariants as unary
-use Rattle.vp_parse_expr.specs.declared.symbol.Symbol.{Symbol}
-use Rattle.vp_parse_expr.specs.declared.symbol.SymbolKind.{SymbolKind}
-use Rattle.vp_parse_expr.specs.declared.symbol.SymbolKind.TheVariants as symbol
-use Rattle.vp_parse_expr.specs.declared.symbol.TheConstants.{NUMBER_LIMIT}
-use Rattle.vp_parse_expr.specs.Kinds.{same_kind, symbol_at}
-use Rattle.vp_parse_expr.specs.Operators.{unary_sign, binary_sign, level, binds}
+use Rattle.vp_source.specs.declared.operator.BinaryOperator.{BinaryOperator}
+use Rattle.vp_source.specs.declared.operator.BinaryOperator.TheVariants as binary
+use Rattle.vp_source.specs.declared.operator.UnaryOperator.{UnaryOperator}
+use Rattle.vp_source.specs.declared.operator.UnaryOperator.TheVariants as unary
+use Rattle.vp_source.specs.declared.symbol.Symbol.{Symbol}
+use Rattle.vp_source.specs.declared.symbol.SymbolKind.{SymbolKind}
+use Rattle.vp_source.specs.declared.symbol.SymbolKind.TheVariants as symbol
+use Rattle.vp_source.specs.declared.symbol.TheConstants.{NUMBER_LIMIT}
+use Rattle.vp_source.specs.Kinds.{same_kind, symbol_at}
+use Rattle.vp_source.specs.Operators.{unary_sign, binary_sign, level, binds}
 use Rattle.vp_parse_expr.specs.Binding.{level_above, level_below, binds-sign, binds-loose, binds-more, binds-none}
 use Rattle.vp_parse_expr.specs.Stopping.{Stop, ◌>>=◌, Reader, is_next, terminal}
-use Rattle.vp_parse_expr.specs.Grammar.{Range, Expr, Name, Sized, Based, Number, Group, Unary, Binary, Conditional, Concatenation, Replication, Selection, Whole, Bit, Part, Parts, First, More, range_text, expr_text, selection_text, parts_text, tightness, is_unsized, is_sized, is_sized_base, IsRange, IsExpr, IsSelection, AreParts, expr_depth, selection_depth, parts_depth}
+use Rattle.vp_source.specs.ExprGrammar.{Range, Expr, Name, Sized, Based, Number, Group, Unary, Binary, Conditional, Concatenation, Replication, Selection, Whole, Bit, Part, Parts, First, More, range_text, expr_text, selection_text, parts_text, tightness, is_unsized, is_sized, is_sized_base, IsRange, IsExpr, IsSelection, AreParts, expr_depth, selection_depth, parts_depth}
 use Rattle.vp_parse_expr.specs.Reading.{is_alone, is_base_next, is_number_before, is_bare, bound_by, bound_at, range_at, sized_at, number_at, literal_by, literal_at, bit_at, part_select_at, select_at, name_at, group_at, unary_at, part_at, further_part_at, further_parts_at, parts_at, concatenation_at, replication_at, braces_at, operand_by, operand_at, binary_at, more_at, conditional_at, is_choice, choice_at, chain_at, expr_at}
 use Rattle.vp_parse_expr.specs.Takes.{before, expr_longer}
 

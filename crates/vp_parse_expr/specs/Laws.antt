@@ -1,8 +1,8 @@
 -- Laws of derivations: no symbols have two.
 use Rattle.std.proofs.Common.{◌≡◌, ℕ, ◌+◌, List, Result, Ok, Err, sym, ap, subst, ◌∙◌, arith}
-use Rattle.vp_parse_expr.specs.declared.symbol.Symbol.{Symbol}
+use Rattle.vp_source.specs.declared.symbol.Symbol.{Symbol}
 use Rattle.vp_parse_expr.specs.Stopping.{Stop, Unexpected}
-use Rattle.vp_parse_expr.specs.Grammar.{Expr, expr_text, IsExpr, expr_depth}
+use Rattle.vp_source.specs.ExprGrammar.{Expr, expr_text, IsExpr, expr_depth}
 use Rattle.vp_parse_expr.specs.Reading.{expr_at}
 use Rattle.vp_parse_expr.specs.Again.{Stops, expr_again}
 use Rattle.vp_parse_expr.specs.Raise.{OrDeep, expr_raise}

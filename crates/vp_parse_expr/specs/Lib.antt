@@ -1,10 +1,6 @@
-pub mod Kinds
 pub mod Symbols
-pub mod Operators
 pub mod Stopping
-pub mod Grammar
 pub mod Reading
-pub mod Layout
 pub mod Placing
 pub mod Binding
 pub mod Takes

@@ -1,14 +1,14 @@
 -- What the code finds, and what it refuses, in the terms of derivations.
 use Rattle.std.specs.Prelude.{◌≡◌, ℕ, ◌≤◌, List}
 use Rattle.vp_lex.specs.declared.token.Punctuator.TheVariants as punctuator
-use Rattle.vp_parse_expr.specs.declared.node.Expression as node
-use Rattle.vp_parse_expr.specs.declared.node.Range as range
-use Rattle.vp_parse_expr.specs.declared.symbol.Symbol.{Symbol}
-use Rattle.vp_parse_expr.specs.declared.symbol.SymbolKind.TheVariants as symbol
+use Rattle.vp_source.specs.declared.expression.Expression as node
+use Rattle.vp_source.specs.declared.expression.Range as range
+use Rattle.vp_source.specs.declared.symbol.Symbol.{Symbol}
+use Rattle.vp_source.specs.declared.symbol.SymbolKind.TheVariants as symbol
 use Rattle.std.specs.Prelude.{false}
 use Rattle.vp_parse_expr.specs.Stopping.{is_next}
-use Rattle.vp_parse_expr.specs.Grammar.{Range, Expr, Selection, range_text, expr_text, selection_text, IsRange, IsExpr, IsSelection, expr_depth, selection_depth}
-use Rattle.vp_parse_expr.specs.Layout.{put_range, put_expr, put_selection}
+use Rattle.vp_source.specs.ExprGrammar.{Range, Expr, Selection, range_text, expr_text, selection_text, IsRange, IsExpr, IsSelection, expr_depth, selection_depth}
+use Rattle.vp_source.specs.ExprLayout.{put_range, put_expr, put_selection}
 use Rattle.vp_parse_expr.specs.Placing.{Made, MadeSelection}
 use Rattle.vp_parse_expr.specs.Again.{Stops}
 

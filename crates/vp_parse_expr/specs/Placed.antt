@@ -2,20 +2,20 @@
 use Rattle.std.proofs.Common.{◌≡◌, ℕ, zero, suc, ◌+◌, ◌-◌, List, [], ◌∷◌, length, Bool, true, false, cond, Option, Some, None, Result, Ok, Err, refl, ap, ◌∙◌}
 use Rattle.std.specs.Prelude.{nat_le, nat_lt}
 use Rattle.vp_lex.specs.declared.token.Punctuator.TheVariants as punctuator
-use Rattle.vp_parse_expr.specs.declared.node.Expression as node
-use Rattle.vp_parse_expr.specs.declared.node.Expression.TheVariants as node_of
-use Rattle.vp_parse_expr.specs.declared.node.Range as range
-use Rattle.vp_parse_expr.specs.declared.operator.BinaryOperator.{BinaryOperator}
-use Rattle.vp_parse_expr.specs.declared.operator.UnaryOperator.{UnaryOperator}
-use Rattle.vp_parse_expr.specs.declared.symbol.Symbol.{Symbol}
-use Rattle.vp_parse_expr.specs.declared.symbol.SymbolKind.{SymbolKind}
-use Rattle.vp_parse_expr.specs.declared.symbol.SymbolKind.TheVariants as symbol
-use Rattle.vp_parse_expr.specs.declared.symbol.TheConstants.{NUMBER_LIMIT}
-use Rattle.vp_parse_expr.specs.Kinds.{same_kind}
-use Rattle.vp_parse_expr.specs.Operators.{unary_of, level, binds}
+use Rattle.vp_source.specs.declared.expression.Expression as node
+use Rattle.vp_source.specs.declared.expression.Expression.TheVariants as node_of
+use Rattle.vp_source.specs.declared.expression.Range as range
+use Rattle.vp_source.specs.declared.operator.BinaryOperator.{BinaryOperator}
+use Rattle.vp_source.specs.declared.operator.UnaryOperator.{UnaryOperator}
+use Rattle.vp_source.specs.declared.symbol.Symbol.{Symbol}
+use Rattle.vp_source.specs.declared.symbol.SymbolKind.{SymbolKind}
+use Rattle.vp_source.specs.declared.symbol.SymbolKind.TheVariants as symbol
+use Rattle.vp_source.specs.declared.symbol.TheConstants.{NUMBER_LIMIT}
+use Rattle.vp_source.specs.Kinds.{same_kind}
+use Rattle.vp_source.specs.Operators.{unary_of, level, binds}
 use Rattle.vp_parse_expr.specs.Stopping.{Stop, ◌>>=◌, Reader, refused, is_next, terminal, behind}
-use Rattle.vp_parse_expr.specs.Grammar.{Range, Expr, Selection, Parts, First, expr_depth, selection_depth, parts_depth}
-use Rattle.vp_parse_expr.specs.Layout.{put_range, put_expr, put_selection, put_parts}
+use Rattle.vp_source.specs.ExprGrammar.{Range, Expr, Selection, Parts, First, expr_depth, selection_depth, parts_depth}
+use Rattle.vp_source.specs.ExprLayout.{put_range, put_expr, put_selection, put_parts}
 use Rattle.vp_parse_expr.specs.Reading.{is_base_next, is_number_before, is_part, is_bare, bound_by, bound_at, range_at, is_size_of, sized_at, number_at, literal_by, literal_at, bit_at, part_select_at, select_at, name_at, group_at, unary_at, part_at, further_part_at, further_parts_at, parts_at, concatenation_at, replication_at, braces_at, operand_by, operand_at, on_operator, binary_at, more_at, conditional_at, is_choice, choice_at, chain_at, expr_at}
 use Rattle.vp_parse_expr.specs.Placing.{Made, made as made_node, Placer, MadeSelection, Selector, bound_by_into, bound_into, range_into, sized_into, number_into, literal_by_into, literal_into, based_into, bit_into, part_select_into, select_into, name_into, group_into, unary_into, part_into, further_part_into, further_parts_into, first_part_into, parts_into, concatenation_into, replication_into, braces_into, operand_by_into, operand_into, binary_into, more_into, conditional_into, choice_into, chain_into, expr_into}
 

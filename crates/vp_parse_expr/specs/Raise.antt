@@ -2,15 +2,15 @@
 use Rattle.std.proofs.Common.{◌≡◌, ℕ, zero, suc, ◌+◌, ◌-◌, ◌≤◌, List, [], ◌∷◌, length, Bool, true, false, cond, Option, Some, None, Result, Ok, Err, refl, ap, subst, arith}
 use Rattle.std.specs.Prelude.{nat_le}
 use Rattle.vp_lex.specs.declared.token.Punctuator.TheVariants as punctuator
-use Rattle.vp_parse_expr.specs.declared.operator.BinaryOperator.{BinaryOperator}
-use Rattle.vp_parse_expr.specs.declared.operator.UnaryOperator.{UnaryOperator}
-use Rattle.vp_parse_expr.specs.declared.symbol.Symbol.{Symbol}
-use Rattle.vp_parse_expr.specs.declared.symbol.SymbolKind.{SymbolKind}
-use Rattle.vp_parse_expr.specs.declared.symbol.SymbolKind.TheVariants as symbol
-use Rattle.vp_parse_expr.specs.declared.symbol.TheConstants.{NUMBER_LIMIT}
-use Rattle.vp_parse_expr.specs.Operators.{unary_of, level, binds}
+use Rattle.vp_source.specs.declared.operator.BinaryOperator.{BinaryOperator}
+use Rattle.vp_source.specs.declared.operator.UnaryOperator.{UnaryOperator}
+use Rattle.vp_source.specs.declared.symbol.Symbol.{Symbol}
+use Rattle.vp_source.specs.declared.symbol.SymbolKind.{SymbolKind}
+use Rattle.vp_source.specs.declared.symbol.SymbolKind.TheVariants as symbol
+use Rattle.vp_source.specs.declared.symbol.TheConstants.{NUMBER_LIMIT}
+use Rattle.vp_source.specs.Operators.{unary_of, level, binds}
 use Rattle.vp_parse_expr.specs.Stopping.{Stop, Unexpected, TooDeep, ◌>>=◌, Reader, refused, is_next, terminal}
-use Rattle.vp_parse_expr.specs.Grammar.{Expr, Group, Concatenation, Replication, Bit, Parts, First, expr_depth}
+use Rattle.vp_source.specs.ExprGrammar.{Expr, Group, Concatenation, Replication, Bit, Parts, First, expr_depth}
 use Rattle.vp_parse_expr.specs.Reading.{is_number_before, is_part, is_bare, bound_at, number_at, bit_at, part_select_at, select_at, name_at, group_at, unary_at, part_at, further_part_at, further_parts_at, parts_at, concatenation_at, replication_at, braces_at, operand_by, operand_at, on_operator, binary_at, more_at, conditional_at, is_choice, choice_at, chain_at, expr_at}
 use Rattle.vp_parse_expr.specs.Takes.{le_of}
 

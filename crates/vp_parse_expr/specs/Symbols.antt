@@ -9,11 +9,12 @@ use Rattle.vp_lex.specs.Texts.{text_of}
 use Rattle.vp_lex.specs.declared.token.Token.{Token}
 use Rattle.vp_lex.specs.declared.token.TokenKind.{TokenKind}
 use Rattle.vp_lex.specs.declared.token.TokenKind.TheVariants as token
-use Rattle.vp_parse_expr.specs.declared.symbol.Symbol.{Symbol}
-use Rattle.vp_parse_expr.specs.declared.symbol.SymbolKind.{SymbolKind}
-use Rattle.vp_parse_expr.specs.declared.symbol.SymbolKind.TheVariants as symbol
-use Rattle.vp_parse_expr.specs.declared.symbol.TheConstants.{NUMBER_LIMIT, VALUE_LIMIT}
-use Rattle.vp_parse_expr.specs.Kinds.{symbol_at}
+use Rattle.vp_source.specs.declared.symbol.Symbol.{Symbol}
+use Rattle.vp_source.specs.declared.symbol.SymbolKind.{SymbolKind}
+use Rattle.vp_source.specs.declared.symbol.SymbolKind.TheVariants as symbol
+use Rattle.vp_source.specs.declared.symbol.TheConstants.{NUMBER_LIMIT}
+use Rattle.vp_parse_expr.specs.declared.symbol.TheConstants.{VALUE_LIMIT}
+use Rattle.vp_source.specs.Kinds.{symbol_at}
 
 -- ---- decimal numbers
 

@@ -1,14 +1,14 @@
 // What is next among symbols, and what that tells.
 ghost use Rattle.std.specs.Prelude.{◌≡◌, length, Some};
-ghost use Rattle.vp_parse_expr.specs.Operators.{binds};
+ghost use Rattle.vp_source.specs.Operators.{binds};
 ghost use Rattle.vp_parse_expr.specs.Reading.{is_number as kind_is_number, is_base as kind_is_base, is_alone as kind_is_alone, is_base_next as base_is_next, is_number_before as number_is_before, is_part as part_is_next, is_bare as bare, is_size_of as size_of, is_choice as choice_is_next};
 ghost use Rattle.vp_parse_expr.specs.Stopping.{Unexpected, stop_told};
 
 use crate::bounds::SIZE_LIMIT;
-use crate::operator::{BinaryOperator, binary_of, level};
+use crate::operator::{binary_of, level};
 use crate::reading::{Stop, is_next, unexpected};
-use crate::symbol::{Symbol, SymbolKind};
 use vp_lex::Punctuator;
+use vp_source::{BinaryOperator, Symbol, SymbolKind};
 
 // ---- kinds
 

@@ -1,15 +1,14 @@
 // Ranges, read from left to right.
 ghost use Rattle.std.specs.Prelude.{◌≡◌, ◌≢◌, ◌<◌, ◌≤◌, ◌+◌, length, IfOk, IfErr};
 ghost use Rattle.vp_parse_expr.specs.declared.reading.Stop.TheVariants.{NoMemory};
-ghost use Rattle.vp_parse_expr.specs.Grammar.{Range as RangeRead};
+ghost use Rattle.vp_source.specs.ExprGrammar.{Range as RangeRead};
 ghost use Rattle.vp_parse_expr.specs.Meaning.{IsRangeOf, NoRange};
 ghost use Rattle.vp_parse_expr.specs.Placing.{bound_into, range_into};
 ghost use Rattle.vp_parse_expr.specs.Stopping.{Gives};
 
-use crate::node::Range;
 use crate::reading::{Stop, skip, unexpected};
-use crate::symbol::{Symbol, SymbolKind};
 use vp_lex::Punctuator;
+use vp_source::{Range, Symbol, SymbolKind};
 
 /// The greatest size of a literal, in bits, and the greatest bound of a range.
 pub const SIZE_LIMIT: u32 = 65_535;

@@ -2,16 +2,14 @@
 #![tactic(auto)]
 
 mod ahead;
+mod arena;
 mod bounds;
-mod node;
 mod operator;
 mod parsing;
 mod reading;
 mod symbol;
 
 pub use bounds::range;
-pub use node::{Expression, Range, Selection};
-pub use operator::{BinaryOperator, UnaryOperator};
 pub use parsing::{Found, Selected, expression, literal, selection};
 pub use reading::{Stop, is_kind, is_next, name, skip, terminal, unexpected};
-pub use symbol::{NUMBER_LIMIT, Symbol, SymbolKind, symbols};
+pub use symbol::symbols;

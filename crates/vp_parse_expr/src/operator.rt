@@ -1,46 +1,8 @@
 ghost use Rattle.std.specs.Prelude.{◌≡◌};
-ghost use Rattle.vp_parse_expr.specs.Operators.{unary_of as unary_by, binary_of as binary_by, level as level_of};
+ghost use Rattle.vp_source.specs.Operators.{unary_of as unary_by, binary_of as binary_by, level as level_of};
 
 use vp_lex::Punctuator;
-
-/// An operator of one operand (5.1).
-#[derive(Clone, Copy)]
-pub enum UnaryOperator {
-    Plus,
-    Minus,
-    LogicalNegation,
-    Negation,
-    ReductionAnd,
-    ReductionNand,
-    ReductionOr,
-    ReductionNor,
-    ReductionXor,
-    ReductionXnor,
-}
-
-/// An operator of two operands (5.1).
-#[derive(Clone, Copy)]
-pub enum BinaryOperator {
-    Multiply,
-    Add,
-    Subtract,
-    ShiftLeft,
-    ShiftRight,
-    Less,
-    LessOrEqual,
-    Greater,
-    GreaterOrEqual,
-    Equal,
-    Unequal,
-    CaseEqual,
-    CaseUnequal,
-    And,
-    Xor,
-    Xnor,
-    Or,
-    LogicalAnd,
-    LogicalOr,
-}
+use vp_source::{BinaryOperator, UnaryOperator};
 
 /// The operator of one operand that a punctuator is.
 pub fn unary_of(punctuator: Punctuator) -> Option<UnaryOperator>

@@ -1,7 +1,7 @@
 // Expressions, read from left to right.
 ghost use Rattle.std.specs.Prelude.{◌≡◌, ◌<◌, ◌≤◌, ◌+◌, ◌^◌, ◌⊎◌, max, length, Some, Ok, IfOk, IfErr, vec_len};
 ghost use Rattle.vp_parse_expr.specs.declared.reading.Stop.TheVariants.{NoMemory};
-ghost use Rattle.vp_parse_expr.specs.Grammar.{Expr, Selection as SelectionRead};
+ghost use Rattle.vp_source.specs.ExprGrammar.{Expr, Selection as SelectionRead};
 ghost use Rattle.vp_parse_expr.specs.Meaning.{IsExpressionOf, NoExpression, IsSelectionOf, NoSelection};
 ghost use Rattle.vp_parse_expr.specs.Placing.{made, literal_into, sized_into, number_into, bit_into, part_select_into, select_into, selection_into, name_into, based_into, group_into, unary_into, part_into, further_part_into, further_parts_into, first_part_into, parts_into, concatenation_into, replication_into, braces_into, operand_into, binary_into, more_into, conditional_into, choice_into, chain_into, expr_into};
 ghost use Rattle.vp_parse_expr.specs.Stopping.{Gives};
@@ -10,12 +10,14 @@ use crate::ahead::{
     binding, index_stop, is_bare, is_base_next, is_choice, is_number_before, is_part, is_size_of,
     no_operand,
 };
+use crate::arena::add_expression;
 use crate::bounds::{bound, bounds};
-use crate::node::{Expression, Selection, add_expression};
-use crate::operator::{BinaryOperator, UnaryOperator, level, unary_of};
+use crate::operator::{level, unary_of};
 use crate::reading::{Stop, is_next, skip, terminal, unexpected};
-use crate::symbol::{NUMBER_LIMIT, Symbol, SymbolKind};
 use vp_lex::Punctuator;
+use vp_source::{
+    BinaryOperator, Expression, NUMBER_LIMIT, Selection, Symbol, SymbolKind, UnaryOperator,
+};
 
 /// The level of operators of one operand and of primaries.
 const UNARY_LEVEL: u8 = 11;

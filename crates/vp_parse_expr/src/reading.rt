@@ -1,12 +1,12 @@
 ghost use Rattle.std.specs.Prelude.{◌≡◌, ◌≢◌, ◌+◌, length, Some, IfOk, IfErr};
 ghost use Rattle.vp_parse_expr.specs.declared.reading.Stop.TheVariants.{NoMemory};
-ghost use Rattle.vp_parse_expr.specs.declared.symbol.SymbolKind.TheVariants.{Name};
-ghost use Rattle.vp_parse_expr.specs.Kinds.{same_kind};
+ghost use Rattle.vp_source.specs.declared.symbol.SymbolKind.TheVariants.{Name};
+ghost use Rattle.vp_source.specs.Kinds.{same_kind};
 ghost use Rattle.vp_parse_expr.specs.Stopping.{Unexpected, Gives, stop_told, is_next as next_is, terminal as terminal_at, behind};
 
-use crate::symbol::{Symbol, SymbolKind};
 use std::alloc::{AllocError, AllocFailed};
 use vp_lex::{Keyword, Punctuator};
+use vp_source::{Symbol, SymbolKind};
 
 /// Where reading stops, by how many symbols are left.
 #[derive(Clone, Copy)]

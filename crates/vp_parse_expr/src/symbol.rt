@@ -4,41 +4,11 @@ ghost use Rattle.vp_lex.specs.declared.token.TheConstants.{TEXT_LIMIT};
 ghost use Rattle.vp_parse_expr.specs.Symbols.{base_kind, base_value as value_of_digits, digit_of, digits_kind as kind_of_digits, unknown_kind as kind_of_unknown, known_kind as kind_of_known, has_unknown as any_unknown, radix_of, with_base_digit as one_more_of, with_digit as one_more, decimal_value, system_kind as kind_of_system, symbol_kind as kind_of, symbols_of};
 
 use std::alloc::{AllocError, Global};
-use vp_lex::{Keyword, Punctuator, Token, TokenKind};
-
-/// Numbers of this size and above are told no further.
-pub const NUMBER_LIMIT: u32 = 1 << 31;
+use vp_lex::{Token, TokenKind};
+use vp_source::{NUMBER_LIMIT, Symbol, SymbolKind};
 
 /// Values of base parts of this size and above are told no further.
 const VALUE_LIMIT: u64 = 1 << 32;
-
-/// What the grammar sees of a token.
-#[derive(Clone, Copy, PartialEq, Eq)]
-pub enum SymbolKind {
-    Name,
-    /// A decimal number, at most `NUMBER_LIMIT`.
-    Number(u32),
-    /// An unsigned base part with x, z or ?, or with a value of more than 32 bits: it stands behind a size alone.
-    Base,
-    String,
-    Keyword(Keyword),
-    Punctuator(Punctuator),
-    /// A system name, but `$finish`.
-    SystemName,
-    /// A signed base part, or a decimal one with x, z or ?.
-    OtherBase,
-    /// An unsigned base part of known digits with a value of at most 32 bits: it stands behind a size, or alone.
-    ShortBase,
-    /// The system name `$finish`.
-    Finish,
-}
-
-/// A token that the grammar sees, with its place.
-#[derive(Clone, Copy, PartialEq, Eq)]
-pub struct Symbol {
-    pub kind: SymbolKind,
-    pub place: u32,
-}
 
 /// A value with one more decimal digit, at most `NUMBER_LIMIT`; `_` counts for nothing.
 fn with_digit(value: u32, byte: u8) -> u32

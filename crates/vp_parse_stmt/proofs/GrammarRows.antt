@@ -5,18 +5,18 @@ use Rattle.vp_lex.specs.declared.keyword.Keyword.{Keyword}
 use Rattle.vp_lex.specs.declared.keyword.Keyword.TheVariants as keyword
 use Rattle.vp_lex.specs.declared.token.Punctuator.{Punctuator}
 use Rattle.vp_lex.specs.declared.token.Punctuator.TheVariants as punctuator
-use Rattle.vp_parse_expr.specs.declared.symbol.Symbol.{Symbol}
-use Rattle.vp_parse_expr.specs.declared.symbol.SymbolKind.{SymbolKind}
-use Rattle.vp_parse_expr.specs.declared.symbol.SymbolKind.TheVariants as symbol
-use Rattle.vp_parse_expr.specs.Kinds.{symbol_at}
+use Rattle.vp_source.specs.declared.symbol.Symbol.{Symbol}
+use Rattle.vp_source.specs.declared.symbol.SymbolKind.{SymbolKind}
+use Rattle.vp_source.specs.declared.symbol.SymbolKind.TheVariants as symbol
+use Rattle.vp_source.specs.Kinds.{symbol_at}
 use Rattle.vp_parse_expr.specs.Stopping.{Stop, Unexpected, TooDeep, terminal}
-use Rattle.vp_parse_expr.specs.Grammar.{Expr, Name, Based, Whole}
+use Rattle.vp_source.specs.ExprGrammar.{Expr, Name, Based, Whole}
 use Rattle.vp_parse_expr.specs.Reading.{bound_by, bound_at, range_at, sized_at, number_at, literal_by, literal_at, bit_at, part_select_at, select_at, name_at, group_at, unary_at, part_at, further_part_at, further_parts_at, parts_at, concatenation_at, replication_at, braces_at, operand_by, operand_at, binary_at, more_at, conditional_at, choice_at, chain_at, expr_at}
-use Rattle.vp_parse_expr.specs.declared.node.Selection.TheVariants as selection_of
-use Rattle.vp_parse_stmt.specs.declared.arena.Choice as choice
-use Rattle.vp_parse_stmt.specs.declared.arena.Statement.TheVariants as statement_of
-use Rattle.vp_parse_stmt.specs.Grammar as grammar
-use Rattle.vp_parse_stmt.specs.Layout.{Lists, no_parts, put_stmt}
+use Rattle.vp_source.specs.declared.expression.Selection.TheVariants as selection_of
+use Rattle.vp_source.specs.declared.statement.Choice as choice
+use Rattle.vp_source.specs.declared.statement.Statement.TheVariants as statement_of
+use Rattle.vp_source.specs.StmtGrammar as grammar
+use Rattle.vp_source.specs.StmtLayout.{Lists, no_parts, put_stmt}
 use Rattle.vp_parse_stmt.specs.Reading.{stmts_at, amount_by, amount_at, grouped_delay_at, delay_at, later_at, hold_at, blocking_at, assign_at, nonblocking_at, set_at, assignment_at, block_at, edged_at, term_at, separator_by, separator_at, joined_at, further_terms_at, terms_at, terms_event_at, star_event_at, event_by, event_at, awaited_at, delayed_at, condition_at, guarded_at, wait_at, while_at, forever_at, second_at, else_at, if_at, named_blocking_at, heading_at, for_at, given_at, argument_at, finish_at, further_label_at, further_labels_at, labels_at, labels_item_at, colon_at, default_item_at, item_at, further_items_at, items_at, case_at, stmt_by, form_at, stmt_at}
 
 -- kinds, each at its place from this one on

@@ -1,14 +1,14 @@
 -- The loops of the reading into lists, one turn at a time, and one more level of depth.
-use Rattle.vp_parse_expr.specs.declared.symbol.SymbolKind.TheVariants as symbol
+use Rattle.vp_source.specs.declared.symbol.SymbolKind.TheVariants as symbol
 use Rattle.vp_lex.specs.declared.token.Punctuator.TheVariants as punctuator
-use Rattle.vp_parse_stmt.specs.declared.arena.EventTerm as term
-use Rattle.vp_parse_stmt.specs.declared.arena.Choice as choice
+use Rattle.vp_source.specs.declared.statement.EventTerm as term
+use Rattle.vp_source.specs.declared.statement.Choice as choice
 use Rattle.std.proofs.Common.{◌≡◌, ℕ, zero, suc, ◌-◌, ◌≤◌, ◌<◌, List, [], ◌∷◌, ◌++◌, length, true, false, Result, Ok, Err, refl, sym, ap, ◌∙◌, arith, Bool}
 use Rattle.vp_parse_expr.specs.declared.reading.Stop as stop
 use Rattle.vp_parse_expr.specs.declared.reading.Stop.TheVariants as stop_of
-use Rattle.vp_parse_stmt.specs.declared.arena.Statement.TheVariants as statement_of
-use Rattle.vp_parse_expr.specs.declared.symbol.Symbol.{Symbol}
-use Rattle.vp_parse_stmt.specs.Layout.{Lists}
+use Rattle.vp_source.specs.declared.statement.Statement.TheVariants as statement_of
+use Rattle.vp_source.specs.declared.symbol.Symbol.{Symbol}
+use Rattle.vp_source.specs.StmtLayout.{Lists}
 use Rattle.vp_parse_expr.specs.Stopping.{Stop, TooDeep, Fails, is_next}
 use Rattle.vp_parse_stmt.specs.Reading.{goes_on, is_separator, items_go_on, may_still}
 use Rattle.vp_parse_stmt.specs.Placing.{Made, Placer, chain_into, stmts_into, form_into, stmt_into, MadeTerms, joined_into, further_terms_into, MadeLabels, further_label_into, further_labels_into, MadeItems, item_into, further_items_into}

@@ -4,19 +4,19 @@ use Rattle.std.proofs.Common.{◌≡◌, ℕ, zero, suc, ◌-◌, ◌≤◌, ◌
 use Rattle.std.specs.Prelude.{nat_lt, ◌&&◌, not, ◌+◌}
 use Rattle.vp_lex.specs.declared.keyword.Keyword.TheVariants as keyword
 use Rattle.vp_lex.specs.declared.token.Punctuator.TheVariants as punctuator
-use Rattle.vp_parse_expr.specs.declared.symbol.Symbol.{Symbol}
-use Rattle.vp_parse_expr.specs.declared.symbol.SymbolKind.TheVariants as symbol
-use Rattle.vp_parse_expr.specs.declared.operator.UnaryOperator.{UnaryOperator}
-use Rattle.vp_parse_expr.specs.declared.operator.UnaryOperator.TheVariants as unary
-use Rattle.vp_parse_expr.specs.declared.symbol.TheConstants.{NUMBER_LIMIT}
-use Rattle.vp_parse_expr.specs.Kinds.{same_kind, symbol_at}
-use Rattle.vp_parse_expr.specs.Operators.{unary_sign, binary_sign}
-use Rattle.vp_parse_expr.specs.Grammar.{Expr, Unary, Binary, Conditional, Selection, expr_text, selection_text, expr_depth, IsExpr, IsSelection, Sized}
+use Rattle.vp_source.specs.declared.symbol.Symbol.{Symbol}
+use Rattle.vp_source.specs.declared.symbol.SymbolKind.TheVariants as symbol
+use Rattle.vp_source.specs.declared.operator.UnaryOperator.{UnaryOperator}
+use Rattle.vp_source.specs.declared.operator.UnaryOperator.TheVariants as unary
+use Rattle.vp_source.specs.declared.symbol.TheConstants.{NUMBER_LIMIT}
+use Rattle.vp_source.specs.Kinds.{same_kind, symbol_at}
+use Rattle.vp_source.specs.Operators.{unary_sign, binary_sign}
+use Rattle.vp_source.specs.ExprGrammar.{Expr, Unary, Binary, Conditional, Selection, expr_text, selection_text, expr_depth, IsExpr, IsSelection, Sized}
 use Rattle.vp_parse_expr.specs.Stopping.{Reader, is_next, terminal}
 use Rattle.vp_parse_expr.specs.Reading.{expr_at}
 use Rattle.vp_parse_expr.specs.Takes.{before, expr_longer, selection_longer}
 use Rattle.vp_parse_expr.specs.Again.{expr_again, selection_again, Stops}
-use Rattle.vp_parse_stmt.specs.Grammar.{Delay, Plain, Grouped, Hold, Now, Later, Stmt, Stmts, Assign, Block, Null, Nonblocking, Delayed, Wait, When, Choose, While, Forever, Empty, Then, delay_text, hold_text, IsDelay, IsHold, condition_text, stmt_text, stmts_text, IsStmt, AreStmts, stmt_depth, stmts_depth, stmt_height, stmts_height, For, blocking_text, blocking_height, heading_text, Posedge, Negedge, Term, Level, Edged, term_text, Separator, Or, Comma, separator_kind, TermList, Single, Further, terms_text, Event, Any, AnyGrouped, Change, Terms, event_text, Awaited, Sort, Exact, Wild, sort_kind, LabelList, Only, Also, labels_text, AreLabels, labels_height, Colon, Unmarked, Marked, colon_text, Item, Labels, Default, Items, Last, More, item_text, items_text, IsItem, AreItems, item_defaults, items_defaults, item_depth, items_depth, item_height, items_height, Case, Argument, None, Given, argument_text, IsArgument, Finish}
+use Rattle.vp_source.specs.StmtGrammar.{Delay, Plain, Grouped, Hold, Now, Later, Stmt, Stmts, Assign, Block, Null, Nonblocking, Delayed, Wait, When, Choose, While, Forever, Empty, Then, delay_text, hold_text, IsDelay, IsHold, condition_text, stmt_text, stmts_text, IsStmt, AreStmts, stmt_depth, stmts_depth, stmt_height, stmts_height, For, blocking_text, blocking_height, heading_text, Posedge, Negedge, Term, Level, Edged, term_text, Separator, Or, Comma, separator_kind, TermList, Single, Further, terms_text, Event, Any, AnyGrouped, Change, Terms, event_text, Awaited, Sort, Exact, Wild, sort_kind, LabelList, Only, Also, labels_text, AreLabels, labels_height, Colon, Unmarked, Marked, colon_text, Item, Labels, Default, Items, Last, More, item_text, items_text, IsItem, AreItems, item_defaults, items_defaults, item_depth, items_depth, item_height, items_height, Case, Argument, None, Given, argument_text, IsArgument, Finish}
 use Rattle.vp_parse_stmt.specs.Reading.{goes_on, stmts_at, amount_by, amount_at, grouped_delay_at, delay_at, later_at, hold_at, blocking_at, assign_at, nonblocking_at, set_at, assignment_at, block_at, delayed_at, condition_at, guarded_at, wait_at, while_at, forever_at, is_else, second_at, else_at, if_at, stmt_by, form_at, stmt_at, named_blocking_at, heading_at, for_at, edged_at, term_at, is_separator, separator_by, separator_at, joined_at, further_terms_at, terms_at, terms_event_at, star_event_at, event_by, event_at, awaited_at, further_label_at, further_labels_at, labels_at, labels_item_at, colon_at, default_item_at, is_default, item_at, items_go_on, further_items_at, items_at, case_at, given_at, argument_at, finish_at}
 use Rattle.vp_parse_stmt.specs.Following.{Follows, closed_follows, end_follows}
 

@@ -1,7 +1,7 @@
 -- To which if an else belongs.
 use Rattle.std.proofs.Common.{◌≡◌, List, true, false}
-use Rattle.vp_parse_expr.specs.declared.symbol.Symbol.{Symbol}
-use Rattle.vp_parse_stmt.specs.Grammar.{Stmt, Delayed, When, Choose, Wait, While, Forever, IsClosed, For, Awaited}
+use Rattle.vp_source.specs.declared.symbol.Symbol.{Symbol}
+use Rattle.vp_source.specs.StmtGrammar.{Stmt, Delayed, When, Choose, Wait, While, Forever, IsClosed, For, Awaited}
 use Rattle.vp_parse_stmt.specs.Reading.{is_else}
 
 -- no else follows that a statement would take (9.4)

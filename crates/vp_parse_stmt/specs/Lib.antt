@@ -1,6 +1,4 @@
-pub mod Grammar
 pub mod Reading
-pub mod Layout
 pub mod Placing
 pub mod Weight
 pub mod Following

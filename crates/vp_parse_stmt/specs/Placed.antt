@@ -1,23 +1,23 @@
 -- Reading into lists gives what the derivation that is read puts there.
-use Rattle.vp_parse_stmt.specs.declared.arena.EventTerm as term
-use Rattle.vp_parse_stmt.specs.declared.arena.Choice as choice
+use Rattle.vp_source.specs.declared.statement.EventTerm as term
+use Rattle.vp_source.specs.declared.statement.Choice as choice
 use Rattle.std.proofs.Common.{◌≡◌, ℕ, zero, suc, List, [], ◌∷◌, ◌++◌, length, Option, Result, Ok, Err, refl, ap, ◌∙◌, append_assoc, Bool, true}
 use Rattle.std.specs.Prelude.{◌-◌, nat_lt}
 use Rattle.vp_lex.specs.declared.keyword.Keyword.TheVariants as keyword
 use Rattle.vp_lex.specs.declared.token.Punctuator.TheVariants as punctuator
-use Rattle.vp_parse_stmt.specs.declared.arena.Statement.TheVariants as statement_of
-use Rattle.vp_parse_expr.specs.declared.symbol.Symbol.{Symbol}
-use Rattle.vp_parse_expr.specs.declared.symbol.SymbolKind.{SymbolKind}
-use Rattle.vp_parse_expr.specs.declared.symbol.SymbolKind.TheVariants as symbol
-use Rattle.vp_parse_expr.specs.declared.symbol.TheConstants.{NUMBER_LIMIT}
-use Rattle.vp_parse_expr.specs.Grammar.{Selection, Expr}
+use Rattle.vp_source.specs.declared.statement.Statement.TheVariants as statement_of
+use Rattle.vp_source.specs.declared.symbol.Symbol.{Symbol}
+use Rattle.vp_source.specs.declared.symbol.SymbolKind.{SymbolKind}
+use Rattle.vp_source.specs.declared.symbol.SymbolKind.TheVariants as symbol
+use Rattle.vp_source.specs.declared.symbol.TheConstants.{NUMBER_LIMIT}
+use Rattle.vp_source.specs.ExprGrammar.{Selection, Expr}
 use Rattle.vp_parse_expr.specs.Stopping.{Stop, ◌>>=◌, Reader, is_next, terminal, behind, refused}
 use Rattle.vp_parse_expr.specs.Reading.{expr_at, selection_at}
 use Rattle.vp_parse_expr.specs.Placing.{Made as Placed, expr_into, selection_into}
 use Rattle.vp_parse_expr.specs.Placed.{seen, bind_seen, last_seen, if_seen, left, behind_seen, made as made_expr, expr_seen, made_selection, selection_seen, all_seen}
-use Rattle.vp_parse_stmt.specs.Grammar.{Delay, Plain, Hold, delay_amount, Stmt, Stmts, Then, Edge, Posedge, Negedge, edge_kind, Term, Level, Separator, Or, Comma, separator_kind, TermList, Further, Event, Any, AnyGrouped, Change, Terms, Sort, Exact, Wild, LabelList, Also, Colon, Marked, Item, Items, More, Argument, Given}
-use Rattle.vp_parse_stmt.specs.Layout.{put_value, put_target, put_hold, put_stmt, put_stmts, put_blocking, put_edge, put_term, put_terms, put_event, put_labels, put_item, put_items, is_wild}
-use Rattle.vp_parse_stmt.specs.Layout.{Lists}
+use Rattle.vp_source.specs.StmtGrammar.{Delay, Plain, Hold, delay_amount, Stmt, Stmts, Then, Edge, Posedge, Negedge, edge_kind, Term, Level, Separator, Or, Comma, separator_kind, TermList, Further, Event, Any, AnyGrouped, Change, Terms, Sort, Exact, Wild, LabelList, Also, Colon, Marked, Item, Items, More, Argument, Given}
+use Rattle.vp_source.specs.StmtLayout.{put_value, put_target, put_hold, put_stmt, put_stmts, put_blocking, put_edge, put_term, put_terms, put_event, put_labels, put_item, put_items, is_wild}
+use Rattle.vp_source.specs.StmtLayout.{Lists}
 use Rattle.vp_parse_stmt.specs.Reading.{Blocking, Condition, Guarded, goes_on, stmts_at, amount_by, amount_at, grouped_delay_at, delay_at, later_at, hold_at, blocking_at, assign_at, nonblocking_at, is_arrow, set_at, assignment_at, block_at, delayed_at, condition_at, guarded_at, wait_at, while_at, forever_at, is_else, second_at, else_at, if_at, stmt_by, form_at, stmt_at, Heading, named_blocking_at, heading_at, for_at, Joined, edged_at, term_at, is_separator, separator_by, separator_at, joined_at, further_terms_at, terms_at, terms_event_at, star_event_at, event_by, event_at, awaited_at, FurtherLabel, further_label_at, further_labels_at, labels_at, labels_item_at, colon_at, default_item_at, is_default, item_at, items_go_on, may_still, further_items_at, items_at, case_at, given_at, argument_at, finish_at}
 use Rattle.vp_parse_stmt.specs.Placing.{Made, Placer, MadeGuarded, value_into, amount_by_into, amount_into, grouped_delay_into, delay_into, later_into, hold_into, blocking_into, assign_into, nonblocking_into, set_into, assignment_into, delayed_into, chain_into, stmts_into, block_into, condition_into, guarded_into, wait_into, while_into, forever_into, second_into, else_into, if_into, stmt_by_into, form_into, stmt_into, MadeHeading, named_blocking_into, heading_into, for_into, MadeTerms, MadeEvent, edged_into, term_into, separator_into, joined_into, further_terms_into, terms_into, terms_event_into, star_event_into, event_by_into, event_into, awaited_into, MadeLabels, MadeItems, ItemPlacer, further_label_into, further_labels_into, labels_into, labels_item_into, colon_into, default_item_into, item_into, further_items_into, items_into, case_into, given_into, argument_into, finish_into}
 

@@ -1,23 +1,23 @@
 -- Reading symbols straight into the flat lists of a source: what each function of the code gives.
-use Rattle.vp_parse_stmt.specs.declared.arena.Span as span
-use Rattle.vp_parse_stmt.specs.declared.arena.EventTerm as term
-use Rattle.vp_parse_stmt.specs.declared.arena.Choice as choice
-use Rattle.vp_parse_stmt.specs.declared.arena.Edge.TheVariants as edge_of
-use Rattle.vp_parse_stmt.specs.declared.arena.Edge as edge
+use Rattle.vp_source.specs.declared.statement.Span as span
+use Rattle.vp_source.specs.declared.statement.EventTerm as term
+use Rattle.vp_source.specs.declared.statement.Choice as choice
+use Rattle.vp_source.specs.declared.statement.Edge.TheVariants as edge_of
+use Rattle.vp_source.specs.declared.statement.Edge as edge
 use Rattle.std.specs.Prelude.{ℕ, zero, suc, ◌+◌, ◌-◌, nat_lt, List, [], ◌∷◌, ◌++◌, length, Option, Some, None, Result, Ok, Err, if◌then◌else◌, Bool, true, false}
 use Rattle.vp_lex.specs.declared.keyword.Keyword.TheVariants as keyword
 use Rattle.vp_lex.specs.declared.token.Punctuator.TheVariants as punctuator
-use Rattle.vp_parse_expr.specs.declared.symbol.Symbol.{Symbol}
-use Rattle.vp_parse_expr.specs.declared.symbol.SymbolKind.{SymbolKind}
-use Rattle.vp_parse_expr.specs.declared.symbol.SymbolKind.TheVariants as symbol
-use Rattle.vp_parse_expr.specs.declared.node.Selection as selection
-use Rattle.vp_parse_expr.specs.declared.symbol.TheConstants.{NUMBER_LIMIT}
+use Rattle.vp_source.specs.declared.symbol.Symbol.{Symbol}
+use Rattle.vp_source.specs.declared.symbol.SymbolKind.{SymbolKind}
+use Rattle.vp_source.specs.declared.symbol.SymbolKind.TheVariants as symbol
+use Rattle.vp_source.specs.declared.expression.Selection as selection
+use Rattle.vp_source.specs.declared.symbol.TheConstants.{NUMBER_LIMIT}
 use Rattle.vp_parse_expr.specs.Stopping.{Stop, Unexpected, TooDeep, ◌>>=◌, refused, is_next, behind, terminal}
 use Rattle.vp_parse_expr.specs.Placing.{expr_into, selection_into}
 use Rattle.vp_parse_stmt.specs.declared.arena.Arena.{Arena}
-use Rattle.vp_parse_stmt.specs.declared.arena.Statement as statement
-use Rattle.vp_parse_stmt.specs.declared.arena.Statement.TheVariants as statement_of
-use Rattle.vp_parse_stmt.specs.Layout.{Lists, with_statement, awaited, choices_of, with_choices}
+use Rattle.vp_source.specs.declared.statement.Statement as statement
+use Rattle.vp_source.specs.declared.statement.Statement.TheVariants as statement_of
+use Rattle.vp_source.specs.StmtLayout.{Lists, with_statement, awaited, choices_of, with_choices}
 use Rattle.vp_parse_stmt.specs.Reading.{goes_on, is_else, is_arrow, is_separator, is_default, items_go_on, may_still}
 
 -- the lists of an arena

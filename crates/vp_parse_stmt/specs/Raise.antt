@@ -2,14 +2,14 @@
 use Rattle.std.proofs.Common.{ℕ, zero, suc, ◌-◌, ◌≤◌, List, [], ◌∷◌, length, true, false, cond, Ok, refl, arith, Bool}
 use Rattle.vp_lex.specs.declared.keyword.Keyword.TheVariants as keyword
 use Rattle.vp_lex.specs.declared.token.Punctuator.TheVariants as punctuator
-use Rattle.vp_parse_expr.specs.declared.symbol.Symbol.{Symbol}
-use Rattle.vp_parse_expr.specs.declared.symbol.SymbolKind.{SymbolKind}
-use Rattle.vp_parse_expr.specs.declared.symbol.SymbolKind.TheVariants as symbol
-use Rattle.vp_parse_expr.specs.Grammar.{Selection, Expr}
+use Rattle.vp_source.specs.declared.symbol.Symbol.{Symbol}
+use Rattle.vp_source.specs.declared.symbol.SymbolKind.{SymbolKind}
+use Rattle.vp_source.specs.declared.symbol.SymbolKind.TheVariants as symbol
+use Rattle.vp_source.specs.ExprGrammar.{Selection, Expr}
 use Rattle.vp_parse_expr.specs.Stopping.{◌>>=◌, Reader, terminal, refused, is_next}
 use Rattle.vp_parse_expr.specs.Reading.{expr_at, selection_at}
 use Rattle.vp_parse_expr.specs.Raise.{OrDeep, OrDeep-same, OrDeep-bind, OrDeep-then, OrDeep-if, Below, expr_raise, selection_raise}
-use Rattle.vp_parse_stmt.specs.Grammar.{Stmt, Stmts, Block, Empty, Then, Sort, Exact, Wild, Item}
+use Rattle.vp_source.specs.StmtGrammar.{Stmt, Stmts, Block, Empty, Then, Sort, Exact, Wild, Item}
 use Rattle.vp_parse_stmt.specs.Reading.{Guarded, goes_on, stmts_at, delay_at, hold_at, blocking_at, assign_at, nonblocking_at, is_arrow, set_at, assignment_at, block_at, delayed_at, condition_at, guarded_at, wait_at, while_at, forever_at, is_else, second_at, else_at, if_at, stmt_by, form_at, stmt_at, named_blocking_at, heading_at, for_at, event_at, awaited_at, further_label_at, further_labels_at, labels_at, labels_item_at, colon_at, default_item_at, is_default, item_at, items_go_on, may_still, further_items_at, items_at, case_at, finish_at}
 
 blocking_raise : (low high target : ℕ) (selection : Selection) → low ≤ high → Below (blocking_at low target selection) (blocking_at high target selection)

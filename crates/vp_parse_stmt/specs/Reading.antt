@@ -2,15 +2,15 @@
 use Rattle.std.specs.Prelude.{ℕ, zero, suc, ◌+◌, ◌-◌, nat_lt, not, Bool, false, if◌then◌else◌, List, [], ◌∷◌, length, Ok, Err, ◌||◌, ◌&&◌, true}
 use Rattle.vp_lex.specs.declared.keyword.Keyword.TheVariants as keyword
 use Rattle.vp_lex.specs.declared.token.Punctuator.TheVariants as punctuator
-use Rattle.vp_parse_expr.specs.declared.symbol.Symbol.{Symbol}
-use Rattle.vp_parse_expr.specs.declared.symbol.SymbolKind.{SymbolKind}
-use Rattle.vp_parse_expr.specs.declared.symbol.SymbolKind.TheVariants as symbol
-use Rattle.vp_parse_expr.specs.declared.symbol.TheConstants.{NUMBER_LIMIT}
-use Rattle.vp_parse_expr.specs.Kinds.{same_kind}
-use Rattle.vp_parse_expr.specs.Grammar.{Expr, Selection}
+use Rattle.vp_source.specs.declared.symbol.Symbol.{Symbol}
+use Rattle.vp_source.specs.declared.symbol.SymbolKind.{SymbolKind}
+use Rattle.vp_source.specs.declared.symbol.SymbolKind.TheVariants as symbol
+use Rattle.vp_source.specs.declared.symbol.TheConstants.{NUMBER_LIMIT}
+use Rattle.vp_source.specs.Kinds.{same_kind}
+use Rattle.vp_source.specs.ExprGrammar.{Expr, Selection}
 use Rattle.vp_parse_expr.specs.Stopping.{Unexpected, TooDeep, ◌>>=◌, Reader, refused, is_next, terminal}
 use Rattle.vp_parse_expr.specs.Reading.{expr_at, selection_at}
-use Rattle.vp_parse_stmt.specs.Grammar.{Delay, Plain, Grouped, Hold, Now, Later, Stmt, Stmts, Assign, Block, Null, Nonblocking, Delayed, Wait, When, Choose, While, Forever, Empty, Then, For, Edge, Posedge, Negedge, Term, Level, Edged, Separator, Or, Comma, TermList, Single, Further, Event, Any, AnyGrouped, Change, Terms, edge_kind, separator_kind, Awaited, Sort, Exact, Wild, LabelList, Only, Also, Colon, Unmarked, Marked, Items, Last, More, Item, Labels, Default, Case, Argument, None, Given, Finish}
+use Rattle.vp_source.specs.StmtGrammar.{Delay, Plain, Grouped, Hold, Now, Later, Stmt, Stmts, Assign, Block, Null, Nonblocking, Delayed, Wait, When, Choose, While, Forever, Empty, Then, For, Edge, Posedge, Negedge, Term, Level, Edged, Separator, Or, Comma, TermList, Single, Further, Event, Any, AnyGrouped, Change, Terms, edge_kind, separator_kind, Awaited, Sort, Exact, Wild, LabelList, Only, Also, Colon, Unmarked, Marked, Items, Last, More, Item, Labels, Default, Case, Argument, None, Given, Finish}
 
 -- a target, and the expression that it is to have, with the places of these (9.2.1)
 pub record Blocking : Type 0 where

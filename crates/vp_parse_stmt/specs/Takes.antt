@@ -3,17 +3,17 @@ use Rattle.std.proofs.Common.{◌≡◌, ℕ, zero, suc, ◌-◌, ◌≤◌, ◌
 use Rattle.std.specs.Prelude.{nat_lt, ◌&&◌, not}
 use Rattle.vp_lex.specs.declared.keyword.Keyword.TheVariants as keyword
 use Rattle.vp_lex.specs.declared.token.Punctuator.TheVariants as punctuator
-use Rattle.vp_parse_expr.specs.declared.symbol.Symbol.{Symbol}
-use Rattle.vp_parse_expr.specs.declared.symbol.SymbolKind.{SymbolKind}
-use Rattle.vp_parse_expr.specs.declared.symbol.SymbolKind.TheVariants as symbol
-use Rattle.vp_parse_expr.specs.declared.symbol.TheConstants.{NUMBER_LIMIT}
-use Rattle.vp_parse_expr.specs.Kinds.{symbol_at}
-use Rattle.vp_parse_expr.specs.Grammar.{Selection, expr_text, selection_text, expr_depth, IsExpr, IsSelection, Expr}
+use Rattle.vp_source.specs.declared.symbol.Symbol.{Symbol}
+use Rattle.vp_source.specs.declared.symbol.SymbolKind.{SymbolKind}
+use Rattle.vp_source.specs.declared.symbol.SymbolKind.TheVariants as symbol
+use Rattle.vp_source.specs.declared.symbol.TheConstants.{NUMBER_LIMIT}
+use Rattle.vp_source.specs.Kinds.{symbol_at}
+use Rattle.vp_source.specs.ExprGrammar.{Selection, expr_text, selection_text, expr_depth, IsExpr, IsSelection, Expr}
 use Rattle.vp_parse_expr.specs.Stopping.{Reader, is_next, terminal, Stop}
 use Rattle.vp_parse_expr.specs.Reading.{expr_at, selection_at}
 use Rattle.vp_parse_expr.specs.Takes.{Holds, Holds-bind, Holds-if, lt_of, IsTerminal, terminal_takes, before, IsWholeTaken, whole_takes, IsSelectionTaken, selection_takes}
 use Rattle.vp_parse_expr.specs.Again.{depth_above}
-use Rattle.vp_parse_stmt.specs.Grammar.{Delay, Hold, Stmt, Stmts, delay_text, hold_text, blocking_text, IsDelay, IsHold, stmt_text, stmts_text, condition_text, IsStmt, AreStmts, stmt_depth, stmts_depth, stmt_height, stmts_height, heading_text, blocking_height, Edge, Posedge, Negedge, edge_kind, Term, term_text, Separator, Or, Comma, separator_kind, TermList, terms_text, Event, event_text, Sort, Exact, Wild, sort_kind, LabelList, labels_text, AreLabels, labels_height, Colon, colon_text, Item, Items, item_text, items_text, IsItem, AreItems, item_defaults, items_defaults, item_depth, items_depth, item_height, items_height, Argument, argument_text, IsArgument}
+use Rattle.vp_source.specs.StmtGrammar.{Delay, Hold, Stmt, Stmts, delay_text, hold_text, blocking_text, IsDelay, IsHold, stmt_text, stmts_text, condition_text, IsStmt, AreStmts, stmt_depth, stmts_depth, stmt_height, stmts_height, heading_text, blocking_height, Edge, Posedge, Negedge, edge_kind, Term, term_text, Separator, Or, Comma, separator_kind, TermList, terms_text, Event, event_text, Sort, Exact, Wild, sort_kind, LabelList, labels_text, AreLabels, labels_height, Colon, colon_text, Item, Items, item_text, items_text, IsItem, AreItems, item_defaults, items_defaults, item_depth, items_depth, item_height, items_height, Argument, argument_text, IsArgument}
 use Rattle.vp_parse_stmt.specs.Reading.{Blocking, Condition, Guarded, goes_on, stmts_at, amount_by, amount_at, grouped_delay_at, delay_at, later_at, hold_at, blocking_at, assign_at, nonblocking_at, is_arrow, set_at, assignment_at, block_at, delayed_at, condition_at, guarded_at, wait_at, while_at, forever_at, is_else, second_at, else_at, if_at, stmt_by, form_at, stmt_at, Heading, named_blocking_at, heading_at, for_at, Joined, edged_at, term_at, is_separator, separator_by, separator_at, joined_at, further_terms_at, terms_at, terms_event_at, star_event_at, event_by, event_at, awaited_at, FurtherLabel, further_label_at, further_labels_at, labels_at, labels_item_at, colon_at, default_item_at, is_default, item_at, items_go_on, may_still, further_items_at, items_at, case_at, given_at, argument_at, finish_at}
 use Rattle.vp_parse_stmt.specs.Following.{Follows, follows_closed}
 

@@ -4,15 +4,15 @@ use Rattle.std.proofs.Common.{ℕ, zero, suc, ◌+◌, ◌-◌, ◌≤◌, List,
 use Rattle.std.specs.Prelude.{nat_lt}
 use Rattle.vp_lex.specs.declared.keyword.Keyword.TheVariants as keyword
 use Rattle.vp_lex.specs.declared.token.Punctuator.TheVariants as punctuator
-use Rattle.vp_parse_expr.specs.declared.symbol.Symbol.{Symbol}
-use Rattle.vp_parse_expr.specs.declared.symbol.SymbolKind.{SymbolKind}
-use Rattle.vp_parse_expr.specs.declared.symbol.SymbolKind.TheVariants as symbol
-use Rattle.vp_parse_expr.specs.declared.symbol.TheConstants.{NUMBER_LIMIT}
-use Rattle.vp_parse_expr.specs.Grammar.{Selection, Expr}
+use Rattle.vp_source.specs.declared.symbol.Symbol.{Symbol}
+use Rattle.vp_source.specs.declared.symbol.SymbolKind.{SymbolKind}
+use Rattle.vp_source.specs.declared.symbol.SymbolKind.TheVariants as symbol
+use Rattle.vp_source.specs.declared.symbol.TheConstants.{NUMBER_LIMIT}
+use Rattle.vp_source.specs.ExprGrammar.{Selection, Expr}
 use Rattle.vp_parse_expr.specs.Stopping.{Stop, Unexpected, ◌>>=◌, Reader, is_next, terminal, left_of}
 use Rattle.vp_parse_expr.specs.Reading.{expr_at, selection_at}
 use Rattle.vp_parse_expr.specs.Within.{Within, IsWithin, Within-bind, Within-if, Within-terminal, terminal_within, expr_behind, selection_within, expr_shorter}
-use Rattle.vp_parse_stmt.specs.Grammar.{Hold, Stmt, Edge, Posedge, Negedge, edge_kind, Term, Separator, Or, Comma, separator_kind, Sort, Exact, Wild, Item}
+use Rattle.vp_source.specs.StmtGrammar.{Hold, Stmt, Edge, Posedge, Negedge, edge_kind, Term, Separator, Or, Comma, separator_kind, Sort, Exact, Wild, Item}
 use Rattle.vp_parse_stmt.specs.Reading.{Guarded, goes_on, stmts_at, amount_by, amount_at, grouped_delay_at, delay_at, later_at, hold_at, blocking_at, assign_at, nonblocking_at, is_arrow, set_at, assignment_at, block_at, delayed_at, condition_at, guarded_at, wait_at, while_at, forever_at, is_else, second_at, else_at, if_at, stmt_by, form_at, stmt_at, named_blocking_at, heading_at, for_at, edged_at, term_at, is_separator, separator_by, separator_at, joined_at, further_terms_at, terms_at, terms_event_at, star_event_at, event_by, event_at, awaited_at, further_label_at, further_labels_at, labels_at, labels_item_at, colon_at, default_item_at, is_default, item_at, items_go_on, may_still, further_items_at, items_at, case_at, given_at, argument_at, finish_at}
 
 -- what is read behind a symbol which is not left

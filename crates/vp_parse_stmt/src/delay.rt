@@ -4,7 +4,8 @@ ghost use Rattle.vp_parse_expr.specs.Stopping.{Gives, stop_told};
 ghost use Rattle.vp_parse_stmt.specs.Placing.{amount_into, grouped_delay_into, delay_into, hold_into};
 
 use vp_lex::Punctuator;
-use vp_parse_expr::{NUMBER_LIMIT, Stop, Symbol, SymbolKind, is_next, skip, unexpected};
+use vp_parse_expr::{Stop, is_next, skip, unexpected};
+use vp_source::{NUMBER_LIMIT, Symbol, SymbolKind};
 
 // ---- where reading stops
 

@@ -1,13 +1,13 @@
 // Events, read from left to right.
 ghost use Rattle.std.specs.Prelude.{◌≡◌, ◌<◌, ◌≤◌, ◌+◌, ◌^◌, length, IfOk, vec_len};
-ghost use Rattle.vp_parse_expr.specs.declared.symbol.SymbolKind.TheVariants.{Name};
+ghost use Rattle.vp_source.specs.declared.symbol.SymbolKind.TheVariants.{Name};
 ghost use Rattle.vp_parse_expr.specs.Stopping.{Gives};
 ghost use Rattle.vp_parse_stmt.specs.Placing.{edged_into, term_into, separator_into, joined_into, further_terms_into, terms_into, terms_event_into, star_event_into, event_by_into, event_into};
 ghost use Rattle.vp_parse_stmt.specs.Reading.{is_separator as separator_is_next};
 
-use crate::arena::{Edge, EventTerm, Span};
 use vp_lex::{Keyword, Punctuator};
-use vp_parse_expr::{Stop, Symbol, SymbolKind, is_next, name, skip, unexpected};
+use vp_parse_expr::{Stop, is_next, name, skip, unexpected};
+use vp_source::{Edge, EventTerm, Span, Symbol, SymbolKind};
 
 /// A term behind an edge, which is of this kind, and what follows.
 #[tactic(auto, unfolding(crate::specs::Placing::edged_into))]

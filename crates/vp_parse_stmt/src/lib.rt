@@ -7,6 +7,6 @@ mod event;
 mod parsing;
 mod values;
 
-pub use arena::{Arena, Choice, Edge, EventTerm, Span, Statement};
+pub use arena::Arena;
 pub use parsing::{statement, target};
 pub use values::value;

@@ -1,20 +1,19 @@
 // Statements, read from left to right (docs/FORMATS.md, "Grammar").
 ghost use Rattle.std.specs.Prelude.{◌≡◌, ◌<◌, ◌≤◌, ◌+◌, ◌^◌, length, IfOk, vec_len};
-ghost use Rattle.vp_parse_expr.specs.declared.symbol.SymbolKind.TheVariants.{Name};
+ghost use Rattle.vp_source.specs.declared.symbol.SymbolKind.TheVariants.{Name};
 ghost use Rattle.vp_parse_expr.specs.Stopping.{Gives, stop_told, terminal};
-ghost use Rattle.vp_parse_stmt.specs.Layout.{awaited as awaited_by};
+ghost use Rattle.vp_source.specs.StmtLayout.{awaited as awaited_by};
 ghost use Rattle.vp_parse_stmt.specs.Placing.{lists_in, value_into, blocking_into, assign_into, nonblocking_into, assignment_into, delayed_into, awaited_into, stmts_into, block_into, condition_into, guarded_into, wait_into, while_into, forever_into, named_blocking_into, heading_into, for_into, second_into, else_into, if_into, argument_into, finish_into, labels_item_into, colon_into, default_item_into, item_into, further_items_into, items_into, case_into, form_into, stmt_into};
 ghost use Rattle.vp_parse_stmt.specs.Reading.{goes_on as more, is_default as default_is_next, items_go_on as more_items, may_still as still};
 ghost use Rattle.vp_parse_stmt.specs.Weight.{weight};
 
-use crate::arena::{Arena, Choice, Span, Statement, add_statement, lay_choices};
+use crate::arena::{Arena, add_statement, lay_choices};
 use crate::delay::{delay, hold, number};
 use crate::event::event;
 use crate::values::{add_choices_of, labels, value};
 use vp_lex::{Keyword, Punctuator};
-use vp_parse_expr::{
-    Selection, Stop, Symbol, SymbolKind, is_kind, is_next, name, selection, skip, unexpected,
-};
+use vp_parse_expr::{Stop, is_kind, is_next, name, selection, skip, unexpected};
+use vp_source::{Choice, Selection, Span, Statement, Symbol, SymbolKind};
 
 /// What a target is to have, from behind what is selected of it, as a blocking assignment.
 #[tactic(auto, unfolding(crate::specs::Placing::blocking_into))]

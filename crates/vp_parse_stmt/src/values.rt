@@ -1,14 +1,15 @@
 // Expressions in statements, read from left to right.
 ghost use Rattle.std.specs.Prelude.{◌≡◌, ◌<◌, ◌≤◌, ◌+◌, ◌^◌, ◌++◌, length, IfOk, OnOk, vec_len};
 ghost use Rattle.vp_parse_expr.specs.Stopping.{Gives};
-ghost use Rattle.vp_parse_stmt.specs.Layout.{choices_of};
+ghost use Rattle.vp_source.specs.StmtLayout.{choices_of};
 ghost use Rattle.vp_parse_stmt.specs.Placing.{lists_in, value_into, further_label_into, further_labels_into, labels_into};
 ghost use Rattle.vp_parse_stmt.specs.Weight.{weight};
 
-use crate::arena::{Arena, Choice};
+use crate::arena::Arena;
 use std::alloc::AllocError;
 use vp_lex::Punctuator;
-use vp_parse_expr::{Stop, Symbol, SymbolKind, expression, is_next, skip};
+use vp_parse_expr::{Stop, expression, is_next, skip};
+use vp_source::{Choice, Symbol, SymbolKind};
 
 /// The expression with which symbols begin, which nests at most so deep, laid out behind the parts of an arena: its place,
 /// and what follows it.

@@ -5,9 +5,9 @@ use Rattle.std.specs.List.{position, position_or_len}
 use Rattle.std.specs.Option.{option_map_or}
 use Rattle.std.specs.Str.{bytes_eq}
 use Rattle.std.proofs.lemmas.Bool.{eq-eqb, eqb-true, ltb-false}
-use Rattle.vp_parse.specs.Places.{word_at}
-use Rattle.vp_parse.specs.declared.source.Connection.{Connection}
-use Rattle.vp_parse.specs.declared.source.Source.{Source}
+use Rattle.vp_source.specs.Places.{word_at}
+use Rattle.vp_source.specs.declared.source.Connection.{Connection}
+use Rattle.vp_source.specs.declared.source.Source.{Source}
 use Rattle.vp_processes.specs.Processes.{connected, names_port, place_of_port}
 
 -- there is no name

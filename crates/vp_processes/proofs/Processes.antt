@@ -1,11 +1,11 @@
 -- The processes of objects, one after another.
 use Rattle.std.proofs.Common.{◌≡◌, ℕ, suc, ◌+◌, ◌<◌, List, [], ◌∷◌, ◌++◌, length, drop, get_or, sym, ap, ◌∙◌, arith, add-one, append_assoc, drop-cons}
-use Rattle.vp_parse.specs.declared.source.Connection.{Connection}
+use Rattle.vp_source.specs.declared.source.Connection.{Connection}
 use Rattle.std.specs.List.{flat_map}
 use Rattle.std.proofs.lemmas.List.{append-nil}
 use Rattle.std.proofs.lemmas.List.Concat.{flat_map-append}
-use Rattle.vp_parse.specs.declared.source.Source.{Source}
-use Rattle.vp_parse.specs.declared.source.Item.{Item}
+use Rattle.vp_source.specs.declared.source.Source.{Source}
+use Rattle.vp_source.specs.declared.source.Item.{Item}
 use Rattle.vp_processes.specs.declared.process.Process.{Process}
 use Rattle.vp_elab.specs.Tree.{Node, below}
 use Rattle.vp_processes.specs.Processes.{listed, port_processes, process_at_port}

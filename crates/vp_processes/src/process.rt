@@ -7,7 +7,7 @@ use std::alloc::{AllocError, Global};
 use vp_elab::{Design, ObjectId};
 use vp_list::Sequence;
 use vp_modules::{Names, connections_of, is_input, place_of, ports_of};
-use vp_parse::{Connection, Item, Module, Source};
+use vp_source::{Connection, Item, Module, Source};
 
 /// What a simulator runs (clause 11.1).
 #[derive(Clone, Copy, Debug, PartialEq, Eq)]

@@ -1,6 +1,6 @@
 -- Which refusal of a design holds, by the places that are found.
 use Rattle.std.proofs.Common.{◌≡◌, ◌∙◌, ℕ, Option, Some, None, ap, sym}
-use Rattle.vp_parse.specs.Places.{line_at}
+use Rattle.vp_source.specs.Places.{line_at}
 use Rattle.vp_elab.specs.Built.{Elaborated}
 use Rattle.vp_resolve.specs.declared.fault.ExprError.{ExprError}
 use Rattle.vp_resolve.specs.declared.fault.ExprError.TheVariants.{TooWide, SignedCompare, BadSelect}

@@ -1,20 +1,20 @@
 -- Which expressions of a design are refused: the refusals, each tested over the whole text, in this order.
 use Rattle.std.specs.Prelude.{◌≡◌, ℕ, ◌+◌, ◌==◌, ◌&&◌, min, nat_lt, nat_le, not, Bool, true, false, if◌then◌else◌, List, [], ◌∷◌, ◌++◌, drop, length, slice_get, slice_index_or, Option, Some, None, option_and_then, option_map}
 use Rattle.std.specs.List.{fold}
-use Rattle.vp_parse_expr.specs.declared.node.Expression.{Expression}
-use Rattle.vp_parse_expr.specs.declared.node.Expression.TheVariants as expression
-use Rattle.vp_parse_expr.specs.declared.node.Selection.{Selection}
-use Rattle.vp_parse_expr.specs.declared.node.Selection.TheVariants as selection
-use Rattle.vp_parse_expr.specs.declared.operator.BinaryOperator.{BinaryOperator}
-use Rattle.vp_parse_expr.specs.declared.operator.BinaryOperator.TheVariants as binary
-use Rattle.vp_parse.specs.Places.{earlier, earliest, line_at}
-use Rattle.vp_parse.specs.declared.source.Source.{Source}
-use Rattle.vp_parse.specs.declared.source.DeclaredRange.{DeclaredRange}
-use Rattle.vp_parse.specs.declared.source.Item.{Item}
-use Rattle.vp_parse.specs.declared.source.Item.TheVariants as item
-use Rattle.vp_parse.specs.declared.source.Module as declared
-use Rattle.vp_parse_stmt.specs.declared.arena.Statement.{Statement}
-use Rattle.vp_parse_stmt.specs.declared.arena.Statement.TheVariants as statement
+use Rattle.vp_source.specs.declared.expression.Expression.{Expression}
+use Rattle.vp_source.specs.declared.expression.Expression.TheVariants as expression
+use Rattle.vp_source.specs.declared.expression.Selection.{Selection}
+use Rattle.vp_source.specs.declared.expression.Selection.TheVariants as selection
+use Rattle.vp_source.specs.declared.operator.BinaryOperator.{BinaryOperator}
+use Rattle.vp_source.specs.declared.operator.BinaryOperator.TheVariants as binary
+use Rattle.vp_source.specs.Places.{earlier, earliest, line_at}
+use Rattle.vp_source.specs.declared.source.Source.{Source}
+use Rattle.vp_source.specs.declared.source.DeclaredRange.{DeclaredRange}
+use Rattle.vp_source.specs.declared.source.Item.{Item}
+use Rattle.vp_source.specs.declared.source.Item.TheVariants as item
+use Rattle.vp_source.specs.declared.source.Module as declared
+use Rattle.vp_source.specs.declared.statement.Statement.{Statement}
+use Rattle.vp_source.specs.declared.statement.Statement.TheVariants as statement
 use Rattle.vp_modules.specs.Items.{expressions_in, items_in, statements_in}
 use Rattle.vp_modules.specs.Refusals.{first_in}
 use Rattle.vp_elab.specs.Built.{Elaborated}

@@ -1,8 +1,8 @@
 -- The objects that the names of a module name.
 use Rattle.std.specs.Prelude.{ℕ, ◌-◌, slice_get, Option, Some, option_and_then}
 use Rattle.std.specs.Option.{option_map_or, unwrap_or}
-use Rattle.vp_parse.specs.Places.{word_at}
-use Rattle.vp_parse.specs.declared.source.Module as declared
+use Rattle.vp_source.specs.Places.{word_at}
+use Rattle.vp_source.specs.declared.source.Module as declared
 use Rattle.vp_elab.specs.Built.{Elaborated}
 use Rattle.vp_elab.specs.Tree.{Node, find_in, first_of}
 use Rattle.vp_operand.specs.declared.operand.Slot.{Slot}

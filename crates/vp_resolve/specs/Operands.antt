@@ -1,16 +1,16 @@
 -- The expressions of a design as operands, with slots in place of names.
 use Rattle.std.specs.Prelude.{ℕ, ◌-◌, ◌&&◌, Bool, false, true, if◌then◌else◌, List, map, Option, Some, None}
 use Rattle.std.specs.List.{flat_map, list_all}
-use Rattle.vp_parse_expr.specs.declared.node.Expression.{Expression}
-use Rattle.vp_parse_expr.specs.declared.node.Expression.TheVariants as expression
-use Rattle.vp_parse_expr.specs.declared.node.Selection.{Selection}
-use Rattle.vp_parse_expr.specs.declared.node.Selection.TheVariants as selection
-use Rattle.vp_parse_expr.specs.declared.operator.BinaryOperator.{BinaryOperator}
-use Rattle.vp_parse_expr.specs.declared.operator.BinaryOperator.TheVariants as between
-use Rattle.vp_parse_expr.specs.declared.operator.UnaryOperator.{UnaryOperator}
-use Rattle.vp_parse_expr.specs.declared.operator.UnaryOperator.TheVariants as before
-use Rattle.vp_parse.specs.Places.{word_at}
-use Rattle.vp_parse.specs.declared.source.Module as declared
+use Rattle.vp_source.specs.declared.expression.Expression.{Expression}
+use Rattle.vp_source.specs.declared.expression.Expression.TheVariants as expression
+use Rattle.vp_source.specs.declared.expression.Selection.{Selection}
+use Rattle.vp_source.specs.declared.expression.Selection.TheVariants as selection
+use Rattle.vp_source.specs.declared.operator.BinaryOperator.{BinaryOperator}
+use Rattle.vp_source.specs.declared.operator.BinaryOperator.TheVariants as between
+use Rattle.vp_source.specs.declared.operator.UnaryOperator.{UnaryOperator}
+use Rattle.vp_source.specs.declared.operator.UnaryOperator.TheVariants as before
+use Rattle.vp_source.specs.Places.{word_at}
+use Rattle.vp_source.specs.declared.source.Module as declared
 use Rattle.vp_modules.specs.Items.{expressions_in}
 use Rattle.vp_elab.specs.Built.{Elaborated}
 use Rattle.vp_elab.specs.Elaboration.{range_width}

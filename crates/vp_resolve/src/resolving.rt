@@ -13,7 +13,7 @@ use vp_operand::{
     Binary, Comparison, Infix, Logical, Operand, Reduction, Shift, Slot, Unary, based_bits, fitted,
     literal_bits, number_bits,
 };
-use vp_parse::{BinaryOperator, Expression, Module, Range, Selection, UnaryOperator};
+use vp_source::{BinaryOperator, Expression, Module, Range, Selection, UnaryOperator};
 
 /// The object in which the names of the module of a number are looked up: its first, since a name has the same slot in each
 /// instance of a module. None where the module has no object.

@@ -6,9 +6,9 @@ use Rattle.vp_lex.specs.Tokens.{tokens_of}
 use Rattle.vp_pragma.specs.Envelopes.{Protection}
 use Rattle.vp_pragma.specs.EnvelopesOf.{envelopes_of}
 use Rattle.vp_pragma.specs.Faults as pragma
-use Rattle.vp_parse.specs.declared.source.Source.{Source}
-use Rattle.vp_parse.specs.Grammar.{Derivation, IsDerivation}
-use Rattle.vp_parse.specs.Layout.{IsSourceOf}
+use Rattle.vp_source.specs.declared.source.Source.{Source}
+use Rattle.vp_source.specs.Grammar.{Derivation, IsDerivation}
+use Rattle.vp_source.specs.Layout.{IsSourceOf}
 use Rattle.vp_parse.specs.Reading.{read}
 use Rattle.vp_parse_expr.specs.Symbols.{symbols_of}
 use Rattle.vp_parse.specs.Told.{Tells}

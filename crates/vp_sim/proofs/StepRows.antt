@@ -3,7 +3,7 @@ use Rattle.std.proofs.Common.{◌≡◌, ℕ, true, false, List, [], ◌∷◌, 
 use Rattle.vp_bits.specs.declared.bit.Bit.{Bit}
 use Rattle.vp_bits.specs.declared.bit.Bit.TheVariants.{Zero, One, Unknown}
 use Rattle.vp_elab.specs.Built.{Elaborated}
-use Rattle.vp_parse_stmt.specs.declared.arena.Edge.TheVariants.{Any, Posedge, Negedge}
+use Rattle.vp_source.specs.declared.statement.Edge.TheVariants.{Any, Posedge, Negedge}
 use Rattle.vp_expr.specs.declared.tables.Process.TheVariants.{Procedure, Connection}
 use Rattle.vp_expr.specs.declared.tables.Tables.{Tables}
 use Rattle.vp_statement.specs.declared.effect.Effect.{Effect}

@@ -3,17 +3,17 @@ use Rattle.std.proofs.Common.{◌≡◌, ◌∙◌, ℕ, ◌-◌, ◌≤◌, ◌
 use Rattle.std.proofs.lemmas.List.{get_or_append_left, get_or_push, length-append, length_push}
 use Rattle.std.proofs.Math.Seq.{drop-append_seam, take-append_seam}
 use Rattle.vp_list.specs.Lists.{range_of}
-use Rattle.vp_parse_expr.specs.declared.node.Selection as chosen
-use Rattle.vp_parse_expr.specs.Grammar as expression
-use Rattle.vp_parse_stmt.specs.declared.arena.Choice.{Choice}
-use Rattle.vp_parse_stmt.specs.declared.arena.EventTerm.{EventTerm}
-use Rattle.vp_parse_stmt.specs.declared.arena.Statement.{Statement}
-use Rattle.vp_parse_stmt.specs.declared.arena.Statement.TheVariants as statement
-use Rattle.vp_parse_stmt.specs.Grammar.{Stmt, Assign, Block, Null, Nonblocking, Delayed, Awaited, Wait, When, Choose, While, Forever, For, Case, Finish, Stmts, Empty, Then, Items, Last, More, Item, Labels, Default, LabelList, Only, Also, Event, Any, AnyGrouped, Change, Terms, Level, delay_amount}
-use Rattle.vp_parse_stmt.specs.Layout.{Lists, awaited, choices_of, is_wild, put_blocking, put_event, put_hold, put_item, put_items, put_labels, put_stmt, put_stmts, put_target, put_term, put_terms, put_value, with_choices, with_statement}
-use Rattle.vp_parse.specs.declared.source.Module.{Module}
-use Rattle.vp_parse.specs.Standing.{StatementStandsAt}
-use Rattle.vp_parse.specs.Whole.{AreWhole}
+use Rattle.vp_source.specs.declared.expression.Selection as chosen
+use Rattle.vp_source.specs.ExprGrammar as expression
+use Rattle.vp_source.specs.declared.statement.Choice.{Choice}
+use Rattle.vp_source.specs.declared.statement.EventTerm.{EventTerm}
+use Rattle.vp_source.specs.declared.statement.Statement.{Statement}
+use Rattle.vp_source.specs.declared.statement.Statement.TheVariants as statement
+use Rattle.vp_source.specs.StmtGrammar.{Stmt, Assign, Block, Null, Nonblocking, Delayed, Awaited, Wait, When, Choose, While, Forever, For, Case, Finish, Stmts, Empty, Then, Items, Last, More, Item, Labels, Default, LabelList, Only, Also, Event, Any, AnyGrouped, Change, Terms, Level, delay_amount}
+use Rattle.vp_source.specs.StmtLayout.{Lists, awaited, choices_of, is_wild, put_blocking, put_event, put_hold, put_item, put_items, put_labels, put_stmt, put_stmts, put_target, put_term, put_terms, put_value, with_choices, with_statement}
+use Rattle.vp_source.specs.declared.source.Module.{Module}
+use Rattle.vp_source.specs.Standing.{StatementStandsAt}
+use Rattle.vp_source.specs.Whole.{AreWhole}
 use Rattle.vp_elab.specs.Built.{Elaborated}
 use Rattle.vp_expr.specs.Awaits.{awaited_by, choices_at, reads_of}
 use Rattle.vp_expr.specs.Derived.{StandsAt}
@@ -23,7 +23,7 @@ use Rattle.vp_resolve.specs.Operands.{operands_of, sizes_of}
 use Rattle.vp_expr.specs.declared.tables.Action.TheVariants.{Nothing}
 use Rattle.vp_expr.proofs.Wholes.{in_range}
 use Rattle.vp_statement.specs.Derived.{AreItems, AreLabels, AreTerms, IsActionOf, IsAssignment, IsChain, IsItem, IsSelected, Runs}
-use Rattle.vp_parse.proofs.GrowingParts.{Extends, Grows, blocking_grows, choices_grow, event_grows, expr_last, items_grow, item_grows, labels_grow, longer, statement_grows, stmt_grows, stmts_grow, target_grows, terms_are, twice, value_grows}
+use Rattle.vp_source.proofs.GrowingParts.{Extends, Grows, blocking_grows, choices_grow, event_grows, expr_last, items_grow, item_grows, labels_grow, longer, statement_grows, stmt_grows, stmts_grow, target_grows, terms_are, twice, value_grows}
 use Rattle.vp_statement.proofs.Places.{made_at}
 
 -- what stands at a place runs there

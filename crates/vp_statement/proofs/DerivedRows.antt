@@ -1,12 +1,12 @@
 -- Derivations and what runs at their places, computed.
 use Rattle.std.proofs.Common.{[], ◌∷◌, None, refl, arith}
-use Rattle.vp_parse_expr.specs.declared.node.Expression.TheVariants as node
-use Rattle.vp_parse_expr.specs.Grammar as expression
-use Rattle.vp_parse_stmt.specs.declared.arena.Statement.TheVariants as statement
-use Rattle.vp_parse_stmt.specs.Grammar.{Stmt, Block, Null, Delayed, While, Empty, Then, Plain}
-use Rattle.vp_parse_stmt.specs.Layout.{no_parts}
-use Rattle.vp_parse.specs.declared.source.Module as declared
-use Rattle.vp_parse.specs.Standing.{StatementStandsAt}
+use Rattle.vp_source.specs.declared.expression.Expression.TheVariants as node
+use Rattle.vp_source.specs.ExprGrammar as expression
+use Rattle.vp_source.specs.declared.statement.Statement.TheVariants as statement
+use Rattle.vp_source.specs.StmtGrammar.{Stmt, Block, Null, Delayed, While, Empty, Then, Plain}
+use Rattle.vp_source.specs.StmtLayout.{no_parts}
+use Rattle.vp_source.specs.declared.source.Module as declared
+use Rattle.vp_source.specs.Standing.{StatementStandsAt}
 use Rattle.vp_elab.specs.Built.{Elaborated}
 use Rattle.vp_expr.specs.Derived.{StandsAt}
 use Rattle.vp_expr.specs.Tables.{tables_of}

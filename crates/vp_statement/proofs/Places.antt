@@ -3,9 +3,9 @@ use Rattle.std.proofs.Common.{◌≡◌, ◌∙◌, ℕ, zero, suc, ◌+◌, ◌
 use Rattle.std.proofs.lemmas.List.{get_or-append_right, get_or-drop, get_or-map, get_or-take, get_or_append_left, length-drop, length-map, length-take}
 use Rattle.std.specs.List.{flat_map}
 use Rattle.vp_list.specs.Lists.{range_of}
-use Rattle.vp_parse.specs.declared.source.Module.{Module}
-use Rattle.vp_parse.specs.Whole.{AreGapless}
-use Rattle.vp_parse_stmt.specs.declared.arena.Span.{Span}
+use Rattle.vp_source.specs.declared.source.Module.{Module}
+use Rattle.vp_source.specs.Whole.{AreGapless}
+use Rattle.vp_source.specs.declared.statement.Span.{Span}
 use Rattle.vp_expr.proofs.Wholes.{gapless_up, in_range}
 
 module _ {X Y : Type 0} (span : Module → Span) (made : Module → X → Y) (xs : List X) (x0 : X) (y0 : Y) where

@@ -1,7 +1,7 @@
 -- Procedures, computed event by event. Each row is an equation that holds by computation.
 use Rattle.std.proofs.Common.{◌≡◌, ◌==◌, true, false, List, [], ◌∷◌, Some, None, refl}
 use Rattle.vp_bits.specs.declared.bit.Bit.TheVariants.{Zero, One, Unknown, HighImpedance}
-use Rattle.vp_parse_stmt.specs.declared.arena.Choice.{Choice}
+use Rattle.vp_source.specs.declared.statement.Choice.{Choice}
 use Rattle.vp_expr.specs.declared.tables.Action.{Action}
 use Rattle.vp_expr.specs.declared.tables.Action.TheVariants as action
 use Rattle.vp_statement.specs.declared.effect.Effect.TheVariants as effect

@@ -1,16 +1,16 @@
 -- What the tables have for the statement of a derivation (clause 9).
 use Rattle.std.specs.Prelude.{◌≡◌, ℕ, List, [], ◌∷◌, ◌++◌, slice_index_or, Option, Some, None}
-use Rattle.vp_parse_expr.specs.declared.node.Selection.{Selection}
-use Rattle.vp_parse_expr.specs.declared.node.Selection.TheVariants as selection
-use Rattle.vp_parse_expr.specs.Grammar as expression
-use Rattle.vp_parse_expr.specs.Layout.{put_range}
-use Rattle.vp_parse_stmt.specs.declared.arena.Choice.{Choice}
-use Rattle.vp_parse_stmt.specs.declared.arena.Span.{Span}
-use Rattle.vp_parse_stmt.specs.declared.arena.Statement.{Statement}
-use Rattle.vp_parse_stmt.specs.declared.arena.Statement.TheVariants as statement
-use Rattle.vp_parse_stmt.specs.Grammar.{Stmt, Assign, Block, Null, Nonblocking, Delayed, Awaited, Wait, When, Choose, While, Forever, For, Case, Finish, Stmts, Empty, Then, Items, Last, More, Item, Labels, Default, LabelList, Only, Also, Event, Any, AnyGrouped, Change, Terms, Level, delay_amount}
-use Rattle.vp_parse_stmt.specs.Layout.{awaited, choices_of, is_wild, put_hold, put_term, put_terms}
-use Rattle.vp_parse.specs.declared.source.Module as declared
+use Rattle.vp_source.specs.declared.expression.Selection.{Selection}
+use Rattle.vp_source.specs.declared.expression.Selection.TheVariants as selection
+use Rattle.vp_source.specs.ExprGrammar as expression
+use Rattle.vp_source.specs.ExprLayout.{put_range}
+use Rattle.vp_source.specs.declared.statement.Choice.{Choice}
+use Rattle.vp_source.specs.declared.statement.Span.{Span}
+use Rattle.vp_source.specs.declared.statement.Statement.{Statement}
+use Rattle.vp_source.specs.declared.statement.Statement.TheVariants as statement
+use Rattle.vp_source.specs.StmtGrammar.{Stmt, Assign, Block, Null, Nonblocking, Delayed, Awaited, Wait, When, Choose, While, Forever, For, Case, Finish, Stmts, Empty, Then, Items, Last, More, Item, Labels, Default, LabelList, Only, Also, Event, Any, AnyGrouped, Change, Terms, Level, delay_amount}
+use Rattle.vp_source.specs.StmtLayout.{awaited, choices_of, is_wild, put_hold, put_term, put_terms}
+use Rattle.vp_source.specs.declared.source.Module as declared
 use Rattle.vp_elab.specs.Built.{Elaborated}
 use Rattle.vp_expr.specs.Awaits.{awaited_by, awaits_of, choices_at, reads_of, terms_at}
 use Rattle.vp_expr.specs.Derived.{StandsAt}

@@ -6,9 +6,9 @@ use Rattle.vp_bits.specs.declared.bit.Bit.TheVariants.{Zero, One, Unknown, HighI
 use Rattle.vp_bits.specs.Comparing.{casez_matches}
 use Rattle.vp_bits.specs.Tables.{truth}
 use Rattle.vp_bits.specs.Vector.{resized, same_bits}
-use Rattle.vp_parse_stmt.specs.declared.arena.Choice.{Choice}
-use Rattle.vp_parse_stmt.specs.declared.arena.Span.{Span}
-use Rattle.vp_parse.specs.declared.source.Source.{Source}
+use Rattle.vp_source.specs.declared.statement.Choice.{Choice}
+use Rattle.vp_source.specs.declared.statement.Span.{Span}
+use Rattle.vp_source.specs.declared.source.Source.{Source}
 use Rattle.vp_list.specs.Lists.{range_of}
 use Rattle.vp_elab.specs.Built.{Elaborated}
 use Rattle.vp_elab.specs.declared.object.ObjectId.{ObjectId}

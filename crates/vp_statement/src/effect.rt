@@ -1,9 +1,9 @@
 ghost use Rattle.std.specs.Prelude.{◌≡◌, drop, length};
 ghost use Rattle.vp_expr.specs.Tables.{tables_of};
-ghost use Rattle.vp_parse.specs.declared.source.Module.{Module};
-ghost use Rattle.vp_parse.specs.Standing.{StatementStandsAt};
-ghost use Rattle.vp_parse.specs.Whole.{AreWhole};
-ghost use Rattle.vp_parse_stmt.specs.Grammar.{Stmt};
+ghost use Rattle.vp_source.specs.declared.source.Module.{Module};
+ghost use Rattle.vp_source.specs.Standing.{StatementStandsAt};
+ghost use Rattle.vp_source.specs.Whole.{AreWhole};
+ghost use Rattle.vp_source.specs.StmtGrammar.{Stmt};
 ghost use Rattle.vp_statement.specs.Derived.{IsActionOf};
 ghost use Rattle.vp_statement.specs.Effects.{assigned, choices_in, chosen, cut_to, default_of, deferred, effect_at, effect_by, holds, is_taken, matches, object_at, proceeds, turned, waited};
 
@@ -12,7 +12,7 @@ use vp_bits::{Bit, Bits};
 use vp_elab::ObjectId;
 use vp_expr::{Action, Checked, Target, Values, eval, place_set, target_width};
 use vp_operand::{ExprId, Slot};
-use vp_parse::{Choice, Source, Span};
+use vp_source::{Choice, Source, Span};
 
 /// What one event of a procedure does. A value goes to so many bits of an object as it has, from a place on, of which that of the
 /// least significant bit is 0; where no bit is selected there is no place. Statements are named by their places.

@@ -7,8 +7,8 @@ use Rattle.vp_bits.specs.declared.bit.Bit.TheVariants.{Zero, One, Unknown, HighI
 use Rattle.vp_elab.specs.declared.object.ObjectId.{ObjectId}
 use Rattle.vp_elab.specs.Tree.{below}
 use Rattle.vp_expr.specs.declared.awaited.Awaited.{Awaited}
-use Rattle.vp_parse_stmt.specs.declared.arena.Edge.{Edge}
-use Rattle.vp_parse_stmt.specs.declared.arena.Edge.TheVariants.{Any, Posedge, Negedge}
+use Rattle.vp_source.specs.declared.statement.Edge.{Edge}
+use Rattle.vp_source.specs.declared.statement.Edge.TheVariants.{Any, Posedge, Negedge}
 use Rattle.vp_expr.specs.declared.tables.Process.{Process}
 use Rattle.vp_expr.specs.declared.tables.Process.TheVariants.{Procedure, Assignment, Connection}
 use Rattle.vp_expr.specs.declared.tables.Tables.{Tables}

@@ -11,7 +11,7 @@ use crate::waiting::{Waiting, set_wait, wait_of};
 use vp_bits::{Bit, Bits};
 use vp_elab::ObjectId;
 use vp_expr::{Awaited, Checked, Process};
-use vp_parse::Edge;
+use vp_source::Edge;
 use vp_strata::Strata;
 
 /// The least significant bit.

@@ -7,9 +7,10 @@ use std::sync::Arc;
 use vp_elab::{Design, elaborate};
 use vp_expr::{Checked, check};
 use vp_lex::tokens;
-use vp_parse::{Source, parse};
+use vp_parse::parse;
 use vp_policy::Policy;
 use vp_pragma::{Envelopes, envelopes};
+use vp_source::Source;
 
 /// The envelopes of a text.
 fn envelopes_of(alloc: Global, text: &str) -> Option<Envelopes>

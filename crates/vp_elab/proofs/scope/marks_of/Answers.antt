@@ -1,7 +1,7 @@
 use Rattle.std.proofs.Common.{◌∙◌, ap, true, false, None, arith}
 use Rattle.std.proofs.lemmas.List.{get_or-replicate, length-replicate, length-set}
-use Rattle.vp_parse.specs.declared.source.Direction.TheVariants.{Input}
-use Rattle.vp_parse.specs.declared.source.Item.TheVariants.{Port}
+use Rattle.vp_source.specs.declared.source.Direction.TheVariants.{Input}
+use Rattle.vp_source.specs.declared.source.Item.TheVariants.{Port}
 use Rattle.vp_pragma.specs.Envelopes.{envelope_at}
 use Rattle.vp_modules.specs.Items.{item_place}
 use Rattle.vp_elab.proofs.Marks.{mark_next}

@@ -4,7 +4,7 @@ use Rattle.std.specs.Str.{bytes_eq}
 use Rattle.std.proofs.lemmas.List.Quantifiers.{position-Some}
 use Rattle.std.proofs.lemmas.Option.{get_or_from_slice_get, slice_get-map, slice_get_read}
 use Rattle.std.specs.Prelude.{option_map}
-use Rattle.vp_parse.specs.declared.source.Item.{Item}
+use Rattle.vp_source.specs.declared.source.Item.{Item}
 use Rattle.vp_pragma.specs.Envelopes.{Viewport, envelope_at}
 use Rattle.vp_pragma.specs.Reading.{viewport_of}
 use Rattle.vp_modules.specs.Items.{item_name, items_in}

@@ -1,5 +1,5 @@
 use Rattle.std.proofs.Common.{◌≡◌, ◌+◌, ℕ, suc, ◌∙◌, ap, List, map, arith}
-use Rattle.vp_parse.specs.declared.source.Module.{Module}
+use Rattle.vp_source.specs.declared.source.Module.{Module}
 use Rattle.vp_modules.specs.Definitions.{definitions_in}
 use Rattle.vp_elab.specs.Elaboration.{further_limit}
 use Rattle.vp_elab.specs.Sizes.{capped, size_by, sizes_in, total}

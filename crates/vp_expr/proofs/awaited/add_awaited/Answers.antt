@@ -1,7 +1,7 @@
 use Rattle.std.proofs.Common.{◌≡◌, ◌∙◌, ◌++◌, List, [], length, ap, map, subst, sym}
 use Rattle.std.specs.Prelude.{OnOk, option_map}
-use Rattle.vp_parse.specs.declared.source.Source.{Source}
-use Rattle.vp_parse_stmt.specs.declared.arena.Statement.{Statement}
+use Rattle.vp_source.specs.declared.source.Source.{Source}
+use Rattle.vp_source.specs.declared.statement.Statement.{Statement}
 use Rattle.vp_expr.specs.declared.awaited.Awaited.{Awaited}
 use Rattle.vp_operand.specs.declared.operand.Slot.{Slot}
 use Rattle.vp_expr.specs.Awaits.{any_change, awaited_by, part_reads, reads_below, reads_from, reads_in}

@@ -1,8 +1,8 @@
 use Rattle.std.proofs.Common.{◌≡◌, ◌∙◌, ℕ, ◌+◌, ◌<◌, List, drop, get_or, length, ap}
 use Rattle.std.specs.List.{flat_map, fold}
-use Rattle.vp_parse.specs.declared.source.Module as declared
-use Rattle.vp_parse.specs.declared.source.Source.{Source}
-use Rattle.vp_parse_stmt.specs.declared.arena.Statement.{Statement}
+use Rattle.vp_source.specs.declared.source.Module as declared
+use Rattle.vp_source.specs.declared.source.Source.{Source}
+use Rattle.vp_source.specs.declared.statement.Statement.{Statement}
 use Rattle.vp_elab.specs.Built.{Elaborated}
 use Rattle.vp_expr.specs.declared.awaited.Awaited.{Awaited}
 use Rattle.vp_operand.specs.declared.operand.Operand.{Operand}

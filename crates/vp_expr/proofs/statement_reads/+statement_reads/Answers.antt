@@ -1,6 +1,6 @@
 use Rattle.std.proofs.Common.{◌≡◌, ◌∙◌, ◌++◌, ltb, cond, None, Some, List, sym, ap, subst, append-nil, arith, append_assoc}
 use Rattle.std.specs.Prelude.{slice_get, OnOk}
-use Rattle.vp_parse_stmt.specs.declared.arena.Statement.TheVariants as statement
+use Rattle.vp_source.specs.declared.statement.Statement.TheVariants as statement
 use Rattle.vp_operand.specs.declared.operand.Slot.{Slot}
 use Rattle.vp_expr.specs.Awaits.{reads_below}
 use Rattle.vp_expr.proofs.StatementReads.{statement_found, statement_missing}

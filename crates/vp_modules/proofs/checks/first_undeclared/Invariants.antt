@@ -1,5 +1,5 @@
 use Rattle.std.proofs.Common.{◌≡◌, drop}
-use Rattle.vp_parse.specs.Places.{earlier, earliest}
+use Rattle.vp_source.specs.Places.{earlier, earliest}
 use Rattle.vp_modules.specs.Refusals.{undeclared}
 use Rattle.vp_modules.proofs.checks.first_undeclared.Given as goal
 

@@ -1,5 +1,5 @@
 use Rattle.std.proofs.Common.{◌≡◌, drop}
-use Rattle.vp_parse.specs.Places.{earlier, earliest}
+use Rattle.vp_source.specs.Places.{earlier, earliest}
 use Rattle.vp_modules.specs.Refusals.{instance_fault}
 use Rattle.vp_modules.proofs.connections.bad_connection.Given as goal
 

@@ -1,5 +1,5 @@
 use Rattle.std.proofs.Common.{◌≡◌, [], drop}
-use Rattle.vp_parse.specs.Places.{earlier}
+use Rattle.vp_source.specs.Places.{earlier}
 use Rattle.vp_modules.specs.Refusals.{connections_fault}
 use Rattle.vp_modules.proofs.connections.connections_fault.Given as goal
 

@@ -1,8 +1,8 @@
 use Rattle.std.proofs.Common.{◌≡◌, List, get_or, position, Some, sym, ap, ◌∙◌, arith}
 use Rattle.std.proofs.lemmas.Grind.{common_steps}
 use Rattle.std.specs.Str.{bytes_eq}
-use Rattle.vp_parse.specs.Places.{word_at}
-use Rattle.vp_parse.specs.declared.source.Module.{Module}
+use Rattle.vp_source.specs.Places.{word_at}
+use Rattle.vp_source.specs.declared.source.Module.{Module}
 use Rattle.vp_modules.specs.declared.tables.Tables.{Tables}
 use Rattle.vp_modules.proofs.Looked.{found, nowhere, taken}
 use Rattle.vp_modules.proofs.connections.scope_named.Goals as goal

@@ -1,7 +1,7 @@
 use Rattle.std.proofs.Common.{ℕ, List, ◌∙◌, sym, ap, position}
 use Rattle.std.specs.Str.{bytes_eq}
-use Rattle.vp_parse.specs.Places.{word_at}
-use Rattle.vp_parse.specs.declared.source.Module.{Module}
+use Rattle.vp_source.specs.Places.{word_at}
+use Rattle.vp_source.specs.declared.source.Module.{Module}
 use Rattle.vp_modules.specs.Items.{definition_number}
 use Rattle.vp_modules.proofs.Looked.{placed}
 use Rattle.vp_modules.proofs.definitions.definition_number.Goals as goal

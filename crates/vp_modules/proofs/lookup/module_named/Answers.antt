@@ -2,8 +2,8 @@ use Rattle.std.proofs.Common.{List, ◌∙◌, ap}
 use Rattle.std.specs.Prelude.{position, slice_get}
 use Rattle.std.specs.Option.{option_and_then}
 use Rattle.std.specs.Str.{bytes_eq}
-use Rattle.vp_parse.specs.Places.{word_at}
-use Rattle.vp_parse.specs.declared.source.Module.{Module}
+use Rattle.vp_source.specs.Places.{word_at}
+use Rattle.vp_source.specs.declared.source.Module.{Module}
 use Rattle.vp_modules.proofs.Looked.{found}
 use Rattle.vp_modules.proofs.lookup.module_named.Goals as goal
 

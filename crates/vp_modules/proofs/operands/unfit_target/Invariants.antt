@@ -1,5 +1,5 @@
 use Rattle.std.proofs.Common.{◌≡◌, drop}
-use Rattle.vp_parse.specs.Places.{earlier, earliest}
+use Rattle.vp_source.specs.Places.{earlier, earliest}
 use Rattle.vp_modules.specs.Purposes.{fits}
 use Rattle.vp_modules.specs.Refusals.{target_of, unfit}
 use Rattle.vp_modules.proofs.operands.unfit_target.Given as goal

@@ -1,7 +1,7 @@
 use Rattle.std.proofs.Common.{Some, ap, ◌∙◌}
-use Rattle.vp_parse_stmt.specs.declared.arena.Edge.TheVariants as edge
-use Rattle.vp_parse_stmt.specs.declared.arena.EventTerm.{EventTerm}
-use Rattle.vp_parse.specs.Places.{earlier}
+use Rattle.vp_source.specs.declared.statement.Edge.TheVariants as edge
+use Rattle.vp_source.specs.declared.statement.EventTerm.{EventTerm}
+use Rattle.vp_source.specs.Places.{earlier}
 use Rattle.vp_modules.specs.Purposes.{fits}
 use Rattle.vp_modules.specs.Refusals.{unfit}
 use Rattle.vp_modules.proofs.Earliest.{earliest_step}

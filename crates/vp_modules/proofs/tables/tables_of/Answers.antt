@@ -1,6 +1,6 @@
 use Rattle.std.proofs.Common.{◌<◌, ◌∷◌, List, length, get_or, subst, arith}
 use Rattle.std.proofs.lemmas.Result.{err_from_is_err_and}
-use Rattle.vp_parse.specs.declared.source.Module.{Module}
+use Rattle.vp_source.specs.declared.source.Module.{Module}
 use Rattle.vp_modules.specs.Refusals.{Explains, twice_in}
 use Rattle.std.proofs.lemmas.Grind.{common_steps}
 use Rattle.vp_modules.proofs.Looked.{nowhere}

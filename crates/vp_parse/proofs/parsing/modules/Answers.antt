@@ -1,6 +1,6 @@
 use Rattle.std.proofs.Common.{◌∙◌, sym, arith}
 use Rattle.std.proofs.lemmas.Result.{err_from_is_err_and}
-use Rattle.vp_parse.specs.declared.source.Module as module_of
+use Rattle.vp_source.specs.declared.source.Module as module_of
 use Rattle.vp_parse.specs.Placing.{Made, lists_in}
 use Rattle.vp_parse.proofs.Loops.{module_turn, modules_done, module_fails}
 use Rattle.vp_parse.proofs.parsing.modules.Goals as goal

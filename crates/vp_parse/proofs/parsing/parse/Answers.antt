@@ -3,8 +3,8 @@ use Rattle.vp_parse_expr.specs.Symbols.{symbols_of}
 use Rattle.vp_parse.specs.Reading.{read}
 use Rattle.vp_parse.specs.Placing.{lists_in}
 use Rattle.vp_parse.proofs.Found.{stops_alike, tells_none, found_by}
-use Rattle.vp_parse.proofs.Growing.{source_whole}
-use Rattle.vp_parse.proofs.Standing.{procedures_stand}
+use Rattle.vp_source.proofs.Growing.{source_whole}
+use Rattle.vp_source.proofs.Standing.{procedures_stand}
 use Rattle.vp_parse.proofs.parsing.parse.Goals as goal
 
 pub returns-in-Ok-clause-found : goal.returns-in-Ok-clause-found

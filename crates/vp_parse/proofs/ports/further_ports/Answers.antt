@@ -1,7 +1,7 @@
 use Rattle.std.proofs.Common.{◌∙◌, List, sym, arith}
 use Rattle.std.proofs.lemmas.Result.{err_from_is_err_and}
-use Rattle.vp_parse_expr.specs.declared.symbol.Symbol.{Symbol}
-use Rattle.vp_parse.specs.Layout.{PortType}
+use Rattle.vp_source.specs.declared.symbol.Symbol.{Symbol}
+use Rattle.vp_source.specs.Layout.{PortType}
 use Rattle.vp_parse.specs.Placing.{Kept, lists_in, type_shown}
 use Rattle.vp_parse.proofs.Loops.{port_turn, ports_done, ports_stop, no_type, no_port}
 use Rattle.vp_parse.proofs.ports.further_ports.Goals as goal

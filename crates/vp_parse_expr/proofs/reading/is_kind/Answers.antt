@@ -1,5 +1,5 @@
 use Rattle.std.proofs.Common.{◌∙◌}
-use Rattle.vp_parse_expr.proofs.SameKinds.{same_is}
+use Rattle.vp_source.proofs.SameKinds.{same_is}
 use Rattle.vp_parse_expr.proofs.reading.is_kind.Goals as goal
 
 pub returns : goal.returns

@@ -1,6 +1,6 @@
 use Rattle.std.proofs.Common.{◌≡◌, ◌+◌, ◌++◌, drop}
 use Rattle.std.specs.Prelude.{vec_len}
-use Rattle.vp_parse_stmt.specs.Layout.{choices_of}
+use Rattle.vp_source.specs.StmtLayout.{choices_of}
 use Rattle.vp_parse_stmt.proofs.values.add_choices_of.Given as goal
 
 abbrev pub invariant-loop-label : goal.invariant-loop-label

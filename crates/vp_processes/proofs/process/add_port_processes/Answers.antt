@@ -1,6 +1,6 @@
 use Rattle.std.proofs.Common.{◌++◌, None, ◌∙◌, ap}
-use Rattle.vp_parse.specs.declared.source.Direction.TheVariants as direction
-use Rattle.vp_parse.specs.declared.source.Item.TheVariants as item
+use Rattle.vp_source.specs.declared.source.Direction.TheVariants as direction
+use Rattle.vp_source.specs.declared.source.Item.TheVariants as item
 use Rattle.vp_processes.specs.declared.process.Process.{Process}
 use Rattle.std.specs.Prelude.{Option}
 use Rattle.vp_processes.specs.Processes.{listed, port_processes}

@@ -1,5 +1,5 @@
 use Rattle.std.proofs.Common.{◌∙◌, ap}
-use Rattle.vp_parse.specs.declared.source.Source.{Source}
+use Rattle.vp_source.specs.declared.source.Source.{Source}
 use Rattle.vp_resolve.proofs.Scopes.{scope_there}
 use Rattle.vp_resolve.proofs.checks.first_bad.Goals as goal
 

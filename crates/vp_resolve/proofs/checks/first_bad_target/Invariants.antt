@@ -1,6 +1,6 @@
 use Rattle.std.proofs.Common.{◌≡◌, drop}
 use Rattle.std.specs.Prelude.{option_map}
-use Rattle.vp_parse.specs.Places.{earlier, earliest}
+use Rattle.vp_source.specs.Places.{earlier, earliest}
 use Rattle.vp_resolve.specs.Checks.{bad_target}
 use Rattle.vp_resolve.proofs.checks.first_bad_target.Given as goal
 

@@ -1,5 +1,5 @@
 use Rattle.std.proofs.Common.{◌≡◌, drop}
-use Rattle.vp_parse.specs.Places.{earlier, earliest}
+use Rattle.vp_source.specs.Places.{earlier, earliest}
 use Rattle.vp_resolve.specs.Checks.{signed_in}
 use Rattle.vp_resolve.proofs.checks.first_signed_in.Given as goal
 

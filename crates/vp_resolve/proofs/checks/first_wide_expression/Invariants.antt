@@ -1,5 +1,5 @@
 use Rattle.std.proofs.Common.{◌≡◌, drop}
-use Rattle.vp_parse.specs.Places.{earlier}
+use Rattle.vp_source.specs.Places.{earlier}
 use Rattle.vp_resolve.specs.Checks.{first_wide_in}
 use Rattle.vp_resolve.proofs.checks.first_wide_expression.Given as goal
 

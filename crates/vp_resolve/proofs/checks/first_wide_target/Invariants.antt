@@ -1,5 +1,5 @@
 use Rattle.std.proofs.Common.{◌≡◌, drop}
-use Rattle.vp_parse.specs.Places.{earlier, earliest}
+use Rattle.vp_source.specs.Places.{earlier, earliest}
 use Rattle.vp_resolve.specs.Checks.{wide_target}
 use Rattle.vp_resolve.proofs.checks.first_wide_target.Given as goal
 

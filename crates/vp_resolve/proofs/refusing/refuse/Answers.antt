@@ -1,6 +1,6 @@
 use Rattle.std.proofs.Common.{◌∙◌, ap}
-use Rattle.vp_parse.specs.declared.source.Source.{Source}
-use Rattle.vp_parse.specs.Places.{line_at}
+use Rattle.vp_source.specs.declared.source.Source.{Source}
+use Rattle.vp_source.specs.Places.{line_at}
 use Rattle.vp_resolve.proofs.Refused.{bad_refused, none_refused, signed_refused}
 use Rattle.vp_resolve.proofs.refusing.refuse.Goals as goal
 

@@ -1,7 +1,7 @@
 use Rattle.std.proofs.Common.{◌≡◌, ◌∙◌, ◌<◌, List, true, get_or, length, ap, subst}
 use Rattle.std.proofs.lemmas.List.{get_or_default}
 use Rattle.vp_elab.specs.Built.{Elaborated}
-use Rattle.vp_parse_stmt.specs.declared.arena.Edge.TheVariants.{Any}
+use Rattle.vp_source.specs.declared.statement.Edge.TheVariants.{Any}
 use Rattle.vp_expr.specs.declared.awaited.Awaited.{Awaited}
 use Rattle.vp_expr.specs.Tables.{awaited_of, tables_of}
 use Rattle.vp_waking.specs.Listening.{Listening, has, listeners_of}

@@ -1,14 +1,14 @@
 -- Laying out the parts of a derivation keeps what the lists had, and adds its own behind.
 use Rattle.std.proofs.Common.{◌≡◌, ◌∙◌, ℕ, ◌+◌, ◌≤◌, List, [], ◌∷◌, ◌++◌, length, refl, sym, ap, append_assoc, append-nil, arith}
 use Rattle.std.proofs.lemmas.List.{length-append, length_push}
-use Rattle.vp_parse_expr.specs.declared.node.Expression as node
-use Rattle.vp_parse_expr.specs.Grammar.{Expr, Name, Sized, Based, Number, Group, Unary, Binary, Conditional, Concatenation, Replication, Selection, Whole, Bit, Part, Parts, First, More}
-use Rattle.vp_parse_expr.specs.Layout.{put_expr, put_parts, put_selection}
-use Rattle.vp_parse_stmt.specs.declared.arena.Choice.{Choice}
-use Rattle.vp_parse_stmt.specs.declared.arena.EventTerm.{EventTerm}
-use Rattle.vp_parse_stmt.specs.declared.arena.Statement.{Statement}
-use Rattle.vp_parse_stmt.specs.Grammar as grammar
-use Rattle.vp_parse_stmt.specs.Layout.{Lists, put_blocking, put_event, put_item, put_items, put_labels, put_stmt, put_stmts, put_target, put_term, put_terms, put_value, with_choices, with_statement}
+use Rattle.vp_source.specs.declared.expression.Expression as node
+use Rattle.vp_source.specs.ExprGrammar.{Expr, Name, Sized, Based, Number, Group, Unary, Binary, Conditional, Concatenation, Replication, Selection, Whole, Bit, Part, Parts, First, More}
+use Rattle.vp_source.specs.ExprLayout.{put_expr, put_parts, put_selection}
+use Rattle.vp_source.specs.declared.statement.Choice.{Choice}
+use Rattle.vp_source.specs.declared.statement.EventTerm.{EventTerm}
+use Rattle.vp_source.specs.declared.statement.Statement.{Statement}
+use Rattle.vp_source.specs.StmtGrammar as grammar
+use Rattle.vp_source.specs.StmtLayout.{Lists, put_blocking, put_event, put_item, put_items, put_labels, put_stmt, put_stmts, put_target, put_term, put_terms, put_value, with_choices, with_statement}
 
 -- a list that has another at its head
 pub record Extends {X : Type 0} (first all : List X) : Type 0 where

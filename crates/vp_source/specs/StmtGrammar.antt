@@ -1,13 +1,13 @@
 -- The grammar of statements: derivations, and the symbols that each spells. A derivation holds the places of its terminals.
-use Rattle.vp_parse_expr.specs.declared.symbol.SymbolKind.{SymbolKind}
+use Rattle.vp_source.specs.declared.symbol.SymbolKind.{SymbolKind}
 use Rattle.std.specs.Prelude.{ℕ, ◌+◌, ◌<◌, max, List, ◌∷◌, ◌≤◌}
 use Rattle.vp_lex.specs.declared.keyword.Keyword.TheVariants as keyword
 use Rattle.vp_lex.specs.declared.token.Punctuator.TheVariants as punctuator
-use Rattle.vp_parse_expr.specs.declared.symbol.Symbol.{Symbol}
-use Rattle.vp_parse_expr.specs.declared.symbol.SymbolKind.TheVariants as symbol
-use Rattle.vp_parse_expr.specs.declared.symbol.TheConstants.{NUMBER_LIMIT}
-use Rattle.vp_parse_expr.specs.Kinds.{symbol_at}
-use Rattle.vp_parse_expr.specs.Grammar.{Expr, Selection, expr_text, selection_text, expr_depth, selection_depth, IsExpr, IsSelection}
+use Rattle.vp_source.specs.declared.symbol.Symbol.{Symbol}
+use Rattle.vp_source.specs.declared.symbol.SymbolKind.TheVariants as symbol
+use Rattle.vp_source.specs.declared.symbol.TheConstants.{NUMBER_LIMIT}
+use Rattle.vp_source.specs.Kinds.{symbol_at}
+use Rattle.vp_source.specs.ExprGrammar.{Expr, Selection, expr_text, selection_text, expr_depth, selection_depth, IsExpr, IsSelection}
 
 -- a delay: a number, or one in parentheses (9.7.1)
 pub data Delay : Type 0 where

@@ -3,12 +3,12 @@
 use Rattle.std.specs.Prelude.{◌≡◌, ℕ, ◌≤◌, max, Bool, true, false, List, [], ◌∷◌, Option, Some, None, IfSome}
 use Rattle.vp_lex.specs.declared.keyword.Keyword.TheVariants as keyword
 use Rattle.vp_lex.specs.declared.token.Punctuator.TheVariants as punctuator
-use Rattle.vp_parse.specs.declared.parsing.TheConstants.{DEPTH_LIMIT}
-use Rattle.vp_parse_expr.specs.declared.symbol.Symbol.{Symbol}
-use Rattle.vp_parse_expr.specs.declared.symbol.SymbolKind.TheVariants as symbol
-use Rattle.vp_parse_expr.specs.Kinds.{symbol_at}
-use Rattle.vp_parse_expr.specs.Grammar.{Expr, Range, expr_text, expr_depth, is_sized, IsExpr, range_text, IsRange}
-use Rattle.vp_parse_stmt.specs.Grammar.{Stmt, stmt_text, IsStmt, stmt_depth, stmt_height}
+use Rattle.vp_source.specs.declared.source.TheConstants.{DEPTH_LIMIT}
+use Rattle.vp_source.specs.declared.symbol.Symbol.{Symbol}
+use Rattle.vp_source.specs.declared.symbol.SymbolKind.TheVariants as symbol
+use Rattle.vp_source.specs.Kinds.{symbol_at}
+use Rattle.vp_source.specs.ExprGrammar.{Expr, Range, expr_text, expr_depth, is_sized, IsExpr, range_text, IsRange}
+use Rattle.vp_source.specs.StmtGrammar.{Stmt, stmt_text, IsStmt, stmt_depth, stmt_height}
 
 -- ---- lists with commas, ranges and values
 

@@ -1,21 +1,20 @@
 -- The procedures of a derivation stand in its source.
-use Rattle.std.proofs.Common.{◌≡◌, ◌∙◌, ℕ, zero, suc, ◌+◌, ◌≤◌, ◌<◌, List, [], ◌∷◌, ◌++◌, length, slice_get, Some, refl, sym, subst, ap, append_assoc, arith}
+use Rattle.std.proofs.Common.{◌≡◌, ◌∙◌, ℕ, zero, suc, List, [], ◌∷◌, ◌++◌, length, slice_get, Some, refl, sym, subst, ap, append_assoc, arith}
 use Rattle.std.proofs.lemmas.List.{length-append, length_push}
 use Rattle.std.proofs.lemmas.Option.{slice_get-get_or}
 use Rattle.std.proofs.Math.Seq.{get_or-append_seam}
 use Rattle.vp_lex.specs.declared.token.Token.{Token}
-use Rattle.vp_parse_stmt.specs.Grammar.{Stmt}
-use Rattle.vp_parse_stmt.specs.Layout as layout
-use Rattle.vp_parse_stmt.specs.Layout.{put_stmt}
-use Rattle.vp_parse.specs.declared.source.Item as source
-use Rattle.vp_parse.specs.declared.source.Item.TheVariants as item
-use Rattle.vp_parse.specs.declared.source.Module as module_of
-use Rattle.vp_parse.specs.declared.source.Source.{Source}
-use Rattle.vp_parse.specs.Grammar.{Item, Declares, Initial, Always, Module, Derivation}
-use Rattle.vp_parse.specs.Layout.{IsSourceOf, Lists, lists_of, no_parts, put_header, put_item, put_items, put_module, put_modules, put_procedure, with_item}
-use Rattle.vp_parse.specs.Standing.{ItemStands, ProcedureStands, ProceduresStand, StatementStandsAt}
-use Rattle.vp_parse.proofs.Growing.{AllGrow, all_kept, further_on, header_grows, item_grows, items_grow, module_grows, modules_grow}
-use Rattle.vp_parse.proofs.GrowingParts.{longer, stmt_grows}
+use Rattle.vp_source.specs.StmtGrammar.{Stmt}
+use Rattle.vp_source.specs.StmtLayout.{put_stmt}
+use Rattle.vp_source.specs.declared.source.Item as source
+use Rattle.vp_source.specs.declared.source.Item.TheVariants as item
+use Rattle.vp_source.specs.declared.source.Module as module_of
+use Rattle.vp_source.specs.declared.source.Source.{Source}
+use Rattle.vp_source.specs.Grammar.{Item, Declares, Initial, Always, Module, Derivation}
+use Rattle.vp_source.specs.Layout.{IsSourceOf, Lists, lists_of, no_parts, put_header, put_item, put_items, put_module, put_modules, put_procedure}
+use Rattle.vp_source.specs.Standing.{ItemStands, ProcedureStands, ProceduresStand}
+use Rattle.vp_source.proofs.Growing.{AllGrow, all_kept, further_on, header_grows, item_grows, items_grow, modules_grow}
+use Rattle.vp_source.proofs.GrowingParts.{longer}
 
 -- what stands behind so many
 stands_behind : {X : Type 0} (xs : List X) (y : X) (ys : List X) → slice_get (xs ++ y ∷ ys) (length xs) ≡ Some y

@@ -1,12 +1,12 @@
 -- Where the statements of a derivation stand in its source.
-use Rattle.std.specs.Prelude.{◌≡◌, ◌≤◌, ◌<◌, ℕ, List, ◌++◌, length, slice_get, Some}
-use Rattle.vp_parse_stmt.specs.Grammar.{Stmt}
-use Rattle.vp_parse_stmt.specs.Layout.{Lists, put_stmt}
-use Rattle.vp_parse.specs.declared.source.Item as source
-use Rattle.vp_parse.specs.declared.source.Item.TheVariants as item
-use Rattle.vp_parse.specs.declared.source.Module as module_of
-use Rattle.vp_parse.specs.declared.source.Source.{Source}
-use Rattle.vp_parse.specs.Grammar.{Item, Declares, Initial, Always, Module, Derivation}
+use Rattle.std.specs.Prelude.{◌≡◌, ◌≤◌, ◌<◌, ℕ, ◌++◌, length, slice_get, Some}
+use Rattle.vp_source.specs.StmtGrammar.{Stmt}
+use Rattle.vp_source.specs.StmtLayout.{Lists, put_stmt}
+use Rattle.vp_source.specs.declared.source.Item as source
+use Rattle.vp_source.specs.declared.source.Item.TheVariants as item
+use Rattle.vp_source.specs.declared.source.Module as module_of
+use Rattle.vp_source.specs.declared.source.Source.{Source}
+use Rattle.vp_source.specs.Grammar.{Item, Declares, Initial, Always, Module, Derivation}
 
 -- the derivation of a statement stands at a place of a source, in a module: its parts are laid out behind others, its statements and
 -- expressions in the spans of the module, and the whole has this place

@@ -1,17 +1,17 @@
 -- How a derivation lies in the flat lists of a source: each part behind its own parts, and nothing else.
-use Rattle.vp_parse_stmt.specs.declared.arena.Span as span
-use Rattle.vp_parse_stmt.specs.declared.arena.EventTerm as term
-use Rattle.vp_parse_stmt.specs.declared.arena.Choice as choice
-use Rattle.vp_parse_stmt.specs.declared.arena.Edge.TheVariants as edge_of
-use Rattle.vp_parse_stmt.specs.declared.arena.Edge as edge
+use Rattle.vp_source.specs.declared.statement.Span as span
+use Rattle.vp_source.specs.declared.statement.EventTerm as term
+use Rattle.vp_source.specs.declared.statement.Choice as choice
+use Rattle.vp_source.specs.declared.statement.Edge.TheVariants as edge_of
+use Rattle.vp_source.specs.declared.statement.Edge as edge
 use Rattle.std.specs.Prelude.{ℕ, List, [], ◌∷◌, ◌++◌, length, Option, Some, None, Bool, true, false}
-use Rattle.vp_parse_expr.specs.declared.node.Expression.{Expression}
-use Rattle.vp_parse_expr.specs.declared.node.Selection as selection
-use Rattle.vp_parse_expr.specs.Grammar.{Expr, Selection}
-use Rattle.vp_parse_expr.specs.Layout.{put_expr, put_selection}
-use Rattle.vp_parse_stmt.specs.declared.arena.Statement as statement
-use Rattle.vp_parse_stmt.specs.declared.arena.Statement.TheVariants as statement_of
-use Rattle.vp_parse_stmt.specs.Grammar.{Hold, Now, Later, delay_amount, Stmt, Assign, Block, Null, Nonblocking, Delayed, Wait, When, Choose, While, Forever, Stmts, Empty, Then, For, Edge, Posedge, Negedge, Term, Level, Edged, TermList, Single, Further, Event, Any, AnyGrouped, Change, Terms, Awaited, Sort, Exact, Wild, LabelList, Only, Also, Items, Last, More, Item, Labels, Default, Case, Finish}
+use Rattle.vp_source.specs.declared.expression.Expression.{Expression}
+use Rattle.vp_source.specs.declared.expression.Selection as selection
+use Rattle.vp_source.specs.ExprGrammar.{Expr, Selection}
+use Rattle.vp_source.specs.ExprLayout.{put_expr, put_selection}
+use Rattle.vp_source.specs.declared.statement.Statement as statement
+use Rattle.vp_source.specs.declared.statement.Statement.TheVariants as statement_of
+use Rattle.vp_source.specs.StmtGrammar.{Hold, Now, Later, delay_amount, Stmt, Assign, Block, Null, Nonblocking, Delayed, Wait, When, Choose, While, Forever, Stmts, Empty, Then, For, Edge, Posedge, Negedge, Term, Level, Edged, TermList, Single, Further, Event, Any, AnyGrouped, Change, Terms, Awaited, Sort, Exact, Wild, LabelList, Only, Also, Items, Last, More, Item, Labels, Default, Case, Finish}
 
 -- the flat lists of statements, of expressions, of terms of events, and of choices of cases
 pub record Lists : Type 0 where

@@ -1,11 +1,11 @@
 -- How a derivation lies in a flat list: each part behind its own parts, and nothing else.
 use Rattle.std.specs.Prelude.{ℕ, List, [], ◌∷◌, ◌++◌, length}
-use Rattle.vp_parse_expr.specs.declared.node.Expression as node
-use Rattle.vp_parse_expr.specs.declared.node.Expression.TheVariants as node_of
-use Rattle.vp_parse_expr.specs.declared.node.Range as range
-use Rattle.vp_parse_expr.specs.declared.node.Selection as selection
-use Rattle.vp_parse_expr.specs.declared.node.Selection.TheVariants as selection_of
-use Rattle.vp_parse_expr.specs.Grammar.{Range, Expr, Name, Sized, Based, Number, Group, Unary, Binary, Conditional, Concatenation, Replication, Selection, Whole, Bit, Part, Parts, First, More}
+use Rattle.vp_source.specs.declared.expression.Expression as node
+use Rattle.vp_source.specs.declared.expression.Expression.TheVariants as node_of
+use Rattle.vp_source.specs.declared.expression.Range as range
+use Rattle.vp_source.specs.declared.expression.Selection as selection
+use Rattle.vp_source.specs.declared.expression.Selection.TheVariants as selection_of
+use Rattle.vp_source.specs.ExprGrammar.{Range, Expr, Name, Sized, Based, Number, Group, Unary, Binary, Conditional, Concatenation, Replication, Selection, Whole, Bit, Part, Parts, First, More}
 
 -- one more part, and its place
 abbrev pub with_node : node.Expression → List node.Expression → ℕ × List node.Expression

@@ -1,7 +1,4 @@
-ghost use Rattle.std.specs.Prelude.{◌≡◌, [], ◌∷◌, ◌++◌, length, ◌+◌, ◌<◌, ◌^◌, IfOk, OnOk, vec_len};
-
 use crate::operator::{BinaryOperator, UnaryOperator};
-use std::alloc::AllocError;
 
 /// The bounds of a range: `lsb` is at most `msb`, and `msb` at most 65,535 (5.2.1).
 #[derive(Clone, Copy)]
@@ -76,19 +73,4 @@ pub enum Expression {
         count: u32,
         list: u32,
     },
-}
-
-/// One more expression, and its place.
-pub fn add_expression(
-    expressions: &mut Vec<Expression>,
-    expression: Expression,
-) -> Result<u32, AllocError>
-    requires { vec_len expressions.old < 2 ^ 32 }
-    ensures place { IfOk result (λ place. place ≡ length expressions.old.items) }
-    ensures added { OnOk result (expressions.new.items ≡ expressions.old.items ++ expression ∷ []) }
-    ensures len { OnOk result (vec_len expressions.new ≡ vec_len expressions.old + 1) }
-{
-    let place = expressions.len() as u32;
-    expressions.push(expression)?;
-    Ok(place)
 }

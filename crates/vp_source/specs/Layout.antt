@@ -2,24 +2,24 @@
 use Rattle.std.specs.Prelude.{◌≡◌, ℕ, List, [], ◌∷◌, ◌++◌, length, Option, Some, None, option_map}
 use Rattle.vp_lex.specs.declared.token.Token.{Token}
 use Rattle.vp_lex.specs.declared.token.Punctuator.TheVariants as punctuator
-use Rattle.vp_parse_expr.specs.declared.symbol.Symbol.{Symbol}
-use Rattle.vp_parse_expr.specs.declared.symbol.SymbolKind.TheVariants as symbol
-use Rattle.vp_parse_expr.specs.Kinds.{symbol_at}
-use Rattle.vp_parse_expr.specs.Grammar.{Expr, Range}
-use Rattle.vp_parse_expr.specs.Layout.{put_range}
-use Rattle.vp_parse_stmt.specs.Grammar.{Stmt}
-use Rattle.vp_parse_stmt.specs.Layout as layout
-use Rattle.vp_parse_stmt.specs.Layout.{put_stmt, put_value}
-use Rattle.vp_parse.specs.declared.source.Connection as connection
-use Rattle.vp_parse.specs.declared.source.DeclaredRange.{DeclaredRange}
-use Rattle.vp_parse.specs.declared.source.Direction as direction
-use Rattle.vp_parse.specs.declared.source.Direction.TheVariants as direction_of
-use Rattle.vp_parse.specs.declared.source.Ends.{Ends}
-use Rattle.vp_parse.specs.declared.source.Item as item
-use Rattle.vp_parse.specs.declared.source.Item.TheVariants as item_of
-use Rattle.vp_parse.specs.declared.source.Module as module_of
-use Rattle.vp_parse.specs.declared.source.Source.{Source}
-use Rattle.vp_parse.specs.Grammar.{Further, Connection, Ordered, Named, Connections, Unconnected, Connected, value_text, Declaration, Nets, Regs, LocalParameters, Assignments, Instances, Declarator, Plain, Valued, Instance, Item, Declares, Initial, Always, Direction, Input, Output, OutputReg, Port, Declared, Bare, Header, NoHeader, Ports, Module, Derivation}
+use Rattle.vp_source.specs.declared.symbol.Symbol.{Symbol}
+use Rattle.vp_source.specs.declared.symbol.SymbolKind.TheVariants as symbol
+use Rattle.vp_source.specs.Kinds.{symbol_at}
+use Rattle.vp_source.specs.ExprGrammar.{Expr, Range}
+use Rattle.vp_source.specs.ExprLayout.{put_range}
+use Rattle.vp_source.specs.StmtGrammar.{Stmt}
+use Rattle.vp_source.specs.StmtLayout as layout
+use Rattle.vp_source.specs.StmtLayout.{put_stmt, put_value}
+use Rattle.vp_source.specs.declared.source.Connection as connection
+use Rattle.vp_source.specs.declared.source.DeclaredRange.{DeclaredRange}
+use Rattle.vp_source.specs.declared.source.Direction as direction
+use Rattle.vp_source.specs.declared.source.Direction.TheVariants as direction_of
+use Rattle.vp_source.specs.declared.source.Ends.{Ends}
+use Rattle.vp_source.specs.declared.source.Item as item
+use Rattle.vp_source.specs.declared.source.Item.TheVariants as item_of
+use Rattle.vp_source.specs.declared.source.Module as module_of
+use Rattle.vp_source.specs.declared.source.Source.{Source}
+use Rattle.vp_source.specs.Grammar.{Further, Connection, Ordered, Named, Connections, Unconnected, Connected, value_text, Declaration, Nets, Regs, LocalParameters, Assignments, Instances, Declarator, Plain, Valued, Instance, Item, Declares, Initial, Always, Direction, Input, Output, OutputReg, Port, Declared, Bare, Header, NoHeader, Ports, Module, Derivation}
 
 -- the flat lists of a source: its items, the connections of its instances, and the parts that both name
 pub record Lists : Type 0 where

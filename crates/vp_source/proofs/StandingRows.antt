@@ -1,14 +1,14 @@
 -- Where a procedure stands, computed of `module a; initial ; endmodule`.
 use Rattle.std.proofs.Common.{◌≡◌, [], ◌∷◌, refl, arith}
-use Rattle.vp_parse_stmt.specs.declared.arena.Statement.TheVariants as statement
-use Rattle.vp_parse_stmt.specs.Grammar as body
-use Rattle.vp_parse_stmt.specs.Layout as layout
-use Rattle.vp_parse.specs.declared.source.Item.TheVariants as item
-use Rattle.vp_parse.specs.declared.source.Module as module_of
-use Rattle.vp_parse.specs.declared.source.Source.{Source}
-use Rattle.vp_parse.specs.Grammar.{Derivation, Initial, NoHeader}
-use Rattle.vp_parse.specs.Layout.{lists_of, put_source}
-use Rattle.vp_parse.specs.Standing.{ProcedureStands}
+use Rattle.vp_source.specs.declared.statement.Statement.TheVariants as statement
+use Rattle.vp_source.specs.StmtGrammar as body
+use Rattle.vp_source.specs.StmtLayout as layout
+use Rattle.vp_source.specs.declared.source.Item.TheVariants as item
+use Rattle.vp_source.specs.declared.source.Module as module_of
+use Rattle.vp_source.specs.declared.source.Source.{Source}
+use Rattle.vp_source.specs.Grammar.{Derivation, Initial, NoHeader}
+use Rattle.vp_source.specs.Layout.{lists_of, put_source}
+use Rattle.vp_source.specs.Standing.{ProcedureStands}
 
 abbrev derivation : Derivation
 derivation = record { keyword = 0; name = 1; header = NoHeader; semicolon = 2; items = Initial 3 (body.Null 4) ∷ []; endmodule = 5 } ∷ []

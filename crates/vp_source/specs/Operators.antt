@@ -2,13 +2,13 @@
 use Rattle.std.specs.Prelude.{ℕ, nat_le, List, [], ◌∷◌, Option, Some, None, if◌then◌else◌}
 use Rattle.vp_lex.specs.declared.token.Punctuator.{Punctuator}
 use Rattle.vp_lex.specs.declared.token.Punctuator.TheVariants as punctuator
-use Rattle.vp_parse_expr.specs.declared.operator.BinaryOperator.{BinaryOperator}
-use Rattle.vp_parse_expr.specs.declared.operator.BinaryOperator.TheVariants as binary
-use Rattle.vp_parse_expr.specs.declared.operator.UnaryOperator.{UnaryOperator}
-use Rattle.vp_parse_expr.specs.declared.operator.UnaryOperator.TheVariants as unary
-use Rattle.vp_parse_expr.specs.declared.symbol.Symbol.{Symbol}
-use Rattle.vp_parse_expr.specs.declared.symbol.SymbolKind.{SymbolKind}
-use Rattle.vp_parse_expr.specs.declared.symbol.SymbolKind.TheVariants as symbol
+use Rattle.vp_source.specs.declared.operator.BinaryOperator.{BinaryOperator}
+use Rattle.vp_source.specs.declared.operator.BinaryOperator.TheVariants as binary
+use Rattle.vp_source.specs.declared.operator.UnaryOperator.{UnaryOperator}
+use Rattle.vp_source.specs.declared.operator.UnaryOperator.TheVariants as unary
+use Rattle.vp_source.specs.declared.symbol.Symbol.{Symbol}
+use Rattle.vp_source.specs.declared.symbol.SymbolKind.{SymbolKind}
+use Rattle.vp_source.specs.declared.symbol.SymbolKind.TheVariants as symbol
 
 -- the punctuator of an operator of one operand (5.1)
 abbrev pub unary_sign : UnaryOperator → Punctuator

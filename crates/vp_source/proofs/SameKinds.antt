@@ -7,10 +7,10 @@ use Rattle.vp_lex.specs.declared.keyword.Keyword.{Keyword}
 use Rattle.vp_lex.specs.declared.keyword.Keyword.TheVariants as keyword
 use Rattle.vp_lex.specs.declared.token.Punctuator.{Punctuator}
 use Rattle.vp_lex.specs.declared.token.Punctuator.TheVariants as punctuator
-use Rattle.vp_parse_expr.specs.contracts.symbol.SymbolKindPartialEq.TheImpl.{ghosts}
-use Rattle.vp_parse_expr.specs.declared.symbol.SymbolKind.{SymbolKind}
-use Rattle.vp_parse_expr.specs.declared.symbol.SymbolKind.TheVariants as symbol
-use Rattle.vp_parse_expr.specs.Kinds.{keyword_number, punctuator_number, same_kind}
+use Rattle.vp_source.specs.contracts.symbol.SymbolKindPartialEq.TheImpl.{ghosts}
+use Rattle.vp_source.specs.declared.symbol.SymbolKind.{SymbolKind}
+use Rattle.vp_source.specs.declared.symbol.SymbolKind.TheVariants as symbol
+use Rattle.vp_source.specs.Kinds.{keyword_number, punctuator_number, same_kind}
 
 -- the numbers of the definitions are the variants' own
 keyword_tag : (k : Keyword) → tag_of keyword_type k ≡ keyword_number k

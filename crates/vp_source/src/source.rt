@@ -1,11 +1,13 @@
-ghost use Rattle.std.specs.Prelude.{◌≡◌, ◌<◌, ◌^◌, [], vec_len};
-ghost use Rattle.vp_parse.specs.Places.{earlier};
+ghost use Rattle.std.specs.Prelude.{◌≡◌};
+ghost use Rattle.vp_source.specs.Places.{earlier};
 
-use std::alloc::Global;
+use crate::expression::{Expression, Range};
+use crate::statement::{Choice, EventTerm, Span, Statement};
 use vp_lex::Token;
 use vp_list::{Sequence, Text};
-use vp_parse_expr::{Expression, Range};
-use vp_parse_stmt::{Choice, EventTerm, Span, Statement};
+
+/// How deep statements, and expressions, may nest in one another.
+pub const DEPTH_LIMIT: u32 = 64;
 
 /// The range of a declaration, and the token of its bracket (clause 4.3.1).
 #[derive(Clone, Copy)]
@@ -111,7 +113,7 @@ pub struct Source {
 }
 
 impl Source {
-    ghost use Rattle.vp_parse.specs.Places.{line_at, token_at, word_at};
+    ghost use Rattle.vp_source.specs.Places.{line_at, token_at, word_at};
 
     /// The token at a place; none behind the end.
     pub fn token(&self, place: u32) -> Option<Token>
@@ -159,49 +161,4 @@ pub struct Ends {
     pub expressions: u32,
     pub terms: u32,
     pub choices: u32,
-}
-
-/// The lists of a source while it is read.
-#[derive(Drop)]
-pub struct Arena {
-    pub items: Vec<Item>,
-    pub connections: Vec<Connection>,
-    pub parts: vp_parse_stmt::Arena,
-}
-
-impl Arena {
-    ghost use Rattle.vp_parse.specs.Layout.{ends_of, no_parts};
-    ghost use Rattle.vp_parse.specs.Placing.{lists_in};
-    ghost use Rattle.vp_parse.specs.Weight.{weight};
-
-    /// No items, and no parts of them.
-    pub fn new(alloc: Global) -> Arena
-        ensures none { lists_in result ≡ no_parts }
-        ensures items { vec_len result.items ≡ 0 }
-        ensures connections { vec_len result.connections ≡ 0 }
-        ensures statements { vec_len result.parts.statements ≡ 0 }
-        ensures expressions { vec_len result.parts.expressions ≡ 0 }
-        ensures terms { vec_len result.parts.terms ≡ 0 }
-        ensures choices { vec_len result.parts.choices ≡ 0 }
-    {
-        Arena {
-            items: Vec::new(alloc),
-            connections: Vec::new(alloc),
-            parts: vp_parse_stmt::Arena::new(alloc),
-        }
-    }
-
-    /// Where its lists end.
-    pub fn ends(&self) -> Ends
-        requires { weight self.now [] < 2 ^ 32 }
-        ensures { result ≡ ends_of (lists_in self.now) }
-    {
-        Ends {
-            items: self.items.len() as u32,
-            statements: self.parts.statements.len() as u32,
-            expressions: self.parts.expressions.len() as u32,
-            terms: self.parts.terms.len() as u32,
-            choices: self.parts.choices.len() as u32,
-        }
-    }
 }

@@ -1,7 +1,7 @@
 -- A source is whole: the modules of a text hold all of its expressions, statements, terms of events and choices of cases.
 use Rattle.std.specs.Prelude.{◌≡◌, ◌≤◌, ℕ, List, [], ◌∷◌, length, map}
-use Rattle.vp_parse.specs.declared.source.Source.{Source}
-use Rattle.vp_parse_stmt.specs.declared.arena.Span.{Span}
+use Rattle.vp_source.specs.declared.source.Source.{Source}
+use Rattle.vp_source.specs.declared.statement.Span.{Span}
 
 -- spans follow each other without a gap, from a place on up to another
 abbrev pub AreGapless : (from : ℕ) → List Span → (to : ℕ) → Type 0

@@ -4,7 +4,7 @@ use Rattle.std.specs.Prelude.{ℕ, min, List, [], ◌∷◌, slice_get, Option, 
 use Rattle.std.specs.Option.{option_map_or}
 use Rattle.vp_lex.specs.Texts.{text_of}
 use Rattle.vp_lex.specs.declared.token.Token.{Token}
-use Rattle.vp_parse.specs.declared.source.Source.{Source}
+use Rattle.vp_source.specs.declared.source.Source.{Source}
 
 -- the token at a place; none behind the end
 abbrev pub token_at : Source → ℕ → Option Token

@@ -2,22 +2,22 @@
 use Rattle.std.proofs.Common.{◌≡◌, ℕ, ◌≤◌, List, [], ◌∷◌, length, map, Option, Some, None, option_map, refl, sym, subst}
 use Rattle.vp_lex.specs.declared.token.Token.{Token}
 use Rattle.vp_lex.specs.declared.token.Punctuator.TheVariants as punctuator
-use Rattle.vp_parse_expr.specs.declared.symbol.Symbol.{Symbol}
-use Rattle.vp_parse_expr.specs.declared.symbol.SymbolKind.TheVariants as symbol
-use Rattle.vp_parse_expr.specs.Kinds.{symbol_at}
-use Rattle.vp_parse_expr.specs.Grammar.{Expr}
-use Rattle.vp_parse_stmt.specs.declared.arena.Span.{Span}
-use Rattle.vp_parse_stmt.specs.Grammar.{Stmt}
-use Rattle.vp_parse_stmt.specs.Layout as layout
-use Rattle.vp_parse_stmt.specs.Layout.{put_stmt, put_value}
-use Rattle.vp_parse.specs.declared.source.Item as source
-use Rattle.vp_parse.specs.declared.source.Item.TheVariants as item_of
-use Rattle.vp_parse.specs.declared.source.Module as module_of
-use Rattle.vp_parse.specs.declared.source.Source.{Source}
-use Rattle.vp_parse.specs.Grammar.{Further, Connection, Ordered, Named, Connections, Unconnected, Connected, value_text, Declaration, Nets, Regs, LocalParameters, Assignments, Instances, Declarator, Plain, Valued, Instance, Item, Declares, Initial, Always, Port, Header, NoHeader, Ports, Module, Derivation}
-use Rattle.vp_parse.specs.Layout.{IsSourceOf, Lists, PortType, comma_at, first_place, lists_of, no_parts, port_name, port_type, put_connected, put_connection, put_connection_by, put_connections, put_declared, put_declarator, put_further, put_header, put_item, put_items, put_module, put_modules, put_port, put_ports, put_procedure, scalar_input, with_item}
-use Rattle.vp_parse.specs.Whole.{AreGapless, AreWhole}
-use Rattle.vp_parse.proofs.GrowingParts.{Extends, Grows, longer, onward, pushed, same, stmt_grows, twice, unchanged, value_grows}
+use Rattle.vp_source.specs.declared.symbol.Symbol.{Symbol}
+use Rattle.vp_source.specs.declared.symbol.SymbolKind.TheVariants as symbol
+use Rattle.vp_source.specs.Kinds.{symbol_at}
+use Rattle.vp_source.specs.ExprGrammar.{Expr}
+use Rattle.vp_source.specs.declared.statement.Span.{Span}
+use Rattle.vp_source.specs.StmtGrammar.{Stmt}
+use Rattle.vp_source.specs.StmtLayout as layout
+use Rattle.vp_source.specs.StmtLayout.{put_stmt, put_value}
+use Rattle.vp_source.specs.declared.source.Item as source
+use Rattle.vp_source.specs.declared.source.Item.TheVariants as item_of
+use Rattle.vp_source.specs.declared.source.Module as module_of
+use Rattle.vp_source.specs.declared.source.Source.{Source}
+use Rattle.vp_source.specs.Grammar.{Further, Connection, Ordered, Named, Connections, Unconnected, Connected, value_text, Declaration, Nets, Regs, LocalParameters, Assignments, Instances, Declarator, Plain, Valued, Instance, Item, Declares, Initial, Always, Port, Header, NoHeader, Ports, Module, Derivation}
+use Rattle.vp_source.specs.Layout.{IsSourceOf, Lists, PortType, comma_at, first_place, lists_of, no_parts, port_name, port_type, put_connected, put_connection, put_connection_by, put_connections, put_declared, put_declarator, put_further, put_header, put_item, put_items, put_module, put_modules, put_port, put_ports, put_procedure, scalar_input, with_item}
+use Rattle.vp_source.specs.Whole.{AreGapless, AreWhole}
+use Rattle.vp_source.proofs.GrowingParts.{Extends, Grows, longer, onward, pushed, same, stmt_grows, twice, unchanged, value_grows}
 
 -- lists that have others at their heads
 pub record AllGrow (first all : Lists) : Type 0 where

@@ -1,0 +1,5 @@
+pub mod GrowingParts
+pub mod Growing
+pub mod Standing
+mod StandingRows
+pub mod SameKinds

@@ -1,0 +1,11 @@
+pub mod Kinds
+pub mod Operators
+pub mod ExprGrammar
+pub mod StmtGrammar
+pub mod Grammar
+pub mod ExprLayout
+pub mod StmtLayout
+pub mod Layout
+pub mod Places
+pub mod Standing
+pub mod Whole
