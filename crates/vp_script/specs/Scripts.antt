@@ -5,20 +5,20 @@ use Rattle.vp_policy.specs.Faults.{Explains}
 use Rattle.vp_policy.specs.File.{file_of}
 use Rattle.vp_policy.specs.Users.{Member}
 use Rattle.vp_sim.specs.declared.fault.SimError.TheVariants.{Idle}
-use Rattle.vp_world.specs.declared.event.Event.{Event}
-use Rattle.vp_world.specs.declared.event.Event.TheVariants as event
-use Rattle.vp_world.specs.declared.event.Request.{Request}
-use Rattle.vp_world.specs.declared.event.Request.TheVariants as request
-use Rattle.vp_world.specs.declared.event.SessionId.{SessionId}
-use Rattle.vp_world.specs.declared.fault.WorldError.{WorldError}
-use Rattle.vp_world.specs.declared.fault.WorldError.TheVariants as error
-use Rattle.vp_world.specs.declared.limits.Limits.{Limits}
-use Rattle.vp_world.specs.declared.reply.Refusal.TheVariants as refusal
-use Rattle.vp_world.specs.declared.reply.Reply.{Reply}
-use Rattle.vp_world.specs.declared.reply.Reply.TheVariants as reply
-use Rattle.vp_world.specs.History.{answer, entry_of, refusal_behind, state_behind}
-use Rattle.vp_world.specs.Refusals.{refusal_of_error}
-use Rattle.vp_world.specs.Worlds.{Logged, Opening}
+use Rattle.vp_present.specs.declared.event.Event.{Event}
+use Rattle.vp_present.specs.declared.event.Event.TheVariants as event
+use Rattle.vp_present.specs.declared.event.Request.{Request}
+use Rattle.vp_present.specs.declared.event.Request.TheVariants as request
+use Rattle.vp_present.specs.declared.event.SessionId.{SessionId}
+use Rattle.vp_present.specs.declared.fault.WorldError.{WorldError}
+use Rattle.vp_present.specs.declared.fault.WorldError.TheVariants as error
+use Rattle.vp_present.specs.declared.limits.Limits.{Limits}
+use Rattle.vp_present.specs.declared.reply.Refusal.TheVariants as refusal
+use Rattle.vp_present.specs.declared.reply.Reply.{Reply}
+use Rattle.vp_present.specs.declared.reply.Reply.TheVariants as reply
+use Rattle.vp_present.specs.History.{answer, entry_of, refusal_behind, state_behind}
+use Rattle.vp_present.specs.Refusals.{refusal_of_error}
+use Rattle.vp_present.specs.Worlds.{Logged, Opening}
 use Rattle.vp_wire.specs.declared.fault.WireError.{WireError}
 use Rattle.vp_wire.specs.Dialogue.{Closes, IsWhole, Point, Stops}
 use Rattle.vp_script.specs.Bundles.{cut_of}

@@ -1,14 +1,15 @@
 ghost use Rattle.std.specs.Prelude.{◌≡◌, ◌⊎◌, None, Some, IfErr, IfSome, IsSome, OnErr, OnOk, true, false, ◌||◌};
-ghost use Rattle.vp_world.specs.declared.event.Event.TheVariants as event;
-ghost use Rattle.vp_world.specs.declared.fault.WorldError.TheVariants.{NoMemory};
-ghost use Rattle.vp_world.specs.Events.{IsWellFormed};
+ghost use Rattle.vp_present.specs.declared.event.Event.TheVariants as event;
+ghost use Rattle.vp_present.specs.declared.fault.WorldError.TheVariants.{NoMemory};
+ghost use Rattle.vp_present.specs.Events.{IsWellFormed};
 ghost use Rattle.vp_script.specs.Keeping.{Keeps};
 ghost use Rattle.vp_script.specs.Scripts.{Applied, Runs, event_of, next_event, refused_by, session_behind, with_entry};
 
 use std::alloc::AllocError;
+use vp_present::{Event, Refusal, Reply, Request, SessionId, WorldError};
 use vp_sim::SimError;
 use vp_wire::Caller;
-use vp_world::{Event, Refusal, Reply, Request, SessionId, World, WorldError};
+use vp_world::World;
 
 /// The event of a request; none where it is of a session and none was opened.
 fn event_of(session: Option<SessionId>, request: Request) -> Option<Event>

@@ -18,8 +18,9 @@ use vp_lex::tokens;
 use vp_parse::parse;
 use vp_policy::Policy;
 use vp_pragma::envelopes;
+use vp_present::Limits;
 use vp_wire::{Counted, session};
-use vp_world::{Limits, World};
+use vp_world::World;
 
 /// How a script ended: at the end of its input.
 #[derive(Clone, Copy, Debug, PartialEq, Eq)]

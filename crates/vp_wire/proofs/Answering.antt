@@ -4,8 +4,8 @@ use Rattle.std.proofs.lemmas.List.{append-nil, append_assoc}
 use Rattle.std.specs.Prelude.{◌⊎◌, codes}
 use Rattle.std.specs.List.{concat}
 use Rattle.std.specs.Prelude.{IsErrOf}
-use Rattle.vp_world.specs.declared.event.Request.{Request}
-use Rattle.vp_world.specs.declared.reply.Reply.{Reply}
+use Rattle.vp_present.specs.declared.event.Request.{Request}
+use Rattle.vp_present.specs.declared.reply.Reply.{Reply}
 use Rattle.vp_wire.specs.Dialogue.{Answers, AnswersAll, Calls, Point, Tells, Turn, error_line, turn_of}
 use Rattle.vp_wire.specs.declared.line.LineError.{LineError}
 use Rattle.vp_wire.specs.declared.line.LineError.TheVariants as error

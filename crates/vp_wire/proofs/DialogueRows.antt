@@ -1,9 +1,9 @@
 -- The lines of an input, and what becomes of a request, computed. Each row is an equation that holds by computation.
 use Rattle.std.proofs.Common.{◌≡◌, [], ◌∷◌, refl}
 use Rattle.std.specs.Prelude.{codes}
-use Rattle.vp_world.specs.declared.event.Request.TheVariants as request
-use Rattle.vp_world.specs.declared.reply.Refusal.TheVariants as refusal
-use Rattle.vp_world.specs.declared.reply.Reply.TheVariants as reply
+use Rattle.vp_present.specs.declared.event.Request.TheVariants as request
+use Rattle.vp_present.specs.declared.reply.Refusal.TheVariants as refusal
+use Rattle.vp_present.specs.declared.reply.Reply.TheVariants as reply
 use Rattle.vp_wire.specs.declared.dialogue.Stage.TheVariants.{Before, Closed, Open}
 use Rattle.vp_wire.specs.Dialogue.{Calls, Tells, lines_of, stage_behind, turn_of_request, whole_lines}
 

@@ -6,8 +6,8 @@ use Rattle.std.specs.Io.KnownBytes.{Appends}
 use Rattle.std.specs.Result.{IfOk, IsErr, MatchResult}
 use Rattle.std.specs.List.{concat}
 use Rattle.vp_list.specs.Texts.{behind_part, parts, parts_some}
-use Rattle.vp_world.specs.declared.event.Request.{Request}
-use Rattle.vp_world.specs.declared.reply.Reply.{Reply}
+use Rattle.vp_present.specs.declared.event.Request.{Request}
+use Rattle.vp_present.specs.declared.reply.Reply.{Reply}
 use Rattle.vp_wire.specs.declared.dialogue.Dialogue.{Dialogue}
 use Rattle.vp_wire.specs.declared.fault.WireError.TheVariants as fault
 use Rattle.vp_wire.specs.declared.line.Line.{Line}

@@ -4,9 +4,9 @@ use Rattle.std.specs.Io.KnownBytes.{Appends, Consumes, IsAtEnd}
 use Rattle.std.specs.Result.{MatchResult}
 use Rattle.std.specs.List.{concat}
 use Rattle.vp_list.specs.Texts.{parts}
-use Rattle.vp_world.specs.declared.event.Request.{Request}
-use Rattle.vp_world.specs.declared.event.Request.TheVariants as request
-use Rattle.vp_world.specs.declared.reply.Reply.{Reply}
+use Rattle.vp_present.specs.declared.event.Request.{Request}
+use Rattle.vp_present.specs.declared.event.Request.TheVariants as request
+use Rattle.vp_present.specs.declared.reply.Reply.{Reply}
 use Rattle.vp_wire.specs.declared.dialogue.Dialogue.{Dialogue}
 use Rattle.vp_wire.specs.declared.dialogue.Stage.TheVariants.{Before}
 use Rattle.vp_wire.specs.declared.fault.WireError.TheVariants as fault

@@ -1,7 +1,7 @@
 ghost use Rattle.std.specs.Prelude.{◌≡◌, ◌≤◌, ◌<◌, ◌+◌, ◌^◌, ◌%◌, [], ℕ, List, None, Option, Some, IfErr, IfOk, IfSome, OnOk, false, option_map, IsErrOf, MatchResult, length, not, vec_items};
 ghost use Rattle.std.specs.Io.KnownBytes.{IsAtEnd};
-ghost use Rattle.vp_world.specs.declared.event.Request.{Request};
-ghost use Rattle.vp_world.specs.declared.reply.Reply.{Reply};
+ghost use Rattle.vp_present.specs.declared.event.Request.{Request};
+ghost use Rattle.vp_present.specs.declared.reply.Reply.{Reply};
 ghost use Rattle.vp_wire.specs.Dialogue.{Answers, Asked, Closes, IsDialogue, IsWhole, Point, Stops, stage_behind, turn_of, turn_of_request};
 ghost use Rattle.vp_wire.specs.Failures.{failures_behind, one_more, reader_failures, writer_failures};
 ghost use Rattle.vp_wire.specs.Reading.{Finishes, Goes, IsBegun, Progress, Takes, Told, is_closing, is_opening, point_of, size_left, text_told, turn_by};
@@ -13,7 +13,7 @@ use crate::replies::reply_line;
 use std::alloc::Global;
 use std::io::{Read, Write};
 use vp_list::first_piece;
-use vp_world::{Reply, Request};
+use vp_present::{Reply, Request};
 
 /// How often the reader is asked at most.
 pub const TURN_LIMIT: u32 = 16_777_216;

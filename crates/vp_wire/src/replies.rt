@@ -9,7 +9,7 @@ use serde_json::{Map, Value, put};
 use std::alloc::{AllocError, Global};
 use vp_bits::Bits;
 use vp_policy::{By, Denial};
-use vp_world::{Refusal, Reply};
+use vp_present::{Refusal, Reply};
 
 /// An object of one member.
 fn only(alloc: Global, key: &str, value: Value) -> Result<Value, AllocError>

@@ -9,7 +9,7 @@ use serde_json::Value;
 use std::alloc::{AllocError, Global};
 use vp_json::{ReadError, has_keys, number, read, text};
 use vp_list::Text;
-use vp_world::Request;
+use vp_present::Request;
 
 /// Every time is below this one, in time units.
 const TIME_END: u64 = 1 << 62;

@@ -1,5 +1,1 @@
-pub mod Lists
-pub mod Standings
-pub mod Naming
 pub mod Logs
-pub mod WorldRows

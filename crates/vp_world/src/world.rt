@@ -1,21 +1,16 @@
 ghost use Rattle.std.specs.Prelude.{◌≡◌, ◌++◌, ◌∷◌, [], None, IfErr, IfOk, IsOkUnless, OnErr, OnOk};
 ghost use Rattle.std.specs.Arc.{arc_value};
-ghost use Rattle.vp_world.specs.declared.event.Event.TheVariants as event;
-ghost use Rattle.vp_world.specs.declared.fault.WorldError.TheVariants.{NoMemory};
-ghost use Rattle.vp_world.specs.Events.{IsWellFormed};
-ghost use Rattle.vp_world.specs.History.{Explains, IsLegal, answer, entry_of, refusal_behind, state_behind};
+ghost use Rattle.vp_present.specs.declared.event.Event.TheVariants as event;
+ghost use Rattle.vp_present.specs.declared.fault.WorldError.TheVariants.{NoMemory};
+ghost use Rattle.vp_present.specs.Events.{IsWellFormed};
+ghost use Rattle.vp_present.specs.History.{Explains, IsLegal, answer, entry_of, refusal_behind, state_behind};
 
-use crate::entry::Entry;
-use crate::event::Event;
-use crate::fault::WorldError;
-use crate::limits::Limits;
-use crate::present::Present;
-use crate::reply::Reply;
 use std::alloc::Global;
 use std::marker::Model;
 use std::sync::Arc;
 use vp_expr::Checked;
 use vp_policy::Policy;
+use vp_present::{Entry, Event, Limits, Present, Reply, WorldError};
 
 /// A design with a policy, its simulation, the sessions of its users, and the log of what has happened. A contract sees how it
 /// began and its log, of which its state is a function.
@@ -26,8 +21,8 @@ pub struct World {
 }
 
 impl Model for World {
-    ghost use Rattle.vp_world.specs.History.{Keeps};
-    ghost use Rattle.vp_world.specs.Worlds.{Logged};
+    ghost use Rattle.vp_present.specs.History.{Keeps};
+    ghost use Rattle.vp_present.specs.Worlds.{Logged};
 
     ghost Value = { Logged };
 

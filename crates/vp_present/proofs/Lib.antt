@@ -1,0 +1,4 @@
+pub mod Lists
+pub mod Standings
+pub mod Naming
+pub mod WorldRows
