@@ -8,7 +8,7 @@ use Rattle.vp_source.specs.declared.source.Source.{Source}
 use Rattle.vp_source.specs.declared.source.Module.{Module}
 use Rattle.vp_source.specs.declared.source.Item.{Item}
 use Rattle.vp_modules.specs.Definitions.{definitions_in}
-use Rattle.vp_modules.specs.Items.{definition_number, definition_of, instantiated, items_in, module_number}
+use Rattle.vp_names.specs.Items.{definition_number, definition_of, instantiated, items_in, module_number}
 
 -- a module, for a place behind the end of a list
 abbrev pub nowhere : Module

@@ -1,9 +1,9 @@
 -- What a design is, and how its tables belong to it.
 use Rattle.std.specs.Prelude.{◌≡◌, ◌≤◌, ℕ, List, length, map, suc, Option, None}
 use Rattle.vp_source.specs.declared.source.Source.{Source}
-use Rattle.vp_modules.specs.declared.tables.Tables.{Tables}
+use Rattle.vp_names.specs.declared.tables.Tables.{Tables}
 use Rattle.vp_modules.specs.Refusals as modules
-use Rattle.vp_modules.specs.Tables.{tables_in}
+use Rattle.vp_names.specs.Tables.{tables_in}
 use Rattle.vp_pragma.specs.Envelopes.{Protection}
 use Rattle.vp_pragma.specs.Rights.{RightSet, set_of}
 use Rattle.vp_elab.specs.declared.design.Objects.{Objects}

@@ -1,8 +1,8 @@
 ghost use Rattle.std.specs.Prelude.{◌≡◌, ◌≤◌, [], None, Some, All, map, option_and_then, option_map, length, position, slice_get, slice_index_or, IfOk, IfSome, MatchOption};
 ghost use Rattle.std.specs.Option.{option_map_or};
 ghost use Rattle.std.specs.Str.{bytes_eq};
-ghost use Rattle.vp_modules.specs.Items.{items_in};
-ghost use Rattle.vp_modules.specs.Tables.{module_names};
+ghost use Rattle.vp_names.specs.Items.{items_in};
+ghost use Rattle.vp_names.specs.Tables.{module_names};
 ghost use Rattle.vp_pragma.specs.Reading.{viewport_of};
 ghost use Rattle.vp_pragma.specs.Rights.{nothing};
 ghost use Rattle.vp_elab.specs.Tree.{AreAlike, author_in, children_of, declared_envelopes, find_in, first_of, matches_at, name_at, sight_at};
@@ -18,7 +18,7 @@ use crate::sight::{Sight, is_on};
 use std::alloc::{AllocError, Global};
 use std::marker::Model;
 use vp_list::Sequence;
-use vp_modules::{Names, Tables, items_of};
+use vp_names::{Names, Tables, items_of};
 use vp_pragma::{Envelopes, Viewport};
 use vp_source::{Item, Module, Source};
 

@@ -1,8 +1,8 @@
 ghost use Rattle.std.specs.Prelude.{◌≡◌, ◌≤◌, None, suc, length, map, IfErr, IfOk, OnOk};
-ghost use Rattle.vp_modules.specs.Items.{definition_number, is_top};
+ghost use Rattle.vp_names.specs.Items.{definition_number, is_top};
 ghost use Rattle.vp_modules.specs.Refusals as modules;
-ghost use Rattle.vp_modules.specs.Refusals.{Explains};
-ghost use Rattle.vp_modules.specs.Tables.{resolved_in};
+ghost use Rattle.vp_names.specs.Refusals.{Explains};
+ghost use Rattle.vp_modules.specs.Resolution.{resolved_in};
 ghost use Rattle.vp_elab.specs.declared.object.TheConstants.{OBJECT_LIMIT};
 ghost use Rattle.vp_elab.specs.Built.{IsBuilt, design_of};
 ghost use Rattle.vp_elab.specs.Elaboration.{further_limit, tops};
@@ -18,7 +18,8 @@ use crate::sight::check_viewports;
 use crate::sizes::{check_count, sizes_of};
 use std::alloc::{AllocError, Global};
 use vp_list::Sequence;
-use vp_modules::{ElabError, Resolved, Tables, check_modules};
+use vp_modules::{Resolved, check_modules};
+use vp_names::{ElabError, Tables};
 use vp_pragma::Envelopes;
 use vp_source::Source;
 

@@ -2,9 +2,9 @@
 ghost use Rattle.std.specs.Prelude.{◌≡◌, [], None, Some, map, slice_index_or, IfOk, MatchResult};
 ghost use Rattle.std.specs.List.{list_any};
 ghost use Rattle.std.specs.Option.{option_or};
-ghost use Rattle.vp_modules.specs.Items.{item_name, items_in};
-ghost use Rattle.vp_modules.specs.Refusals.{Explains, twice, twice_in};
-ghost use Rattle.vp_modules.specs.Tables.{scope_in, tables_in};
+ghost use Rattle.vp_names.specs.Items.{item_name, items_in};
+ghost use Rattle.vp_names.specs.Refusals.{Explains, twice, twice_in};
+ghost use Rattle.vp_names.specs.Tables.{scope_in, tables_in};
 ghost use Rattle.vp_pragma.specs.Reading.{viewport_of};
 ghost use Rattle.vp_pragma.specs.Rights.{either, nothing, set_of};
 ghost use Rattle.vp_elab.specs.Tree.{matches, sight_of, step_named};
@@ -14,7 +14,7 @@ ghost use Rattle.vp_elab.specs.Refusals.{is_on_any, is_on_item, unmatched_in};
 
 use std::alloc::{AllocError, Global};
 use vp_list::Sequence;
-use vp_modules::{ElabError, Names, Tables, items_of, place_of};
+use vp_names::{ElabError, Names, Tables, items_of, place_of};
 use vp_pragma::{Envelopes, Rights, Viewport};
 use vp_source::{Item, Module, Source};
 

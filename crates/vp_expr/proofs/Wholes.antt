@@ -11,7 +11,7 @@ use Rattle.vp_source.specs.declared.source.Module.{Module}
 use Rattle.vp_source.specs.declared.source.Source.{Source}
 use Rattle.vp_source.specs.declared.statement.Span.{Span}
 use Rattle.vp_source.specs.Whole.{AreGapless, AreWhole}
-use Rattle.vp_modules.specs.Items.{expressions_in, statements_in}
+use Rattle.vp_names.specs.Items.{expressions_in, statements_in}
 use Rattle.vp_elab.specs.Built.{Elaborated}
 use Rattle.vp_operand.specs.declared.operand.Operand.{Operand}
 use Rattle.vp_resolve.specs.Names.{scope_of}

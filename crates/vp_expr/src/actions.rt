@@ -8,7 +8,7 @@ use crate::tables::{Action, Target};
 use std::alloc::{AllocError, Global};
 use vp_elab::{Design, ObjectId, range_width};
 use vp_list::Sequence;
-use vp_modules::statements_of;
+use vp_names::statements_of;
 use vp_operand::{ExprId, fitted, size_at};
 use vp_resolve::{lowest_in, object_named, part_place, scope_of, slot_in, width_in};
 use vp_source::{Choice, Module, Selection, Source, Span, Statement};

@@ -14,8 +14,9 @@ use Rattle.vp_source.specs.declared.source.Source.{Source}
 use Rattle.vp_source.specs.declared.source.Module.{Module}
 use Rattle.vp_source.specs.declared.source.Item.{Item}
 use Rattle.vp_modules.specs.Definitions.{definitions_in, is_marked, is_number}
-use Rattle.vp_modules.specs.Items.{definition_number, instantiated, items_in, module_named, module_number}
-use Rattle.vp_modules.specs.Refusals.{leads, leads_by, recursive, twice_in}
+use Rattle.vp_names.specs.Items.{definition_number, instantiated, items_in, module_named, module_number}
+use Rattle.vp_names.specs.Refusals.{twice_in}
+use Rattle.vp_modules.specs.Refusals.{leads, leads_by, recursive}
 use Rattle.vp_modules.proofs.Numbers.{in_range, list_any_same, numbered}
 use Rattle.vp_modules.proofs.Graph.{Graph, chain, goes, reaches, steps_on, unchained}
 

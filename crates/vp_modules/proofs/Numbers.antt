@@ -15,11 +15,11 @@ use Rattle.vp_source.specs.Places.{word_at}
 use Rattle.vp_source.specs.declared.source.Source.{Source}
 use Rattle.vp_source.specs.declared.source.Module.{Module}
 use Rattle.vp_source.specs.declared.source.Item.{Item}
-use Rattle.vp_modules.specs.declared.fault.ElabError.{ElabError}
+use Rattle.vp_names.specs.declared.fault.ElabError.{ElabError}
 use Rattle.vp_modules.specs.Definitions.{is_number}
-use Rattle.vp_modules.specs.Items.{definition_number, instantiated, instantiates, is_among, is_top, module_number}
-use Rattle.vp_modules.specs.Refusals.{first_of_two, twice_in}
-use Rattle.vp_modules.proofs.Looked.{nowhere}
+use Rattle.vp_names.specs.Items.{definition_number, instantiated, instantiates, is_among, is_top, module_number}
+use Rattle.vp_names.specs.Refusals.{first_of_two, twice_in}
+use Rattle.vp_names.proofs.Looked.{nowhere}
 
 -- tests that agree find the same
 pub list_any_same : {X : Type 0} (p q : X → Bool) (xs : List X) → ((x : X) → p x ≡ q x) → list_any p xs ≡ list_any q xs

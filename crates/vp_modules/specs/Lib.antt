@@ -1,6 +1,3 @@
-pub mod Faults
-pub mod Items
-pub mod Definitions
-pub mod Tables
 pub mod Refusals
-pub mod Purposes
+pub mod Definitions
+pub mod Resolution

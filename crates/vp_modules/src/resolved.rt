@@ -1,16 +1,17 @@
 ghost use Rattle.std.specs.Prelude.{◌≡◌, [], None, map, IfErr, IfOk, OnOk};
-ghost use Rattle.vp_modules.specs.Items.{definition_number, is_top};
-ghost use Rattle.vp_modules.specs.Refusals.{Explains, refusal_of, refusal_of_instances, refusal_of_uses, twice_in};
-ghost use Rattle.vp_modules.specs.Tables.{resolved_in, tables_in};
+ghost use Rattle.vp_names.specs.Items.{definition_number, is_top};
+ghost use Rattle.vp_names.specs.Refusals.{Explains, twice_in};
+ghost use Rattle.vp_modules.specs.Refusals.{refusal_of, refusal_of_instances, refusal_of_uses};
+ghost use Rattle.vp_names.specs.Tables.{tables_in};
+ghost use Rattle.vp_modules.specs.Resolution.{resolved_in};
 
 use crate::checks::{first_bad_connection, first_bad_target, first_driven_twice, first_undeclared};
 use crate::definitions::{definitions_of, tops_of};
-use crate::fault::ElabError;
 use crate::instances::first_missing;
 use crate::recursion::first_recursive;
-use crate::tables::{Tables, tables_of};
 use std::alloc::Global;
 use vp_list::Sequence;
+use vp_names::{ElabError, Tables, tables_of};
 use vp_source::Source;
 
 /// A text whose modules are right.

@@ -1,12 +1,12 @@
 ghost use Rattle.std.specs.Prelude.{◌≡◌, ℕ, List, [], ◌++◌, length, slice_get, IfOk, OnOk};
 ghost use Rattle.std.specs.Str.{bytes_eq};
-ghost use Rattle.vp_modules.specs.Items.{definition_of, ports_in};
+ghost use Rattle.vp_names.specs.Items.{definition_of, ports_in};
 ghost use Rattle.vp_processes.specs.Processes.{AreNamed, assignment_process, by_first, connected, first_index, item_processes, listed, names_port, place_of_port, port_process, port_processes, process_at_port, processes_at, processes_of, through_port};
 
 use std::alloc::{AllocError, Global};
 use vp_elab::{Design, ObjectId};
 use vp_list::Sequence;
-use vp_modules::{Names, connections_of, is_input, place_of, ports_of};
+use vp_names::{Names, connections_of, is_input, place_of, ports_of};
 use vp_source::{Connection, Item, Module, Source};
 
 /// What a simulator runs (clause 11.1).

@@ -8,7 +8,7 @@ use std::alloc::{AllocError, Global};
 use vp_bits::Bits;
 use vp_elab::{Design, ObjectId, range_width};
 use vp_list::Sequence;
-use vp_modules::expressions_of;
+use vp_names::expressions_of;
 use vp_operand::{
     Binary, Comparison, Infix, Logical, Operand, Reduction, Shift, Slot, Unary, based_bits, fitted,
     literal_bits, number_bits,

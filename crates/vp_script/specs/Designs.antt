@@ -14,7 +14,7 @@ use Rattle.vp_parse_expr.specs.Symbols.{symbols_of}
 use Rattle.vp_parse.specs.Told.{Tells}
 use Rattle.vp_elab.specs.Built.{Elaborated, design_of}
 use Rattle.vp_elab.specs.Refusals.{refusal_of}
-use Rattle.vp_modules.specs.Refusals as elab
+use Rattle.vp_names.specs.Refusals as elab
 use Rattle.vp_resolve.specs.Checks as expr
 use Rattle.vp_script.specs.declared.fault.ServeFault.{ServeFault}
 use Rattle.vp_script.specs.declared.fault.ServeFault.TheVariants as fault

@@ -4,7 +4,7 @@ ghost use Rattle.vp_script.specs.declared.fault.ServeFault.TheVariants.{Design, 
 use std::alloc::{AllocError, AllocFailed};
 use thiserror::Error;
 use vp_lex::LexError;
-use vp_modules::ElabError;
+use vp_names::ElabError;
 use vp_parse::ParseError;
 use vp_policy::PolicyError;
 use vp_pragma::PragmaError;

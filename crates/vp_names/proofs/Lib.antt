@@ -1,0 +1,3 @@
+pub mod Earliest
+pub mod Twice
+pub mod Looked

@@ -1,0 +1,5 @@
+pub mod Faults
+pub mod Items
+pub mod Tables
+pub mod Refusals
+pub mod Purposes
