@@ -1,10 +1,8 @@
 pub use Rattle.vp_pragma.specs.Rights
 pub use Rattle.vp_pragma.specs.Envelopes
 pub use Rattle.vp_elab.specs.Tree
-pub mod Faults
 pub mod Users
 pub mod Members
-pub mod File
 pub mod Filter
 pub mod View
 pub mod SeenObjects

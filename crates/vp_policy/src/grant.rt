@@ -1,6 +1,5 @@
 ghost use Rattle.std.specs.Prelude.{◌≡◌, map};
 ghost use Rattle.vp_pragma.specs.Rights.{set_of};
-ghost use Rattle.vp_policy.specs.File.{is_for_missing};
 ghost use Rattle.vp_policy.specs.Members.{grant_shown};
 ghost use Rattle.vp_policy.specs.Users.{granted_by, has_grant};
 
@@ -33,18 +32,6 @@ pub fn has_grant(grants: &[Grant], envelope: u8) -> bool
 {
     for grant in grants {
         if grant.envelope == u64::from(envelope) {
-            return true;
-        }
-    }
-    false
-}
-
-/// One of these grants is for an envelope that a design with so many does not have.
-pub fn is_for_missing(grants: &[Grant], envelopes: u8) -> bool
-    ensures { result ≡ is_for_missing envelopes (map grant_shown grants.now) }
-{
-    for grant in grants {
-        if grant.envelope == 0 || grant.envelope > u64::from(envelopes) {
             return true;
         }
     }

@@ -2,14 +2,12 @@
 #![tactic(auto)]
 
 mod denial;
-mod fault;
 mod filter;
 mod grant;
 mod policy;
-mod reading;
 mod view;
 
 pub use denial::{By, Denial, Look};
-pub use fault::PolicyError;
-pub use policy::{Policy, USER_LIMIT, UserId};
+pub use grant::Grant;
+pub use policy::{Policy, User, UserId};
 pub use view::{SeenEnvelope, SeenObject, View};

@@ -10,9 +10,6 @@ use std::marker::Model;
 use vp_list::{Sequence, Text};
 use vp_pragma::Rights;
 
-/// The greatest number of users of a policy file.
-pub const USER_LIMIT: usize = 256;
-
 /// A user of a policy, by his number in the file, from 0.
 #[derive(Clone, Copy, Debug, PartialEq, Eq, Hash)]
 pub struct UserId(pub usize);
@@ -59,7 +56,8 @@ fn same_bytes(a: &[u8], b: &[u8]) -> bool
 }
 
 impl Policy {
-    pub(crate) fn new(users: IndexMap<String, User>) -> Policy
+    /// The policy of users by their names.
+    pub fn new(users: IndexMap<String, User>) -> Policy
         ensures { result ≡ map member_of users.entries }
     {
         Policy { users }

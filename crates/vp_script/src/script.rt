@@ -1,7 +1,7 @@
 ghost use Rattle.std.specs.Prelude.{◌≡◌, ◌⊎◌, length, IfErr, IfOk, Ok};
 ghost use Rattle.vp_wire.specs.declared.fault.WireError.{WireError};
 ghost use Rattle.vp_script.specs.declared.fault.ServeFault.TheVariants.{Lines, NoMemory};
-ghost use Rattle.vp_policy.specs.File.{file_of};
+ghost use Rattle.vp_policy_file.specs.File.{file_of};
 ghost use Rattle.vp_script.specs.Keeping.{script_of};
 ghost use Rattle.vp_script.specs.Designs.{IsDesignOf, IsRefusedBy};
 ghost use Rattle.vp_script.specs.Scripts.{EndsBy, IsAnswered, IsOpened, IsPolicyRefusedBy, IsScript, IsStopped, IsUnopened};
@@ -17,6 +17,7 @@ use vp_expr::{Checked, check};
 use vp_lex::tokens;
 use vp_parse::parse;
 use vp_policy::Policy;
+use vp_policy_file::read_policy;
 use vp_pragma::envelopes;
 use vp_present::Limits;
 use vp_wire::{Counted, session};
@@ -53,7 +54,7 @@ fn policy_of(alloc: Global, bytes: &[u8], design: &Design) -> Result<Policy, Ser
     if bytes.len() > TEXT_LIMIT {
         return Err(ServeFault::TooLong);
     }
-    Ok(Policy::read(alloc, bytes, design)?)
+    Ok(read_policy(alloc, bytes, design)?)
 }
 
 /// A fresh world of a design and a policy, with the greatest limits, whose script has no session yet; or the first fault of the

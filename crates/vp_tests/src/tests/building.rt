@@ -9,6 +9,7 @@ use vp_expr::{Checked, check};
 use vp_lex::tokens;
 use vp_parse::parse;
 use vp_policy::Policy;
+use vp_policy_file::read_policy;
 use vp_pragma::{Envelopes, envelopes};
 use vp_source::Source;
 
@@ -56,5 +57,5 @@ const POLICY: &[u8] =
 
 /// The policy for a design, read.
 pub fn policy_for(alloc: Global, design: &Design) -> Option<Policy> {
-    Policy::read(alloc, POLICY, design).ok()
+    read_policy(alloc, POLICY, design).ok()
 }

@@ -1,9 +1,9 @@
 use Rattle.std.proofs.Common.{◌≡◌, ◌++◌, drop, map}
 use Rattle.std.specs.Prelude.{option_map}
 use Rattle.serde_json.specs.View.{items_view}
-use Rattle.vp_policy.specs.File.{each_of, grant_of}
+use Rattle.vp_policy_file.specs.File.{each_of, grant_of}
 use Rattle.vp_policy.specs.Members.{grant_shown}
-use Rattle.vp_policy.proofs.reading.grants_in.Given as goal
+use Rattle.vp_policy_file.proofs.reading.grants_in.Given as goal
 
 -- the grants so far, and those of the other items
 abbrev pub invariant-loop-item : goal.invariant-loop-item

@@ -3,13 +3,13 @@ use Rattle.std.specs.Prelude.{is_some}
 use Rattle.indexmap.proofs.CallerLemmas.{insert_entry-new}
 use Rattle.serde_json.specs.View.{view}
 use Rattle.serde_json.specs.declared.value.Value.{Value}
-use Rattle.vp_policy.specs.File.{user_from}
+use Rattle.vp_policy_file.specs.File.{user_from}
 use Rattle.vp_policy.specs.Members.{member_of}
 use Rattle.vp_policy.specs.Users.{Member}
-use Rattle.vp_policy.proofs.Items.{each_more}
-use Rattle.vp_policy.proofs.Tables.{AreRead, none_of, read_once, read_twice}
-use Rattle.vp_policy.proofs.reading.users_in.Goals.{then-is_some, else-is_some}
-use Rattle.vp_policy.proofs.reading.users_in.Goals as goal
+use Rattle.vp_policy_file.proofs.Items.{each_more}
+use Rattle.vp_policy_file.proofs.Tables.{AreRead, none_of, read_once, read_twice}
+use Rattle.vp_policy_file.proofs.reading.users_in.Goals.{then-is_some, else-is_some}
+use Rattle.vp_policy_file.proofs.reading.users_in.Goals as goal
 
 pub loop-item-preserved : goal.loop-item-preserved
 loop-item-preserved c =

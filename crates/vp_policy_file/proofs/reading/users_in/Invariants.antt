@@ -1,10 +1,10 @@
 use Rattle.std.proofs.Common.{◌≡◌, ◌++◌, List, drop}
 use Rattle.std.specs.Prelude.{option_map}
 use Rattle.serde_json.specs.View.{items_view}
-use Rattle.vp_policy.specs.File.{each_of, user_from}
+use Rattle.vp_policy_file.specs.File.{each_of, user_from}
 use Rattle.vp_policy.specs.Users.{Member}
-use Rattle.vp_policy.proofs.Tables.{AreRead}
-use Rattle.vp_policy.proofs.reading.users_in.Given as goal
+use Rattle.vp_policy_file.proofs.Tables.{AreRead}
+use Rattle.vp_policy_file.proofs.reading.users_in.Given as goal
 
 -- the users so far, and those of the other items
 abbrev pub invariant-loop-item : goal.invariant-loop-item

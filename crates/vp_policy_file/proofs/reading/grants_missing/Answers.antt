@@ -1,9 +1,9 @@
 use Rattle.std.proofs.Common.{◌∙◌, ◌||◌, Bool, List, ap, map, sym}
 use Rattle.vp_policy.specs.declared.grant.Grant.{Grant}
-use Rattle.vp_policy.specs.File.{is_for_missing}
+use Rattle.vp_policy_file.specs.File.{is_for_missing}
 use Rattle.vp_policy.specs.Members.{grant_shown}
-use Rattle.vp_policy.proofs.Tables.{missing_in, missing_next, missing_of_values}
-use Rattle.vp_policy.proofs.reading.grants_missing.Goals as goal
+use Rattle.vp_policy_file.proofs.Tables.{missing_in, missing_next, missing_of_values}
+use Rattle.vp_policy_file.proofs.reading.grants_missing.Goals as goal
 
 pub loop-user-init : goal.loop-user-init
 loop-user-init c =

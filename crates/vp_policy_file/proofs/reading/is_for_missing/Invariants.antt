@@ -1,7 +1,7 @@
 use Rattle.std.proofs.Common.{◌≡◌, drop, map}
-use Rattle.vp_policy.specs.File.{is_for_missing}
+use Rattle.vp_policy_file.specs.File.{is_for_missing}
 use Rattle.vp_policy.specs.Members.{grant_shown}
-use Rattle.vp_policy.proofs.grant.is_for_missing.Given as goal
+use Rattle.vp_policy_file.proofs.reading.is_for_missing.Given as goal
 
 abbrev pub invariant-loop-grant : goal.invariant-loop-grant
 invariant-loop-grant l =

@@ -6,7 +6,7 @@ use Rattle.std.proofs.lemmas.List.{append_assoc}
 use Rattle.serde_json.specs.Data.{Data}
 use Rattle.serde_json.specs.View.{view, items_view}
 use Rattle.serde_json.specs.declared.value.Value.{Value}
-use Rattle.vp_policy.specs.File.{each_of}
+use Rattle.vp_policy_file.specs.File.{each_of}
 
 -- the first of the items from a place on, and those behind it
 each_at :

@@ -3,20 +3,23 @@ ghost use Rattle.std.specs.Prelude.{◌≡◌, ◌⊎◌, [], None, Ok, Some, le
 ghost use Rattle.std.specs.List.{list_all};
 ghost use Rattle.serde_json.specs.View.{items_view, view};
 ghost use Rattle.vp_pragma.specs.Rights.{set_of};
-ghost use Rattle.vp_policy.specs.Faults.{Explains};
-ghost use Rattle.vp_policy.specs.File.{access_in, each_of, file_of, grant_of, grants_missing, grants_of, is_word, is_word_byte, open_set_of, opened_by, policy_of, run_of, user_from, users_of, word_at};
-ghost use Rattle.vp_policy.specs.Members.{IsListed, grant_shown, member_of};
+ghost use Rattle.vp_policy_file.specs.Faults.{Explains};
+ghost use Rattle.vp_policy_file.specs.File.{access_in, each_of, file_of, grant_of, grants_missing, grants_of, is_for_missing, is_word, is_word_byte, open_set_of, opened_by, policy_of, run_of, user_from, users_of, word_at};
+ghost use Rattle.vp_policy.specs.Members.{grant_shown, member_of};
+ghost use Rattle.vp_policy_file.specs.Listing.{IsListed};
 
 use crate::fault::PolicyError;
-use crate::grant::{Grant, is_for_missing};
-use crate::policy::{Policy, USER_LIMIT, User};
 use indexmap::IndexMap;
 use serde_json::Value;
 use std::alloc::Global;
 use vp_elab::Design;
 use vp_json::{ReadError, has_keys, number, read, text};
 use vp_list::{Sequence, Text};
+use vp_policy::{Grant, Policy, User};
 use vp_pragma::{Rights, access};
+
+/// The greatest number of users of a policy file.
+pub const USER_LIMIT: usize = 256;
 
 /// The greatest length of a user's name and of a token, in bytes.
 const WORD_LIMIT: usize = 64;
@@ -195,6 +198,18 @@ fn users_array(file: &Value) -> Option<&[Value]>
     Some(file.get("users")?.as_array()?.as_slice())
 }
 
+/// One of these grants is for an envelope that a design with so many does not have.
+fn is_for_missing(grants: &[Grant], envelopes: u8) -> bool
+    ensures { result ≡ is_for_missing envelopes (map grant_shown grants.now) }
+{
+    for grant in grants {
+        if grant.envelope == 0 || grant.envelope > u64::from(envelopes) {
+            return true;
+        }
+    }
+    false
+}
+
 /// A grant of one of these users is for an envelope that a design with so many does not have.
 fn grants_missing(users: &IndexMap<String, User>, envelopes: u8) -> bool
     ensures { result ≡ grants_missing envelopes (map member_of users.now.entries) }
@@ -226,18 +241,16 @@ fn policy_of(alloc: Global, file: &Value, envelopes: u8) -> Result<Policy, Polic
     Ok(Policy::new(listed.users))
 }
 
-impl Policy {
-    /// The policy of a file, for a design; or why it is refused, each reason tested over the whole file before the next: the bytes
-    /// are no policy file (901), two users have one name (902), there are more than 256 (904), a grant is for an envelope that the
-    /// design does not have (903). Want of memory (905) may be met at any time.
-    pub fn read(alloc: Global, bytes: &[u8], design: &Design) -> Result<Policy, PolicyError>
-        ensures ok { IfOk result (λ policy. file_of (length design.now.tree.authors) bytes.now ≡ Ok policy) }
-        ensures refused { IfErr result (λ e. Explains (file_of (length design.now.tree.authors) bytes.now) e) }
-    {
-        match read(alloc, bytes) {
-            Ok(file) => policy_of(alloc, &file, design.envelope_count()),
-            Err(ReadError::NotJson) => Err(PolicyError::BadPolicy),
-            Err(ReadError::NoMemory) => Err(PolicyError::NoMemory),
-        }
+/// The policy of a file, for a design; or why it is refused, each reason tested over the whole file before the next: the bytes
+/// are no policy file (901), two users have one name (902), there are more than 256 (904), a grant is for an envelope that the
+/// design does not have (903). Want of memory (905) may be met at any time.
+pub fn read_policy(alloc: Global, bytes: &[u8], design: &Design) -> Result<Policy, PolicyError>
+    ensures ok { IfOk result (λ policy. file_of (length design.now.tree.authors) bytes.now ≡ Ok policy) }
+    ensures refused { IfErr result (λ e. Explains (file_of (length design.now.tree.authors) bytes.now) e) }
+{
+    match read(alloc, bytes) {
+        Ok(file) => policy_of(alloc, &file, design.envelope_count()),
+        Err(ReadError::NotJson) => Err(PolicyError::BadPolicy),
+        Err(ReadError::NoMemory) => Err(PolicyError::NoMemory),
     }
 }

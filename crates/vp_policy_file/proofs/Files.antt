@@ -5,8 +5,8 @@ use Rattle.std.specs.Str.{IsUtf8, is_utf8}
 use Rattle.std.proofs.lemmas.Str.{IsUtf8-from_is_utf8, is_utf8-from_IsUtf8}
 use Rattle.serde_json.specs.Data.{Data}
 use Rattle.serde_json.specs.Read.{read}
-use Rattle.vp_policy.specs.declared.fault.PolicyError.TheVariants.{BadPolicy}
-use Rattle.vp_policy.specs.File.{file_of, policy_of}
+use Rattle.vp_policy_file.specs.declared.fault.PolicyError.TheVariants.{BadPolicy}
+use Rattle.vp_policy_file.specs.File.{file_of, policy_of}
 
 -- a file of which a JSON value is read gives what the value gives
 pub file_of_json : (envelopes : ℕ) (bytes : List ℕ) (d : Data) → IsUtf8 bytes → read bytes ≡ Some d → file_of envelopes bytes ≡ policy_of envelopes d

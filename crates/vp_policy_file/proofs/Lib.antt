@@ -1,0 +1,4 @@
+pub mod Files
+pub mod FileRows
+pub mod Items
+pub mod Tables
