@@ -1,14 +1,9 @@
 -- Why the modules of a source are not right: the refusals, each tested over the whole text before the next, at the first token of the text.
-use Rattle.std.specs.Prelude.{◌≡◌, ℕ, zero, suc, ◌+◌, nat_eq, not, ◌&&◌, ◌||◌, Bool, true, false, if◌then◌else◌, List, [], ◌∷◌, ◌++◌, length, Option, Some, None, option_map, slice_get}
+use Rattle.std.specs.Prelude.{ℕ, zero, suc, ◌+◌, ◌||◌, Bool, false, if◌then◌else◌, List, [], ◌∷◌, ◌++◌, length, Option, Some, None}
 use Rattle.std.specs.List.{flat_map, list_any}
 use Rattle.std.specs.Option.{option_and_then, option_map_or}
 use Rattle.std.specs.Str.{bytes_eq}
-use Rattle.vp_source.specs.declared.expression.Expression.{Expression}
-use Rattle.vp_source.specs.declared.expression.Expression.TheVariants as expression
-use Rattle.vp_source.specs.declared.expression.Selection.TheVariants as selection_of
-use Rattle.vp_source.specs.declared.statement.Statement.{Statement}
-use Rattle.vp_source.specs.declared.statement.Statement.TheVariants as statement
-use Rattle.vp_source.specs.Places.{earlier, earliest, line_at, word_at}
+use Rattle.vp_source.specs.Places.{earliest, word_at}
 use Rattle.vp_source.specs.declared.source.Connection.{Connection}
 use Rattle.vp_source.specs.declared.source.Direction.TheVariants as direction
 use Rattle.vp_source.specs.declared.source.Source.{Source}
@@ -16,9 +11,9 @@ use Rattle.vp_source.specs.declared.source.Module as declared
 use Rattle.vp_source.specs.declared.source.Item.{Item}
 use Rattle.vp_source.specs.declared.source.Item.TheVariants as item
 use Rattle.vp_names.specs.declared.fault.ElabError.{ElabError}
-use Rattle.vp_names.specs.declared.fault.ElabError.TheVariants.{Duplicate, UnknownModule, Recursive, Undeclared, BadTarget, BadConnection, MultipleDrivers, TooManyObjects, ViewportUnknown, NoMemory}
+use Rattle.vp_names.specs.declared.fault.ElabError.TheVariants.{UnknownModule, Recursive, Undeclared, BadTarget, BadConnection, MultipleDrivers}
 use Rattle.vp_names.specs.Refusals.{bad_connection, bad_target, first_in, first_of_two, port_of, refused_at, twice_in, undeclared}
-use Rattle.vp_names.specs.Items.{connections_of, definition_of, expressions_in, instantiated, is_among, is_input, is_net, is_operand, is_reg, is_signal, item_name, item_place, items_in, module_named, named_at, ports_in, statements_in, terms_in}
+use Rattle.vp_names.specs.Items.{connections_of, definition_of, instantiated, is_among, is_input, items_in, module_named}
 
 -- ---- instances (clause 12.1)
 
