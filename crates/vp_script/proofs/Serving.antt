@@ -1,10 +1,10 @@
 -- A kept script that was never without memory serves as the script says.
 use Rattle.std.proofs.Common.{inl, inr, ◌≡◌, ◌∙◌, ℕ, false, List, [], ◌∷◌, Option, sym, ap}
-use Rattle.vp_wire.specs.declared.dialogue.Stage.{Stage}
-use Rattle.vp_wire.specs.declared.dialogue.Stage.TheVariants.{Before, Open, Closed}
+use Rattle.vp_dialogue.specs.declared.dialogue.Stage.{Stage}
+use Rattle.vp_dialogue.specs.declared.dialogue.Stage.TheVariants.{Before, Open, Closed}
 use Rattle.vp_wire.specs.declared.fault.WireError.{WireError}
 use Rattle.vp_wire.specs.declared.fault.WireError.TheVariants as wire
-use Rattle.vp_wire.specs.Dialogue.{Stops, Answers, AnswersAll, Calls, Closes, IsWhole, Point, Tells, Turn, turn_of}
+use Rattle.vp_dialogue.specs.Dialogue.{Stops, Answers, AnswersAll, Calls, Closes, IsWhole, Point, Tells, Turn, turn_of}
 use Rattle.vp_script.specs.declared.keeper.Keeper.{Keeper}
 use Rattle.vp_script.specs.Keeping.{Keeps, script_of}
 use Rattle.vp_script.specs.Scripts.{IsAnswered, IsStopped, Script, Serves}

@@ -20,7 +20,7 @@ use Rattle.vp_present.specs.History.{answer, entry_of, refusal_behind, state_beh
 use Rattle.vp_present.specs.Refusals.{refusal_of_error}
 use Rattle.vp_present.specs.Worlds.{Logged, Opening}
 use Rattle.vp_wire.specs.declared.fault.WireError.{WireError}
-use Rattle.vp_wire.specs.Dialogue.{Closes, IsWhole, Point, Stops}
+use Rattle.vp_dialogue.specs.Dialogue.{Closes, IsWhole, Point, Stops}
 use Rattle.vp_script.specs.Bundles.{cut_of}
 use Rattle.vp_script.specs.declared.fault.ServeFault.{ServeFault}
 use Rattle.vp_script.specs.declared.fault.ServeFault.TheVariants as fault

@@ -6,9 +6,9 @@ ghost use Rattle.vp_script.specs.Keeping.{Keeps};
 ghost use Rattle.vp_script.specs.Scripts.{Applied, Runs, event_of, next_event, refused_by, session_behind, with_entry};
 
 use std::alloc::AllocError;
+use vp_dialogue::Caller;
 use vp_present::{Event, Refusal, Reply, Request, SessionId, WorldError};
 use vp_sim::SimError;
-use vp_wire::Caller;
 use vp_world::World;
 
 /// The event of a request; none where it is of a session and none was opened.

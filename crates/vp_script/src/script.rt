@@ -12,6 +12,7 @@ use crate::sources::TEXT_LIMIT;
 use std::alloc::Global;
 use std::io::{Read, Write};
 use std::sync::Arc;
+use vp_dialogue::{Counted, session};
 use vp_elab::{Design, elaborate};
 use vp_expr::{Checked, check};
 use vp_lex::tokens;
@@ -20,7 +21,6 @@ use vp_policy::Policy;
 use vp_policy_file::read_policy;
 use vp_pragma::envelopes;
 use vp_present::Limits;
-use vp_wire::{Counted, session};
 use vp_world::World;
 
 /// How a script ended: at the end of its input.

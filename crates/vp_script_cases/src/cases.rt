@@ -1,8 +1,8 @@
 use std::alloc::{AllocError, Global};
 use std::io;
 use std::io::BufRead;
+use vp_dialogue::Counted;
 use vp_script::run_bundle;
-use vp_wire::Counted;
 
 /// A bundle, and what it must print.
 #[derive(Drop)]

@@ -2,8 +2,8 @@
 
 use std::alloc::{AllocError, Global};
 use std::fmt::Write;
+use vp_dialogue::Counted;
 use vp_script::{BUNDLE_LIMIT, Ran, ServeFault, TEXT_LIMIT, run_bundle, run_script};
-use vp_wire::Counted;
 
 const POLICY: &str =
     "{\"users\":[{\"name\":\"ann\",\"token\":\"t1\",\"open\":\"list+read\",\"run\":true}]}";

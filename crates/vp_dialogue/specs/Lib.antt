@@ -1,0 +1,3 @@
+pub mod Dialogue
+pub mod Failures
+pub mod Reading
