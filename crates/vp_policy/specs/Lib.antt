@@ -1,6 +1,7 @@
 pub use Rattle.vp_pragma.specs.Rights
 pub use Rattle.vp_pragma.specs.Envelopes
 pub use Rattle.vp_elab.specs.Tree
+pub mod Faults
 pub mod Users
 pub mod Members
 pub mod Filter

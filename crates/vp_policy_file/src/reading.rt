@@ -3,19 +3,18 @@ ghost use Rattle.std.specs.Prelude.{◌≡◌, ◌⊎◌, [], None, Ok, Some, le
 ghost use Rattle.std.specs.List.{list_all};
 ghost use Rattle.serde_json.specs.View.{items_view, view};
 ghost use Rattle.vp_pragma.specs.Rights.{set_of};
-ghost use Rattle.vp_policy_file.specs.Faults.{Explains};
+ghost use Rattle.vp_policy.specs.Faults.{Explains};
 ghost use Rattle.vp_policy_file.specs.File.{access_in, each_of, file_of, grant_of, grants_missing, grants_of, is_for_missing, is_word, is_word_byte, open_set_of, opened_by, policy_of, run_of, user_from, users_of, word_at};
 ghost use Rattle.vp_policy.specs.Members.{grant_shown, member_of};
 ghost use Rattle.vp_policy_file.specs.Listing.{IsListed};
 
-use crate::fault::PolicyError;
 use indexmap::IndexMap;
 use serde_json::Value;
 use std::alloc::Global;
 use vp_elab::Design;
 use vp_json::{ReadError, has_keys, number, read, text};
 use vp_list::{Sequence, Text};
-use vp_policy::{Grant, Policy, User};
+use vp_policy::{Grant, Policy, PolicyError, User};
 use vp_pragma::{Rights, access};
 
 /// The greatest number of users of a policy file.

@@ -1,7 +1,7 @@
 -- A script: the lines of one session with a world, in which the simulation runs behind each request (profile).
 use Rattle.std.specs.Prelude.{◌≡◌, ◌⊎◌, ◌<◌, IsUtf8, length, ℕ, zero, suc, List, [], ◌∷◌, ◌++◌, Option, Some, None, IsSome, Ok}
 use Rattle.vp_elab.specs.Built.{Elaborated}
-use Rattle.vp_policy_file.specs.Faults.{Explains}
+use Rattle.vp_policy.specs.Faults.{Explains}
 use Rattle.vp_policy_file.specs.File.{file_of}
 use Rattle.vp_policy.specs.Users.{Member}
 use Rattle.vp_sim.specs.declared.fault.SimError.TheVariants.{Idle}

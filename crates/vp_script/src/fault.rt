@@ -6,7 +6,7 @@ use thiserror::Error;
 use vp_lex::LexError;
 use vp_names::ElabError;
 use vp_parse::ParseError;
-use vp_policy_file::PolicyError;
+use vp_policy::PolicyError;
 use vp_pragma::PragmaError;
 use vp_present::WorldError;
 use vp_resolve::ExprError;

@@ -1,8 +1,8 @@
 use Rattle.std.proofs.Common.{◌≡◌, ◌∙◌, ℕ, List, Err, Ok, ap, length, subst, sym, IfErr, IfOk}
 use Rattle.std.specs.Prelude.{Result}
 use Rattle.serde_json.specs.View.{view}
-use Rattle.vp_policy_file.specs.declared.fault.PolicyError.{PolicyError}
-use Rattle.vp_policy_file.specs.Faults.{Explains}
+use Rattle.vp_policy.specs.declared.fault.PolicyError.{PolicyError}
+use Rattle.vp_policy.specs.Faults.{Explains}
 use Rattle.vp_policy_file.specs.File.{policy_of}
 use Rattle.vp_policy.specs.Users.{Member}
 use Rattle.vp_policy_file.proofs.Files.{file_of_json, file_of_other}

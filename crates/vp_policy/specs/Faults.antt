@@ -1,7 +1,7 @@
 -- The numbers of the refusals of a policy file, and when each is told.
 use Rattle.std.specs.Prelude.{◌≡◌, ℕ, Result, Err}
-use Rattle.vp_policy_file.specs.declared.fault.PolicyError.{PolicyError}
-use Rattle.vp_policy_file.specs.declared.fault.PolicyError.TheVariants.{BadPolicy, DuplicateUser, NoSuchEnvelope, TooManyUsers, NoMemory}
+use Rattle.vp_policy.specs.declared.fault.PolicyError.{PolicyError}
+use Rattle.vp_policy.specs.declared.fault.PolicyError.TheVariants.{BadPolicy, DuplicateUser, NoSuchEnvelope, TooManyUsers, NoMemory}
 
 -- the number of a refusal (profile)
 abbrev pub code_of : PolicyError → ℕ

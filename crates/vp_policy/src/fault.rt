@@ -1,5 +1,5 @@
 ghost use Rattle.std.specs.Prelude.{◌≡◌};
-ghost use Rattle.vp_policy_file.specs.declared.fault.PolicyError.TheVariants.{NoMemory};
+ghost use Rattle.vp_policy.specs.declared.fault.PolicyError.TheVariants.{NoMemory};
 
 use std::alloc::{AllocError, AllocFailed};
 use thiserror::Error;
@@ -25,7 +25,7 @@ pub enum PolicyError {
 }
 
 impl PolicyError {
-    ghost use Rattle.vp_policy_file.specs.Faults.{code_of};
+    ghost use Rattle.vp_policy.specs.Faults.{code_of};
 
     /// The number of the refusal, 901 to 905.
     pub fn code(&self) -> u32
