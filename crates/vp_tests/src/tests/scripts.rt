@@ -1,4 +1,4 @@
-//! Scripts whose texts, policies or lines are long or odd in their bytes; the others are the cases of `vp_script_cases`.
+//! Scripts whose texts or policies are very long or odd in their bytes; the others are the cases of `vp_script_cases`.
 
 use std::alloc::{AllocError, Global};
 use std::fmt::Write;
@@ -62,48 +62,6 @@ fn last_line_without_a_newline(rt: HostRuntime) {
     }
 }
 
-#[test]
-fn long_line(rt: HostRuntime) {
-    let long = copies(rt.alloc(), "1", 65_537);
-    let script = joined(rt.alloc(), &long, "\n{\"op\":\"value\",\"h\":1}\n");
-    let lines = "{\"error\":\"line too long\"}
-{\"error\":\"not open\"}
-";
-    let text = printed(rt.alloc(), "", POLICY, &script);
-    assert_eq!(rt; text.as_str(), lines);
-}
-
-/// A policy file of so many users.
-fn users(alloc: Global, count: u32) -> String {
-    let mut file = copies(alloc, "{\"users\":[{\"name\":\"ann\",\"token\":\"t1\"}", 1);
-    for i in 1..count {
-        let _written = write!(&mut file, ",{{\"name\":\"u{i}\",\"token\":\"t{i}\"}}");
-    }
-    joined(alloc, &file, "]}")
-}
-
-#[test]
-fn user_count(rt: HostRuntime) {
-    for (count, lines) in [(256, "{\"ok\":true}\n"), (257, "fault 904 line 0")] {
-        let text = printed(rt.alloc(), "", &users(rt.alloc(), count), OPEN);
-        assert_eq!(rt; text.as_str(), lines);
-    }
-}
-
-#[test]
-fn envelope_count(rt: HostRuntime) {
-    let pair = "`pragma protect begin\n`pragma protect end\n";
-    for (count, lines) in [(255, "{\"ok\":true}\n"), (256, "fault 308 line 512")] {
-        let design = joined(
-            rt.alloc(),
-            "`pragma protect\n",
-            &copies(rt.alloc(), pair, count),
-        );
-        let text = printed(rt.alloc(), &design, POLICY, OPEN);
-        assert_eq!(rt; text.as_str(), lines);
-    }
-}
-
 /// A module of so many regs.
 fn regs(alloc: Global, count: u32) -> String {
     let mut design = copies(alloc, "module m; reg r", 1);
@@ -117,33 +75,6 @@ fn regs(alloc: Global, count: u32) -> String {
 fn reg_count(rt: HostRuntime) {
     for (count, lines) in [(65_535, "{\"ok\":true}\n"), (65_536, "fault 507 line 0")] {
         let text = printed(rt.alloc(), &regs(rt.alloc(), count), POLICY, OPEN);
-        assert_eq!(rt; text.as_str(), lines);
-    }
-}
-
-/// So many modules, each but the first with an instance of the one before it, and what the first declares.
-fn tower(alloc: Global, declared: &str, count: u32) -> String {
-    let mut design = copies(alloc, "module m1; ", 1);
-    let _written = write!(&mut design, "{declared} endmodule\n");
-    for i in 2..=count {
-        let below = i - 1;
-        let _written = write!(&mut design, "module m{i}; m{below} u(); endmodule\n");
-    }
-    design
-}
-
-#[test]
-fn path_length(rt: HostRuntime) {
-    let (ok, refused) = ("{\"ok\":true}\n", "fault 507 line 0");
-    let rows = [
-        (64, "", ok),
-        (63, "reg r;", ok),
-        (64, "reg r;", refused),
-        (65, "", refused),
-    ];
-    for (count, declared, lines) in rows {
-        let design = tower(rt.alloc(), declared, count);
-        let text = printed(rt.alloc(), &design, POLICY, OPEN);
         assert_eq!(rt; text.as_str(), lines);
     }
 }
