@@ -1,10 +1,12 @@
 #!/usr/bin/env python3
-"""Writes the bundles of data/limits.cases: texts, policies and lines at a limit of size, and one beyond it.
+"""Writes the bundles of data/limits.cases: texts, policies, lines and bundles at a limit of size, and one beyond it.
 
     python3 make_limits.py > data/limits.cases
 
 What each must print is told by docs/FORMATS.md: the limits, and the numbers of the refusals.
 """
+
+import string
 
 OPEN = '{"op":"open","user":"ann","token":"t1"}'
 ANN = '{"name":"ann","token":"t1"}'
@@ -38,9 +40,29 @@ def tower(count, declared):
     return "\n".join([f"module m1; {declared} endmodule"] + below)
 
 
+def copies(count, text):
+    """The line of a case that stands for so many copies of a text, and a newline."""
+    return f"%* {count} {text}"
+
+
+def regs(count):
+    """A module of so many regs, each with a name of three characters that is no keyword."""
+    rest = string.ascii_letters + string.digits + "_$"
+    names = [a + b + c for a in string.ascii_uppercase for b in rest for c in rest]
+    return f"module m; reg {','.join(names[:count])}; endmodule"
+
+
 def main():
     one = users(1)
-    case("a line of 65,537 bytes", "", one, "1" * 65_537 + '\n{"op":"value","h":1}', '{"error":"line too long"}\n{"error":"not open"}')
+    case("a line of 65,537 bytes", "", one, copies(65_537, "1") + '\n{"op":"value","h":1}', '{"error":"line too long"}\n{"error":"not open"}')
+    case("a text of 1,048,576 bytes", copies(1_048_575, "/"), one, OPEN, OK)
+    case("a text of 1,048,577 bytes", copies(1_048_576, "/"), one, OPEN, "fault 1603 line 0")
+    blank = copies(1_048_574 - len(one), " ")
+    case("a policy of 1,048,576 bytes", "", blank + "\n" + one, OPEN, OK)
+    case("a policy of 1,048,577 bytes", "", copies(1_048_576, " "), OPEN, "fault 1603 line 0")
+    case("a bundle of over 16,777,216 bytes", "", one, copies(16_777_216, "1"), "fault 1603 line 0")
+    case("65,535 regs", regs(65_535), one, OPEN, OK)
+    case("65,536 regs", regs(65_536), one, OPEN, "fault 507 line 0")
     case("256 users", "", users(256), OPEN, OK)
     case("257 users", "", users(257), OPEN, "fault 904 line 0")
     case("255 envelopes", envelopes(255), one, OPEN, OK)

@@ -4,6 +4,12 @@ use std::io::BufRead;
 use vp_dialogue::Counted;
 use vp_script::run_bundle;
 
+/// The count and the text of a line that stands for so many copies of the text.
+fn copies(line: &str) -> Option<(usize, &str)> {
+    let (count, text) = line.strip_prefix("%* ")?.split_once(' ')?;
+    Some((count.parse().ok()?, text))
+}
+
 /// A bundle, and what it must print.
 #[derive(Drop)]
 pub struct Case {
@@ -25,18 +31,23 @@ impl Case {
     }
 
     /// Takes the next line of the case.
-    fn add_line(&mut self, line: &str) -> Result<(), AllocError> {
+    fn add_line(&mut self, alloc: Global, line: &str) -> Result<(), AllocError> {
         if line == "==" {
             self.in_bundle = false;
-            return Ok(());
-        }
-        let part = if self.in_bundle {
-            &mut self.bundle
+        } else if line == "=/=" {
+            self.in_bundle = false;
+            let _newline = self.bundle.pop();
+        } else if !self.in_bundle {
+            self.wanted.push_str(line)?;
+            self.wanted.push('\n')?;
         } else {
-            &mut self.wanted
-        };
-        part.push_str(line)?;
-        part.push('\n')
+            match copies(line) {
+                Some((count, text)) => self.bundle.push_str(&text.repeat(alloc, count)?)?,
+                None => self.bundle.push_str(line)?,
+            }
+            self.bundle.push('\n')?;
+        }
+        Ok(())
     }
 
     /// What the bundle prints: the replies, and the line of the fault that ends it, if one does.
@@ -63,7 +74,7 @@ pub fn read_cases<R: BufRead + Drop>(alloc: Global, reader: R) -> io::Result<Vec
         if let Some(name) = line.strip_prefix("## ") {
             cases.push(Case::new(alloc, name)?)?;
         } else if let Some(case) = cases.last_mut() {
-            case.add_line(line.as_str())?;
+            case.add_line(alloc, line.as_str())?;
         }
     }
     Ok(cases)

@@ -1,5 +1,7 @@
 //! Runs the cases of the files that its words name: bundles, each with what it must print. A case is a line `## ` with its
-//! name, the bundle, a line `==`, and the lines that the bundle must print.
+//! name, the bundle, a line `==`, and the lines that the bundle must print; behind a line `=/=` the bundle's last line lacks its
+//! newline. A line `%* COUNT TEXT` of a bundle stands for so many copies of the text. Then it runs designs and policies of files
+//! on the script of standard input.
 #![tactic(auto)]
 
 mod cases;
@@ -8,6 +10,7 @@ use crate::cases::{Case, read_cases};
 use std::io::BufReader;
 use std::rt::Files;
 use std::{env, fs, io};
+use vp_script::run_files;
 
 /// Whether a case prints what it must; what it prints is shown where it does not.
 fn is_as_wanted<R: AllocGlobal + Print>(rt: &R, case: &Case) -> io::Result<bool> {
@@ -35,10 +38,30 @@ fn check_file<R: AllocGlobal + Files + Print>(rt: &R, file: &str) -> io::Result<
     println!(rt; "{file}: {count} cases, {agreeing} as wanted")
 }
 
+/// Runs a design and a policy of files, and tells the fault that ends the run, if one does.
+fn print_run<R: AllocGlobal + Files + Input + Print>(
+    rt: &R,
+    design: &str,
+    policy: &str,
+) -> io::Result<()> {
+    println!(rt; "{design}, {policy}:")?;
+    match run_files(rt, design, policy) {
+        Ok(_) => Ok(()),
+        Err(fault) => {
+            let code = fault.code();
+            let line = fault.line();
+            println!(rt; "fault {code} line {line}")
+        }
+    }
+}
+
 fn main(rt: HostRuntime) -> io::Result<()> {
     let words: Vec<String> = env::args(&rt)?.collect(rt.alloc())?;
     for file in words.iter().skip(1) {
         check_file(&rt, file.as_str())?;
     }
-    Ok(())
+    print_run(&rt, "missing.v", "ann.json")?;
+    print_run(&rt, "latin.v", "ann.json")?;
+    print_run(&rt, "hidden.v", "missing.json")?;
+    print_run(&rt, "hidden.v", "ann.json")
 }
