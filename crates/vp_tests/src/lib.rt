@@ -2,11 +2,10 @@
 //! A call that only ever answers want of memory would be proved; here it fails.
 //!
 //! The calls that a script makes are tested through it: the cases of `vp_script_cases` compare each byte that it
-//! prints. They call `Text::copy`, `tokens`, `envelopes`, `parse`, `elaborate`, `check`, `read_policy`, `Values::new`,
-//! `Sim::new` and `step`, `World::new` and `apply`, `Session::handle_by_name`, `vp_json`'s `read`, `Bits::to_bin`, `request`,
-//! `reply_line` and `session`. Here stand those that it does not make, and what faults, vectors, tokens, event queues,
-//! simulations and worlds show by themselves; then dialogues whose reader or writer fails, command lines, and scripts whose
-//! texts are too long for a stored case.
+//! prints. They call `Text::copy`, `tokens`, `string_value`, `envelopes`, `parse`, `elaborate`, `check`, `read_policy`,
+//! `Values::new`, `Sim::new` and `step`, all of `Strata`, `World::new` and `apply`, `Session::handle_by_name`, `vp_json`'s `read`,
+//! `Bits::to_bin`, `request`, `reply_line`, `session`, `run_bundle` and `run_files`. Here stand those that it does not make, and
+//! what tokens, simulations and worlds show by themselves; then dialogues whose reader or writer fails, and command lines.
 #![tactic(auto)]
 
 #[cfg(test)]

@@ -1,17 +1,7 @@
-//! The command line, and files that are not there.
+//! The command line.
 
 use std::alloc::Global;
 use vp_command::{Command, Misuse, command};
-use vp_script::run_files;
-
-#[test]
-fn missing_file(rt: HostRuntime) {
-    let code = match run_files(&rt, "no/such/design.v", "no/such/policy.json") {
-        Ok(_) => 0,
-        Err(fault) => fault.code(),
-    };
-    assert_eq!(rt; code, 1602);
-}
 
 /// The words of a command line, as strings.
 fn words(alloc: Global, line: &[&str]) -> Vec<String> {

@@ -46,22 +46,14 @@ fn children(alloc: Global, scope: u32) -> Option<Sequence<ObjectId>> {
 }
 
 #[test]
-fn declared_in_a_top_module(rt: HostRuntime) {
-    let children = children(rt.alloc(), 0).expect(&rt, "children");
-    let wanted = [ObjectId(1), ObjectId(2), ObjectId(6)];
-    assert_eq!(rt; children.as_slice(), wanted.as_slice());
-}
-
-#[test]
-fn declared_in_an_instance(rt: HostRuntime) {
-    let children = children(rt.alloc(), 2).expect(&rt, "children");
-    let wanted = [ObjectId(3), ObjectId(4), ObjectId(5)];
-    assert_eq!(rt; children.as_slice(), wanted.as_slice());
-}
-
-#[test]
-fn declared_in_the_other_instance(rt: HostRuntime) {
-    let children = children(rt.alloc(), 6).expect(&rt, "children");
-    let wanted = [ObjectId(7), ObjectId(8), ObjectId(9)];
-    assert_eq!(rt; children.as_slice(), wanted.as_slice());
+fn declared_in_scopes(rt: HostRuntime) {
+    let rows = [
+        (0, [ObjectId(1), ObjectId(2), ObjectId(6)]),
+        (2, [ObjectId(3), ObjectId(4), ObjectId(5)]),
+        (6, [ObjectId(7), ObjectId(8), ObjectId(9)]),
+    ];
+    for (scope, wanted) in rows {
+        let children = children(rt.alloc(), scope).expect(&rt, "children");
+        assert_eq!(rt; children.as_slice(), wanted.as_slice(), "in {scope}");
+    }
 }

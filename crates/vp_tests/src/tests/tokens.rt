@@ -1,8 +1,8 @@
-//! Faults and tokens of whole texts.
+//! The tokens of whole texts, and what comes of a million bytes.
 
 use std::alloc::Global;
 use std::fmt::Write;
-use vp_lex::{Keyword, LexError, Punctuator, TEXT_LIMIT, Token, TokenKind, string_value, tokens};
+use vp_lex::{TEXT_LIMIT, Token, tokens};
 
 /// How many tokens a text has; or its fault, by code and line.
 fn outcome(alloc: Global, text: &str) -> Result<usize, (u32, u32)> {
@@ -12,58 +12,6 @@ fn outcome(alloc: Global, text: &str) -> Result<usize, (u32, u32)> {
     match tokens(alloc, text) {
         Ok(tokens) => Ok(tokens.len()),
         Err(error) => Err((error.code(), error.line())),
-    }
-}
-
-/// Texts with the number and the line of their faults.
-const FAULTS: [(&str, (u32, u32)); 14] = [
-    ("\\a", (201, 1)),
-    ("a\n $", (201, 2)),
-    ("4'd", (201, 1)),
-    ("\u{e9}", (201, 1)),
-    ("/* a", (202, 1)),
-    ("\n/* a\n\n*", (202, 2)),
-    ("\"a", (203, 1)),
-    ("\"a\\\"", (203, 1)),
-    ("a\n\"b\n\"", (203, 2)),
-    ("`define A", (204, 1)),
-    ("`pragma `define", (204, 1)),
-    ("`timescale 1ns/1ps\n`timescale 1ns/1ns", (205, 2)),
-    ("`timescale 1ns\n\n`timescale 1ns 1\n$", (205, 3)),
-    ("`timescale 1ns\n`timescale 1ps $", (201, 2)),
-];
-
-#[test]
-fn faults(rt: HostRuntime) {
-    for (text, fault) in FAULTS {
-        assert_eq!(rt; outcome(rt.alloc(), text), Err(fault), "at {text}");
-    }
-}
-
-#[test]
-fn no_memory_is_206(rt: HostRuntime) {
-    assert_eq!(rt; LexError::NoMemory.code(), 206);
-    assert_eq!(rt; LexError::NoMemory.line(), 0);
-}
-
-/// What a string stands for; nothing for want of memory.
-fn stands_for(alloc: Global, text: &str) -> String {
-    string_value(alloc, text).unwrap_or(String::new(alloc))
-}
-
-#[test]
-fn strings_stand_for(rt: HostRuntime) {
-    let rows = [
-        ("\"\"", ""),
-        ("\"top.a\"", "top.a"),
-        ("\"a\\\"b\\\\\"", "a\"b\\"),
-        ("\"\\n\\t\\q\"", "\n\t\\q"),
-        ("\"\\1018\\60\\777\"", "A80\u{1ff}"),
-        ("top", ""),
-    ];
-    for (text, value) in rows {
-        let told = stands_for(rt.alloc(), text);
-        assert_eq!(rt; told.as_str(), value, "at {text}");
     }
 }
 
@@ -330,35 +278,4 @@ fn whole_texts(rt: HostRuntime) {
         let shown = tokens_shown(rt.alloc(), text);
         assert_eq!(rt; shown.as_deref(), Some(want));
     }
-}
-
-/// A token of a text whose second line is that of a directive.
-const fn token(kind: TokenKind, start: u32, end: u32, line: u32, column: u32) -> Token {
-    Token {
-        kind,
-        start,
-        end,
-        line,
-        column,
-        directive: line == 2,
-    }
-}
-
-#[test]
-fn lex_tokens(rt: HostRuntime) {
-    let text = "reg r;\n`pragma protect\nr=2'b1z \"s\"";
-    let want = [
-        token(TokenKind::Keyword(Keyword::Reg), 0, 3, 1, 1),
-        token(TokenKind::Name, 4, 5, 1, 5),
-        token(TokenKind::Punctuator(Punctuator::Semicolon), 5, 6, 1, 6),
-        token(TokenKind::Directive, 7, 14, 2, 1),
-        token(TokenKind::Name, 15, 22, 2, 9),
-        token(TokenKind::Name, 23, 24, 3, 1),
-        token(TokenKind::Punctuator(Punctuator::Equals), 24, 25, 3, 2),
-        token(TokenKind::Number, 25, 26, 3, 3),
-        token(TokenKind::Base, 26, 30, 3, 4),
-        token(TokenKind::String, 31, 34, 3, 9),
-    ];
-    let tokens = tokens(rt.alloc(), text).ok().expect(&rt, "tokens");
-    assert_eq!(rt; tokens.as_slice(), want.as_slice());
 }
