@@ -3,7 +3,7 @@
 //!
 //! The calls that a script makes are tested through it: the cases of `vp_script_cases` compare each byte that it
 //! prints. They call `Text::copy`, `tokens`, `string_value`, `envelopes`, `parse`, `elaborate`, `check`, `read_policy`,
-//! `Values::new`, `Sim::new` and `step`, all of `Strata`, `World::new` and `apply`, `Session::handle_by_name`, `vp_json`'s `read`,
+//! `Values::new`, `Sim::new` and `step`, the pushes of `Strata`, `World::new` and `apply`, `Session::handle_by_name`, `vp_json`'s `read`,
 //! `Bits::to_bin`, `request`, `reply_line`, `session`, `run_bundle` and `run_files`. Here stand those that it does not make, and
 //! what tokens, simulations and worlds show by themselves; then dialogues whose reader or writer fails, and command lines.
 #![tactic(auto)]
