@@ -45,6 +45,11 @@ def copies(count, text):
     return f"%* {count} {text}"
 
 
+def parentheses(opening, closing):
+    """A pragma with a list within so many others, of which so many end."""
+    return f"%+ 1 `pragma protect x=\n%+ {opening} (\n%+ 1 1\n%* {closing} )"
+
+
 def regs(count):
     """A module of so many regs, each with a name of three characters that is no keyword."""
     rest = string.ascii_letters + string.digits + "_$"
@@ -67,6 +72,8 @@ def main():
     case("257 users", "", users(257), OPEN, "fault 904 line 0")
     case("255 envelopes", envelopes(255), one, OPEN, OK)
     case("256 envelopes", envelopes(256), one, OPEN, "fault 308 line 512")
+    case("a list within 499,999 others in a pragma", parentheses(500_000, 500_000), one, OPEN, OK)
+    case("a list within 499,999 others in a pragma, of which the outermost does not end", parentheses(500_000, 499_999), one, OPEN, "fault 309 line 1")
     case("a path of 64 instances", tower(64, ""), one, OPEN, OK)
     case("a path of 64 instances and a reg", tower(64, "reg r;"), one, OPEN, "fault 507 line 0")
     case("a path of 63 instances and a reg", tower(63, "reg r;"), one, OPEN, OK)

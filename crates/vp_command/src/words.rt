@@ -19,3 +19,18 @@ pub enum Misuse {
     /// Want of memory (1607).
     NoMemory,
 }
+
+impl Misuse {
+    ghost use Rattle.std.specs.Prelude.{◌≡◌};
+    ghost use Rattle.vp_command.specs.Misuses.{code_of};
+
+    /// Its number.
+    pub fn code(&self) -> u32
+        ensures { result ≡ code_of self.now }
+    {
+        match self {
+            Misuse::BadWords(_) => 1608,
+            Misuse::NoMemory => 1607,
+        }
+    }
+}

@@ -33,6 +33,13 @@ behind_close = refl
 refused_open : stage_behind Before (request.Open (codes "ann") (codes "t2")) (reply.Error refusal.BadToken) ≡ Before
 refused_open = refl
 
+-- both answers to an `open` are written alike, and behind either the session is open
+opened_open : stage_behind Before (request.Open (codes "ann") (codes "t1")) (reply.Opened (record { user = record { 0 = 0 }; opens = 1 })) ≡ Open
+opened_open = refl
+
+done_open : stage_behind Before (request.Open (codes "ann") (codes "t1")) reply.Done ≡ Open
+done_open = refl
+
 done_close : stage_behind Open request.Close reply.Done ≡ Closed
 done_close = refl
 

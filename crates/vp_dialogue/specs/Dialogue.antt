@@ -85,9 +85,11 @@ turn_of stage line =
 abbrev pub error_line : List ℕ → List ℕ
 error_line text = compact_text (only (codes "error") (string text)) ++ 10 ∷ []
 
--- how far the session is behind a request and its reply: an `open` that was answered opens it, a `close` that was done closes it
+-- how far the session is behind a request and its reply: an `open` that was answered ok, in either form, opens it, a `close` that
+-- was done closes it
 abbrev pub stage_behind : Stage → Request → Reply → Stage
 stage_behind stage (request.Open user token) (reply.Opened session) = Open
+stage_behind stage (request.Open user token) reply.Done = Open
 stage_behind stage request.Close reply.Done = Closed
 stage_behind stage r answer = stage
 

@@ -63,7 +63,7 @@ impl Stage {
         ensures { (r : Request) → opens ≡ is_opening r → closes ≡ is_closing r → result ≡ stage_behind self r reply.now }
     {
         match reply {
-            Reply::Opened(_) if opens => Stage::Open,
+            Reply::Opened(_) | Reply::Done if opens => Stage::Open,
             Reply::Done if closes => Stage::Closed,
             _ => self,
         }

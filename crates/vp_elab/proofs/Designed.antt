@@ -12,7 +12,7 @@ use Rattle.vp_source.specs.declared.source.Source.{Source}
 use Rattle.vp_source.specs.declared.source.Module.{Module}
 use Rattle.vp_source.specs.declared.source.Item.{Item}
 use Rattle.vp_names.specs.declared.tables.Tables.{Tables}
-use Rattle.vp_names.specs.Items.{definition_of, is_top, item_name, items_in}
+use Rattle.vp_names.specs.Items.{definition_of, has_name, is_top, item_name, item_named, items_in}
 use Rattle.vp_names.specs.Refusals.{twice_in}
 use Rattle.vp_names.specs.Tables.{module_names, scope_in}
 use Rattle.vp_pragma.specs.declared.envelope.Envelope.{Envelope}
@@ -23,15 +23,15 @@ use Rattle.vp_elab.specs.declared.object.TheConstants.{OBJECT_LIMIT}
 use Rattle.vp_elab.specs.declared.object.Object.{Object}
 use Rattle.vp_elab.specs.declared.object.ObjectId.{ObjectId}
 use Rattle.vp_elab.specs.Tree.{declared_in as declared_in_scope}
-use Rattle.vp_elab.specs.Tree.{AreAlike, Node, Step, Tree, below, declared_envelopes, definition_at, distance_in, envelopes_in, find_in, find_named, first_of, name_at, names_of, node_name, sight_at, sight_in}
-use Rattle.vp_elab.specs.Elaboration.{further_limit, root_step}
+use Rattle.vp_elab.specs.Tree.{AreAlike, Node, Step, Tree, below, declared_envelopes, Named, definition_at, envelopes_in, find_in, find_named, first_of, name_at, named_in, names_of, node_name, seen_from, sight_at, sight_in}
+use Rattle.vp_elab.specs.Elaboration.{further_limit, item_kind, item_range, lowest_of, root_step, width_of}
 use Rattle.vp_elab.specs.Objects.{AreObjects, Declared, StandsFor, declared_in, is_of, module_name_at}
 use Rattle.vp_elab.specs.Sizes.{capped, size, slots_from, slots_in, total, whole_size}
-use Rattle.vp_elab.specs.Built.{Elaborated, IsBuilt, design_of}
+use Rattle.vp_elab.specs.Built.{Elaborated, IsBuilt, IsFoundAs, design_of}
 use Rattle.vp_elab.specs.Items.{instantiated_at, node_item, parent_of}
-use Rattle.vp_elab.proofs.Entries.{Entry, Top, entries_within, module_at, node_at, object_at, path_at, top_entries, within_nodes, within_objects}
+use Rattle.vp_elab.proofs.Entries.{Entry, Inner, Top, entries_within, module_at, node_at, object_at, path_at, top_entries, within_nodes, within_objects}
 use Rattle.vp_elab.proofs.Found.{at_mapped, child_found, child_nothing, leaf_nothing, path_is, root_behind, root_first, root_other, root_unknown}
-use Rattle.vp_elab.proofs.Items.{instance_same, item_inner, item_top, parent_same}
+use Rattle.vp_elab.proofs.Items.{inner_item, instance_same, item_inner, item_top, parent_same, position_mapped}
 use Rattle.vp_elab.proofs.Named.{found_at, module_index, right_once}
 use Rattle.vp_elab.proofs.Parts.{nowhere, some_same}
 use Rattle.vp_elab.proofs.Placed.{AllFrom, Good, Tops, full_size, slot, within_good}
@@ -463,16 +463,33 @@ module _ (source : Source) (protection : Protection) (tables : Tables) (scopes :
 
   -- ---- instances of one module
 
-  alike_in : (a b : ℕ) (name : List ℕ) (e f : Entry) (m : Module) (found : Option ℕ) → slice_get all a ≡ Some e → slice_get all b ≡ Some f → module_at source envelopes e ≡ Some m → module_at source envelopes f ≡ Some m → position (bytes_eq name) (map (item_name source) (items_in source m)) ≡ found → distance_in d.tree.nodes a name ≡ distance_in d.tree.nodes b name
-  alike_in a b name e f m None at_e at_f in_e in_f found =
-      ap (option_map (λ i. i - a)) (find_at a e name at_e ∙ child_nothing source envelopes once all placed a e m name at_e in_e found)
-      ∙ sym (ap (option_map (λ i. i - b)) (find_at b f name at_f ∙ child_nothing source envelopes once all placed b f m name at_f in_f found))
-  alike_in a b name e f m (Some k) at_e at_f in_e in_f found =
+  -- what an item declares, seen from the object of its module
+  abbrev item_seen : ℕ → Item → Named
+  item_seen far i = record { distance = far; kind = item_kind i; width = width_of (item_range source i); lowest = lowest_of (item_range source i) }
+
+  -- what a name names in an object of a module is what the item of that name declares there
+  named_item : (id : ℕ) (name : List ℕ) (e : Entry) (m : Module) (k : ℕ) (i : Item) → slice_get all id ≡ Some e → module_at source envelopes e ≡ Some m → position (bytes_eq name) (map (item_name source) (items_in source m)) ≡ Some k → slice_get (items_in source m) k ≡ Some i
+      → named_in d.tree.nodes id name ≡ Some (item_seen (slot source envelopes m k) i)
+  named_item id name e m k i at inside found there =
       let far : ℕ = slot source envelopes m k in
-      let same : (a + far) - a ≡ (b + far) - b = omega arith in
-      ap (option_map (λ i. i - a)) (find_at a e name at_e ∙ child_found source envelopes once all placed a e m name k at_e in_e found)
-      ∙ some_same _ _ same
-      ∙ sym (ap (option_map (λ i. i - b)) (find_at b f name at_f ∙ child_found source envelopes once all placed b f m name k at_f in_f found))
+      let child : Entry = Inner (path_at source envelopes e) id m k i in
+      let node : Node = node_at source envelopes child in
+      let same : (id + far) - id ≡ far = omega arith in
+      ap (λ (o : Option ℕ). option_and_then (λ n. option_map (seen_from id n) (slice_get d.tree.nodes n)) o)
+      (find_at id e name at ∙ child_found source envelopes once all placed id e m name k at inside found)
+      ∙ ap (λ (o : Option Node). option_map (seen_from id (id + far)) o)
+      (node_is (id + far) child ((good_at source envelopes once all placed id e at).children m inside k i there))
+      ∙ ap (λ (x : ℕ). (let seen : Option Named = Some (record { distance = x; kind = node.kind; width = node.width; lowest = node.lowest }) in seen)) same
+
+  alike_in : (a b : ℕ) (name : List ℕ) (e f : Entry) (m : Module) (found : Option ℕ) → slice_get all a ≡ Some e → slice_get all b ≡ Some f → module_at source envelopes e ≡ Some m → module_at source envelopes f ≡ Some m → position (bytes_eq name) (map (item_name source) (items_in source m)) ≡ found → named_in d.tree.nodes a name ≡ named_in d.tree.nodes b name
+  alike_in a b name e f m None at_e at_f in_e in_f found =
+      ap (λ (o : Option ℕ). option_and_then (λ n. option_map (seen_from a n) (slice_get d.tree.nodes n)) o)
+      (find_at a e name at_e ∙ child_nothing source envelopes once all placed a e m name at_e in_e found)
+      ∙ sym (ap (λ (o : Option ℕ). option_and_then (λ n. option_map (seen_from b n) (slice_get d.tree.nodes n)) o)
+      (find_at b f name at_f ∙ child_nothing source envelopes once all placed b f m name at_f in_f found))
+  alike_in a b name e f m (Some k) at_e at_f in_e in_f found =
+      let it = found_at source (item_name source) (items_in source m) name k found in
+      named_item a name e m k it.0 at_e in_e found it.1 ∙ sym (named_item b name f m k it.0 at_f in_f found it.1)
 
   module_by : (definition : List ℕ) (m : Option Module) → option_map (λ (m : Module). word_at source m.name) m ≡ Some definition → (x : Module) × (m ≡ Some x) × (word_at source x.name ≡ definition)
   module_by definition None h = absurd cc
@@ -495,3 +512,32 @@ module _ (source : Source) (protection : Protection) (tables : Tables) (scopes :
       let same : second.1 ≡ first.1 = cc (there.1, there_too.1, number) in
       alike_in a b name first.0 second.0 first.1 (position (bytes_eq name) (map (item_name source) (items_in source first.1))) first.2 second.2 first.3
       (second.3 ∙ ap (λ (x : Module). (let o : Option Module = Some x in o)) same) refl
+
+  -- what is found in a list by a test, and where
+  named_there : (name : List ℕ) (is : List Item) (i : Item) (o : Option ℕ) → position (has_name source name) is ≡ o → option_and_then (slice_get is) o ≡ Some i → (k : ℕ) × (position (has_name source name) is ≡ Some k) × (slice_get is k ≡ Some i)
+  named_there name is i None at h = absurd cc
+  named_there name is i (Some k) at h = (k, at, h)
+
+  -- each item of a module is found by its name in each object of the module
+  pub item_found : (number id : ℕ) (m : Module) (name : List ℕ) (i : Item) → slice_get source.modules number ≡ Some m → definition_at d.tree.nodes id ≡ Some (word_at source m.name) → item_named source (items_in source m) name ≡ Some i → IsFoundAs d id name i
+  item_found number id m name i there is named =
+      let e = entry_by id (word_at source m.name) (slice_get all id) refl is in
+      let own = module_there source envelopes once all placed id e.0 e.1 e.2 e.3 in
+      let number_is : own.0 ≡ number = module_index source own.0 number e.1 m once own.1 there e.4 in
+      let same : e.1 ≡ m = cc (own.1, there, number_is) in
+      let inside : module_at source envelopes e.0 ≡ Some m = e.3 ∙ ap (λ (x : Module). (let o : Option Module = Some x in o)) same in
+      let k = named_there name (items_in source m) i (position (has_name source name) (items_in source m)) refl named in
+      let position_is : position (bytes_eq name) (map (item_name source) (items_in source m)) ≡ Some k.0 =
+      sym (position_mapped (bytes_eq name) (item_name source) (items_in source m)) ∙ k.1 in
+      let far : ℕ = slot source envelopes m k.0 in
+      let child : Entry = Inner (path_at source envelopes e.0) id m k.0 i in
+      let child_at = (good_at source envelopes once all placed id e.0 e.2).children m inside k.0 i k.2 in
+      record {
+        object = id + far;
+        found = find_at id e.0 name e.2 ∙ child_found source envelopes once all placed id e.0 m name k.0 e.2 inside position_is;
+        node = node_at source envelopes child;
+        at = node_is (id + far) child child_at;
+        is =
+            ap (λ (x : Elaborated). node_item x.source (node_at source envelopes child)) (sym view)
+            ∙ inner_item source envelopes once all placed (id + far) (path_at source envelopes e.0) id m k.0 i child_at;
+      }

@@ -9,7 +9,7 @@ use Rattle.vp_elab.specs.declared.object.Kind.TheVariants as kind
 use Rattle.vp_elab.specs.declared.object.Object.{Object}
 use Rattle.vp_elab.specs.declared.object.ObjectId.{ObjectId}
 use Rattle.vp_elab.specs.Objects.{AreFirsts, is_of}
-use Rattle.vp_elab.specs.Positions.{or_else, position_from-append, position_is}
+use Rattle.vp_elab.specs.laws.Positions.{or_else, position_from-append, position_is}
 
 -- an object, for a number behind the end of a list
 abbrev pub no_object : Object

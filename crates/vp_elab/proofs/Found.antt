@@ -26,7 +26,7 @@ use Rattle.vp_elab.proofs.Named.{definition_named, found_at, item_in_text, item_
 use Rattle.vp_elab.proofs.Parts.{definition_at, some_same}
 use Rattle.vp_elab.proofs.Placed.{AllFrom, Good, slot}
 use Rattle.vp_elab.proofs.Unique.{good_at, module_there, names_are, names_read, not_root, path_some, same_ends, unique}
-use Rattle.vp_elab.specs.Positions.{position_is}
+use Rattle.vp_elab.specs.laws.Positions.{position_is}
 
 -- ---- searches
 

@@ -24,7 +24,7 @@ use Rattle.vp_elab.proofs.Named.{item_position, module_position, once_in}
 use Rattle.vp_elab.proofs.Parts.{definition_at}
 use Rattle.vp_elab.proofs.Placed.{AllFrom, Good}
 use Rattle.vp_elab.proofs.Unique.{good_at, module_there, path_some}
-use Rattle.vp_elab.specs.Positions.{position_from-same, position_is}
+use Rattle.vp_elab.specs.laws.Positions.{position_from-same, position_is}
 
 -- the steps above the last one
 pub above_behind : (above : List Step) (s : Step) → steps_above (above ++ s ∷ []) ≡ above
@@ -33,7 +33,7 @@ above_behind (t ∷ []) s = refl
 above_behind (t ∷ t' ∷ above) s = ap (λ (path : List Step). t ∷ path) (above_behind (t' ∷ above) s)
 
 -- a search by what f gives
-position_mapped : {X : Type 0} (t : List ℕ → Bool) (f : X → List ℕ) (xs : List X) → position (λ x. t (f x)) xs ≡ position t (map f xs)
+pub position_mapped : {X : Type 0} (t : List ℕ → Bool) (f : X → List ℕ) (xs : List X) → position (λ x. t (f x)) xs ≡ position t (map f xs)
 position_mapped t f xs = position_is (λ x. t (f x)) xs ∙ sym (position_from-same (λ x. t (f x)) t f (λ x. refl) 0 xs) ∙ sym (position_is t (map f xs))
 
 module _ (source : Source) (envelopes : List Envelope) (once : twice_in source [] source.modules ≡ None) (all : List Entry) (placed : AllFrom (Good source envelopes all) 0 all) where

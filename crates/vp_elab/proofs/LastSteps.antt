@@ -4,10 +4,11 @@ use Rattle.std.specs.Prelude.{is_some, option_and_then, option_map}
 use Rattle.std.specs.Option.{option_map_or}
 use Rattle.std.specs.Str.{bytes_eq}
 use Rattle.vp_pragma.specs.Envelopes.{Viewport}
+use Rattle.vp_elab.specs.declared.object.Kind.{Kind}
 use Rattle.vp_elab.specs.declared.object.Object.{Object}
 use Rattle.vp_elab.specs.declared.object.ObjectId.{ObjectId}
 use Rattle.vp_elab.specs.Objects.{StandsFor}
-use Rattle.vp_elab.specs.Tree.{Node, Step, Tree, fits_module, last_step, matches, matches_at, matches_node, name_at, path_of, step_named}
+use Rattle.vp_elab.specs.Tree.{Node, Step, Tree, fits_module, last_step, matches, matches_at, matches_node, name_at, node_envelope, path_of, step_named}
 use Rattle.vp_elab.proofs.Sights.{none_at_root}
 
 -- the last step of a path is the one that stands behind the others
@@ -25,6 +26,20 @@ module _ (tree : Tree) (id : ℕ) (o : Object) (h : StandsFor tree.nodes id o) w
   name_there =
       ap (λ (x : Option Node). option_map_or (λ (n : Node). option_map_or (λ (s : Step). s.name) (last_step n.path) []) x []) h.there
       ∙ ap (λ (x : Option Step). option_map_or (λ (s : Step). s.name) x []) last_is
+
+  -- its kind and its width are its node's
+  pub kind_there : option_map (λ (n : Node). n.kind) (slice_get tree.nodes id) ≡ Some o.kind
+  kind_there = ap (option_map (λ (n : Node). n.kind)) h.there ∙ ap (λ (k : Kind). Some k) (sym h.kind)
+
+  pub width_there : option_map_or (λ (n : Node). n.width) (slice_get tree.nodes id) 0 ≡ o.width
+  width_there = ap (λ (x : Option Node). option_map_or (λ (n : Node). n.width) x 0) h.there ∙ sym h.width
+
+  -- its envelope is that of its step
+  pub envelope_there : option_map_or node_envelope (slice_get tree.nodes id) 0 ≡ o.envelope
+  envelope_there =
+      ap (λ (x : Option Node). option_map_or node_envelope x 0) h.there
+      ∙ ap (λ (x : Option Step). option_map_or (λ (s : Step). s.envelope) x 0) last_is
+      ∙ h.envelope
 
   -- a viewport matches it by its step
   pub match_there : (v : Viewport) → matches_at tree v id ≡ matches h.step v

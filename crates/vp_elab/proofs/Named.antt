@@ -21,7 +21,7 @@ use Rattle.vp_names.specs.Refusals.{first_in, first_of_two, refused_at, twice, t
 use Rattle.vp_modules.specs.Refusals.{missing_module, recursive, refusal_of, refusal_of_instances, refusal_of_uses}
 use Rattle.vp_elab.proofs.Distinct.{accepted, bytes_eq-self, neither, new_by}
 use Rattle.vp_elab.proofs.Parts.{definition_at, nowhere, some_same}
-use Rattle.vp_elab.specs.Positions.{position_is}
+use Rattle.vp_elab.specs.laws.Positions.{position_is}
 
 pub either_false : (a b : Bool) → (a || b) ≡ false → (a ≡ false) × (b ≡ false)
 either_false true b h = absurd cc

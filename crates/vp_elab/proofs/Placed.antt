@@ -13,7 +13,7 @@ use Rattle.vp_elab.specs.declared.object.TheConstants.{OBJECT_LIMIT}
 use Rattle.vp_elab.specs.Tree.{Step}
 use Rattle.vp_elab.specs.Elaboration.{further_limit, item_step, root_step}
 use Rattle.vp_elab.specs.Sizes.{item_size, size, total, whole_size}
-use Rattle.vp_elab.specs.Positions.{slice_get_behind}
+use Rattle.vp_elab.specs.laws.Positions.{slice_get_behind}
 use Rattle.vp_elab.proofs.Stable.{long_below, long_item, stable, total-append}
 use Rattle.vp_elab.proofs.Entries.{Entry, Top, Inner, entries_below, entries_from, entries_within, item_entries, module_at, path_at, top_entries}
 

@@ -15,7 +15,7 @@ use Rattle.vp_pragma.specs.Rights.{RightSet, either, nothing, set_of}
 use Rattle.vp_elab.specs.Tree.{Node, Step, fits_module, matches, sight_in, sight_of, step_named, viewed}
 use Rattle.vp_elab.specs.declared.sight.Sight.{Sight}
 use Rattle.vp_elab.specs.Built.{shown}
-use Rattle.vp_elab.specs.Positions.{position_is}
+use Rattle.vp_elab.specs.laws.Positions.{position_is}
 
 -- ---- sets of rights
 

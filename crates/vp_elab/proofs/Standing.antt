@@ -34,7 +34,7 @@ use Rattle.vp_elab.proofs.Placed.{AllFrom, Good}
 use Rattle.vp_elab.proofs.Scopes.{bool_same, scoped_entry}
 use Rattle.vp_elab.proofs.Sights.{nothing_at_root}
 use Rattle.vp_elab.proofs.Unique.{good_at}
-use Rattle.vp_elab.specs.Positions.{position_is}
+use Rattle.vp_elab.specs.laws.Positions.{position_is}
 
 -- a range has a bit
 range_some : (range : Option Range) → 1 ≤ width_of range

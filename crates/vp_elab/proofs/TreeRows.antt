@@ -12,8 +12,8 @@ use Rattle.vp_source.specs.declared.source.Source.{Source}
 use Rattle.vp_source.specs.declared.source.Item.TheVariants as item
 use Rattle.vp_pragma.specs.declared.fault.PragmaError.{PragmaError}
 use Rattle.vp_pragma.specs.Envelopes.{Protection}
-use Rattle.vp_pragma.specs.EnvelopesOf.{envelopes_of}
-use Rattle.vp_pragma.specs.Pragmas.{value_at}
+use Rattle.vp_pragma.specs.LineReading.{envelopes_read}
+use Rattle.vp_pragma.specs.Lists.{scan}
 use Rattle.vp_elab.specs.declared.object.Kind.{Kind}
 use Rattle.vp_elab.specs.declared.object.Kind.TheVariants.{Module, Reg, Initial}
 use Rattle.vp_elab.specs.Tree.{Step, Node, Tree}
@@ -48,7 +48,7 @@ source = record {
 }
 
 abbrev tree : Tree
-tree = tree_of source (protection_in (envelopes_of text (tokens_in (tokens_of text))))
+tree = tree_of source (protection_in (envelopes_read text (tokens_in (tokens_of text))))
 
 abbrev root : Step
 root = record { name = codes "top"; place = 1; envelope = 0; in_module = None }
@@ -70,9 +70,9 @@ nodes_of_text :
     ∷ declared (codes "k") 14 1 Reg 4
     ∷ declared (codes "initial@6:3") 19 0 Initial 6
     ∷ []
-unfolding digits is_utf8 chars encode_utf8 value_at further_limit
+unfolding digits is_utf8 chars encode_utf8 scan further_limit
 nodes_of_text = refl
 
 authors_of_text : tree.authors ≡ codes "acme" ∷ []
-unfolding is_utf8 chars encode_utf8 value_at
+unfolding is_utf8 chars encode_utf8 scan
 authors_of_text = refl

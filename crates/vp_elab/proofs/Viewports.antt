@@ -18,7 +18,7 @@ use Rattle.vp_names.specs.Tables.{scope_in}
 use Rattle.vp_elab.specs.Tree.{fits_module, matches, step_named}
 use Rattle.vp_elab.specs.Refusals.{is_on_item}
 use Rattle.vp_elab.proofs.Distinct.{accepted, bytes_eq-swap, neither, new_by, not_there}
-use Rattle.vp_elab.specs.Positions.{position_is}
+use Rattle.vp_elab.specs.laws.Positions.{position_is}
 
 either_false : (a b : Bool) → (a || b) ≡ false → (a ≡ false) × (b ≡ false)
 either_false true b h = absurd cc

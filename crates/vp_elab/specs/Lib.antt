@@ -7,4 +7,4 @@ pub mod Objects
 pub mod Refusals
 pub mod Built
 pub mod Items
-pub mod Positions
+pub mod laws

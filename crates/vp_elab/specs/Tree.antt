@@ -85,6 +85,10 @@ last_step (s ∷ t ∷ path) = last_step (t ∷ path)
 abbrev pub node_name : Node → List ℕ
 node_name node = option_map_or (λ s. s.name) (last_step node.path) []
 
+-- the number of the envelope in which an object is declared, by the last step of its path; 0 for the open text
+abbrev pub node_envelope : Node → ℕ
+node_envelope node = option_map_or (λ s. s.envelope) (last_step node.path) 0
+
 -- a viewport matches an object, by the last step of its path
 abbrev pub matches_node : Viewport → Node → Bool
 matches_node v node = option_map_or (λ s. matches s v) (last_step node.path) false
@@ -194,12 +198,24 @@ declared_envelopes tree scope = option_map_or (envelopes_in tree) (scope_names t
 abbrev pub definition_at : List Node → ℕ → Option (List ℕ)
 definition_at nodes id = option_and_then (λ n. n.definition) (slice_get nodes id)
 
--- how far what a name names in an object stands behind the object
-abbrev pub distance_in : List Node → ℕ → List ℕ → Option ℕ
-distance_in nodes id name = option_map (λ i. i - id) (find_in nodes (Some id) name)
+-- what a name names in an object: how far that stands behind the object, its kind, and its bits
+pub record Named : Type 0 where
+  pub distance : ℕ
+  pub kind : Kind
+  pub width : ℕ
+  pub lowest : Option ℕ
 
--- the instances of a module are alike: what a name names stands as far behind one as behind another (clause 12.1.2)
+-- what an object of a number is, seen from another
+abbrev pub seen_from : (id number : ℕ) → Node → Named
+seen_from id number n = record { distance = number - id; kind = n.kind; width = n.width; lowest = n.lowest }
+
+-- what a name names in an object; none where nothing is declared there by that name
+abbrev pub named_in : List Node → (id : ℕ) → (name : List ℕ) → Option Named
+named_in nodes id name = option_and_then (λ i. option_map (seen_from id i) (slice_get nodes i)) (find_in nodes (Some id) name)
+
+-- the instances of a module are alike: what a name names stands as far behind one as behind another, and is of the same kind and
+-- bits (clause 12.1.2)
 abbrev pub AreAlike : List Node → Type 0
 AreAlike nodes =
     (a b : ℕ) (definition name : List ℕ) → definition_at nodes a ≡ Some definition → definition_at nodes b ≡ Some definition
-    → distance_in nodes a name ≡ distance_in nodes b name
+    → named_in nodes a name ≡ named_in nodes b name

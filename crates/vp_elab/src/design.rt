@@ -5,13 +5,15 @@ ghost use Rattle.vp_names.specs.Items.{items_in};
 ghost use Rattle.vp_names.specs.Tables.{module_names};
 ghost use Rattle.vp_pragma.specs.Reading.{viewport_of};
 ghost use Rattle.vp_pragma.specs.Rights.{nothing};
-ghost use Rattle.vp_elab.specs.Tree.{AreAlike, author_in, children_of, declared_envelopes, find_in, first_of, matches_at, name_at, sight_at};
+ghost use Rattle.vp_source.specs.Whole.{AreWhole};
+ghost use Rattle.vp_elab.specs.Tree.{AreAlike, author_in, children_of, declared_envelopes, find_in, first_of, matches_at, name_at, node_envelope, sight_at};
 ghost use Rattle.vp_elab.specs.Objects.{AreObjects, StandsFor, module_name_at};
-ghost use Rattle.vp_elab.specs.Built.{IsBuilt, design_of, shown};
+ghost use Rattle.vp_elab.specs.Built.{IsBuilt, IsElaborated, ItemsAreFound, design_of, shown};
+ghost use Rattle.vp_modules.specs.Refusals as modules;
 ghost use Rattle.vp_elab.specs.Items.{instantiated_at, node_item, parent_of};
 
 use crate::children::{objects_behind, top_at, tops_at};
-use crate::object::{Object, ObjectId};
+use crate::object::{Kind, Object, ObjectId};
 use crate::objects::module_at;
 use crate::scope::Scope;
 use crate::sight::{Sight, is_on};
@@ -213,6 +215,36 @@ impl Design {
         object_at(self.objects.all.as_slice(), id)
     }
 
+    /// What the object of a number is; none behind the end.
+    pub fn kind(&self, id: ObjectId) -> Option<Kind>
+        ensures { result ≡ option_map (λ n. n.kind) (slice_get self.now.tree.nodes id.0) }
+    {
+        match self.object(id) {
+            Some(object) => Some(object.kind),
+            None => None,
+        }
+    }
+
+    /// How many bits the object of a number has, from 1; 0 behind the end.
+    pub fn width(&self, id: ObjectId) -> u32
+        ensures { result ≡ option_map_or (λ n. n.width) (slice_get self.now.tree.nodes id.0) 0 }
+    {
+        match self.object(id) {
+            Some(object) => object.width,
+            None => 0,
+        }
+    }
+
+    /// The number of the envelope in which the object of a number is declared; 0 for the open text, and behind the end.
+    pub fn envelope(&self, id: ObjectId) -> u8
+        ensures { result ≡ option_map_or node_envelope (slice_get self.now.tree.nodes id.0) 0 }
+    {
+        match self.object(id) {
+            Some(object) => object.envelope,
+            None => 0,
+        }
+    }
+
     /// The item of the text that the object of a number is; none of a top module, and behind the end.
     pub fn item(&self, id: ObjectId) -> Option<Item>
         ensures { result ≡ option_and_then (node_item self.now.source) (slice_get self.now.tree.nodes id.0) }
@@ -271,7 +303,7 @@ impl Design {
     }
 
     /// The name of the definition of a module, by the number of its object; none of any other object.
-    pub fn definition(&self, id: ObjectId) -> Option<&str>
+    pub fn def_name(&self, id: ObjectId) -> Option<&str>
         ensures { option_map (λ d. d.now) result ≡ option_and_then (λ n. n.definition) (slice_get self.now.tree.nodes id.0) }
     {
         module_name(&self.tables.modules, self.objects.all.as_slice(), id)
@@ -302,7 +334,7 @@ impl Design {
     fn module_of(&self, object: Object) -> Option<&str>
         ensures { option_map (λ m. m.now) result ≡ option_and_then (λ p. option_and_then (λ n. n.definition) (slice_get self.now.tree.nodes p.0)) object.parent }
     {
-        self.definition(object.parent?)
+        self.def_name(object.parent?)
     }
 
     /// A viewport matches the object of a number; none does behind the end.
@@ -373,6 +405,34 @@ impl Design {
         }
     }
 
+    /// The modules of the source hold all of its lists, one behind the other.
+    pub fn source_is_whole(&self)
+        ensures { AreWhole self.now.source }
+    {
+        let _ = &self.source;
+    }
+
+    /// The tree is that of the source, with some envelopes and viewports.
+    pub fn is_elaborated(&self)
+        ensures { IsElaborated self.now }
+    {
+        let _ = &self.source;
+    }
+
+    /// Its modules are right: `check_modules` refuses none of them.
+    pub fn modules_are_right(&self)
+        ensures { modules.refusal_of self.now.source ≡ None }
+    {
+        let _ = &self.source;
+    }
+
+    /// Each item of a module is found by its name in each object of the module.
+    pub fn items_are_found(&self)
+        ensures { ItemsAreFound self.now }
+    {
+        let _ = &self.source;
+    }
+
     /// The instances of a module are alike: what a name names stands as far behind one as behind another.
     pub fn instances_are_alike(&self)
         ensures { AreAlike self.now.tree.nodes }
@@ -389,7 +449,7 @@ impl Design {
 
     /// The numbers of the envelopes of the places declared in a module, or of the top modules: rising, each once.
     /// None in an object that is no module, and in one that is not there.
-    pub fn declared_envelopes(&self, scope: Option<ObjectId>) -> &[u8]
+    pub fn envelopes(&self, scope: Option<ObjectId>) -> &[u8]
         ensures { result.now ≡ declared_envelopes self.now.tree (option_map (λ o. o.0) scope) }
     {
         match scope {

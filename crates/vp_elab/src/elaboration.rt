@@ -1,4 +1,5 @@
 ghost use Rattle.std.specs.Prelude.{◌≡◌, ◌≤◌, None, suc, length, map, IfErr, IfOk, OnOk};
+ghost use Rattle.vp_source.specs.Whole.{AreWhole};
 ghost use Rattle.vp_names.specs.Items.{definition_number, is_top};
 ghost use Rattle.vp_modules.specs.Refusals as modules;
 ghost use Rattle.vp_names.specs.Refusals.{Explains};
@@ -85,6 +86,7 @@ fn placed(
     envelopes: &Envelopes,
     resolved: &Resolved,
 ) -> Result<(Sequence<Scope>, Objects), ElabError>
+    requires whole { AreWhole source.now }
     requires resolved { resolved.now ≡ resolved_in source.now }
     requires right { modules.refusal_of source.now ≡ None }
     ensures built { IfOk result (λ p. IsBuilt source.now envelopes.now resolved.now.tables p.0 p.1) }
@@ -109,6 +111,7 @@ fn placed(
 
 /// The parts of the design of a text; or the first refusal that holds (501 to 509). Takes memory.
 fn parts_of(alloc: Global, source: &Source, envelopes: &Envelopes) -> Result<Parts, ElabError>
+    requires { AreWhole source.now }
     ensures built { IfOk result (λ p. IsBuilt source.now envelopes.now p.tables p.scopes p.objects) }
     ensures accepted { OnOk result (refusal_of source.now envelopes.now ≡ None) }
     ensures refused { IfErr result (λ e. Explains (refusal_of source.now envelopes.now) e) }
@@ -123,8 +126,10 @@ fn parts_of(alloc: Global, source: &Source, envelopes: &Envelopes) -> Result<Par
 }
 
 /// The design of a source; or the first refusal that holds (501 to 509), or want of memory (510).
-/// The source and the envelopes are of one text; on a refusal both are dropped.
+/// The source and the envelopes are of one text, and the source's modules hold all of its lists, as those of each source do that
+/// `parse` gives; on a refusal both are dropped.
 pub fn elaborate(alloc: Global, source: Source, envelopes: Envelopes) -> Result<Design, ElabError>
+    requires { AreWhole source }
     ensures design { IfOk result (λ design. design ≡ design_of source envelopes) }
     ensures accepted { IfOk result (λ design. refusal_of source envelopes ≡ None) }
     ensures refused { IfErr result (λ e. Explains (refusal_of source envelopes) e) }

@@ -9,7 +9,7 @@ use Rattle.vp_expr.specs.declared.awaited.Awaited.{Awaited}
 use Rattle.vp_expr.specs.Awaits.{awaits_of, cut_at, end_at, laid_behind}
 use Rattle.vp_expr.specs.Tables.{awaited_of, tables_of}
 use Rattle.vp_resolve.specs.Operands.{operands_of}
-use Rattle.vp_expr.proofs.Wholes.{in_range}
+use Rattle.vp_resolve.proofs.Gapless.{in_range}
 
 -- all of these changes
 abbrev all : List (List Awaited) → List Awaited

@@ -1,7 +1,9 @@
 -- The terms of the parts of a derivation that is laid out in a list are those of the derivation.
-use Rattle.std.proofs.Common.{◌≡◌, ◌∙◌, ℕ, ◌<◌, Bool, true, false, cond, List, [], ◌∷◌, ◌++◌, ◌≤◌, drop, length, map, Option, Some, None, refl, sym, ap, append_assoc, arith}
+use Rattle.std.proofs.Common.{◌≡◌, ◌∙◌, ℕ, ◌<◌, Bool, true, false, cond, List, [], ◌∷◌, ◌++◌, ◌≤◌, drop, length, map, Option, Some, None, Result, Ok, Err, refl, sym, ap, append_assoc, arith}
+use Rattle.std.specs.Prelude.{OnOk}
 use Rattle.std.proofs.lemmas.List.{drop-append-le, get_or_append_left, get_or_push, length-append, length-drop, length-map, length_push, map-append, append-nil}
 use Rattle.std.proofs.lemmas.List.Sums.{fold-append}
+use Rattle.std.proofs.Math.ListN.{get_or-map}
 use Rattle.vp_bits.specs.declared.bit.Bit as bits
 use Rattle.vp_source.specs.declared.expression.Expression as node
 use Rattle.vp_source.specs.declared.expression.Expression.TheVariants as node_of
@@ -22,11 +24,13 @@ use Rattle.vp_operand.specs.declared.operand.Reduction.TheVariants as reduction
 use Rattle.vp_operand.specs.declared.operand.Unary.TheVariants as unary
 use Rattle.vp_operand.specs.declared.operand.Operand.{Operand}
 use Rattle.vp_operand.specs.declared.operand.Operand.TheVariants as operand
-use Rattle.vp_operand.specs.Arena.{blank, is_width, part_in, term_at, term_from, terms_of, value_in, with_term}
-use Rattle.vp_expr.specs.Derived.{StandsAt, derived_value, expr_term, named_term, parts_term}
+use Rattle.vp_operand.specs.Arena.{blank, is_width, part_in, sizes_in, term_at, term_from, terms_of, value_in, with_term}
+use Rattle.vp_expr.specs.Derived.{HasTerm, StandsAt, derived_value, expr_term, named_term, parts_term}
 use Rattle.vp_expr.specs.Tables.{tables_of}
 use Rattle.vp_resolve.specs.Names.{lowest_in, object_named, scope_of, slot_in, width_in}
 use Rattle.vp_resolve.specs.Operands.{infix_of, named_operand, operand_of, operands_of, unary_operand}
+use Rattle.vp_operand.specs.declared.operand.Slot.{Slot}
+use Rattle.vp_operand.specs.Reads.{reads, slot_at, slots_at}
 use Rattle.vp_operand.specs.Terms as term
 use Rattle.vp_operand.specs.Terms.{Term, value}
 use Rattle.vp_expr.specs.Evaluation.{eval}
@@ -249,3 +253,22 @@ pub value_derived : (d : Elaborated) (m : Module) (values : List (List bits.Bit)
 unfolding tables_of
 value_derived d m values id e whole s =
     ap (value (value_in values) id.size) (term_derived d m id.place e whole s)
+
+-- what was added to slots by reading an expression is what the derivation reads
+pub reads_derived : {E : Type 0} (d : Elaborated) (place : ℕ) (before after : List Slot) (r : Result (Unit {0}) E) → AreWhole d.source → OnOk r (after ≡ before ++ slots_at (tables_of d).operands place)
+    → OnOk r ((m : Module) (e : Expr) → StandsAt d m place e → after ≡ before ++ map slot_at (reads (expr_term d (scope_of d m) e)))
+unfolding tables_of
+reads_derived d place before after (Err error) whole h = tt
+reads_derived d place before after (Ok done) whole h = λ m e s. h ∙ ap (λ (t : Term). before ++ map slot_at (reads t)) (term_derived d m place e whole s)
+
+-- an expression has the size, the sign and the reads of the derivation that stands at its place
+pub has_term : (d : Elaborated) (m : Module) (place : ℕ) (e : Expr) → AreWhole d.source → StandsAt d m place e → HasTerm d place (expr_term d (scope_of d m) e)
+unfolding sizes_in
+has_term d m place e whole s =
+    let terms = terms_of (operands_of d) in
+    let is = term_derived d m place e whole s in
+    record {
+      size = get_or-map (λ (t : Term). term.size t) terms place blank ∙ ap (λ (t : Term). term.size t) is;
+      sign = get_or-map (λ (t : Term). term.is_signed t) terms place blank ∙ ap (λ (t : Term). term.is_signed t) is;
+      reads = ap (λ (t : Term). map slot_at (reads t)) is;
+    }

@@ -12,3 +12,5 @@ pub mod Wholes
 pub mod Cutting
 pub mod Derivations
 pub mod Targets
+pub mod Instances
+pub mod Resolving

@@ -9,8 +9,9 @@ use Rattle.vp_elab.specs.declared.object.Object.{Object}
 use Rattle.vp_elab.specs.Built.{Elaborated}
 use Rattle.vp_elab.specs.Items.{node_item}
 use Rattle.vp_elab.specs.Tree.{Node}
-use Rattle.vp_expr.specs.Start.{constant_among, start_of, start_value}
 use Rattle.vp_operand.specs.Values.{no_value}
+use Rattle.vp_resolve.specs.Constants.{constant_among}
+use Rattle.vp_expr.specs.Start.{start_of, start_value}
 use Rattle.vp_expr.proofs.Growing.{map_taken}
 
 -- an object starts with the value of the node of its number

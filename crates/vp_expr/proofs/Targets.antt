@@ -8,7 +8,7 @@ use Rattle.vp_expr.specs.declared.tables.Target.{Target}
 use Rattle.vp_expr.specs.declared.tables.Target.TheVariants as target
 use Rattle.vp_operand.specs.Arena.{value_in}
 use Rattle.vp_expr.specs.Evaluation.{own_eval, place_set, slot_of}
-use Rattle.vp_operand.specs.Laws.{length-resized}
+use Rattle.vp_operand.specs.laws.Terms.{length-resized}
 use Rattle.vp_expr.specs.Tables.{target_width}
 use Rattle.vp_operand.specs.Terms.{set_in, with_part_at}
 use Rattle.vp_operand.proofs.Setting.{at_index, whole, with_bit_at}

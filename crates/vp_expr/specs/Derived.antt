@@ -1,23 +1,26 @@
 -- The value of an expression by its derivation, and where a derivation stands in a design.
-use Rattle.std.specs.Prelude.{◌≡◌, ◌≤◌, ◌<◌, ℕ, ◌-◌, true, false, if◌then◌else◌, List, [], ◌∷◌, ◌++◌, length, slice_get, Option, Some, None}
+use Rattle.std.specs.Prelude.{◌≡◌, ℕ, ◌-◌, true, false, if◌then◌else◌, List, [], ◌∷◌, map, slice_index_or, Option, Some, None}
 use Rattle.vp_bits.specs.declared.bit.Bit as bits
-use Rattle.vp_source.specs.declared.expression.Expression as node
 use Rattle.vp_source.specs.declared.expression.Range.{Range}
 use Rattle.vp_source.specs.declared.operator.BinaryOperator.{BinaryOperator}
 use Rattle.vp_source.specs.declared.operator.UnaryOperator.{UnaryOperator}
 use Rattle.vp_source.specs.ExprGrammar.{Expr, Name, Sized, Based, Number, Group, Unary, Binary, Conditional, Concatenation, Replication, Selection, Whole, Bit, Part, Parts, First, More}
-use Rattle.vp_source.specs.ExprLayout.{put_expr, put_range}
+use Rattle.vp_source.specs.ExprLayout.{put_range}
 use Rattle.vp_source.specs.Places.{word_at}
+use Rattle.vp_source.specs.Standing.{ExpressionStandsAt}
 use Rattle.vp_source.specs.declared.source.Module as declared
 use Rattle.vp_elab.specs.Built.{Elaborated}
 use Rattle.vp_elab.specs.Elaboration.{range_width}
+use Rattle.vp_elab.specs.Tree.{definition_at}
 use Rattle.vp_operand.specs.declared.operand.Operand.TheVariants as operand
-use Rattle.vp_operand.specs.Arena.{blank, is_width, term_from, value_in}
+use Rattle.vp_operand.specs.Arena.{blank, is_width, signs_in, term_from, value_in}
 use Rattle.vp_operand.specs.Literals.{based_bits, literal_bits, number_bits}
 use Rattle.vp_resolve.specs.Names.{lowest_in, object_named, slot_in, width_in}
-use Rattle.vp_resolve.specs.Operands.{infix_of, unary_operand}
+use Rattle.vp_resolve.specs.Operands.{infix_of, operands_of, sizes_of, unary_operand}
+use Rattle.vp_operand.specs.Reads.{reads, slot_at, slots_at}
 use Rattle.vp_operand.specs.Terms as term
-use Rattle.vp_operand.specs.Terms.{Term, value}
+use Rattle.vp_operand.specs.Terms.{Term, is_signed, size, value}
+use Rattle.vp_expr.specs.Tables.{size_at}
 
 -- an operator on a term
 abbrev pub unary_term : UnaryOperator → Term → Term
@@ -74,16 +77,18 @@ abbrev mutual
 abbrev pub derived_value : Elaborated → (scope : Option ℕ) → List (List bits.Bit) → ℕ → Expr → List bits.Bit
 derived_value design scope values n e = value (value_in values) n (expr_term design scope e)
 
+-- an object is a module of this definition: its top module, or one of its instances (clauses 12.1 and 12.1.2)
+abbrev pub IsInstanceOf : Elaborated → declared.Module → (object : ℕ) → Type 0
+IsInstanceOf design m object = definition_at design.tree.nodes object ≡ Some (word_at design.source m.name)
+
 -- ---- places
 
--- a derivation stands at a place of a design, in a module: its parts are laid out behind others, all of them in the span of the
--- module, and the whole has this place
-pub record StandsAt (design : Elaborated) (m : declared.Module) (place : ℕ) (e : Expr) : Type 0 where
-  pub number : ℕ
-  pub one : slice_get design.source.modules number ≡ Some m
-  pub before : List node.Expression
-  pub behind : List node.Expression
-  pub laid : design.source.expressions ≡ (put_expr e before).1 ++ behind
-  pub there : place ≡ (put_expr e before).0
-  pub from : m.expressions.first ≤ length before
-  pub to : place < m.expressions.end
+-- a derivation stands at a place of a design, in a module (clause 5)
+abbrev pub StandsAt : Elaborated → declared.Module → (place : ℕ) → Expr → Type 0
+StandsAt design m place e = ExpressionStandsAt design.source m place e
+
+-- the expression at a place of a design has the size, the sign and the reads of a term (clauses 5.4.1, 5.5.1 and 9.7.5)
+pub record HasTerm (design : Elaborated) (place : ℕ) (t : Term) : Type 0 where
+  pub size : size_at (sizes_of design) place ≡ size t
+  pub sign : slice_index_or (signs_in (operands_of design)) place false ≡ is_signed t
+  pub reads : slots_at (operands_of design) place ≡ map slot_at (reads t)

@@ -3,3 +3,4 @@ pub mod Tables
 pub mod Start
 pub mod Evaluation
 pub mod Derived
+pub mod Resolved

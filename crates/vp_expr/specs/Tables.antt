@@ -28,6 +28,7 @@ use Rattle.vp_expr.specs.declared.tables.Process.TheVariants as process
 use Rattle.vp_expr.specs.declared.tables.Tables.{Tables}
 use Rattle.vp_operand.specs.Arena.{is_width}
 use Rattle.vp_expr.specs.Awaits.{awaits_of, choices_at, cut_at, laid_of}
+use Rattle.vp_resolve.specs.Checks.{refusal_of}
 use Rattle.vp_resolve.specs.Names.{lowest_in, object_named, scope_of, slot_in, width_in}
 use Rattle.vp_resolve.specs.Operands.{operands_of, sizes_of, widths_of}
 
@@ -180,8 +181,10 @@ tables_of design = record {
 unfoldable pub awaited_of : Tables → (place : ℕ) → List Awaited
 awaited_of tables place = cut_at tables.awaited tables.awaited_ends place
 
--- the tables are those of the design, and the width of each object and the size of each expression is that of a vector (profile)
+-- the design is not refused, the tables are its, and the width of each object and the size of each expression is that of a vector
+-- (profile)
 pub record IsChecked (design : Elaborated) (tables : Tables) : Type 0 where
+  pub accepted : refusal_of design ≡ None
   pub tables_are : tables ≡ tables_of design
   pub wide : list_all is_width tables.widths ≡ true
   pub fit : list_all is_width tables.sizes ≡ true

@@ -1,10 +1,15 @@
-ghost use Rattle.std.specs.Prelude.{◌≡◌, ◌≤◌, [], slice_index_or, true, length, map, All, None, IfErr, IfOk, OnOk};
+ghost use Rattle.std.specs.Prelude.{◌≡◌, ◌≤◌, ℕ, [], slice_index_or, true, length, map, All, None, IfErr, IfOk, OnOk};
 ghost use Rattle.std.specs.List.{list_all};
 ghost use Rattle.vp_processes.specs.Processes.{processes_of};
 ghost use Rattle.vp_operand.specs.Arena.{is_width};
+ghost use Rattle.vp_source.specs.ExprGrammar.{Expr};
+ghost use Rattle.vp_source.specs.declared.source.Module.{Module};
 ghost use Rattle.vp_expr.specs.Awaits.{awaits_of};
+ghost use Rattle.vp_expr.specs.Derived.{HasTerm, StandsAt, expr_term};
+ghost use Rattle.vp_expr.specs.Resolved.{NamesAreFound, StatementsAreActions};
 ghost use Rattle.vp_expr.specs.Tables.{IsChecked, awaited_of, tables_of};
 ghost use Rattle.vp_resolve.specs.Checks.{Explains, refusal_of};
+ghost use Rattle.vp_resolve.specs.Names.{scope_of};
 ghost use Rattle.vp_resolve.specs.Operands.{operands_of};
 
 use crate::awaited::{Awaited, cut_at};
@@ -60,6 +65,23 @@ impl Checked {
         &self.tables
     }
 
+    /// The expression at a place has the size, the sign and the reads of the derivation that stands there (clauses 5.4.1, 5.5.1 and
+    /// 9.7.5).
+    pub fn derivations_are_expressions(&self)
+        ensures { (m : Module) (place : ℕ) (e : Expr) → StandsAt self.now m place e → HasTerm self.now place (expr_term self.now (scope_of self.now m) e) }
+    {
+        self.design.source_is_whole();
+    }
+
+    /// Nothing is lost: each name that a module uses finds its item in each object of the module, and each statement is an action.
+    pub fn nothing_is_lost(&self)
+        ensures names { NamesAreFound self.now }
+        ensures statements { StatementsAreActions self.now }
+    {
+        self.design.modules_are_right();
+        self.design.items_are_found();
+    }
+
     /// The changes for which the statement at a place waits.
     #[tactic(auto, unfolding(crate::specs::Tables::awaited_of))]
     pub fn awaited(&self, place: u32) -> &[Awaited]
@@ -73,7 +95,6 @@ impl Checked {
 }
 
 /// The tables of a design that is not refused; or the first refusal that holds, or want of memory.
-#[tactic(auto, unfolding(vp_resolve::specs::Checks::refusal_of))]
 fn checked_tables(alloc: Global, design: &Design) -> Result<Tables, ExprError>
     ensures tables { IfOk result (λ tables. IsChecked design.now tables) }
     ensures accepted { OnOk result (refusal_of design.now ≡ None) }
@@ -83,7 +104,8 @@ fn checked_tables(alloc: Global, design: &Design) -> Result<Tables, ExprError>
     refuse(alloc, design, operands.as_slice())?;
     match tables_of(alloc, design, operands)? {
         Some(tables) => Ok(tables),
-        None => Err(ExprError::TooWide { line: 0 }),
+        // Each width and each size of a design that is not refused is 1 to 64.
+        None => unreachable!(),
     }
 }
 

@@ -1,11 +1,10 @@
-ghost use Rattle.std.specs.Prelude.{◌≡◌, ◌<◌, ◌++◌, drop, length, map, IfSome, MatchOption, OnOk, OnSome};
+ghost use Rattle.std.specs.Prelude.{◌≡◌, ◌<◌, ◌++◌, Some, drop, length, map, IfSome, MatchOption, OnOk, OnSome};
 ghost use Rattle.vp_bits.specs.Vector.{IsWidth};
 ghost use Rattle.vp_operand.specs.Arena.{blank, term_at, term_below, term_made, value_in, IsSized};
 ghost use Rattle.vp_operand.specs.Reads.{reads, slot_at};
 ghost use Rattle.vp_source.specs.ExprGrammar.{Expr};
 ghost use Rattle.vp_source.specs.declared.source.Module.{Module};
-ghost use Rattle.vp_source.specs.Whole.{AreWhole};
-ghost use Rattle.vp_expr.specs.Derived.{StandsAt, derived_value};
+ghost use Rattle.vp_expr.specs.Derived.{IsInstanceOf, StandsAt, derived_value, expr_term};
 ghost use Rattle.vp_expr.specs.Evaluation.{eval, own_eval, place_set};
 ghost use Rattle.vp_expr.specs.Tables.{tables_of};
 ghost use Rattle.vp_resolve.specs.Names.{scope_of};
@@ -184,12 +183,16 @@ fn value_of(tables: &Tables, values: &[Bits], place: usize, operand: Operand, co
 
 /// The value of an expression of a design in its context, for an instance of the module in which it stands, from the values of
 /// the objects (IEEE Std 1364-2005, 5.4): that of the derivation that stands at its place in a module, whose names are those of
-/// the module, where the modules hold all expressions; one unknown bit, extended by zeros, behind the end.
+/// the module; one unknown bit, extended by zeros, behind the end.
 pub fn eval(checked: &Checked, values: &Values, instance: ObjectId, id: ExprId) -> Bits
     ensures value { result ≡ eval (tables_of checked.now) (drop instance.0 values.now) id }
     ensures width { length result ≡ id.size }
-    ensures derived { AreWhole checked.now.source → (m : Module) (e : Expr) → StandsAt checked.now m id.place e → result ≡ derived_value checked.now (scope_of checked.now m) (drop instance.0 values.now) id.size e }
+    ensures derived { (m : Module) (e : Expr) → StandsAt checked.now m id.place e → result ≡ derived_value checked.now (scope_of checked.now m) (drop instance.0 values.now) id.size e }
+    // In an instance of that module its names are looked up in this very instance.
+    ensures instance { (m : Module) (e : Expr) → StandsAt checked.now m id.place e → IsInstanceOf checked.now m instance.0 → result ≡ derived_value checked.now (Some instance.0) (drop instance.0 values.now) id.size e }
 {
+    checked.design().source_is_whole();
+    checked.design().instances_are_alike();
     let tables = checked.tables();
     let values = values.of_instance(instance);
     value_below(tables, values, tables.operands.len(), id.place(), id.size())
@@ -232,7 +235,9 @@ pub fn place_set(
 /// Adds the slots that the expression at a place of a design reads, those of indexes too, in the order of the text, to others. For
 /// want of memory it adds some of them. Takes memory.
 pub fn add_reads(checked: &Checked, place: u32, slots: &mut Vec<Slot>) -> Result<(), AllocError>
-    ensures { OnOk result (slots.new.items ≡ slots.old.items ++ map slot_at (reads (term_at (tables_of checked.now).operands place))) }
+    ensures read { OnOk result (slots.new.items ≡ slots.old.items ++ map slot_at (reads (term_at (tables_of checked.now).operands place))) }
+    ensures derived { OnOk result ((m : Module) (e : Expr) → StandsAt checked.now m place e → slots.new.items ≡ slots.old.items ++ map slot_at (reads (expr_term checked.now (scope_of checked.now m) e))) }
 {
+    checked.design().source_is_whole();
     add_slots(checked.tables().operands.as_slice(), place, slots)
 }

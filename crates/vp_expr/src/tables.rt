@@ -1,6 +1,7 @@
 ghost use Rattle.std.specs.Prelude.{◌≡◌, true, false, IfOk, IfSome, MatchOption};
 ghost use Rattle.vp_operand.specs.Arena.{fitting};
 ghost use Rattle.vp_expr.specs.Tables.{IsChecked, assignment_of, process_of, processes_of};
+ghost use Rattle.vp_resolve.specs.Checks.{refusal_of};
 ghost use Rattle.vp_resolve.specs.Operands.{all_fit, operands_of, widths_of};
 
 use crate::actions::{actions_of, sized_at};
@@ -256,7 +257,8 @@ pub fn tables_of(
     design: &Design,
     operands: Sequence<Operand>,
 ) -> Result<Option<Tables>, AllocError>
-    requires { operands ≡ operands_of design.now }
+    requires operands { operands ≡ operands_of design.now }
+    requires accepted { refusal_of design.now ≡ None }
     ensures tables { IfOk result (λ tables. IfSome tables (λ t. IsChecked design.now t)) }
     ensures fit { IfOk result (λ tables. MatchOption tables (all_fit design.now ≡ false) (λ t. all_fit design.now ≡ true)) }
 {

@@ -1,9 +1,9 @@
-ghost use Rattle.std.specs.Prelude.{◌≡◌, ◌<◌, drop, replicate, length, map, option_and_then, slice_get, slice_index_or, slice_set, IfOk, IsOkUnless};
+ghost use Rattle.std.specs.Prelude.{◌≡◌, drop, length, map, slice_get, slice_index_or, slice_set, IfOk, IsOkUnless};
 ghost use Rattle.std.specs.Option.{option_map_or};
-ghost use Rattle.vp_bits.specs.declared.bit.Bit.TheVariants.{Unknown};
 ghost use Rattle.vp_bits.specs.Vector.{IsWidth};
 ghost use Rattle.vp_operand.specs.Arena.{value_in};
-ghost use Rattle.vp_expr.specs.Start.{constant_at, item_constant, literal_constant, start_of, start_value};
+ghost use Rattle.vp_resolve.specs.Constants.{constant_at};
+ghost use Rattle.vp_expr.specs.Start.{start_of, start_value};
 ghost use Rattle.vp_operand.specs.Values.{no_value};
 
 use crate::checked::Checked;
@@ -11,9 +11,7 @@ use std::alloc::Global;
 use std::marker::Model;
 use vp_bits::Bits;
 use vp_elab::{Design, Kind, Object, ObjectId};
-use vp_operand::literal_bits;
-use vp_resolve::ExprError;
-use vp_source::{Expression, Item, Source};
+use vp_resolve::{ExprError, constant_at};
 
 /// A value for each object of a design. A contract sees their list, by object number.
 #[derive(Drop)]
@@ -28,44 +26,6 @@ impl Model for Values {
     ghost Value = { List (List Bit) };
 
     ghost view = { λ v. v.values.items };
-}
-
-/// So many bits of the value of a literal with a size; of any other expression so many unknown ones.
-fn literal_constant(source: &Source, width: u8, expression: Expression) -> Bits
-    requires { IsWidth width }
-    ensures { result ≡ literal_constant source.now width expression }
-{
-    match expression {
-        Expression::Literal { size, digits, .. } => {
-            literal_bits(size, source.word(digits)).resize(width)
-        }
-        _ => Bits::unknown(width),
-    }
-}
-
-/// The constant of an item of so many bits, which a localparam has; all unknown for any other.
-fn item_constant(source: &Source, width: u8, item: Item) -> Bits
-    requires { IsWidth width }
-    ensures { result ≡ item_constant source.now width item }
-{
-    let Item::LocalParameter { value, .. } = item else {
-        return Bits::unknown(width);
-    };
-    match source.expressions.as_slice().get(value as usize) {
-        Some(expression) => literal_constant(source, width, *expression),
-        None => Bits::unknown(width),
-    }
-}
-
-/// The constant of the object of a number, of so many bits.
-fn constant_at(design: &Design, id: ObjectId, width: u8) -> Bits
-    requires { IsWidth width }
-    ensures { result ≡ constant_at design.now id.0 width }
-{
-    match design.item(id) {
-        Some(item) => item_constant(design.source(), width, item),
-        None => Bits::unknown(width),
-    }
 }
 
 /// The value of an object before anything has happened, by its number.

@@ -5,7 +5,7 @@ use Rattle.vp_lex.specs.declared.token.Token.{Token}
 use Rattle.vp_lex.specs.Pieces.{Piece}
 use Rattle.vp_lex.specs.Cuts.{Refusal}
 use Rattle.vp_lex.specs.Cutting.{cut_text}
-use Rattle.vp_lex.specs.Tokens.{Scan, IsScan, judged, scanned, scan_of, tokens_of, AreTokens, IsError}
+use Rattle.vp_lex.specs.Tokens.{Scan, IsScan, judged, scanned, scan_of, tokens_of, AreTokens, IsError, IsFaultOf}
 use Rattle.vp_lex.proofs.CutLaws.{cut_text_cuts}
 use Rattle.vp_lex.proofs.Complete.{cut_text_is}
 use Rattle.vp_lex.proofs.FaultLaws.{cut_text_refused, refused_is_told}
@@ -37,6 +37,10 @@ are_tokens_of text tokens h = ap (judged text) (sym (is_scan_of text h.0 h.1)) �
 -- the error that is computed is that of the first fault
 pub tokens_of_error : (text : List ℕ) (error : LexError) → tokens_of text ≡ Err error → IsError text error
 tokens_of_error text error h = (scan_of text, scan_of_is text, h)
+
+-- so is it told
+pub error_of_text : (text : List ℕ) (error : LexError) → tokens_of text ≡ Err error → IsFaultOf text error
+error_of_text text error h = inr (tokens_of_error text error h)
 
 -- the error of the first fault is computed
 pub is_error_of : (text : List ℕ) (error : LexError) → IsError text error → tokens_of text ≡ Err error

@@ -1,6 +1,6 @@
 ghost use Rattle.std.specs.Prelude.{◌≡◌, ◌⊎◌, ◌<◌, ◌≤◌, ◌+◌, true, length, IfOk, IfErr, vec_len};
 ghost use Rattle.vp_lex.specs.Texts.{part_of};
-ghost use Rattle.vp_lex.specs.Tokens.{scan_of, tokens_of};
+ghost use Rattle.vp_lex.specs.Tokens.{AreTokens, IsFaultOf, scan_of};
 
 use crate::fault::LexError;
 use crate::keyword::Keyword;
@@ -244,11 +244,12 @@ fn scan(alloc: Global, text: &str) -> Result<ScannedText, AllocError>
 ///
 /// White space and comments separate tokens. A token is the longest piece that begins where it does. A timescale is at fault
 /// at the end of its line, so another fault on that line comes first.
+#[tactic(auto, using(crate::proofs::TokenLaws::tokens_of_are))]
 pub fn tokens(alloc: Global, text: &str) -> Result<Vec<Token>, LexError>
     requires { length text.now ≤ TEXT_LIMIT }
     ensures count { IfOk result (λ tokens. vec_len tokens ≤ length text.now) }
-    ensures ok { IfOk result (λ tokens. tokens_of text.now ≡ Ok tokens.items) }
-    ensures fault { IfErr result (λ error. (error ≡ LexError.NoMemory) ⊎ (tokens_of text.now ≡ Err error)) }
+    ensures ok { IfOk result (λ tokens. AreTokens text.now tokens.items) }
+    ensures fault { IfErr result (λ error. IsFaultOf text.now error) }
 {
     let read = scan(alloc, text)?;
     let limit = read.fault.as_ref().map(|fault| fault.line());

@@ -78,13 +78,13 @@ fn driven_in(
     alloc: Global,
     source: &Source,
     tables: &Tables,
-    module: Module,
+    definition: Module,
 ) -> Result<Vec<u32>, AllocError>
     requires { tables.now ≡ tables_in source.now }
-    ensures { IfOk result (λ places. places.items ≡ flat_map (driven_by source.now) (items_in source.now «module»)) }
+    ensures { IfOk result (λ places. places.items ≡ flat_map (driven_by source.now) (items_in source.now definition)) }
 {
     let mut places = Vec::new(alloc);
-    for item in items_of(source, module) {
+    for item in items_of(source, definition) {
         add_driven_by(source, tables, *item, &mut places)?;
     }
     Ok(places)
@@ -109,12 +109,12 @@ pub fn driven_twice(
     alloc: Global,
     source: &Source,
     tables: &Tables,
-    module: Module,
+    definition: Module,
 ) -> Result<Option<u32>, ElabError>
     requires { tables.now ≡ tables_in source.now }
-    ensures place { IfOk result (λ place. place ≡ driven_twice source.now «module») }
+    ensures place { IfOk result (λ place. place ≡ driven_twice source.now definition) }
     ensures failed { IfErr result (λ e. e ≡ NoMemory) }
 {
-    let places = driven_in(alloc, source, tables, module)?;
+    let places = driven_in(alloc, source, tables, definition)?;
     repeated(alloc, source, places.as_slice())
 }

@@ -13,12 +13,13 @@ use Rattle.vp_source.specs.Kinds.{symbol_at}
 use Rattle.vp_source.specs.Operators.{unary_sign, binary_sign}
 use Rattle.vp_source.specs.ExprGrammar.{Expr, Name, Sized, Based, Number, Group, Unary, Binary, Conditional, Concatenation, Replication, Range, expr_text, IsExpr, IsRange}
 use Rattle.vp_parse_expr.specs.Stopping.{Reader, is_next, terminal}
-use Rattle.vp_parse_expr.specs.Takes.{expr_longer}
-use Rattle.vp_parse_expr.specs.Again.{Stops, expr_again, range_again, literal_again}
+use Rattle.vp_parse_expr.specs.laws.Takes.{expr_longer}
+use Rattle.vp_parse_expr.specs.Meaning.{Stops}
+use Rattle.vp_parse_expr.specs.laws.Again.{expr_again, range_again, literal_again}
 use Rattle.vp_source.specs.StmtGrammar.{Stmt}
 use Rattle.vp_parse_stmt.specs.Reading.{stmt_at, is_else}
-use Rattle.vp_parse_stmt.specs.Following.{end_follows}
-use Rattle.vp_parse_stmt.specs.Again.{CompleteStmt, stmt_longer, stmt_again}
+use Rattle.vp_parse_stmt.specs.laws.Following.{end_follows}
+use Rattle.vp_parse_stmt.specs.laws.Again.{CompleteStmt, stmt_longer, stmt_again}
 use Rattle.vp_source.specs.Grammar.{Further, further_text, AreFurther, further_height, width_text, value_text, value_height, Connection, Ordered, Named, Connections, Unconnected, Connected, connection_text, connections_text, is_named, is_blank, IsConnection, IsAlike, AreConnections, connection_height, connections_height, Declaration, Nets, Regs, LocalParameters, Assignments, Instances, Declarator, Plain, Valued, Instance, declaration_text, declarator_text, IsDeclarator, declarator_height, Item, Declares, Initial, Always, item_text, items_text, IsItem, AreItems, item_depth, items_depth, item_height, items_height, Direction, Input, Output, OutputReg, Port, Declared, Bare, PortList, Header, NoHeader, Ports, direction_text, port_text, ports_text, header_text, IsPort, ArePorts, IsHeader, Module, module_text, IsModule, Derivation, source_text, IsSource, source_depth, source_height}
 use Rattle.vp_parse.specs.Reading.{further_at, width_at, is_end, value_at, ordered_at, named_at, connection_at, connected_at, connections_at, valued_at, net_at, instance_at, declarator_by, declarator_at, declarators_at, ranged_at, procedure_at, item_by, item_at, items_at, wire_at, output_at, direction_by, direction_at, declared_at, port_at, ports_at, listed_at, parentheses_at, header_at, module_at, modules_at, source_at}
 

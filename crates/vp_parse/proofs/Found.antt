@@ -13,11 +13,11 @@ use Rattle.vp_source.specs.declared.symbol.Symbol.{Symbol}
 use Rattle.vp_source.specs.Grammar.{Derivation, IsDerivation}
 use Rattle.vp_source.specs.Layout.{Lists, no_parts, put_source, lists_of, IsSourceOf}
 use Rattle.vp_parse_expr.specs.Stopping.{Stop, Unexpected, TooDeep, Fails}
-use Rattle.vp_parse_expr.specs.Placed.{seen}
+use Rattle.vp_parse_expr.specs.laws.Placed.{seen}
 use Rattle.vp_parse.specs.Reading.{read}
 use Rattle.vp_parse.specs.Placing.{modules_into}
-use Rattle.vp_parse.specs.Told.{Tells}
-use Rattle.vp_parse.proofs.Laws.{read_derives, refused_has_none}
+use Rattle.vp_parse.specs.Told.{IsUnderivable, Tells}
+use Rattle.vp_parse.proofs.Laws.{read_derives, refused_has_none, unexpected_has_none}
 use Rattle.vp_parse.proofs.Placed.{source_seen}
 
 limit_above : 0 < DEPTH_LIMIT
@@ -42,12 +42,12 @@ stops_alike symbols (stop_of.LeftOut n) h = stopped_as (read symbols) (Unexpecte
 stops_alike symbols (stop_of.TooDeep n) h = stopped_as (read symbols) (TooDeep n) (sym (source_seen DEPTH_LIMIT symbols) ∙ h)
 stops_alike symbols stop_of.NoMemory h = tt
 
--- what tells where reading stops is want of memory, or no derivation spells the symbols
-pub tells_none : (tokens : List Token) (symbols : List Symbol) (e : ParseError) → Tells tokens symbols e (read symbols) → (e ≡ error.NoMemory) ⊎ ((d : Derivation) → IsDerivation d symbols → ⊥)
-tells_none tokens symbols (error.Syntax line) t = inr (λ d h. refused_has_none DEPTH_LIMIT symbols d (Unexpected t.0) t.1 h)
-tells_none tokens symbols (error.LeftOut word line) t = inr (λ d h. refused_has_none DEPTH_LIMIT symbols d (Unexpected t.0) t.1 h)
-tells_none tokens symbols (error.TooDeep line) t = inr (λ d h. refused_has_none DEPTH_LIMIT symbols d (TooDeep t.0) t.1 h)
-tells_none tokens symbols error.NoMemory t = inl refl
+-- what tells where reading stops says that no derivation spells the symbols
+pub tells_none : (tokens : List Token) (symbols : List Symbol) (e : ParseError) → Tells tokens symbols e (read symbols) → IsUnderivable symbols e
+tells_none tokens symbols (error.Syntax line) t = λ d is spelled. unexpected_has_none DEPTH_LIMIT symbols d t.0 t.1 is spelled
+tells_none tokens symbols (error.LeftOut word line) t = λ d is spelled. unexpected_has_none DEPTH_LIMIT symbols d t.0 t.1 is spelled
+tells_none tokens symbols (error.TooDeep line) t = λ d h. refused_has_none DEPTH_LIMIT symbols d (TooDeep t.0) t.1 h
+tells_none tokens symbols error.NoMemory t = tt
 
 -- a source with what reading into lists gives is the source of a derivation of the symbols
 pub found_by : (text : List ℕ) (tokens : List Token) (symbols : List Symbol) (x : List module_of.Module × Lists) (r : Result Source ParseError)

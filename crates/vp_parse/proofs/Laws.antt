@@ -2,8 +2,8 @@
 use Rattle.std.proofs.Common.{◌≡◌, ℕ, ◌+◌, List, Result, Ok, Err, length, ◌≤◌, ◌<◌, refl, sym, ap, subst, ◌∙◌, arith}
 use Rattle.vp_source.specs.declared.symbol.Symbol.{Symbol}
 use Rattle.vp_parse_expr.specs.Stopping.{Stop, Unexpected, left_of}
-use Rattle.vp_parse_expr.specs.Takes.{Holds}
-use Rattle.vp_parse_expr.specs.Raise.{OrDeep}
+use Rattle.vp_parse_expr.specs.laws.Takes.{Holds}
+use Rattle.vp_parse_expr.specs.laws.Raise.{OrDeep}
 use Rattle.vp_source.specs.Grammar.{Derivation, source_text, IsSource, source_depth, source_height, Derives}
 use Rattle.vp_parse.specs.Reading.{source_at}
 use Rattle.vp_parse.proofs.Takes.{source_takes}

@@ -19,16 +19,16 @@ use Rattle.vp_source.specs.declared.expression.Range as range
 use Rattle.vp_source.specs.Kinds.{same_kind, symbol_at}
 use Rattle.vp_source.specs.Operators.{binary_sign}
 use Rattle.vp_source.specs.ExprGrammar.{Expr, Name, Sized, Based, Number, Group, Unary, Binary, Conditional, Concatenation, Replication, Range, IsExpr, expr_text, range_text}
-use Rattle.vp_parse_expr.specs.Takes.{Holds, IsTerminal, terminal_takes, IsRangeTaken, range_takes}
+use Rattle.vp_parse_expr.specs.laws.Takes.{Holds, IsTerminal, terminal_takes, IsRangeTaken, range_takes}
 use Rattle.vp_parse_expr.specs.Stopping.{Stop, ◌>>=◌, Reader, is_next, terminal, behind}
 use Rattle.vp_parse_expr.specs.Reading.{expr_at, range_at, literal_at}
 use Rattle.vp_parse_expr.specs.Placing.{Made as Placed, literal_into, range_into}
-use Rattle.vp_parse_expr.specs.Placed.{seen, bind_seen, last_seen, all_seen, if_seen, left, behind_seen, made as made_expr, literal_seen, made_range as kept_range, range_seen}
+use Rattle.vp_parse_expr.specs.laws.Placed.{seen, bind_seen, last_seen, all_seen, if_seen, left, behind_seen, made as made_expr, literal_seen, made_range as kept_range, range_seen}
 use Rattle.vp_source.specs.StmtGrammar.{Stmt}
 use Rattle.vp_source.specs.StmtLayout as layout
 use Rattle.vp_source.specs.StmtLayout.{put_stmt, put_value}
 use Rattle.vp_parse_stmt.specs.Placing.{Placer, Made as MadePart, value_into, stmt_into}
-use Rattle.vp_parse_stmt.specs.Placed.{Places, made as made_part, value_seen, stmt_seen}
+use Rattle.vp_parse_stmt.specs.laws.Placed.{Places, made as made_part, value_seen, stmt_seen}
 use Rattle.vp_parse_stmt.specs.Reading.{stmt_at}
 use Rattle.vp_source.specs.Grammar.{Further, further_text, AreFurther, further_height, Connection, Ordered, Named, Connections, Unconnected, Connected, value_text, value_height, connection_text, IsAlike, connection_height, Declaration, Nets, Regs, LocalParameters, Assignments, Instances, Declarator, Valued, Item, Initial, Always, Direction, Port, Bare, PortList, Ports, Module, Derivation}
 use Rattle.vp_source.specs.Layout.{Lists, no_parts, put_declared, with_item, with_connection, first_place, put_connection_by, put_connection, comma_at, put_connected, put_connections, put_declarator, put_further, put_procedure, put_item, put_items, PortType, put_direction, port_type, port_name, put_port, put_ports, scalar_input, put_header, put_module, put_modules, put_source}

@@ -8,10 +8,10 @@ use Rattle.vp_source.specs.declared.symbol.SymbolKind.TheVariants as symbol
 use Rattle.vp_source.specs.ExprGrammar.{Range}
 use Rattle.vp_parse_expr.specs.Stopping.{◌>>=◌, Reader, is_next, terminal}
 use Rattle.vp_parse_expr.specs.Reading.{expr_at, literal_at}
-use Rattle.vp_parse_expr.specs.Raise.{OrDeep, OrDeep-same, OrDeep-bind, OrDeep-then, OrDeep-if, Below, expr_raise}
+use Rattle.vp_parse_expr.specs.laws.Raise.{OrDeep, OrDeep-same, OrDeep-bind, OrDeep-then, OrDeep-if, Below, expr_raise}
 use Rattle.vp_source.specs.StmtGrammar.{Stmt}
 use Rattle.vp_parse_stmt.specs.Reading.{stmt_at}
-use Rattle.vp_parse_stmt.specs.Raise.{stmt_raise}
+use Rattle.vp_parse_stmt.specs.laws.Raise.{stmt_raise}
 use Rattle.vp_source.specs.Grammar.{Named, Declaration, Nets, Regs, LocalParameters, Assignments, Instances, Instance, Item, Declares, Initial, Always}
 use Rattle.vp_parse.specs.Reading.{further_at, width_at, is_end, value_at, ordered_at, named_at, connection_at, connected_at, connections_at, valued_at, net_at, instance_at, declarator_by, declarator_at, declarators_at, ranged_at, procedure_at, item_by, item_at, items_at, header_at, module_at, modules_at, source_at}
 

@@ -12,10 +12,10 @@ use Rattle.vp_source.specs.Kinds.{symbol_at}
 use Rattle.vp_source.specs.ExprGrammar.{Expr, Range, expr_text, expr_depth, is_sized, IsExpr, IsRange}
 use Rattle.vp_parse_expr.specs.Stopping.{Stop, Reader, is_next, terminal}
 use Rattle.vp_parse_expr.specs.Reading.{expr_at, range_at, literal_at}
-use Rattle.vp_parse_expr.specs.Takes.{Holds, Holds-bind, Holds-if, IsTerminal, terminal_takes, before, IsWholeTaken, whole_takes, IsRangeTaken, range_takes, IsLiteralTaken, literal_takes}
+use Rattle.vp_parse_expr.specs.laws.Takes.{Holds, Holds-bind, Holds-if, IsTerminal, terminal_takes, before, IsWholeTaken, whole_takes, IsRangeTaken, range_takes, IsLiteralTaken, literal_takes}
 use Rattle.vp_source.specs.StmtGrammar.{Stmt}
 use Rattle.vp_parse_stmt.specs.Reading.{stmt_at}
-use Rattle.vp_parse_stmt.specs.Takes.{IsTaken, SoundStmt, stmt_takes}
+use Rattle.vp_parse_stmt.specs.laws.Takes.{IsTaken, SoundStmt, stmt_takes}
 use Rattle.vp_source.specs.Grammar.{Further, further_text, AreFurther, further_height, width_text, value_text, value_height, Connection, Ordered, Connections, Connected, connection_text, connections_text, is_named, is_blank, IsConnection, IsAlike, AreConnections, connection_height, connections_height, Declaration, Nets, Regs, LocalParameters, Assignments, Instances, Declarator, Valued, declaration_text, declarator_text, IsDeclaration, IsDeclarator, declarator_height, Item, Initial, Always, item_text, items_text, IsItem, AreItems, item_depth, items_depth, item_height, items_height, Direction, Port, PortList, Header, wire_text, direction_text, port_text, ports_text, header_text, is_declared, IsPort, ArePorts, IsHeader, Module, module_text, IsModule, Derivation, Derives}
 use Rattle.vp_parse.specs.Reading.{further_at, width_at, is_end, value_at, ordered_at, named_at, connection_at, connected_at, connections_at, valued_at, net_at, instance_at, declarator_by, declarator_at, declarators_at, ranged_at, procedure_at, item_by, item_at, items_at, wire_at, output_at, direction_by, direction_at, declared_at, port_at, ports_at, listed_at, parentheses_at, header_at, module_at, modules_at, source_at}
 

@@ -8,10 +8,10 @@ use Rattle.vp_source.specs.declared.symbol.SymbolKind.TheVariants as symbol
 use Rattle.vp_source.specs.ExprGrammar.{Expr, Range}
 use Rattle.vp_parse_expr.specs.Stopping.{Stop, Unexpected, ◌>>=◌, Reader, left_of, is_next, terminal}
 use Rattle.vp_parse_expr.specs.Reading.{expr_at, range_at, literal_at}
-use Rattle.vp_parse_expr.specs.Within.{Within, IsWithin, Within-bind, Within-if, terminal_within, expr_within, range_within, literal_within}
+use Rattle.vp_parse_expr.specs.laws.Within.{Within, IsWithin, Within-bind, Within-if, terminal_within, expr_within, range_within, literal_within}
 use Rattle.vp_source.specs.StmtGrammar.{Stmt}
 use Rattle.vp_parse_stmt.specs.Reading.{stmt_at}
-use Rattle.vp_parse_stmt.specs.Within.{stmt_within}
+use Rattle.vp_parse_stmt.specs.laws.Within.{stmt_within}
 use Rattle.vp_source.specs.Grammar.{Declaration, Nets, Regs, LocalParameters, Assignments, Instances, Derivation}
 use Rattle.vp_parse.specs.Reading.{further_at, width_at, is_end, value_at, ordered_at, named_at, connection_at, connected_at, connections_at, valued_at, net_at, instance_at, declarator_by, declarator_at, declarators_at, ranged_at, procedure_at, item_by, item_at, items_at, wire_at, output_at, direction_by, direction_at, declared_at, port_at, ports_at, listed_at, parentheses_at, header_at, module_at, modules_at, source_at}
 

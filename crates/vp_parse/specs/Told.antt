@@ -5,7 +5,7 @@ use Rattle.vp_lex.specs.declared.token.Token.{Token}
 use Rattle.vp_parse.specs.declared.fault.ParseError.{ParseError}
 use Rattle.vp_parse.specs.declared.fault.ParseError.TheVariants as error
 use Rattle.vp_source.specs.declared.symbol.Symbol.{Symbol}
-use Rattle.vp_source.specs.Grammar.{Derivation}
+use Rattle.vp_source.specs.Grammar.{Derivation, IsDerivation, IsSource, source_text}
 use Rattle.vp_parse_expr.specs.Stopping.{Stop, Unexpected, TooDeep}
 
 -- the symbol at which reading stops, with so many left; the last one at the end of the text
@@ -30,3 +30,11 @@ Tells tokens symbols (error.LeftOut word line) read =
 Tells tokens symbols (error.TooDeep line) read =
     (left : ℕ) × (read ≡ Err (TooDeep left)) × (line ≡ line_told tokens symbols left)
 Tells tokens symbols error.NoMemory read = Unit {0}
+
+-- an error says that no derivation spells the symbols: however deep it nests, or, where it is of depth, within the limit; want of
+-- memory says nothing (annex A, profile)
+abbrev pub IsUnderivable : List Symbol → ParseError → Type 0
+IsUnderivable symbols (error.Syntax line) = (d : Derivation) → IsSource d → symbols ≡ source_text d → ⊥
+IsUnderivable symbols (error.LeftOut word line) = (d : Derivation) → IsSource d → symbols ≡ source_text d → ⊥
+IsUnderivable symbols (error.TooDeep line) = (d : Derivation) → IsDerivation d symbols → ⊥
+IsUnderivable symbols error.NoMemory = Unit {0}

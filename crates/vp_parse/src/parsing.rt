@@ -3,13 +3,13 @@ ghost use Rattle.std.specs.Prelude.{◌≡◌, ◌<◌, ◌≤◌, ◌^◌, ◌�
 ghost use Rattle.vp_lex.specs.declared.token.TheConstants.{TEXT_LIMIT};
 ghost use Rattle.vp_parse_expr.specs.Stopping.{Gives, Fails, Stop as Reason};
 ghost use Rattle.vp_parse_expr.specs.Symbols.{symbols_of};
-ghost use Rattle.vp_parse.specs.declared.fault.ParseError.TheVariants as error;
 ghost use Rattle.vp_source.specs.Grammar.{Derivation, IsDerivation};
 ghost use Rattle.vp_source.specs.Layout.{IsSourceOf, lists_of};
 ghost use Rattle.vp_parse.specs.Placing.{lists_in, module_into, modules_into};
 ghost use Rattle.vp_parse.specs.Reading.{read};
-ghost use Rattle.vp_source.specs.Standing.{ProceduresStand};
-ghost use Rattle.vp_parse.specs.Told.{Tells, stopped_at as stop_at, place_told, line_told};
+ghost use Rattle.vp_source.specs.Standing.{ItemsStand};
+ghost use Rattle.vp_parse.specs.declared.fault.ParseError.TheVariants as error;
+ghost use Rattle.vp_parse.specs.Told.{IsUnderivable, Tells, stopped_at as stop_at, place_told, line_told};
 ghost use Rattle.vp_parse.specs.Weight.{weight};
 ghost use Rattle.vp_source.specs.Whole.{AreWhole};
 
@@ -168,10 +168,11 @@ pub fn parse(alloc: Global, text: &str, tokens: &[Token]) -> Result<Source, Pars
     ensures found { IfOk result (λ source. (d : Derivation) × IsDerivation d (symbols_of text.now tokens.now) × IsSourceOf text.now tokens.now d source) }
     // Its modules hold all expressions, statements, terms of events and choices of cases that are found.
     ensures whole { IfOk result (λ source. AreWhole source) }
-    // Each procedure of what is found has an item in its module, which names the place where its statement stands.
-    ensures procedures { IfOk result (λ source. (d : Derivation) → IsSourceOf text.now tokens.now d source → ProceduresStand source d) }
+    // Each item of what is found stands in its module: its statement, its value or its connections stand where the module's item says.
+    ensures items { IfOk result (λ source.
+        (d : Derivation) → IsSourceOf text.now tokens.now d source → ItemsStand source d) }
     // What is refused has no derivation, unless memory ran out.
-    ensures none { IfErr result (λ e. (e ≡ error.NoMemory) ⊎ ((d : Derivation) → IsDerivation d (symbols_of text.now tokens.now) → ⊥)) }
+    ensures none { IfErr result (λ e. IsUnderivable (symbols_of text.now tokens.now) e) }
     // The fault is the one at which reading stops.
     ensures fault { IfErr result (λ e. Tells tokens.now (symbols_of text.now tokens.now) e (read (symbols_of text.now tokens.now))) }
 {

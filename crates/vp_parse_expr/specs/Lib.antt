@@ -2,11 +2,5 @@ pub mod Symbols
 pub mod Stopping
 pub mod Reading
 pub mod Placing
-pub mod Binding
-pub mod Takes
-pub mod Again
-pub mod Raise
-pub mod Within
-pub mod Placed
 pub mod Meaning
-pub mod Laws
+pub mod laws

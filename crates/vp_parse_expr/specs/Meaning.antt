@@ -1,16 +1,25 @@
 -- What the code finds, and what it refuses, in the terms of derivations.
-use Rattle.std.specs.Prelude.{◌≡◌, ℕ, ◌≤◌, List}
+use Rattle.std.specs.Prelude.{◌≡◌, ℕ, ◌≤◌, false, true, List, ◌∷◌, None}
 use Rattle.vp_lex.specs.declared.token.Punctuator.TheVariants as punctuator
 use Rattle.vp_source.specs.declared.expression.Expression as node
 use Rattle.vp_source.specs.declared.expression.Range as range
 use Rattle.vp_source.specs.declared.symbol.Symbol.{Symbol}
+use Rattle.vp_source.specs.declared.symbol.SymbolKind.{SymbolKind}
 use Rattle.vp_source.specs.declared.symbol.SymbolKind.TheVariants as symbol
-use Rattle.std.specs.Prelude.{false}
+use Rattle.vp_source.specs.Kinds.{symbol_at}
 use Rattle.vp_parse_expr.specs.Stopping.{is_next}
-use Rattle.vp_source.specs.ExprGrammar.{Range, Expr, Selection, range_text, expr_text, selection_text, IsRange, IsExpr, IsSelection, expr_depth, selection_depth}
+use Rattle.vp_source.specs.Operators.{binds}
+use Rattle.vp_source.specs.ExprGrammar.{Range, Expr, Selection, range_text, expr_text, selection_text, IsRange, IsExpr, IsSelection, expr_depth, is_sized, selection_depth}
 use Rattle.vp_source.specs.ExprLayout.{put_range, put_expr, put_selection}
 use Rattle.vp_parse_expr.specs.Placing.{Made, MadeSelection}
-use Rattle.vp_parse_expr.specs.Again.{Stops}
+use Rattle.vp_parse_expr.specs.Reading.{is_base_next, is_choice}
+
+-- no symbol follows with which an expression, of operators that bind at least so tightly, goes on
+pub record Stops (least : ℕ) (ts : List Symbol) : Type 0 where
+  pub no_operator : binds least ts ≡ None
+  pub no_choice : is_choice least ts ≡ false
+  pub no_bracket : is_next (symbol.Punctuator punctuator.LeftBracket) ts ≡ false
+  pub no_base : is_base_next ts ≡ false
 
 -- these symbols begin with an expression, that nests at most so deep; its parts lie behind others in the list
 pub record IsExpressionOf (limit : ℕ) (nodes : List node.Expression) (ts : List Symbol) (x : Made) (e : Expr) : Type 0 where
@@ -47,6 +56,21 @@ pub record IsRangeOf (ts : List Symbol) (x : range.Range × List Symbol) (r : Ra
   pub spelled : ts ≡ range_text r x.1
   pub is : IsRange r
   pub bounds : x.0 ≡ put_range r
+
+-- these symbols begin with a literal with a size; it lies behind others in the list (3.5.1)
+pub record IsLiteralOf (nodes : List node.Expression) (ts : List Symbol) (x : Made) (e : Expr) : Type 0 where
+  pub spelled : ts ≡ expr_text e x.3
+  pub is : IsExpr e
+  pub sized : is_sized e ≡ true
+  pub placed : (x.0, x.2) ≡ put_expr e nodes
+
+-- these symbols begin with no literal with a size
+abbrev pub NoLiteral : List Symbol → Type 0
+NoLiteral ts = (e : Expr) (rest : List Symbol) → ts ≡ expr_text e rest → IsExpr e → is_sized e ≡ true → ⊥
+
+-- these symbols begin with no symbol of a kind
+abbrev pub NoTerminal : SymbolKind → List Symbol → Type 0
+NoTerminal kind ts = (place : ℕ) (rest : List Symbol) → ts ≡ symbol_at kind place ∷ rest → ⊥
 
 -- these symbols begin with no expression that nests at most so deep
 abbrev pub NoExpression : (limit : ℕ) → List Symbol → Type 0

@@ -2,7 +2,7 @@
 ghost use Rattle.std.specs.Prelude.{◌≡◌, ◌<◌, ◌≤◌, ◌+◌, ◌^◌, ◌⊎◌, max, length, Some, Ok, IfOk, IfErr, vec_len};
 ghost use Rattle.vp_parse_expr.specs.declared.reading.Stop.TheVariants.{NoMemory};
 ghost use Rattle.vp_source.specs.ExprGrammar.{Expr, Selection as SelectionRead};
-ghost use Rattle.vp_parse_expr.specs.Meaning.{IsExpressionOf, NoExpression, IsSelectionOf, NoSelection};
+ghost use Rattle.vp_parse_expr.specs.Meaning.{IsExpressionOf, NoExpression, IsLiteralOf, NoLiteral, IsSelectionOf, NoSelection};
 ghost use Rattle.vp_parse_expr.specs.Placing.{made, literal_into, sized_into, number_into, bit_into, part_select_into, select_into, selection_into, name_into, based_into, group_into, unary_into, part_into, further_part_into, further_parts_into, first_part_into, parts_into, concatenation_into, replication_into, braces_into, operand_into, binary_into, more_into, conditional_into, choice_into, chain_into, expr_into};
 ghost use Rattle.vp_parse_expr.specs.Stopping.{Gives};
 
@@ -104,10 +104,9 @@ fn number<'a>(
     add_node(expressions, Expression::Number { place, value }, 1, symbols)
 }
 
-/// The literal with a size with which symbols begin, laid out behind the parts that were there. Left out are sizes of 0 and
-/// above 65,535 (3.5.1).
+/// A literal with a size, behind the parts that were there.
 #[tactic(auto, unfolding(crate::specs::Placing::literal_into, crate::specs::Placing::literal_by_into))]
-pub fn literal<'a>(
+fn literal_at<'a>(
     expressions: &mut Vec<Expression>,
     symbols: &'a [Symbol],
 ) -> Result<Found<'a>, Stop>
@@ -125,6 +124,22 @@ pub fn literal<'a>(
         }
         _ => Err(unexpected(symbols)),
     }
+}
+
+/// The literal with a size with which symbols begin, laid out behind the parts that were there. Left out are sizes of 0 and
+/// above 65,535 (3.5.1).
+pub fn literal<'a>(
+    expressions: &mut Vec<Expression>,
+    symbols: &'a [Symbol],
+) -> Result<Found<'a>, Stop>
+    requires { vec_len expressions.old + length symbols.now < 2 ^ 32 }
+    ensures read { Gives (λ found. (found.place, found.depth, expressions.new.items, found.rest.now)) result (literal_into expressions.old.items symbols.now) }
+    ensures found { IfOk result (λ found. (e : Expr) × IsLiteralOf expressions.old.items symbols.now (found.place, found.depth, expressions.new.items, found.rest.now) e) }
+    ensures none { IfErr result (λ stop. (stop ≡ NoMemory) ⊎ NoLiteral symbols.now) }
+    ensures lighter { IfOk result (λ found. vec_len expressions.new + length found.rest.now ≤ vec_len expressions.old + length symbols.now) }
+    ensures shorter { IfOk result (λ found. length found.rest.now < length symbols.now) }
+{
+    literal_at(expressions, symbols)
 }
 
 // ---- selections

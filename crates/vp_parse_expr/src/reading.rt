@@ -1,7 +1,8 @@
-ghost use Rattle.std.specs.Prelude.{◌≡◌, ◌≢◌, ◌+◌, length, Some, IfOk, IfErr};
+ghost use Rattle.std.specs.Prelude.{◌≡◌, ◌≢◌, ◌+◌, ◌∷◌, length, Some, IfOk, IfErr, OnErr};
 ghost use Rattle.vp_parse_expr.specs.declared.reading.Stop.TheVariants.{NoMemory};
 ghost use Rattle.vp_source.specs.declared.symbol.SymbolKind.TheVariants.{Name};
-ghost use Rattle.vp_source.specs.Kinds.{same_kind};
+ghost use Rattle.vp_source.specs.Kinds.{same_kind, symbol_at};
+ghost use Rattle.vp_parse_expr.specs.Meaning.{NoTerminal};
 ghost use Rattle.vp_parse_expr.specs.Stopping.{Unexpected, Gives, stop_told, is_next as next_is, terminal as terminal_at, behind};
 
 use std::alloc::{AllocError, AllocFailed};
@@ -92,6 +93,8 @@ pub fn skip(expected: SymbolKind, symbols: &[Symbol]) -> Result<&[Symbol], Stop>
 #[tactic(auto, using(crate::proofs::Told::told_stop), unfolding(crate::specs::Stopping::terminal))]
 pub fn name(symbols: &[Symbol]) -> Result<(u32, &[Symbol]), Stop>
     ensures read { Gives (λ found. (found.0, found.1.now)) result (terminal_at Name symbols.now) }
+    ensures found { IfOk result (λ found. symbols.now ≡ symbol_at Name found.0 ∷ found.1.now) }
+    ensures none { OnErr result (NoTerminal Name symbols.now) }
     ensures told { IfErr result (λ stop. stop ≢ NoMemory) }
     ensures shorter { IfOk result (λ found. length found.1.now + 1 ≡ length symbols.now) }
 {

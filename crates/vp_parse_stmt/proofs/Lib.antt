@@ -1,2 +1,3 @@
 pub mod Loops
 mod GrammarRows
+pub mod Read

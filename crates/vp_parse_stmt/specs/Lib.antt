@@ -1,9 +1,5 @@
 pub mod Reading
 pub mod Placing
 pub mod Weight
-pub mod Following
-pub mod Takes
-pub mod Again
-pub mod Raise
-pub mod Within
-pub mod Placed
+pub mod Meaning
+pub mod laws

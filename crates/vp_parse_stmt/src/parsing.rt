@@ -1,5 +1,10 @@
 // Statements, read from left to right (docs/FORMATS.md, "Grammar").
-ghost use Rattle.std.specs.Prelude.{◌≡◌, ◌<◌, ◌≤◌, ◌+◌, ◌^◌, length, IfOk, vec_len};
+ghost use Rattle.std.specs.Prelude.{◌≡◌, ◌<◌, ◌≤◌, ◌+◌, ◌^◌, ◌⊎◌, ◌∷◌, length, IfErr, IfOk, OnErr, vec_len};
+ghost use Rattle.vp_parse_expr.specs.declared.reading.Stop.TheVariants.{NoMemory};
+ghost use Rattle.vp_parse_expr.specs.Meaning.{NoTerminal};
+ghost use Rattle.vp_source.specs.Kinds.{symbol_at};
+ghost use Rattle.vp_source.specs.StmtGrammar.{Stmt};
+ghost use Rattle.vp_parse_stmt.specs.Meaning.{IsStatementOf, NoStatement};
 ghost use Rattle.vp_source.specs.declared.symbol.SymbolKind.TheVariants.{Name};
 ghost use Rattle.vp_parse_expr.specs.Stopping.{Gives, stop_told, terminal};
 ghost use Rattle.vp_source.specs.StmtLayout.{awaited as awaited_by};
@@ -135,7 +140,7 @@ fn list<'a>(
     let mut so_far = add_statement(&mut arena.statements, Statement::Empty)?;
     let mut rest = symbols;
     while goes_on(rest) {
-        let (last, after) = statement(arena, limit, depth, rest)?;
+        let (last, after) = statement_at(arena, limit, depth, rest)?;
         let then = Statement::Then { list: so_far, last };
         so_far = add_statement(&mut arena.statements, then)?;
         rest = after;
@@ -177,7 +182,7 @@ fn delayed<'a>(
     ensures shorter { IfOk result (λ found. length found.1.now < length symbols.now) }
 {
     let (amount, rest) = delay(symbols)?;
-    let (body, rest) = statement(arena, limit, depth, rest)?;
+    let (body, rest) = statement_at(arena, limit, depth, rest)?;
     let delayed = Statement::Delay { amount, body };
     Ok((add_statement(&mut arena.statements, delayed)?, rest))
 }
@@ -207,7 +212,7 @@ fn at_event<'a>(
     ensures shorter { IfOk result (λ found. length found.1.now < length symbols.now) }
 {
     let (terms, rest) = event(&mut arena.terms, symbols)?;
-    let (body, rest) = statement(arena, limit, depth, rest)?;
+    let (body, rest) = statement_at(arena, limit, depth, rest)?;
     Ok((
         add_statement(&mut arena.statements, awaited(terms, body))?,
         rest,
@@ -247,7 +252,7 @@ fn guarded<'a>(
     ensures shorter { IfOk result (λ found. length found.2.now < length symbols.now) }
 {
     let (condition, rest) = condition(arena, limit, symbols)?;
-    let (body, rest) = statement(arena, limit, depth, rest)?;
+    let (body, rest) = statement_at(arena, limit, depth, rest)?;
     Ok((condition, body, rest))
 }
 
@@ -307,7 +312,7 @@ fn forever<'a>(
     ensures lighter { IfOk result (λ found. weight arena.new found.1.now ≤ weight arena.old symbols.now) }
     ensures shorter { IfOk result (λ found. length found.1.now < length symbols.now) }
 {
-    let (body, rest) = statement(arena, limit, depth, symbols)?;
+    let (body, rest) = statement_at(arena, limit, depth, symbols)?;
     let again = Statement::Forever { body };
     Ok((add_statement(&mut arena.statements, again)?, rest))
 }
@@ -334,6 +339,8 @@ fn no_target(stop: Stop, symbols: &[Symbol]) -> Stop
 /// The place of the name with which a target begins, and what follows; a concatenation is left out.
 pub fn target(symbols: &[Symbol]) -> Result<(u32, &[Symbol]), Stop>
     ensures read { Gives (λ found. (found.0, found.1.now)) result (terminal Name symbols.now) }
+    ensures found { IfOk result (λ found. symbols.now ≡ symbol_at Name found.0 ∷ found.1.now) }
+    ensures none { OnErr result (NoTerminal Name symbols.now) }
     ensures shorter { IfOk result (λ found. length found.1.now + 1 ≡ length symbols.now) }
 {
     match name(symbols) {
@@ -396,7 +403,7 @@ fn for_loop<'a>(
     ensures shorter { IfOk result (λ found. length found.1.now < length symbols.now) }
 {
     let (start, condition, step, rest) = heading(arena, limit, symbols)?;
-    let (body, rest) = statement(arena, limit, depth, rest)?;
+    let (body, rest) = statement_at(arena, limit, depth, rest)?;
     let again = Statement::While {
         condition,
         body,
@@ -424,7 +431,7 @@ fn second<'a>(
     ensures no_longer { IfOk result (λ found. length found.1.now ≤ length symbols.now) }
 {
     let rest = skip(SymbolKind::Keyword(Keyword::Else), symbols)?;
-    let (second, rest) = statement(arena, limit, depth, rest)?;
+    let (second, rest) = statement_at(arena, limit, depth, rest)?;
     let choice = Statement::If {
         condition,
         first,
@@ -525,7 +532,7 @@ fn labels_item<'a>(
 {
     let (labels, rest) = labels(arena, limit, symbols)?;
     let rest = skip(SymbolKind::Punctuator(Punctuator::Colon), rest)?;
-    let (body, rest) = statement(arena, limit, depth, rest)?;
+    let (body, rest) = statement_at(arena, limit, depth, rest)?;
     add_choices_of(choices, labels.as_slice(), body)?;
     Ok(rest)
 }
@@ -560,7 +567,7 @@ fn default_item<'a>(
 {
     let rest = skip(SymbolKind::Keyword(Keyword::Default), symbols)?;
     let rest = behind_colon(rest)?;
-    let (body, rest) = statement(arena, limit, depth, rest)?;
+    let (body, rest) = statement_at(arena, limit, depth, rest)?;
     choices.push(Choice { label: None, body })?;
     Ok(rest)
 }
@@ -724,11 +731,9 @@ fn form<'a>(
     }
 }
 
-/// The statement with which symbols begin, laid out behind the parts of an arena: its place, and what follows it. Its
-/// expressions nest at most `limit` deep, and it nests itself at most `depth` deep. Stops where no statement goes on, or
-/// nests deeper, or for want of memory.
+/// A statement, behind the parts of an arena.
 #[cycle(statement)]
-pub fn statement<'a>(
+fn statement_at<'a>(
     arena: &mut Arena,
     limit: u32,
     depth: u32,
@@ -743,4 +748,23 @@ pub fn statement<'a>(
         return Err(Stop::TooDeep(symbols.len()));
     }
     form(arena, limit, depth - 1, symbols)
+}
+
+/// The statement with which symbols begin, laid out behind the parts of an arena: its place, and what follows it. Its
+/// expressions nest at most `limit` deep, and it nests itself at most `depth` deep. Stops where no statement goes on, or
+/// nests deeper, or for want of memory.
+pub fn statement<'a>(
+    arena: &mut Arena,
+    limit: u32,
+    depth: u32,
+    symbols: &'a [Symbol],
+) -> Result<(u32, &'a [Symbol]), Stop>
+    requires { weight arena.old symbols.now < 2 ^ 32 }
+    ensures read { Gives (λ found. (found.0, lists_in arena.new, found.1.now)) result (stmt_into limit depth (lists_in arena.old) symbols.now) }
+    ensures found { IfOk result (λ found. (s : Stmt) × IsStatementOf limit depth (lists_in arena.old) symbols.now (found.0, lists_in arena.new, found.1.now) s) }
+    ensures none { IfErr result (λ stop. (stop ≡ NoMemory) ⊎ NoStatement limit depth symbols.now) }
+    ensures lighter { IfOk result (λ found. weight arena.new found.1.now < weight arena.old symbols.now) }
+    ensures shorter { IfOk result (λ found. length found.1.now < length symbols.now) }
+{
+    statement_at(arena, limit, depth, symbols)
 }

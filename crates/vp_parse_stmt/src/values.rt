@@ -1,5 +1,9 @@
 // Expressions in statements, read from left to right.
-ghost use Rattle.std.specs.Prelude.{◌≡◌, ◌<◌, ◌≤◌, ◌+◌, ◌^◌, ◌++◌, length, IfOk, OnOk, vec_len};
+ghost use Rattle.std.specs.Prelude.{◌≡◌, ◌<◌, ◌≤◌, ◌+◌, ◌^◌, ◌++◌, ◌⊎◌, length, IfErr, IfOk, OnOk, vec_len};
+ghost use Rattle.vp_parse_expr.specs.declared.reading.Stop.TheVariants.{NoMemory};
+ghost use Rattle.vp_parse_expr.specs.Meaning.{NoExpression};
+ghost use Rattle.vp_source.specs.ExprGrammar.{Expr};
+ghost use Rattle.vp_parse_stmt.specs.Meaning.{IsValueOf};
 ghost use Rattle.vp_parse_expr.specs.Stopping.{Gives};
 ghost use Rattle.vp_source.specs.StmtLayout.{choices_of};
 ghost use Rattle.vp_parse_stmt.specs.Placing.{lists_in, value_into, further_label_into, further_labels_into, labels_into};
@@ -21,6 +25,8 @@ pub fn value<'a>(
 ) -> Result<(u32, &'a [Symbol]), Stop>
     requires { weight arena.old symbols.now < 2 ^ 32 }
     ensures read { Gives (λ found. (found.0, lists_in arena.new, found.1.now)) result (value_into limit (lists_in arena.old) symbols.now) }
+    ensures found { IfOk result (λ found. (e : Expr) × IsValueOf limit (lists_in arena.old) symbols.now (found.0, lists_in arena.new, found.1.now) e) }
+    ensures none { IfErr result (λ stop. (stop ≡ NoMemory) ⊎ NoExpression limit symbols.now) }
     ensures lighter { IfOk result (λ found. weight arena.new found.1.now < weight arena.old symbols.now) }
     ensures shorter { IfOk result (λ found. length found.1.now < length symbols.now) }
 {

@@ -10,7 +10,7 @@ use Rattle.vp_policy.specs.declared.denial.By.TheVariants as by
 use Rattle.vp_policy.specs.declared.denial.Look.{Look}
 use Rattle.vp_policy.specs.declared.denial.Look.TheVariants as look
 use Rattle.vp_policy.specs.Users.{Member, login_of}
-use Rattle.vp_policy.specs.Filter.{closed, denial, is_listed, look_of, run_denial}
+use Rattle.vp_policy.specs.Filter.{closed, denial, is_listed, look_in, run_denial, stops_in}
 
 -- ---- users
 
@@ -29,7 +29,7 @@ ann = user (codes "ann") everything []
 abbrev pub bob : Member
 bob = user (codes "bob") everything ((1, everything) ∷ [])
 
-abbrev cem : Member
+abbrev pub cem : Member
 cem = user (codes "cem") listing []
 
 -- a user whose run flag is not set
@@ -103,11 +103,12 @@ instance_design = record {
   authors = codes "acme" ∷ [];
 }
 
-abbrev look_in : Tree → Member → List (List ℕ) → Look
-look_in tree u names = look_of tree u [] names
+-- from the top modules
+abbrev look_up : Tree → Member → List (List ℕ) → Look
+look_up tree u names = look_in tree u None names
 
 -- the reg that the viewport opens is found, and may be read
-opened_by_viewport : look_in instance_design ann (codes "top" ∷ codes "u" ∷ codes "s" ∷ []) ≡ found 7
+opened_by_viewport : look_up instance_design ann (codes "top" ∷ codes "u" ∷ codes "s" ∷ []) ≡ found 7
 opened_by_viewport = refl
 
 read_through_viewport : denial instance_design ann right.Read (in_u (codes "s") 22 1) ≡ None
@@ -120,24 +121,49 @@ put_through_viewport :
 put_through_viewport = refl
 
 -- a hidden name and an absent one get the same denial
-hidden_name : look_in instance_design ann (codes "top" ∷ codes "u" ∷ codes "k" ∷ []) ≡ hidden_by_envelope 1
+hidden_name : look_up instance_design ann (codes "top" ∷ codes "u" ∷ codes "k" ∷ []) ≡ hidden_by_envelope 1
 hidden_name = refl
 
-absent_name : look_in instance_design ann (codes "top" ∷ codes "u" ∷ codes "zz" ∷ []) ≡ hidden_by_envelope 1
+absent_name : look_up instance_design ann (codes "top" ∷ codes "u" ∷ codes "zz" ∷ []) ≡ hidden_by_envelope 1
 absent_name = refl
 
+-- both stop in the scope of the instance, and so does what is asked there alone
+hidden_stops : stops_in instance_design ann None (codes "top" ∷ codes "u" ∷ codes "k" ∷ []) ≡ Some (codes "top" ∷ codes "u" ∷ [])
+hidden_stops = refl
+
+absent_stops : stops_in instance_design ann (Some 3) (codes "zz" ∷ []) ≡ Some (codes "top" ∷ codes "u" ∷ [])
+absent_stops = refl
+
+-- a name that is found stops nowhere
+found_stops : stops_in instance_design ann (Some 3) (codes "s" ∷ []) ≡ None
+found_stops = refl
+
 -- where nothing is hidden, an absent name is told
-nothing_hidden : look_in instance_design ann (codes "top" ∷ codes "zz" ∷ []) ≡ look.Absent
+nothing_hidden : look_up instance_design ann (codes "top" ∷ codes "zz" ∷ []) ≡ look.Absent
 nothing_hidden = refl
 
-below_a_reg : look_in instance_design ann (codes "top" ∷ codes "c" ∷ codes "x" ∷ []) ≡ look.Absent
+below_a_reg : look_up instance_design ann (codes "top" ∷ codes "c" ∷ codes "x" ∷ []) ≡ look.Absent
 below_a_reg = refl
 
-granted_name : look_in instance_design bob (codes "top" ∷ codes "u" ∷ codes "k" ∷ []) ≡ found 6
+-- the same names in the scope of the instance
+opened_in_scope : look_in instance_design ann (Some 3) (codes "s" ∷ []) ≡ found 7
+opened_in_scope = refl
+
+hidden_in_scope : look_in instance_design ann (Some 3) (codes "k" ∷ []) ≡ hidden_by_envelope 1
+hidden_in_scope = refl
+
+-- an object that is no module declares nothing, and neither does one that is not there
+no_module : look_in instance_design ann (Some 1) (codes "x" ∷ []) ≡ look.Absent
+no_module = refl
+
+no_object : look_in instance_design ann (Some 11) (codes "s" ∷ []) ≡ look.Absent
+no_object = refl
+
+granted_name : look_up instance_design bob (codes "top" ∷ codes "u" ∷ codes "k" ∷ []) ≡ found 6
 granted_name = refl
 
 -- who may only list is denied by his open set
-listed_only : look_in instance_design cem (codes "top" ∷ codes "c" ∷ []) ≡ found 1
+listed_only : look_up instance_design cem (codes "top" ∷ codes "c" ∷ []) ≡ found 1
 listed_only = refl
 
 read_denied :
@@ -203,19 +229,19 @@ flat_design = record {
   authors = codes "acme" ∷ [];
 }
 
-flat_ann_s : look_in flat_design ann (codes "top" ∷ codes "s" ∷ []) ≡ found 1
+flat_ann_s : look_up flat_design ann (codes "top" ∷ codes "s" ∷ []) ≡ found 1
 flat_ann_s = refl
 
 flat_ann_reads_s : denial flat_design ann right.Read (in_flat (codes "s") 11 1) ≡ None
 flat_ann_reads_s = refl
 
-flat_ann_k : look_in flat_design ann (codes "top" ∷ codes "k" ∷ []) ≡ hidden_by_envelope 1
+flat_ann_k : look_up flat_design ann (codes "top" ∷ codes "k" ∷ []) ≡ hidden_by_envelope 1
 flat_ann_k = refl
 
-flat_ann_zz : look_in flat_design ann (codes "top" ∷ codes "zz" ∷ []) ≡ hidden_by_envelope 1
+flat_ann_zz : look_up flat_design ann (codes "top" ∷ codes "zz" ∷ []) ≡ hidden_by_envelope 1
 flat_ann_zz = refl
 
-flat_dan_k : look_in flat_design dan (codes "top" ∷ codes "k" ∷ []) ≡ found 2
+flat_dan_k : look_up flat_design dan (codes "top" ∷ codes "k" ∷ []) ≡ found 2
 flat_dan_k = refl
 
 flat_dan_reads_k :
@@ -223,18 +249,18 @@ flat_dan_reads_k :
     ≡ Some (record { by = by.Grant; envelope = 1; right = right.Read })
 flat_dan_reads_k = refl
 
-flat_dan_zz : look_in flat_design dan (codes "top" ∷ codes "zz" ∷ []) ≡ look.Absent
+flat_dan_zz : look_up flat_design dan (codes "top" ∷ codes "zz" ∷ []) ≡ look.Absent
 flat_dan_zz = refl
 
 -- an empty open set hides the top modules, and says the same of a name that is not there
-flat_eve_top : look_in flat_design eve (codes "top" ∷ []) ≡ hidden_by_grant 0
+flat_eve_top : look_up flat_design eve (codes "top" ∷ []) ≡ hidden_by_grant 0
 flat_eve_top = refl
 
-flat_eve_zz : look_in flat_design eve (codes "zz" ∷ []) ≡ hidden_by_grant 0
+flat_eve_zz : look_up flat_design eve (codes "zz" ∷ []) ≡ hidden_by_grant 0
 flat_eve_zz = refl
 
 -- a grant for an envelope opens nothing under a module that is not listed
-flat_fay_s : look_in flat_design fay (codes "top" ∷ codes "s" ∷ []) ≡ hidden_by_grant 0
+flat_fay_s : look_up flat_design fay (codes "top" ∷ codes "s" ∷ []) ≡ hidden_by_grant 0
 flat_fay_s = refl
 
 -- ---- a design with an instance in the open and one in an envelope
@@ -264,25 +290,25 @@ nested_design = record {
   authors = codes "lf" ∷ codes "tp" ∷ [];
 }
 
-nested_open_a : look_in nested_design ann (codes "top" ∷ codes "v" ∷ codes "a" ∷ []) ≡ found 5
+nested_open_a : look_up nested_design ann (codes "top" ∷ codes "v" ∷ codes "a" ∷ []) ≡ found 5
 nested_open_a = refl
 
-nested_open_k : look_in nested_design ann (codes "top" ∷ codes "v" ∷ codes "k" ∷ []) ≡ hidden_by_envelope 1
+nested_open_k : look_up nested_design ann (codes "top" ∷ codes "v" ∷ codes "k" ∷ []) ≡ hidden_by_envelope 1
 nested_open_k = refl
 
 -- what stands under a hidden instance is hidden with it, and alike for a name that is not there
-nested_shut_a : look_in nested_design ann (codes "top" ∷ codes "u" ∷ codes "a" ∷ []) ≡ hidden_by_envelope 2
+nested_shut_a : look_up nested_design ann (codes "top" ∷ codes "u" ∷ codes "a" ∷ []) ≡ hidden_by_envelope 2
 nested_shut_a = refl
 
-nested_zz : look_in nested_design ann (codes "top" ∷ codes "zz" ∷ []) ≡ hidden_by_envelope 2
+nested_zz : look_up nested_design ann (codes "top" ∷ codes "zz" ∷ []) ≡ hidden_by_envelope 2
 nested_zz = refl
 
 -- a grant for the envelope inside opens nothing under the hidden instance
-nested_grant_inside : look_in nested_design bob (codes "top" ∷ codes "u" ∷ codes "k" ∷ []) ≡ hidden_by_envelope 2
+nested_grant_inside : look_up nested_design bob (codes "top" ∷ codes "u" ∷ codes "k" ∷ []) ≡ hidden_by_envelope 2
 nested_grant_inside = refl
 
 -- a grant to list the instance lists what is open in it, and no more
-nested_grant_outside : look_in nested_design hal (codes "top" ∷ codes "u" ∷ codes "a" ∷ []) ≡ found 2
+nested_grant_outside : look_up nested_design hal (codes "top" ∷ codes "u" ∷ codes "a" ∷ []) ≡ found 2
 nested_grant_outside = refl
 
 nested_read_denied :
@@ -297,12 +323,12 @@ nested_with_viewport = record nested_design {
 }
 
 -- it opens the reg under the instance that is listed
-viewport_under_listed : look_in nested_with_viewport ann (codes "top" ∷ codes "v" ∷ codes "k" ∷ []) ≡ found 6
+viewport_under_listed : look_up nested_with_viewport ann (codes "top" ∷ codes "v" ∷ codes "k" ∷ []) ≡ found 6
 viewport_under_listed = refl
 
 -- and not under the one that is hidden: what it is denied by is the hidden instance's envelope
 viewport_under_hidden :
-    look_in nested_with_viewport ann (codes "top" ∷ codes "u" ∷ codes "k" ∷ []) ≡ hidden_by_envelope 2
+    look_up nested_with_viewport ann (codes "top" ∷ codes "u" ∷ codes "k" ∷ []) ≡ hidden_by_envelope 2
 viewport_under_hidden = refl
 
 -- ---- users by name and token

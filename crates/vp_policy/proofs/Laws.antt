@@ -1,30 +1,47 @@
 -- What follows from the filter alone.
-use Rattle.std.proofs.Common.{◌≡◌, ℕ, Bool, true, false, ◌&&◌, List, [], ◌∷◌, ◌++◌, None, refl, sym, ap, ◌∙◌}
+use Rattle.std.proofs.Common.{◌≡◌, ℕ, Bool, true, false, ◌&&◌, List, [], ◌∷◌, ◌++◌, Option, Some, None, refl, sym, ap, ◌∙◌}
+use Rattle.std.specs.Prelude.{if◌then◌else◌, is_some, option_and_then}
+use Rattle.std.specs.Option.{option_map_or}
 use Rattle.vp_pragma.specs.declared.rights.Right.{Right}
 use Rattle.vp_pragma.specs.declared.rights.Right.TheVariants as right
 use Rattle.vp_pragma.specs.Rights.{RightSet, has, both}
-use Rattle.vp_elab.specs.Tree.{Step, Tree}
+use Rattle.vp_elab.specs.Tree.{Step, Tree, scope_names}
 use Rattle.vp_policy.specs.declared.denial.Look.{Look}
 use Rattle.vp_policy.specs.declared.denial.Look.TheVariants as look
 use Rattle.vp_policy.specs.Users.{Member}
-use Rattle.vp_policy.specs.Filter.{opened, rights, closed, unlisted, find_listed, from_found, walk}
+use Rattle.vp_policy.specs.Filter.{IsAnsweredAlike, opened, rights, closed, unlisted, find_listed, from_found, look_in, look_of, stop_of, walk}
 
--- a name that is not listed in its scope is answered by the scope's closed list alone
-unlisted_answer :
-    (tree : Tree) (u : Member) (here : Look) (scope : List (List ℕ)) (n : List ℕ) (ns : List (List ℕ))
-    → find_listed tree u (scope ++ n ∷ []) ≡ None
-    → walk tree u here scope (n ∷ ns) ≡ unlisted u (closed tree u scope)
-unlisted_answer tree u here scope n ns h =
-    let next : ℕ → Look = λ o. walk tree u (look.Found (record { 0 = o })) (scope ++ n ∷ []) ns in
-    ap (λ found. from_found found (unlisted u (closed tree u scope)) next) h
+stopped_by :
+    (tree : Tree) (u : Member) (scope stop : List (List ℕ)) (found : Option ℕ) (deeper : Option (List (List ℕ))) (next : ℕ → Look)
+    → (if is_some found then deeper else Some scope) ≡ Some stop → ((o : ℕ) → deeper ≡ Some stop → next o ≡ unlisted u (closed tree u stop))
+    → from_found found (unlisted u (closed tree u scope)) next ≡ unlisted u (closed tree u stop)
+stopped_by tree u scope stop None deeper next h further =
+    let same : scope ≡ stop = cc in
+    ap (λ (s : List (List ℕ)). unlisted u (closed tree u s)) same
+stopped_by tree u scope stop (Some o) deeper next h further = further o h
 
--- two names that are asked in one scope and are not listed there get the same answer, hidden or absent
-pub unlisted_alike :
-    (tree : Tree) (u : Member) (here there : Look) (scope : List (List ℕ)) (n m : List ℕ) (ns ms : List (List ℕ))
-    → find_listed tree u (scope ++ n ∷ []) ≡ None → find_listed tree u (scope ++ m ∷ []) ≡ None
-    → walk tree u here scope (n ∷ ns) ≡ walk tree u there scope (m ∷ ms)
-unlisted_alike tree u here there scope n m ns ms h k =
-    unlisted_answer tree u here scope n ns h ∙ sym (unlisted_answer tree u there scope m ms k)
+-- a walk that stops at a scope is answered by the scope's closed list alone
+stopped :
+    (tree : Tree) (u : Member) (here : Look) (scope stop names : List (List ℕ))
+    → stop_of tree u scope names ≡ Some stop → walk tree u here scope names ≡ unlisted u (closed tree u stop)
+stopped tree u here scope stop [] h = absurd cc
+stopped tree u here scope stop (n ∷ names) h =
+    let next : ℕ → Look = λ o. walk tree u (look.Found (record { 0 = o })) (scope ++ n ∷ []) names in
+    stopped_by tree u scope stop (find_listed tree u (scope ++ n ∷ [])) (stop_of tree u (scope ++ n ∷ []) names) next h
+    (λ o k. stopped tree u (look.Found (record { 0 = o })) (scope ++ n ∷ []) stop names k)
+
+stopped_in :
+    (tree : Tree) (u : Member) (above : Option (List (List ℕ))) (names stop : List (List ℕ))
+    → option_and_then (λ a. stop_of tree u a names) above ≡ Some stop
+    → option_map_or (λ a. look_of tree u a names) above look.Absent ≡ unlisted u (closed tree u stop)
+stopped_in tree u None names stop h = absurd cc
+stopped_in tree u (Some a) names stop h = stopped tree u look.Absent a stop names h
+
+-- look-ups that stop at one scope get one answer
+pub looks_alike : (tree : Tree) (u : Member) (scope : Option ℕ) (names : List (List ℕ)) (answer : Look) → answer ≡ look_in tree u scope names → IsAnsweredAlike tree u scope names answer
+looks_alike tree u scope names answer is stop here other others there =
+    stopped_in tree u (scope_names tree.nodes other) others stop there
+    ∙ sym (stopped_in tree u (scope_names tree.nodes scope) names stop here) ∙ sym is
 
 -- a right that is in both sets is in the first
 has-both : (r : Right) (a b : RightSet) → has r (both a b) ≡ has r a && has r b

@@ -1,12 +1,12 @@
 -- Rights and denials, from an object up its path; names, from the top modules down.
-use Rattle.std.proofs.Common.{◌≡◌, ℕ, zero, suc, ◌<◌, Bool, true, false, ◌&&◌, ◌||◌, List, [], ◌∷◌, ◌++◌, length, filter, get_or, slice_get, ◌==◌, Option, Some, None, refl, sym, ap, ◌∙◌, arith}
+use Rattle.std.proofs.Common.{◌≡◌, ℕ, zero, suc, ◌<◌, Bool, true, false, ◌&&◌, List, [], ◌∷◌, ◌++◌, length, filter, get_or, slice_get, ◌==◌, Option, Some, None, refl, sym, ap, ◌∙◌, arith}
 use Rattle.std.specs.Prelude.{IfSome, if◌then◌else◌, option_map, option_and_then}
 use Rattle.std.specs.Option.{option_map_or}
 use Rattle.std.specs.Str.{bytes_eq}
 use Rattle.std.proofs.lemmas.Slice.Eq.{bytes_eq-Decides}
 use Rattle.std.proofs.lemmas.Bool.{and_parts}
 use Rattle.std.proofs.lemmas.List.Quantifiers.{position-Some}
-use Rattle.std.proofs.Math.Bool.{and-false, and-true, or-false}
+use Rattle.std.proofs.Math.Bool.{and-false, and-true}
 use Rattle.vp_list.specs.Texts.{behind_part, begun, parts}
 use Rattle.vp_pragma.specs.declared.rights.Right.{Right}
 use Rattle.vp_pragma.specs.Rights.{RightSet, both, either, everything, has, nothing}
@@ -20,7 +20,7 @@ use Rattle.vp_policy.specs.declared.denial.Denial.{Denial}
 use Rattle.vp_policy.specs.declared.denial.Look.{Look}
 use Rattle.vp_policy.specs.declared.denial.Look.TheVariants as look
 use Rattle.vp_policy.specs.Users.{Member, granted}
-use Rattle.vp_policy.specs.Filter.{is_listed_at, by_first, by_step, closed, denial, denial_at, from_found, is_closed, listed_in, opened, rights, rights_at, unlisted, walk}
+use Rattle.vp_policy.specs.Filter.{is_listed_at, by_first, by_step, closed, denial, denial_at, from_found, is_closed, listed_in, look_in, look_of, opened, rights, rights_at, unlisted, walk}
 
 -- ---- sets of rights
 
@@ -221,13 +221,13 @@ parts_behind [] = ([], [], refl)
 parts_behind (b ∷ bytes) = begun_part b (parts_behind bytes).0 (parts_behind bytes).1 (parts 46 bytes) (parts_behind bytes).2 (b == 46)
 
 -- where a walk stands makes no difference to what follows a name
-pub walk_here : (tree : Tree) (u : Member) (here there : Look) (scope : List (List ℕ)) (text : List ℕ) → walk tree u here scope (parts 46 text) ≡ walk tree u there scope (parts 46 text)
+walk_here : (tree : Tree) (u : Member) (here there : Look) (scope : List (List ℕ)) (text : List ℕ) → walk tree u here scope (parts 46 text) ≡ walk tree u there scope (parts 46 text)
 walk_here tree u here there scope text =
     let p = parts_behind text in
     ap (walk tree u here scope) p.2 ∙ sym (ap (walk tree u there scope) p.2)
 
 -- a name that is listed, with others behind it
-pub walk_next :
+walk_next :
     (tree : Tree) (u : Member) (scope : Option ℕ) (names : List (List ℕ)) (text part further : List ℕ) (o : ℕ)
     → scope_names tree.nodes scope ≡ Some names → parts 46 text ≡ behind_part 46 part (Some further) → Some o ≡ listed_in tree u (find_in tree.nodes scope part)
     → walk tree u look.Absent (names ++ part ∷ []) (parts 46 further) ≡ walk tree u look.Absent names (parts 46 text)
@@ -237,39 +237,37 @@ walk_next tree u scope names text part further o named split found =
     ∙ ap (λ (x : Option ℕ). from_found x (unlisted u (closed tree u names)) next) (found ∙ ap (listed_in tree u) (find_is tree.nodes scope names part named))
     ∙ sym (ap (walk tree u look.Absent names) split)
 
--- the last name, which is listed
-pub walk_last :
-    (tree : Tree) (u : Member) (scope : Option ℕ) (names : List (List ℕ)) (text part : List ℕ) (o : ℕ)
-    → scope_names tree.nodes scope ≡ Some names → parts 46 text ≡ behind_part 46 part None → Some o ≡ listed_in tree u (find_in tree.nodes scope part)
-    → look.Found (record { 0 = o }) ≡ walk tree u look.Absent names (parts 46 text)
-walk_last tree u scope names text part o named split found =
-    let next : ℕ → Look = λ o. walk tree u (look.Found (record { 0 = o })) (names ++ part ∷ []) [] in
-    ap (λ (x : Option ℕ). from_found x (unlisted u (closed tree u names)) next) (found ∙ ap (listed_in tree u) (find_is tree.nodes scope names part named))
-    ∙ sym (ap (walk tree u look.Absent names) split)
-
--- a name that is not listed
-pub walk_none :
-    (tree : Tree) (u : Member) (scope : Option ℕ) (names : List (List ℕ)) (text part : List ℕ) (behind : Option (List ℕ))
-    → scope_names tree.nodes scope ≡ Some names → parts 46 text ≡ behind_part 46 part behind → None ≡ listed_in tree u (find_in tree.nodes scope part)
-    → unlisted u (filter (is_closed u) (declared_envelopes tree scope)) ≡ walk tree u look.Absent names (parts 46 text)
-walk_none tree u scope names text part None named split found =
-    let next : ℕ → Look = λ o. walk tree u (look.Found (record { 0 = o })) (names ++ part ∷ []) [] in
-    ap (unlisted u) (closed_is tree u scope names named)
-    ∙ ap (λ (x : Option ℕ). from_found x (unlisted u (closed tree u names)) next) (found ∙ ap (listed_in tree u) (find_is tree.nodes scope names part named))
-    ∙ sym (ap (walk tree u look.Absent names) split)
-walk_none tree u scope names text part (Some further) named split found =
-    let next : ℕ → Look = λ o. walk tree u (look.Found (record { 0 = o })) (names ++ part ∷ []) (parts 46 further) in
-    ap (unlisted u) (closed_is tree u scope names named)
-    ∙ ap (λ (x : Option ℕ). from_found x (unlisted u (closed tree u names)) next) (found ∙ ap (listed_in tree u) (find_is tree.nodes scope names part named))
-    ∙ sym (ap (walk tree u look.Absent names) split)
-
 -- the names of the object that a name leads to
-pub scope_next :
+scope_next :
     (tree : Tree) (u : Member) (scope : Option ℕ) (names : List (List ℕ)) (part : List ℕ) (o : ℕ)
     → scope_names tree.nodes scope ≡ Some names → Some o ≡ listed_in tree u (find_in tree.nodes scope part) → scope_names tree.nodes (Some o) ≡ Some (names ++ part ∷ [])
 scope_next tree u scope names part o named found =
     names_found tree.nodes (names ++ part ∷ []) o
     (listed_found tree u (find_named tree.nodes (names ++ part ∷ [])) o (found ∙ ap (listed_in tree u) (find_is tree.nodes scope names part named)))
+
+-- ---- names in a scope
+
+next_by :
+    (tree : Tree) (u : Member) (scope : Option ℕ) (above : Option (List (List ℕ))) (text part further : List ℕ) (o : ℕ)
+    → scope_names tree.nodes scope ≡ above → parts 46 text ≡ behind_part 46 part (Some further) → Some o ≡ listed_in tree u (find_in tree.nodes scope part)
+    → look_in tree u (Some o) (parts 46 further) ≡ look_in tree u scope (parts 46 text)
+next_by tree u scope None text part further o named split found =
+    let nothing_there : find_in tree.nodes scope part ≡ None =
+    ap (option_and_then (λ (ns : List (List ℕ)). find_named tree.nodes (ns ++ part ∷ []))) named in
+    let not_listed : listed_in tree u (find_in tree.nodes scope part) ≡ None = ap (listed_in tree u) nothing_there in
+    absurd cc
+next_by tree u scope (Some names) text part further o named split found =
+    ap (λ (x : Option (List (List ℕ))). option_map_or (λ above. look_of tree u above (parts 46 further)) x look.Absent) (scope_next tree u scope names part o named found)
+    ∙ walk_next tree u scope names text part further o named split found
+    ∙ sym (ap (λ (x : Option (List (List ℕ))). option_map_or (λ above. look_of tree u above (parts 46 text)) x look.Absent) named)
+
+-- a name that is listed, with others behind it
+pub look_next :
+    (tree : Tree) (u : Member) (scope : Option ℕ) (text part further : List ℕ) (o : ℕ)
+    → parts 46 text ≡ behind_part 46 part (Some further) → Some o ≡ listed_in tree u (find_in tree.nodes scope part)
+    → look_in tree u (Some o) (parts 46 further) ≡ look_in tree u scope (parts 46 text)
+look_next tree u scope text part further o split found =
+    next_by tree u scope (scope_names tree.nodes scope) text part further o refl split found
 
 -- ---- one turn of each walk
 

@@ -1,11 +1,11 @@
 -- The filter: what a policy opens of a design to a user, step by step of each path.
-use Rattle.std.specs.Prelude.{ℕ, ◌==◌, ◌||◌, not, Bool, false, if◌then◌else◌, List, [], ◌∷◌, ◌++◌, filter, slice_get, Option, Some, None, option_and_then, option_map, codes}
+use Rattle.std.specs.Prelude.{◌≡◌, ℕ, ◌==◌, ◌||◌, not, Bool, false, if◌then◌else◌, List, [], ◌∷◌, ◌++◌, filter, slice_get, Option, Some, None, is_some, option_and_then, option_map, codes}
 use Rattle.std.specs.Option.{option_map_or}
 use Rattle.vp_pragma.specs.declared.rights.Right.{Right}
 use Rattle.vp_pragma.specs.declared.rights.Right.TheVariants as right
 use Rattle.vp_pragma.specs.Rights.{RightSet, has, nothing, everything, both, either}
 use Rattle.vp_pragma.specs.Envelopes.{Viewport, object_of}
-use Rattle.vp_elab.specs.Tree.{Step, Node, Tree, author_in, envelopes_in, find_named, first_viewport, path_of, viewed}
+use Rattle.vp_elab.specs.Tree.{Step, Node, Tree, author_in, envelopes_in, find_named, first_viewport, path_of, scope_names, viewed}
 use Rattle.vp_policy.specs.declared.denial.By.{By}
 use Rattle.vp_policy.specs.declared.denial.By.TheVariants as by
 use Rattle.vp_policy.specs.declared.denial.Denial.{Denial}
@@ -80,10 +80,14 @@ viewport_object viewports by.Grant = None
 abbrev pub told_of : Tree → Denial → List ℕ × Option (List ℕ)
 told_of tree d = (author_in tree.authors d.envelope, viewport_object tree.viewports d.by)
 
--- why a user may not run the design, as what keeps him out, the number of the envelope, and the word of the right: by his
--- grant for the open text, unless his run flag is set (profile)
+-- what keeps a user from running the design, the number of the envelope, and the word of the right: his grant for the open text
+-- (profile)
+abbrev pub run_denied : By × ℕ × List ℕ
+run_denied = (by.Grant, 0, codes "run")
+
+-- why a user may not run the design; none if his run flag is set (profile)
 abbrev pub run_denial : Member → Option (By × ℕ × List ℕ)
-run_denial u = if u.run then None else Some (by.Grant, 0, codes "run")
+run_denial u = if u.run then None else Some run_denied
 
 -- ---- names
 
@@ -119,3 +123,27 @@ walk tree u here scope (n ∷ names) =
 -- what a user finds under names, in the scope of these names (profile)
 abbrev pub look_of : Tree → Member → List (List ℕ) → List (List ℕ) → Look
 look_of tree u scope names = walk tree u look.Absent scope names
+
+-- what a user finds under names in a scope, which is an object or contains the top modules; nothing where the object is not
+-- there (profile)
+abbrev pub look_in : Tree → Member → (scope : Option ℕ) → List (List ℕ) → Look
+look_in tree u scope names = option_map_or (λ above. look_of tree u above names) (scope_names tree.nodes scope) look.Absent
+
+-- the names of the scope in which a look-up stops, in the scope of these names: that of the first name that is not listed to
+-- the user; none where every name is listed (profile)
+abbrev pub stop_of : Tree → Member → List (List ℕ) → List (List ℕ) → Option (List (List ℕ))
+stop_of tree u scope [] = None
+stop_of tree u scope (n ∷ names) =
+    if is_some (find_listed tree u (scope ++ n ∷ [])) then stop_of tree u (scope ++ n ∷ []) names else Some scope
+
+-- the same in a scope that is an object or contains the top modules (profile)
+abbrev pub stops_in : Tree → Member → (scope : Option ℕ) → List (List ℕ) → Option (List (List ℕ))
+stops_in tree u scope names = option_and_then (λ above. stop_of tree u above names) (scope_names tree.nodes scope)
+
+-- a hidden name is answered as an absent one: where these names stop at a scope, all names that stop there, asked in any
+-- scope, get this answer (profile)
+abbrev pub IsAnsweredAlike : Tree → Member → (scope : Option ℕ) → (names : List (List ℕ)) → Look → Type 0
+IsAnsweredAlike tree u scope names answer =
+    (stop : List (List ℕ)) → stops_in tree u scope names ≡ Some stop
+    → (other : Option ℕ) → (others : List (List ℕ)) → stops_in tree u other others ≡ Some stop
+    → look_in tree u other others ≡ answer

@@ -1,19 +1,23 @@
 -- What a flat list of objects shows, of which each has the number of the one in which it is declared.
 use Rattle.std.specs.Prelude.{ℕ, ◌+◌, Bool, if◌then◌else◌, List, [], ◌∷◌, ◌++◌, map, slice_get, Option, Some, None, option_and_then}
 use Rattle.std.specs.Option.{option_map_or}
-use Rattle.vp_pragma.specs.Reading.{viewport_of}
 use Rattle.vp_pragma.specs.Rights.{set_of}
 use Rattle.vp_elab.specs.Tree.{Node, Tree}
 use Rattle.vp_policy.specs.declared.view.SeenEnvelope.{SeenEnvelope}
 use Rattle.vp_policy.specs.declared.view.SeenObject.{SeenObject}
+use Rattle.vp_policy.specs.declared.view.SeenViewport as declared
 use Rattle.vp_policy.specs.Users.{Member}
 use Rattle.vp_policy.specs.Filter.{is_listed}
-use Rattle.vp_policy.specs.View.{SeenNode, SeenStep, View}
+use Rattle.vp_policy.specs.View.{SeenNode, SeenStep, SeenViewport, View}
 
 -- the path to the object of a number among these; the path of no step where no number is given, and where no object is
 abbrev pub path_to : List SeenNode → Option ℕ → List SeenStep
 path_to nodes None = []
 path_to nodes (Some n) = option_map_or (λ node. node.path) (slice_get nodes n) []
+
+-- the object that a viewport names, and the rights that it opens
+abbrev pub viewport_shown : declared.SeenViewport → SeenViewport
+viewport_shown v = record { object = v.object; rights = set_of v.rights }
 
 -- the last step to an object
 abbrev pub own_step : SeenObject → SeenStep
@@ -21,7 +25,7 @@ own_step o = record {
   name = o.name;
   envelope = o.envelope;
   rights = set_of o.rights;
-  viewports = map viewport_of o.viewports;
+  viewports = map viewport_shown o.viewports;
 }
 
 -- the node of an object behind these nodes: its step stands behind the path to the object in which it is declared
@@ -32,6 +36,7 @@ node_behind nodes o = record {
   width = o.width;
   line = o.line;
   definition = o.definition;
+  value = o.value;
   closed_list = o.closed;
 }
 

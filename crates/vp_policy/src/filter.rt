@@ -1,9 +1,9 @@
 // What is opened to a user, step by step of an object's path (docs/FORMATS.md, "Rights").
-ghost use Rattle.std.specs.Prelude.{◌≡◌, [], Some, IsSome, IfOk, IsOkUnless, filter, option_map};
+ghost use Rattle.std.specs.Prelude.{◌≡◌, ℕ, Option, Some, IsSome, IfOk, IsOkUnless, filter, option_map};
 ghost use Rattle.vp_list.specs.Texts.{parts};
 ghost use Rattle.vp_pragma.specs.Rights.{either, set_of};
 ghost use Rattle.vp_elab.specs.Tree.{declared_envelopes, find_in};
-ghost use Rattle.vp_policy.specs.Filter.{by_first, by_grant, denial_at, is_closed, is_listed_at, listed_in, look_of, rights_at, unlisted};
+ghost use Rattle.vp_policy.specs.Filter.{IsAnsweredAlike, by_first, by_grant, denial_at, is_closed, is_listed_at, listed_in, look_in, rights_at, unlisted};
 ghost use Rattle.vp_policy.specs.Users.{granted, has_entry, member_at};
 
 use crate::denial::{By, Denial, Look};
@@ -135,7 +135,7 @@ impl Policy {
         ensures err { IsOkUnless result PolicyError.NoMemory }
     {
         let mut numbers = Vec::new(alloc);
-        for envelope in design.declared_envelopes(scope) {
+        for envelope in design.envelopes(scope) {
             if self.is_closed(user, *envelope) {
                 numbers.push(*envelope)?;
             }
@@ -148,7 +148,7 @@ impl Policy {
     fn unlisted(&self, design: &Design, user: UserId, scope: Option<ObjectId>) -> Look
         ensures { result ≡ unlisted (member_at self.now user.0) (filter (is_closed (member_at self.now user.0)) (declared_envelopes design.now.tree (option_map (λ o. o.0) scope))) }
     {
-        for envelope in design.declared_envelopes(scope) {
+        for envelope in design.envelopes(scope) {
             if self.is_closed(user, *envelope) {
                 return Look::Denied(Denial {
                     by: self.by_grant(user, *envelope),
@@ -183,11 +183,15 @@ impl Policy {
         }
     }
 
-    /// What a user finds under a dotted name, from the top modules down.
-    pub fn look(&self, design: &Design, user: UserId, name: &str) -> Look
-        ensures { result ≡ look_of design.now.tree (member_at self.now user.0) [] (parts 46 name.now) }
+    /// What a user finds under a dotted name in a scope: an object, or None for the top modules. Absent where the
+    /// object is no module, or is not there. A hidden name is answered as an absent one.
+    pub fn look(&self, design: &Design, user: UserId, scope: Option<ObjectId>, name: &str) -> Look
+        ensures found { let scope : Option ℕ = option_map (λ o. o.0) scope in
+            result ≡ look_in design.now.tree (member_at self.now user.0) scope (parts 46 name.now) }
+        ensures alike { let scope : Option ℕ = option_map (λ o. o.0) scope in
+            IsAnsweredAlike design.now.tree (member_at self.now user.0) scope (parts 46 name.now) result }
     {
-        let mut scope = None;
+        let mut scope = scope;
         let mut rest = name;
         loop {
             let (part, behind) = first_part(rest, '.');

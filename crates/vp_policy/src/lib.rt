@@ -12,4 +12,4 @@ pub use denial::{By, Denial, Look};
 pub use fault::PolicyError;
 pub use grant::Grant;
 pub use policy::{Policy, User, UserId};
-pub use view::{SeenEnvelope, SeenObject, View};
+pub use view::{SeenEnvelope, SeenObject, SeenViewport, View};

@@ -1,6 +1,7 @@
-ghost use Rattle.std.specs.Prelude.{◌≡◌, length, map, option_map};
+ghost use Rattle.std.specs.Prelude.{◌≡◌, is_none, length, map, option_map};
 ghost use Rattle.std.specs.Str.{bytes_eq};
 ghost use Rattle.vp_pragma.specs.Rights.{set_of};
+ghost use Rattle.vp_policy.specs.Filter.{run_denial};
 ghost use Rattle.vp_policy.specs.Members.{member_of};
 ghost use Rattle.vp_policy.specs.Users.{granted_by, has_entry, login_of, member_at, user_of};
 
@@ -92,9 +93,10 @@ impl Policy {
         }
     }
 
-    /// He may let the design run; not a user who is not there.
+    /// He may let the design run: his run flag is set, and the filter denies him no run. A user who is not there may not.
     pub fn may_run(&self, user: UserId) -> bool
-        ensures { result ≡ (member_at self.now user.0).run }
+        ensures flag { result ≡ (member_at self.now user.0).run }
+        ensures denied { result ≡ is_none (run_denial (member_at self.now user.0)) }
     {
         match self.users.get_index(user.0) {
             Some((_, user)) => user.run,

@@ -1,19 +1,32 @@
-// What a user sees of a design: all that he is ever told of it but values.
-ghost use Rattle.std.specs.Prelude.{◌≡◌, [], IfOk, IfSome, IsOkUnless, filter, map, option_map, slice_get, take, true};
-ghost use Rattle.vp_pragma.specs.Reading.{viewport_of};
-ghost use Rattle.vp_elab.specs.Tree.{matches_at};
+// What a user sees of a design: all that he is ever told of it but the values that change.
+ghost use Rattle.std.specs.Prelude.{◌≡◌, [], IfOk, IfSome, IsOkUnless, List, None, Some, filter, if◌then◌else◌, map, option_map, slice_get, take, true};
+ghost use Rattle.vp_elab.specs.Tree.{Node, matches_at};
+ghost use Rattle.vp_pragma.specs.Rights.{set_of};
+ghost use Rattle.vp_resolve.specs.Constants.{constant_at};
 ghost use Rattle.vp_policy.specs.Filter.{is_listed_at};
-ghost use Rattle.vp_policy.specs.SeenObjects.{envelope_shown, node_behind, nodes_from, number_in, numbers_from, view_shown};
-ghost use Rattle.vp_policy.specs.Users.{member_at};
-ghost use Rattle.vp_policy.specs.View.{seen_envelopes, seen_node, seen_nodes, view_of};
+ghost use Rattle.vp_policy.specs.SeenObjects.{envelope_shown, node_behind, nodes_from, number_in, numbers_from, view_shown, viewport_shown};
+ghost use Rattle.vp_policy.specs.Users.{Member, member_at};
+ghost use Rattle.vp_policy.specs.View.{is_parameter, is_value_seen, seen_envelopes, seen_node, seen_nodes, seen_viewport, view_of};
 
 use crate::fault::PolicyError;
 use crate::policy::{Policy, UserId};
 use std::alloc::{AllocError, Global};
 use std::marker::Model;
-use vp_elab::{Design, Kind, ObjectId};
+use vp_bits::Bits;
+use vp_elab::{Design, Kind, Object, ObjectId};
 use vp_list::{Sequence, Text};
-use vp_pragma::{Rights, Viewport};
+use vp_operand::fitted;
+use vp_pragma::{Right, Rights};
+use vp_resolve::constant_at;
+
+/// A viewport as a user sees it: its envelope is that of the object that it matches, and its line is not told.
+#[derive(Drop)]
+pub struct SeenViewport {
+    /// The object that it names, as it is written.
+    pub object: Text,
+    /// The rights that it opens.
+    pub rights: Rights,
+}
 
 /// An object that is listed to a user, as he sees it.
 #[derive(Drop)]
@@ -26,7 +39,7 @@ pub struct SeenObject {
     /// His rights on it.
     pub rights: Rights,
     /// The viewports that match it, in the order of the text.
-    pub viewports: Sequence<Viewport>,
+    pub viewports: Sequence<SeenViewport>,
     pub kind: Kind,
     /// How many bits its value has; 1 where it has no value.
     pub width: u32,
@@ -34,6 +47,8 @@ pub struct SeenObject {
     pub line: u32,
     /// Of a module, the name of its definition.
     pub definition: Option<Text>,
+    /// Of a localparam that he may read, its value.
+    pub value: Option<Bits>,
     /// The numbers of the envelopes of what is declared in it that are closed to him: rising, each once.
     pub closed: Sequence<u8>,
 }
@@ -104,22 +119,46 @@ fn copied(alloc: Global, text: Option<&str>) -> Result<Option<Text>, AllocError>
     }
 }
 
-/// Copies of the viewports that match an object, in the order of the text.
+/// The viewports that match an object, as a user sees them, in the order of the text.
 fn viewports_on(
     alloc: Global,
     design: &Design,
     object: ObjectId,
-) -> Result<Sequence<Viewport>, PolicyError>
-    ensures viewports { IfOk result (λ viewports. map viewport_of viewports ≡ filter (λ v. matches_at design.now.tree v object.0) design.now.tree.viewports) }
+) -> Result<Sequence<SeenViewport>, PolicyError>
+    ensures viewports { IfOk result (λ viewports. map viewport_shown viewports
+        ≡ map seen_viewport (filter (λ v. matches_at design.now.tree v object.0) design.now.tree.viewports)) }
     ensures err { IsOkUnless result PolicyError.NoMemory }
 {
     let mut viewports = Vec::new(alloc);
     for viewport in design.viewports() {
         if design.is_on(viewport, object) {
-            viewports.push(viewport.try_clone(alloc)?)?;
+            viewports.push(SeenViewport {
+                object: viewport.object(alloc)?,
+                rights: viewport.rights,
+            })?;
         }
     }
     Ok(Sequence::from_vec(viewports))
+}
+
+/// An object of this kind is a localparam.
+fn is_parameter(kind: Kind) -> bool
+    ensures { result ≡ is_parameter kind }
+{
+    matches!(kind, Kind::Parameter)
+}
+
+/// The value of an object as a user with these rights on it sees it: that of a localparam that he may read.
+fn seen_value(design: &Design, id: ObjectId, object: Object, rights: Rights) -> Option<Bits>
+    ensures { result ≡ (if is_value_seen object.kind object.width (set_of rights)
+        then Some (constant_at design.now id.0 object.width) else None) }
+{
+    let width = fitted(u64::from(object.width))?;
+    if is_parameter(object.kind) && rights.has(Right::Read) {
+        Some(constant_at(design, id, width))
+    } else {
+        None
+    }
 }
 
 /// The number, among those listed, of the module in which an object is declared.
@@ -142,22 +181,27 @@ impl Policy {
     ) -> Result<SeenObject, PolicyError>
         requires listed { is_listed_at design.now.tree (member_at self.now user.0) id.0 ≡ true }
         requires numbers { numbers.now ≡ numbers_from design.now.tree (member_at self.now user.0) 0 (take id.0 design.now.tree.nodes) }
-        ensures node { IfOk result (λ o. IfSome (slice_get design.now.tree.nodes id.0) (λ node. node_behind (seen_nodes design.now.tree (member_at self.now user.0) (take id.0 design.now.tree.nodes)) o ≡ seen_node design.now.tree (member_at self.now user.0) node)) }
+        ensures node { let user : Member = member_at self.now user.0 in
+            let before : List Node = take id.0 design.now.tree.nodes in
+            IfOk result (λ o. IfSome (slice_get design.now.tree.nodes id.0)
+            (λ node. node_behind (seen_nodes design.now user before) o ≡ seen_node design.now user node)) }
         ensures err { IsOkUnless result PolicyError.NoMemory }
     {
         let Some(object) = design.object(id) else {
             unreachable!();
         };
+        let rights = self.rights(design, user, id);
         Ok(SeenObject {
             parent: number_in(numbers, object.parent),
             name: Text::copy(alloc, design.name(id))?,
             envelope: object.envelope,
-            rights: self.rights(design, user, id),
+            rights,
             viewports: viewports_on(alloc, design, id)?,
             kind: object.kind,
             width: object.width,
             line: design.line(id),
-            definition: copied(alloc, design.definition(id))?,
+            definition: copied(alloc, design.def_name(id))?,
+            value: seen_value(design, id, object, rights),
             closed: self.closed(alloc, design, user, Some(id))?,
         })
     }
@@ -169,7 +213,8 @@ impl Policy {
         design: &Design,
         user: UserId,
     ) -> Result<Sequence<SeenObject>, PolicyError>
-        ensures nodes { IfOk result (λ objects. nodes_from [] objects ≡ seen_nodes design.now.tree (member_at self.now user.0) design.now.tree.nodes) }
+        ensures nodes { IfOk result (λ objects. nodes_from [] objects
+            ≡ seen_nodes design.now (member_at self.now user.0) design.now.tree.nodes) }
         ensures err { IsOkUnless result PolicyError.NoMemory }
     {
         let mut objects = Vec::new(alloc);
@@ -211,7 +256,7 @@ impl Policy {
     /// What a user sees of a design: the objects that are listed to him with the closed lists of their scopes, the
     /// closed list of the top modules, the envelopes, and whether he may let the design run. Takes memory (905).
     pub fn view(&self, alloc: Global, design: &Design, user: UserId) -> Result<View, PolicyError>
-        ensures view { IfOk result (λ view. view ≡ view_of design.now.tree (member_at self.now user.0)) }
+        ensures view { IfOk result (λ view. view ≡ view_of design.now (member_at self.now user.0)) }
         ensures err { IsOkUnless result PolicyError.NoMemory }
     {
         Ok(View {

@@ -11,7 +11,7 @@ use Rattle.vp_lex.specs.declared.token.Token.{Token}
 use Rattle.vp_lex.specs.declared.token.TokenKind.{TokenKind}
 use Rattle.vp_lex.specs.declared.token.TokenKind.TheVariants as token
 use Rattle.vp_pragma.specs.declared.surroundings.Surroundings.{Surroundings}
-use Rattle.vp_pragma.specs.Surroundings.{around_of, around_behind, counted, kinds_before, opens_block, closes_block, opens_case, closes_case, begins_module, ends_module, may_end, CountsUpTo, is_before_else, is_else, is_free, is_free_behind, module_at}
+use Rattle.vp_pragma.specs.Surroundings.{around_of, around_behind, counted, kinds_before, open_count, opens_block, closes_block, opens_case, closes_case, opens_parenthesis, closes_parenthesis, opens_bracket, closes_bracket, opens_brace, closes_brace, is_free_around, begins_module, ends_module, may_end, CountsUpTo, is_before_else, is_else, is_free, is_free_behind, module_at}
 use Rattle.vp_pragma.specs.declared.reading.Before.{Before}
 use Rattle.vp_pragma.specs.Pragmas.{begins_line, pragma_line}
 use Rattle.vp_pragma.specs.Reading.{IsBefore}
@@ -30,19 +30,41 @@ one_more false n = omega arith
 count_push : (p : TokenKind → Bool) (kinds : List TokenKind) (kind : TokenKind) → count_by p (kinds ++ kind ∷ []) ≡ counted (p kind) false (count_by p kinds)
 count_push p kinds kind = fold_push (λ (n : ℕ) (x : TokenKind). n + cond (p x) 1 0) 0 kinds kind ∙ one_more (p kind) (count_by p kinds)
 
--- equal in each field
+-- how many are open behind one more
+open_push :
+    (opens closes : TokenKind → Bool) (kinds : List TokenKind) (kind : TokenKind)
+    → open_count opens closes (kinds ++ kind ∷ []) ≡ counted (opens kind) (closes kind) (open_count opens closes kinds)
+open_push opens closes kinds kind =
+    fold_push (λ (n : ℕ) (x : TokenKind). if opens x then n + 1 else (if closes x then n - 1 else n)) 0 kinds kind
+
+-- what is open, by its parts
+abbrev around : (blocks cases parentheses brackets braces modules : ℕ) → (in_module at_boundary : Bool) → Surroundings
+around a b c d e f g h = record {
+  blocks = a;
+  cases = b;
+  parentheses = c;
+  brackets = d;
+  braces = e;
+  modules = f;
+  in_module = g;
+  at_boundary = h;
+}
+
+-- equal in each part
 same_around :
-    (a b c d e f : ℕ) (g h i j : Bool) → a ≡ b → c ≡ d → e ≡ f → g ≡ h → i ≡ j
-    → (let s : Surroundings = record { blocks = a; cases = c; modules = e; in_module = g; at_boundary = i } in s)
-    ≡ (let s : Surroundings = record { blocks = b; cases = d; modules = f; in_module = h; at_boundary = j } in s)
-same_around a b c d e f g h i j p q r s t = cc
+    (a a' b b' c c' d d' e e' f f' : ℕ) (g g' h h' : Bool) → a ≡ a' → b ≡ b' → c ≡ c' → d ≡ d' → e ≡ e' → f ≡ f' → g ≡ g' → h ≡ h'
+    → around a b c d e f g h ≡ around a' b' c' d' e' f' g' h'
+same_around a a' b b' c c' d d' e e' f f' g g' h h' i j k l m n o p = cc
 
 -- what is open behind one more token that the grammar sees
 pub around_push : (kinds : List TokenKind) (kind : TokenKind) → around_of (kinds ++ kind ∷ []) ≡ around_behind (around_of kinds) kind
 around_push kinds kind =
-    same_around _ _ _ _ _ _ _ _ _ _
-    (fold_push (λ (n : ℕ) (x : TokenKind). if opens_block x then n + 1 else (if closes_block x then n - 1 else n)) 0 kinds kind)
-    (fold_push (λ (n : ℕ) (x : TokenKind). if opens_case x then n + 1 else (if closes_case x then n - 1 else n)) 0 kinds kind)
+    same_around _ _ _ _ _ _ _ _ _ _ _ _ _ _ _ _
+    (open_push opens_block closes_block kinds kind)
+    (open_push opens_case closes_case kinds kind)
+    (open_push opens_parenthesis closes_parenthesis kinds kind)
+    (open_push opens_bracket closes_bracket kinds kind)
+    (open_push opens_brace closes_brace kinds kind)
     (count_push begins_module kinds kind)
     (fold_push (λ (inside : Bool) (x : TokenKind). if begins_module x then true else (if ends_module x then false else inside)) false kinds kind)
     (fold_push (λ (before : Bool) (x : TokenKind). may_end x) true kinds kind)
@@ -87,7 +109,10 @@ seen_behind tokens place t d around next lt is seen around_is within next_is =
     let counts : CountsUpTo (place + 1) (around_behind around t.kind) = (
       counted_within (opens_block t.kind) (closes_block t.kind) around.blocks place within.0,
       counted_within (opens_case t.kind) (closes_case t.kind) around.cases place within.1,
-      counted_within (begins_module t.kind) false around.modules place within.2,
+      counted_within (opens_parenthesis t.kind) (closes_parenthesis t.kind) around.parentheses place within.2,
+      counted_within (opens_bracket t.kind) (closes_bracket t.kind) around.brackets place within.3,
+      counted_within (opens_brace t.kind) (closes_brace t.kind) around.braces place within.4,
+      counted_within (begins_module t.kind) false around.modules place within.5,
     )
     in
     (step, subst (CountsUpTo (place + 1)) (sym next_is) counts, tt)
@@ -120,7 +145,7 @@ pub stands_around :
     (tokens : List Token) (place : ℕ) (t d : Token) (before : Option ℕ) (behind : Before) (free : Bool) (inside : Option ℕ)
     → place < length tokens → t ≡ get_or tokens place d → begins_line before t ≡ true → behind.line ≡ pragma_line t
     → IsBefore tokens (place + 1) behind
-    → free ≡ ((eqb behind.around.blocks 0) && (eqb behind.around.cases 0) && behind.around.at_boundary && not behind.before_else)
+    → free ≡ (is_free_around behind.around && not behind.before_else)
     → inside ≡ (if behind.around.in_module then Some behind.around.modules else None)
     → (free ≡ is_free tokens place) × (inside ≡ module_at tokens place)
 stands_around tokens place t d before behind free inside lt is begins line_is stands free_is inside_is =
@@ -132,7 +157,7 @@ stands_around tokens place t d before behind free inside lt is begins line_is st
     let else_is : behind.before_else ≡ is_before_else tokens place =
     at_some (λ (n : ℕ). behind.before_else ≡ is_before_else tokens (place + 1)) behind.line t.line line stands.2 ∙ sym (else_same tokens place t d lt is directive) in (
       free_is
-          ∙ ap (λ (s : Surroundings). (eqb s.blocks 0) && (eqb s.cases 0) && s.at_boundary && not behind.before_else) around_is
+          ∙ ap (λ (s : Surroundings). is_free_around s && not behind.before_else) around_is
           ∙ ap (λ (b : Bool). is_free_behind (kinds_before place tokens) && not b) else_is,
       inside_is ∙ ap (λ (s : Surroundings). if s.in_module then Some s.modules else None) around_is,
     )

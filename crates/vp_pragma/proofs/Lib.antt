@@ -4,6 +4,9 @@ pub mod Refusals
 pub mod Turns
 pub mod RightBits
 pub mod PragmaRows
-pub mod Lists
 pub mod Names
 pub mod Views
+pub mod Scans
+pub mod Scanned
+pub mod Said
+pub mod Lines

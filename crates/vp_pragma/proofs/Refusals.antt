@@ -11,7 +11,9 @@ use Rattle.vp_pragma.specs.declared.line.Rest.{Rest}
 use Rattle.vp_pragma.specs.declared.reading.Line.{Line}
 use Rattle.vp_pragma.specs.declared.reading.Reading.{Reading}
 use Rattle.vp_pragma.specs.EnvelopesOf.{Progress, after_deeds}
-use Rattle.vp_pragma.specs.Pragmas.{Placed, before_deeds, deed_of, deeds_from, expression_at, first_deeds, next_deeds, all_deeds}
+use Rattle.vp_pragma.specs.Pragmas.{before_deeds, deed_of}
+use Rattle.vp_pragma.specs.LineReading.{deeds_from, expression_at, first_deeds, next_deeds, all_deeds}
+use Rattle.vp_pragma.specs.Signs.{Placed}
 use Rattle.vp_pragma.specs.Faults.{Explains}
 use Rattle.vp_pragma.specs.Reading.{after_all, after_one, directive_of, placed}
 

@@ -6,7 +6,9 @@ use Rattle.vp_pragma.specs.declared.deed.Deed.{Deed}
 use Rattle.vp_pragma.specs.declared.fault.PragmaError.{PragmaError}
 use Rattle.vp_pragma.specs.declared.reading.Reading.{Reading}
 use Rattle.vp_pragma.specs.EnvelopesOf.{Progress, after_deed, after_deeds}
-use Rattle.vp_pragma.specs.Pragmas.{Placed, begins_line, deeds_behind, directive_deeds, on_line, pragma_line}
+use Rattle.vp_pragma.specs.Pragmas.{begins_line, on_line, pragma_line}
+use Rattle.vp_pragma.specs.LineReading.{deeds_behind, directive_deeds}
+use Rattle.vp_pragma.specs.Signs.{Placed}
 use Rattle.vp_pragma.specs.Faults.{Explains}
 use Rattle.vp_pragma.specs.Reading.{after_left, progress_of}
 use Rattle.vp_pragma.proofs.Refusals.{explains_through}

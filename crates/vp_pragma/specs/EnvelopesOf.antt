@@ -1,5 +1,5 @@
 -- The envelopes of a text: what its pragmas do, one after the other.
-use Rattle.std.specs.Prelude.{ℕ, ◌+◌, ◌==◌, ◌&&◌, not, Bool, true, false, if◌then◌else◌, nat_le, List, [], ◌∷◌, ◌++◌, length, Option, Some, None, Result, Ok, Err}
+use Rattle.std.specs.Prelude.{◌≡◌, ℕ, ◌+◌, ◌==◌, ◌&&◌, not, Bool, true, false, if◌then◌else◌, nat_le, List, [], ◌∷◌, ◌++◌, length, Option, Some, None, Result, Ok, Err}
 use Rattle.vp_lex.specs.declared.token.Token.{Token}
 use Rattle.vp_lex.specs.Strings.{string_value}
 use Rattle.vp_lex.specs.Texts.{text_of}
@@ -15,7 +15,9 @@ use Rattle.vp_pragma.specs.Access.{access_of}
 use Rattle.vp_pragma.specs.Envelopes.{Protection, Viewport}
 use Rattle.vp_pragma.specs.Rights.{RightSet}
 use Rattle.vp_pragma.specs.Surroundings.{is_free, module_at}
-use Rattle.vp_pragma.specs.Pragmas.{Placed, deeds_of_text}
+use Rattle.vp_pragma.specs.Faults.{Explains}
+use Rattle.vp_pragma.specs.Pragmas.{LinesDo, lines_of}
+use Rattle.vp_pragma.specs.Signs.{Placed}
 
 -- an envelope that has begun: its place, its line, the module where it began, and its author
 pub record Begun : Type 0 where
@@ -130,6 +132,13 @@ abbrev pub envelopes_behind : Result Progress PragmaError → Result Protection 
 envelopes_behind (Err e) = Err e
 envelopes_behind (Ok r) = ended_all r r.begun
 
--- the envelopes of a text and its viewports, or the first fault of its pragmas; an envelope left open is told last (profile)
-abbrev pub envelopes_of : List ℕ → List Token → Result Protection PragmaError
-envelopes_of text tokens = envelopes_behind (after_deeds text tokens (Ok at_start) (deeds_of_text text tokens))
+-- the envelopes of a text and its viewports, or the first fault of its pragmas: what its lines do, one after the other; an envelope
+-- left open is told last (clause 28, profile)
+pub record AreEnvelopes (text : List ℕ) (tokens : List Token) (due : Result Protection PragmaError) : Type 0 where
+  pub deeds : List (Placed × Deed)
+  pub done : LinesDo text (lines_of text tokens) deeds
+  pub are : due ≡ envelopes_behind (after_deeds text tokens (Ok at_start) deeds)
+
+-- an error is the first fault of the pragmas of a text; want of memory may be told at any time
+abbrev pub IsFaultOf : List ℕ → List Token → PragmaError → Type 0
+IsFaultOf text tokens e = (due : Result Protection PragmaError) × AreEnvelopes text tokens due × Explains due e

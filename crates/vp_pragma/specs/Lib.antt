@@ -4,5 +4,9 @@ pub mod Faults
 pub mod Envelopes
 pub mod Reading
 pub mod Surroundings
+pub mod Signs
+pub mod PragmaGrammar
 pub mod Pragmas
+pub mod Lists
 pub mod EnvelopesOf
+pub mod LineReading

@@ -13,7 +13,8 @@ use Rattle.vp_pragma.specs.declared.reading.Line.{Line}
 use Rattle.vp_pragma.specs.declared.reading.Open.{Open}
 use Rattle.vp_pragma.specs.declared.reading.Reading.{Reading}
 use Rattle.vp_pragma.specs.Surroundings.{CountsUpTo, around_of, is_before_else, is_free, kinds_before, module_at}
-use Rattle.vp_pragma.specs.Pragmas.{Placed, deeds_behind}
+use Rattle.vp_pragma.specs.LineReading.{deeds_behind}
+use Rattle.vp_pragma.specs.Signs.{Placed}
 use Rattle.vp_pragma.specs.declared.viewport.Viewport as declared
 use Rattle.vp_pragma.specs.declared.envelope.Envelope.{Envelope}
 use Rattle.vp_pragma.specs.Envelopes.{Protection, Viewport}

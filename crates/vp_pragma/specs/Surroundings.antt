@@ -39,6 +39,36 @@ abbrev pub closes_case : TokenKind → Bool
 closes_case (token.Keyword keyword.Endcase) = true
 closes_case _ = false
 
+-- a parenthesis opens
+abbrev pub opens_parenthesis : TokenKind → Bool
+opens_parenthesis (token.Punctuator punctuator.LeftParenthesis) = true
+opens_parenthesis _ = false
+
+-- a parenthesis closes
+abbrev pub closes_parenthesis : TokenKind → Bool
+closes_parenthesis (token.Punctuator punctuator.RightParenthesis) = true
+closes_parenthesis _ = false
+
+-- a bracket opens
+abbrev pub opens_bracket : TokenKind → Bool
+opens_bracket (token.Punctuator punctuator.LeftBracket) = true
+opens_bracket _ = false
+
+-- a bracket closes
+abbrev pub closes_bracket : TokenKind → Bool
+closes_bracket (token.Punctuator punctuator.RightBracket) = true
+closes_bracket _ = false
+
+-- a brace opens
+abbrev pub opens_brace : TokenKind → Bool
+opens_brace (token.Punctuator punctuator.LeftBrace) = true
+opens_brace _ = false
+
+-- a brace closes
+abbrev pub closes_brace : TokenKind → Bool
+closes_brace (token.Punctuator punctuator.RightBrace) = true
+closes_brace _ = false
+
 -- a module begins (clause 12.1)
 abbrev pub begins_module : TokenKind → Bool
 begins_module (token.Keyword keyword.Module) = true
@@ -62,7 +92,7 @@ abbrev pub is_else : TokenKind → Bool
 is_else (token.Keyword keyword.Else) = true
 is_else _ = false
 
--- how many are open behind these kinds, where a closing without an opening counts nothing
+-- how many are open behind these kinds, where a closing without an opening counts nothing (profile)
 abbrev pub open_count : (TokenKind → Bool) → (TokenKind → Bool) → List TokenKind → ℕ
 open_count opens closes kinds = fold (λ n kind. if opens kind then n + 1 else (if closes kind then n - 1 else n)) 0 kinds
 
@@ -70,11 +100,15 @@ open_count opens closes kinds = fold (λ n kind. if opens kind then n + 1 else (
 abbrev pub is_at_boundary : List TokenKind → Bool
 is_at_boundary kinds = fold (λ before kind. may_end kind) true kinds
 
--- no block and no case is open behind these kinds, and a statement, an item or a module may have ended
+-- no block, case, parenthesis, bracket or brace is open behind these kinds, each counted by itself, and a statement, an item or a
+-- module may have ended (profile)
 abbrev pub is_free_behind : List TokenKind → Bool
 is_free_behind kinds =
     (open_count opens_block closes_block kinds == 0)
     && (open_count opens_case closes_case kinds == 0)
+    && (open_count opens_parenthesis closes_parenthesis kinds == 0)
+    && (open_count opens_bracket closes_bracket kinds == 0)
+    && (open_count opens_brace closes_brace kinds == 0)
     && is_at_boundary kinds
 
 -- the grammar's next token from a place on is an else
@@ -104,6 +138,9 @@ abbrev pub around_of : List TokenKind → Surroundings
 around_of kinds = record {
   blocks = open_count opens_block closes_block kinds;
   cases = open_count opens_case closes_case kinds;
+  parentheses = open_count opens_parenthesis closes_parenthesis kinds;
+  brackets = open_count opens_bracket closes_bracket kinds;
+  braces = open_count opens_brace closes_brace kinds;
   modules = count_by begins_module kinds;
   in_module = is_in_module kinds;
   at_boundary = is_at_boundary kinds;
@@ -118,11 +155,25 @@ abbrev pub around_behind : Surroundings → TokenKind → Surroundings
 around_behind s kind = record {
   blocks = counted (opens_block kind) (closes_block kind) s.blocks;
   cases = counted (opens_case kind) (closes_case kind) s.cases;
+  parentheses = counted (opens_parenthesis kind) (closes_parenthesis kind) s.parentheses;
+  brackets = counted (opens_bracket kind) (closes_bracket kind) s.brackets;
+  braces = counted (opens_brace kind) (closes_brace kind) s.braces;
   modules = counted (begins_module kind) false s.modules;
   in_module = if begins_module kind then true else (if ends_module kind then false else s.in_module);
   at_boundary = may_end kind;
 }
 
+-- the same, where a statement, an item or a module may have ended or not
+abbrev pub with_boundary : Bool → Surroundings → Surroundings
+with_boundary at_boundary s = record s { at_boundary = at_boundary }
+
+-- nothing is open, and a statement, an item or a module may have ended
+abbrev pub is_free_around : Surroundings → Bool
+is_free_around s =
+    (s.blocks == 0) && (s.cases == 0) && (s.parentheses == 0) && (s.brackets == 0) && (s.braces == 0) && s.at_boundary
+
 -- no count is above this
 abbrev pub CountsUpTo : ℕ → Surroundings → Type 0
-CountsUpTo limit s = (s.blocks ≤ limit) × (s.cases ≤ limit) × (s.modules ≤ limit)
+CountsUpTo limit s =
+    (s.blocks ≤ limit) × (s.cases ≤ limit) × (s.parentheses ≤ limit) × (s.brackets ≤ limit) × (s.braces ≤ limit)
+    × (s.modules ≤ limit)

@@ -5,8 +5,10 @@ mod deed;
 mod envelope;
 mod fault;
 mod line;
+mod lists;
 mod reading;
 mod rights;
+mod sign;
 mod surroundings;
 mod viewport;
 

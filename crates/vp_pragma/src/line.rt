@@ -2,13 +2,14 @@
 ghost use Rattle.std.specs.Prelude.{◌≡◌, ◌≤◌, ◌+◌, [], ◌∷◌, length, drop, if◌then◌else◌, option_map, MatchOption, IfSome};
 ghost use Rattle.std.specs.List.{enumerate_from, prefix_len, take_while};
 ghost use Rattle.vp_lex.specs.declared.token.TheConstants.{TEXT_LIMIT};
-ghost use Rattle.vp_pragma.specs.Pragmas.{begins_with, behind_list, behind_sign, element_at, expression_at, expression_by, is_base, is_close, is_comma, is_equals, is_on, is_open, is_string, is_word, keyword_text, pair_found, pair_of, rest_of, sign_at, single_at, token_if, value_at};
+ghost use Rattle.vp_pragma.specs.LineReading.{behind_sign, expression_at, keyword_text, pair_found, pair_of, token_if, value_at};
+ghost use Rattle.vp_pragma.specs.Pragmas.{is_on};
+ghost use Rattle.vp_pragma.specs.Signs.{begins_with, is_base, is_close, is_comma, is_equals, is_string, is_word, rest_of};
 ghost use Rattle.vp_pragma.specs.Reading.{HasPlaces, placed};
 
-use vp_lex::{Punctuator, Token, TokenKind};
-
-/// How deep lists may nest.
-pub const LIST_DEPTH: u32 = 64;
+use crate::lists::list_end;
+use crate::sign::{Sign, sign_of};
+use vp_lex::Token;
 
 /// Two keywords of a list, each with a string.
 #[derive(Clone, Copy)]
@@ -51,48 +52,35 @@ pub struct Rest<'a> {
 pub fn is_word(token: Token) -> bool
     ensures { result ≡ is_word token.kind }
 {
-    matches!(token.kind, TokenKind::Name | TokenKind::Keyword(_))
+    matches!(sign_of(token), Sign::Word)
 }
 
 /// The token gives a keyword its value.
 fn is_equals(token: Token) -> bool
     ensures { result ≡ is_equals token.kind }
 {
-    matches!(token.kind, TokenKind::Punctuator(Punctuator::Equals))
+    matches!(sign_of(token), Sign::Equals)
 }
 
 /// The token stands between expressions.
 pub fn is_comma(token: Token) -> bool
     ensures { result ≡ is_comma token.kind }
 {
-    matches!(token.kind, TokenKind::Punctuator(Punctuator::Comma))
-}
-
-/// The token begins a list.
-fn is_open(token: Token) -> bool
-    ensures { result ≡ is_open token.kind }
-{
-    matches!(
-        token.kind,
-        TokenKind::Punctuator(Punctuator::LeftParenthesis)
-    )
+    matches!(sign_of(token), Sign::Comma)
 }
 
 /// The token ends a list.
 fn is_close(token: Token) -> bool
     ensures { result ≡ is_close token.kind }
 {
-    matches!(
-        token.kind,
-        TokenKind::Punctuator(Punctuator::RightParenthesis)
-    )
+    matches!(sign_of(token), Sign::Closing)
 }
 
 /// The token is a string.
 fn is_string(token: Token) -> bool
     ensures { result ≡ is_string token.kind }
 {
-    matches!(token.kind, TokenKind::String)
+    matches!(sign_of(token), Sign::Text)
 }
 
 /// The first token, and what follows it.
@@ -120,11 +108,8 @@ fn behind_base(rest: Rest<'_>) -> Rest<'_>
     ensures places { HasPlaces result }
 {
     match split(rest) {
-        Some((first, others)) => match first.kind {
-            TokenKind::Base => others,
-            _ => rest,
-        },
-        None => rest,
+        Some((first, others)) if matches!(sign_of(first), Sign::Base) => others,
+        _ => rest,
     }
 }
 
@@ -137,21 +122,6 @@ fn behind_equals(rest: Rest<'_>) -> Option<Rest<'_>>
     match split(rest) {
         Some((first, others)) if is_equals(first) => Some(others),
         _ => None,
-    }
-}
-
-/// The value at the front of a line's tokens that is no list, and what follows it.
-fn single_at(rest: Rest<'_>) -> Option<(Value, Rest<'_>)>
-    requires { HasPlaces rest }
-    ensures parts { option_map (λ v. (v.0, placed v.1)) result ≡ single_at (placed rest.entry) }
-    ensures places { IfSome result (λ v. HasPlaces v.1) }
-{
-    let (first, others) = split(rest)?;
-    match first.kind {
-        TokenKind::String => Some((Value::Text(first), others)),
-        TokenKind::Number => Some((Value::Other, behind_base(others))),
-        TokenKind::Base | TokenKind::Name | TokenKind::Keyword(_) => Some((Value::Other, others)),
-        TokenKind::Punctuator(_) | TokenKind::SystemName | TokenKind::Directive => None,
     }
 }
 
@@ -241,86 +211,19 @@ fn pair_of(rest: Rest<'_>) -> Value
     }
 }
 
-/// The value at the front of a line's tokens, whose lists nest at most so deep, and what follows it.
-#[cycle(value_at)]
-#[tactic(auto, unfolding(crate::specs::Pragmas::value_at))]
-fn value_at(depth: u32, rest: Rest<'_>) -> Option<(Value, Rest<'_>)>
+/// The value at the front of a line's tokens, and what follows it.
+fn value_at(rest: Rest<'_>) -> Option<(Value, Rest<'_>)>
     requires { HasPlaces rest }
-    ensures parts { option_map (λ v. (v.0, placed v.1)) result ≡ value_at depth (placed rest.entry) }
+    ensures parts { option_map (λ v. (v.0, placed v.1)) result ≡ value_at (placed rest.entry) }
     ensures places { IfSome result (λ v. HasPlaces v.1) }
 {
-    match split(rest) {
-        Some((first, others)) if is_open(first) && depth > 0 => {
-            let behind = behind_list(depth - 1, others)?;
-            Some((pair_of(others), behind))
-        }
-        _ => single_at(rest),
-    }
-}
-
-/// The sign behind an expression of a list, and what follows it: whether it ends the list, or is a comma.
-fn sign_at(rest: Rest<'_>) -> Option<(bool, Rest<'_>)>
-    requires { HasPlaces rest }
-    ensures parts { option_map (λ s. (s.0, placed s.1)) result ≡ sign_at (placed rest.entry) }
-    ensures places { IfSome result (λ s. HasPlaces s.1) }
-{
-    let (sign, others) = split(rest)?;
-    if is_close(sign) {
-        Some((true, others))
-    } else if is_comma(sign) {
-        Some((false, others))
-    } else {
-        None
-    }
-}
-
-/// An expression of a list and the sign behind it, and what follows them.
-#[cycle(value_at)]
-fn element_at(depth: u32, rest: Rest<'_>) -> Option<(bool, Rest<'_>)>
-    requires { HasPlaces rest }
-    ensures parts { option_map (λ s. (s.0, placed s.1)) result ≡ element_at (value_at depth) (placed rest.entry) }
-    ensures places { IfSome result (λ s. HasPlaces s.1) }
-{
-    let (_, behind) = expression_by(depth, rest)?;
-    sign_at(behind)
-}
-
-/// What follows a list, from behind its parenthesis.
-#[cycle(value_at)]
-fn behind_list(depth: u32, rest: Rest<'_>) -> Option<Rest<'_>>
-    requires { HasPlaces rest }
-    ensures parts { option_map placed result ≡ behind_list (value_at depth) (length rest.entry.tokens.now) (placed rest.entry) }
-    ensures places { IfSome result HasPlaces }
-{
-    let mut left = rest;
-    for _ in 0..rest.tokens.len() {
-        let (ended, behind) = element_at(depth, left)?;
-        if ended {
-            return Some(behind);
-        }
-        left = behind;
-    }
-    None
-}
-
-/// The expression at the front of a line's tokens, whose lists nest at most so deep, and what follows it.
-#[cycle(value_at)]
-fn expression_by(depth: u32, rest: Rest<'_>) -> Option<(Expression, Rest<'_>)>
-    requires { HasPlaces rest }
-    ensures parts { option_map (λ e. (e.0, placed e.1)) result ≡ expression_by (value_at depth) (placed rest.entry) }
-    ensures places { IfSome result (λ e. HasPlaces e.1) }
-{
     let (first, others) = split(rest)?;
-    if !is_word(first) {
-        let (_, behind) = value_at(depth, rest)?;
-        return Some((Expression::Only, behind));
-    }
-    match behind_equals(others) {
-        Some(value) => {
-            let (value, behind) = value_at(depth, value)?;
-            Some((Expression::Assigned(first, value), behind))
-        }
-        None => Some((Expression::Alone(rest.at, first), others)),
+    match sign_of(first) {
+        Sign::Text => Some((Value::Text(first), others)),
+        Sign::Number => Some((Value::Other, behind_base(others))),
+        Sign::Base | Sign::Word => Some((Value::Other, others)),
+        Sign::Opening => Some((pair_of(others), list_end(others)?)),
+        _ => None,
     }
 }
 
@@ -330,7 +233,18 @@ pub fn expression_at(rest: Rest<'_>) -> Option<(Expression, Rest<'_>)>
     ensures parts { option_map (λ e. (e.0, placed e.1)) result ≡ expression_at (placed rest.entry) }
     ensures places { IfSome result (λ e. HasPlaces e.1) }
 {
-    expression_by(LIST_DEPTH, rest)
+    let (first, others) = split(rest)?;
+    if !is_word(first) {
+        let (_, behind) = value_at(rest)?;
+        return Some((Expression::Only, behind));
+    }
+    match behind_equals(others) {
+        Some(value) => {
+            let (value, behind) = value_at(value)?;
+            Some((Expression::Assigned(first, value), behind))
+        }
+        None => Some((Expression::Alone(rest.at, first), others)),
+    }
 }
 
 /// A token stands on the pragma of a line.

@@ -2,11 +2,12 @@ ghost use Rattle.std.specs.Prelude.{◌≡◌, ℕ, suc, ◌<◌, ◌≤◌, ◌
 ghost use Rattle.vp_lex.specs.declared.token.TheConstants.{TEXT_LIMIT};
 ghost use Rattle.vp_lex.specs.declared.token.Token.{Token};
 ghost use Rattle.vp_pragma.specs.declared.deed.Deed.{Deed};
-ghost use Rattle.vp_pragma.specs.EnvelopesOf.{after_deeds, at_start, envelopes_behind, envelopes_of, same_module};
-ghost use Rattle.vp_pragma.specs.Pragmas.{before_deeds, begins_line, deeds_from, deeds_of_text, directive_deeds, is_pragma, line_deeds, named_deeds, on_line, pragma_line, all_deeds};
+ghost use Rattle.vp_pragma.specs.EnvelopesOf.{AreEnvelopes, IsFaultOf, after_deeds, at_start, envelopes_behind, same_module};
+ghost use Rattle.vp_pragma.specs.Pragmas.{before_deeds, begins_line, is_pragma, on_line, pragma_line};
+ghost use Rattle.vp_pragma.specs.LineReading.{deeds_from, deeds_of_text, directive_deeds, line_deeds, named_deeds, all_deeds};
 ghost use Rattle.vp_pragma.specs.Faults.{Explains};
 ghost use Rattle.vp_pragma.specs.Reading.{HasPlaces, HasRoom, IsBefore, IsLine, after_all, after_left, after_one, author_in, placed, progress_of};
-ghost use Rattle.vp_pragma.specs.Surroundings.{is_before_else};
+ghost use Rattle.vp_pragma.specs.Surroundings.{is_before_else, is_free_around};
 
 use crate::deed::{Deed, Pragma, ViewportStrings, deed_of};
 use crate::envelope::{Envelope, Envelopes};
@@ -389,7 +390,7 @@ fn step(tokens: &[Token], place: usize, before: Before) -> Before
 
 /// On the line of a pragma, an envelope may begin or end.
 fn is_free(before: Before) -> bool
-    ensures { result ≡ ((before.around.blocks == 0) && (before.around.cases == 0) && before.around.at_boundary && not before.before_else) }
+    ensures { result ≡ (is_free_around before.around && not before.before_else) }
 {
     before.around.is_free() && !before.before_else
 }
@@ -481,8 +482,8 @@ fn ended(reading: Reading) -> Result<Envelopes, PragmaError>
 /// 303 last), or want of memory (310).
 pub fn envelopes(alloc: Global, text: &str, tokens: &[Token]) -> Result<Envelopes, PragmaError>
     requires { length tokens.now ≤ TEXT_LIMIT }
-    ensures ok { IfOk result (λ envelopes. envelopes_of text.now tokens.now ≡ Ok envelopes) }
-    ensures fault { IfErr result (λ error. Explains (envelopes_of text.now tokens.now) error) }
+    ensures ok { IfOk result (λ envelopes. AreEnvelopes text.now tokens.now (Ok envelopes)) }
+    ensures fault { IfErr result (λ error. IsFaultOf text.now tokens.now error) }
 {
     ended(read(alloc, text, tokens)?)
 }

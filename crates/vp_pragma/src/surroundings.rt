@@ -1,5 +1,6 @@
-ghost use Rattle.std.specs.Prelude.{◌≡◌, ◌==◌, ◌&&◌, [], if◌then◌else◌};
+ghost use Rattle.std.specs.Prelude.{◌≡◌, [], if◌then◌else◌};
 ghost use Rattle.vp_lex.specs.declared.token.TheConstants.{TEXT_LIMIT};
+ghost use Rattle.vp_lex.specs.declared.token.TokenKind.TheVariants as token;
 ghost use Rattle.vp_pragma.specs.Surroundings.{is_before_else, is_else, may_end};
 
 use vp_lex::{Keyword, Punctuator, Token, TokenKind};
@@ -11,6 +12,10 @@ pub struct Surroundings {
     blocks: u32,
     /// `case` statements that are open.
     cases: u32,
+    /// Parentheses, brackets and braces that are open, each kind counted by itself.
+    parentheses: u32,
+    brackets: u32,
+    braces: u32,
     /// How many modules have begun.
     modules: u32,
     in_module: bool,
@@ -19,7 +24,7 @@ pub struct Surroundings {
 }
 
 impl Surroundings {
-    ghost use Rattle.vp_pragma.specs.Surroundings.{CountsUpTo, around_behind, around_of};
+    ghost use Rattle.vp_pragma.specs.Surroundings.{CountsUpTo, around_behind, around_of, is_free_around, with_boundary};
 
     /// Before the first token.
     pub fn new() -> Surroundings
@@ -28,6 +33,9 @@ impl Surroundings {
         Surroundings {
             blocks: 0,
             cases: 0,
+            parentheses: 0,
+            brackets: 0,
+            braces: 0,
             modules: 0,
             in_module: false,
             at_boundary: true,
@@ -45,11 +53,53 @@ impl Surroundings {
         }
     }
 
-    /// No block and no case is open, and the last token ends a statement, an item or a module.
+    /// No block, case, parenthesis, bracket or brace is open, and the last token ends a statement, an item or a module.
     pub fn is_free(self) -> bool
-        ensures { result ≡ ((self.blocks == 0) && (self.cases == 0) && self.at_boundary) }
+        ensures { result ≡ is_free_around self }
     {
-        self.blocks == 0 && self.cases == 0 && self.at_boundary
+        self.blocks == 0
+            && self.cases == 0
+            && self.parentheses == 0
+            && self.brackets == 0
+            && self.braces == 0
+            && self.at_boundary
+    }
+
+    /// Counts a keyword that opens or closes a block, a case or a module.
+    fn count_word(&mut self, word: Keyword)
+        requires { CountsUpTo TEXT_LIMIT self.old }
+        ensures { self.new ≡ with_boundary self.old.at_boundary (around_behind self.old (token.Keyword word)) }
+    {
+        match word {
+            Keyword::Begin => self.blocks += 1,
+            Keyword::End => self.blocks = self.blocks.saturating_sub(1),
+            Keyword::Case | Keyword::Casez | Keyword::Casex => self.cases += 1,
+            Keyword::Endcase => self.cases = self.cases.saturating_sub(1),
+            Keyword::Module => {
+                self.modules += 1;
+                self.in_module = true;
+            }
+            Keyword::Endmodule => self.in_module = false,
+            _ => {}
+        }
+    }
+
+    /// Counts a punctuator that opens or closes a parenthesis, a bracket or a brace.
+    fn count_mark(&mut self, mark: Punctuator)
+        requires { CountsUpTo TEXT_LIMIT self.old }
+        ensures { self.new ≡ with_boundary self.old.at_boundary (around_behind self.old (token.Punctuator mark)) }
+    {
+        match mark {
+            Punctuator::LeftParenthesis => self.parentheses += 1,
+            Punctuator::RightParenthesis => {
+                self.parentheses = self.parentheses.saturating_sub(1);
+            }
+            Punctuator::LeftBracket => self.brackets += 1,
+            Punctuator::RightBracket => self.brackets = self.brackets.saturating_sub(1),
+            Punctuator::LeftBrace => self.braces += 1,
+            Punctuator::RightBrace => self.braces = self.braces.saturating_sub(1),
+            _ => {}
+        }
     }
 
     /// What is open behind one more token.
@@ -58,21 +108,12 @@ impl Surroundings {
         ensures { result ≡ around_behind self kind }
     {
         let mut after = self;
-        after.at_boundary = may_end(kind);
         match kind {
-            TokenKind::Keyword(Keyword::Begin) => after.blocks = self.blocks + 1,
-            TokenKind::Keyword(Keyword::End) => after.blocks = self.blocks.saturating_sub(1),
-            TokenKind::Keyword(Keyword::Case | Keyword::Casez | Keyword::Casex) => {
-                after.cases = self.cases + 1;
-            }
-            TokenKind::Keyword(Keyword::Endcase) => after.cases = self.cases.saturating_sub(1),
-            TokenKind::Keyword(Keyword::Module) => {
-                after.modules = self.modules + 1;
-                after.in_module = true;
-            }
-            TokenKind::Keyword(Keyword::Endmodule) => after.in_module = false,
+            TokenKind::Keyword(word) => after.count_word(word),
+            TokenKind::Punctuator(mark) => after.count_mark(mark),
             _ => {}
         }
+        after.at_boundary = may_end(kind);
         after
     }
 }

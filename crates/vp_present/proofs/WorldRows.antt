@@ -236,4 +236,4 @@ legal :
     ∷ entry (steps 0) reply.Done (Some (record { object = record { 0 = 1 }; value = One ∷ [] }))
     ∷ entry (event.Close first) reply.Done None ∷ [])
 unfolding digits is_utf8 chars encode sizes_in tables_of effect_at
-legal = (refl, refl, (refl, refl, (refl, refl, (refl, refl, (refl, refl, tt)))))
+legal = (tt, refl, refl, (tt, refl, refl, (tt, refl, refl, (tt, refl, refl, (tt, refl, refl, tt)))))

@@ -16,6 +16,7 @@ use Rattle.vp_present.specs.declared.fault.WorldError.TheVariants as error
 use Rattle.vp_present.specs.declared.reply.Refusal.TheVariants as refusal
 use Rattle.vp_present.specs.declared.reply.Reply.{Reply}
 use Rattle.vp_present.specs.declared.reply.Reply.TheVariants as reply
+use Rattle.vp_present.specs.Events.{IsWellFormed}
 use Rattle.vp_present.specs.Worlds.{Opening, SessionState, Standing, State, index_of, start}
 use Rattle.vp_present.specs.Answers.{Outlook, goal_by, made_by, reply_to}
 
@@ -203,12 +204,12 @@ entry_of opening s e =
     let next : State = after opening s e in
     record { event = e; reply = answer opening s e; change = changed s e; time = next.run.time; finished = next.run.finished }
 
--- a log is legal behind another: each entry is that of an event that is accepted behind those before it
+-- a log is legal behind another: each entry is that of a well-formed event that is accepted behind those before it
 abbrev pub IsLegal : Opening → List Entry → List Entry → Type 0
 IsLegal opening before [] = Unit {0}
 IsLegal opening before (e ∷ log) =
-    (refusal_behind opening before e.event ≡ None) × (e ≡ entry_of opening (state_behind opening before) e.event)
-    × IsLegal opening (before ++ e ∷ []) log
+    IsWellFormed e.event × (refusal_behind opening before e.event ≡ None)
+    × (e ≡ entry_of opening (state_behind opening before) e.event) × IsLegal opening (before ++ e ∷ []) log
 
 -- a world that stands so has this log: its state is that which the log leads to, and the log is legal
 pub record Keeps (w : Standing) (log : List Entry) : Type 0 where

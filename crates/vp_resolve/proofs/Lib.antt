@@ -2,3 +2,9 @@ pub mod Fitting
 pub mod Named
 pub mod Scopes
 pub mod Refused
+pub mod ConstantRows
+pub mod Gapless
+pub mod Nowhere
+pub mod Widths
+pub mod Sizes
+pub mod Fits

@@ -1,5 +1,5 @@
 -- Which expressions of a design are refused: the refusals, each tested over the whole text, in this order.
-use Rattle.std.specs.Prelude.{◌≡◌, ℕ, ◌+◌, ◌==◌, ◌&&◌, min, nat_lt, nat_le, not, Bool, true, false, if◌then◌else◌, List, [], ◌∷◌, ◌++◌, drop, length, slice_get, slice_index_or, Option, Some, None, option_and_then, option_map}
+use Rattle.std.specs.Prelude.{◌≡◌, ℕ, ◌+◌, ◌==◌, ◌&&◌, max, min, nat_lt, nat_le, not, Bool, true, false, if◌then◌else◌, List, [], ◌∷◌, ◌++◌, drop, length, slice_get, slice_index_or, Option, Some, None, option_and_then, option_map}
 use Rattle.std.specs.List.{fold}
 use Rattle.vp_source.specs.declared.expression.Expression.{Expression}
 use Rattle.vp_source.specs.declared.expression.Expression.TheVariants as expression
@@ -24,7 +24,7 @@ use Rattle.vp_resolve.specs.declared.fault.ExprError.{ExprError}
 use Rattle.vp_resolve.specs.declared.fault.ExprError.TheVariants.{TooWide, SignedCompare, BadSelect, NoMemory}
 use Rattle.vp_operand.specs.Arena.{operand_size, signs_in}
 use Rattle.vp_resolve.specs.Names.{node_named, scope_of}
-use Rattle.vp_resolve.specs.Operands.{all_fit, operand_of, operands_of}
+use Rattle.vp_resolve.specs.Operands.{operand_of, operands_of}
 
 -- a place, where something is so
 abbrev pub place_if : Bool → ℕ → Option ℕ
@@ -59,10 +59,10 @@ size_of_bits s (Some bits) = selected_width s bits.0
 abbrev pub node_size : Elaborated → (scope : Option ℕ) → (name : ℕ) → Selection → ℕ
 node_size design scope name s = size_of_bits s (bits_named design scope name)
 
--- the size of an expression as it is counted, by the sizes of those before it (clause 5.4.1)
+-- the size of an expression as it is counted, by the sizes of those before it; that of a literal is not 0 (clauses 3.5.1 and 5.4.1)
 abbrev pub counted_size : Elaborated → (scope : Option ℕ) → List ℕ → Expression → ℕ
 counted_size design scope sizes (expression.Name name s) = counted (node_size design scope name s)
-counted_size design scope sizes (expression.Literal place size digits) = counted size
+counted_size design scope sizes (expression.Literal place size digits) = counted (max 1 size)
 counted_size design scope sizes e = counted (operand_size sizes (operand_of design scope e))
 
 -- sizes, and behind them that of one more expression
@@ -208,22 +208,12 @@ abbrev pub refused_at : Source → (ℕ → ExprError) → Option ℕ → Option
 refused_at source refusal None other = other
 refused_at source refusal (Some place) other = Some (refusal (line_at source place))
 
--- the first refusal of a place of a design
-unfoldable pub refused_by : Elaborated → Option ExprError
-refused_by design =
+-- the first refusal of a design that holds
+unfoldable pub refusal_of : Elaborated → Option ExprError
+refusal_of design =
     refused_at design.source (λ line. TooWide line) (first_wide design)
     (refused_at design.source (λ line. SignedCompare line) (first_signed design)
     (refused_at design.source (λ line. BadSelect line) (first_bad design) None))
-
--- a refusal, or else another
-abbrev pub or_else : Option ExprError → Option ExprError → Option ExprError
-or_else None other = other
-or_else (Some refusal) other = Some refusal
-
--- the first refusal of a design that holds. Behind the places each size is tested once more; that this never refuses is not
--- proved
-unfoldable pub refusal_of : Elaborated → Option ExprError
-refusal_of design = or_else (refused_by design) (if all_fit design then None else Some (TooWide 0))
 
 -- an error is the refusal, or want of memory
 abbrev pub Explains : Option ExprError → ExprError → Type 0

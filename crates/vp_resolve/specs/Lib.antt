@@ -1,4 +1,5 @@
 pub mod Faults
 pub mod Names
 pub mod Operands
+pub mod Constants
 pub mod Checks

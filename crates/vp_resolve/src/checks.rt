@@ -56,7 +56,7 @@ fn named_size(design: &Design, scope: Option<ObjectId>, name: u32, selection: Se
     }
 }
 
-/// The size of an expression as it is counted, in bits, by the sizes of those before it.
+/// The size of an expression as it is counted, in bits, by the sizes of those before it; that of a literal is not 0.
 fn counted_size(
     design: &Design,
     scope: Option<ObjectId>,
@@ -67,7 +67,7 @@ fn counted_size(
 {
     counted(match expression {
         Expression::Name { name, selection } => named_size(design, scope, name, selection),
-        Expression::Literal { size, .. } => u64::from(size),
+        Expression::Literal { size, .. } => u64::from(size).max(1),
         _ => operand_size(sizes, operand_of(design, scope, expression)),
     })
 }

@@ -2,10 +2,12 @@
 #![tactic(auto)]
 
 mod checks;
+mod constants;
 mod fault;
 mod refusing;
 mod resolving;
 
+pub use constants::constant_at;
 pub use fault::ExprError;
 pub use refusing::refuse;
 pub use resolving::{

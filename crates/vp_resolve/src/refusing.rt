@@ -1,7 +1,7 @@
 // Why the expressions of a design are refused: the first refusal that holds, each tested over the whole text.
-ghost use Rattle.std.specs.Prelude.{◌≡◌, None, IfErr, OnOk};
-ghost use Rattle.vp_resolve.specs.Checks.{Explains, refused_by};
-ghost use Rattle.vp_resolve.specs.Operands.{operands_of};
+ghost use Rattle.std.specs.Prelude.{◌≡◌, true, None, IfErr, OnOk};
+ghost use Rattle.vp_resolve.specs.Checks.{Explains, refusal_of};
+ghost use Rattle.vp_resolve.specs.Operands.{all_fit, operands_of};
 
 use crate::checks::{first_bad, first_signed, first_wide};
 use crate::fault::ExprError;
@@ -9,12 +9,13 @@ use std::alloc::Global;
 use vp_elab::Design;
 use vp_operand::Operand;
 
-/// Nothing, or the first refusal of a place that holds. Takes memory.
-#[tactic(auto, unfolding(crate::specs::Checks::refused_by))]
+/// Nothing, or the first refusal that holds. Where there is none, each object and each expression has 1 to 64 bits. Takes memory.
+#[tactic(auto, unfolding(crate::specs::Checks::refusal_of))]
 pub fn refuse(alloc: Global, design: &Design, operands: &[Operand]) -> Result<(), ExprError>
     requires { operands.now ≡ operands_of design.now }
-    ensures accepted { OnOk result (refused_by design.now ≡ None) }
-    ensures refused { IfErr result (λ e. Explains (refused_by design.now) e) }
+    ensures accepted { OnOk result (refusal_of design.now ≡ None) }
+    ensures fit { OnOk result (all_fit design.now ≡ true) }
+    ensures refused { IfErr result (λ e. Explains (refusal_of design.now) e) }
 {
     let source = design.source();
     if let Some(place) = first_wide(alloc, design)? {
@@ -29,5 +30,7 @@ pub fn refuse(alloc: Global, design: &Design, operands: &[Operand]) -> Result<()
         let line = source.line(place);
         return Err(ExprError::BadSelect { line });
     }
+    design.is_elaborated();
+    design.source_is_whole();
     Ok(())
 }

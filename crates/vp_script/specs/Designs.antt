@@ -1,17 +1,16 @@
 -- The design of a text.
-use Rattle.std.specs.Prelude.{◌≡◌, ◌<◌, ◌⊎◌, List, length, ℕ, None, Ok, Err}
-use Rattle.vp_lex.specs.declared.fault.LexError.TheVariants as lex
+use Rattle.std.specs.Prelude.{◌≡◌, ◌<◌, ◌≤◌, List, length, ℕ, None, Ok}
 use Rattle.vp_lex.specs.declared.token.Token.{Token}
-use Rattle.vp_lex.specs.Tokens.{tokens_of}
+use Rattle.vp_lex.specs.Tokens as lex
+use Rattle.vp_lex.specs.Tokens.{AreTokens}
 use Rattle.vp_pragma.specs.Envelopes.{Protection}
-use Rattle.vp_pragma.specs.EnvelopesOf.{envelopes_of}
-use Rattle.vp_pragma.specs.Faults as pragma
+use Rattle.vp_pragma.specs.EnvelopesOf.{AreEnvelopes, IsFaultOf}
 use Rattle.vp_source.specs.declared.source.Source.{Source}
 use Rattle.vp_source.specs.Grammar.{Derivation, IsDerivation}
 use Rattle.vp_source.specs.Layout.{IsSourceOf}
 use Rattle.vp_parse.specs.Reading.{read}
 use Rattle.vp_parse_expr.specs.Symbols.{symbols_of}
-use Rattle.vp_parse.specs.Told.{Tells}
+use Rattle.vp_parse.specs.Told.{IsUnderivable, Tells}
 use Rattle.vp_elab.specs.Built.{Elaborated, design_of}
 use Rattle.vp_elab.specs.Refusals.{refusal_of}
 use Rattle.vp_names.specs.Refusals as elab
@@ -23,44 +22,48 @@ use Rattle.vp_script.specs.declared.fault.ServeFault.TheVariants as fault
 abbrev pub text_limit : ℕ
 text_limit = 1048576
 
--- the tokens of a text have these envelopes and viewports
-abbrev pub HasEnvelopes : List ℕ → List Token → Protection → Type 0
-HasEnvelopes text tokens protection = envelopes_of text tokens ≡ Ok protection
+-- a text is not too long, and has these tokens
+pub record HasTokens (text : List ℕ) (tokens : List Token) : Type 0 where
+  pub fits : length text ≤ text_limit
+  pub are : AreTokens text tokens
 
--- the tokens of a text have this source
-abbrev pub HasSource : List ℕ → List Token → Source → Type 0
-HasSource text tokens source =
-    (derivation : Derivation) × IsDerivation derivation (symbols_of text tokens) × IsSourceOf text tokens derivation source
+-- they have these envelopes and viewports
+pub record HasEnvelopes (text : List ℕ) (tokens : List Token) (protection : Protection) : Type 0 where
+  pub lexed : HasTokens text tokens
+  pub are : AreEnvelopes text tokens (Ok protection)
 
--- a text has this design: its tokens have these envelopes and viewports and this derivation, whose source is elaborated to the design, and no
--- name and no expression is refused
-pub record IsDesignOf (text : List ℕ) (design : Elaborated) : Type 0 where
+-- and this source, which is that of a derivation of what the grammar sees of them
+pub record HasSource (text : List ℕ) (source : Source) (protection : Protection) : Type 0 where
   pub tokens : List Token
-  pub are_tokens : tokens_of text ≡ Ok tokens
-  pub protection : Protection
-  pub are_envelopes : HasEnvelopes text tokens protection
+  pub enveloped : HasEnvelopes text tokens protection
+  pub derivation : Derivation
+  pub derived : IsDerivation derivation (symbols_of text tokens)
+  pub laid : IsSourceOf text tokens derivation source
+
+-- a text has this design: it is elaborated of the text's source, and no name and no expression is refused
+pub record IsDesignOf (text : List ℕ) (design : Elaborated) : Type 0 where
   pub source : Source
-  pub is_source : HasSource text tokens source
+  pub protection : Protection
+  pub parsed : HasSource text source protection
   pub names : refusal_of source protection ≡ None
   pub is_design : design ≡ design_of source protection
   pub expressions : expr.refusal_of design ≡ None
 
--- a text is refused by a fault: it is too long, or it is the first fault of its tokens, its envelopes, its grammar, its names and
--- its expressions, in this order; or memory is lacking
+-- a text is refused by a fault: it is too long; or it is the first fault of its tokens, its envelopes, its grammar, its names and
+-- its expressions, where all that comes before is right; or memory is lacking
 abbrev pub IsRefusedBy : List ℕ → ServeFault → Type 0
 IsRefusedBy text fault.TooLong = text_limit < length text
-IsRefusedBy text (fault.Tokens e) = (e ≡ lex.NoMemory) ⊎ (tokens_of text ≡ Err e)
-IsRefusedBy text (fault.Envelopes e) = (tokens : List Token) × (tokens_of text ≡ Ok tokens) × pragma.Explains (envelopes_of text tokens) e
+IsRefusedBy text (fault.Tokens e) = (length text ≤ text_limit) × lex.IsFaultOf text e
+IsRefusedBy text (fault.Envelopes e) = (tokens : List Token) × HasTokens text tokens × IsFaultOf text tokens e
 IsRefusedBy text (fault.Source e) =
-    (tokens : List Token) × (tokens_of text ≡ Ok tokens) × (protection : Protection) × HasEnvelopes text tokens protection
-    × Tells tokens (symbols_of text tokens) e (read (symbols_of text tokens))
+    (tokens : List Token) × (protection : Protection) × HasEnvelopes text tokens protection
+    × IsUnderivable (symbols_of text tokens) e × Tells tokens (symbols_of text tokens) e (read (symbols_of text tokens))
 IsRefusedBy text (fault.Design e) =
-    (tokens : List Token) × (tokens_of text ≡ Ok tokens) × (protection : Protection) × HasEnvelopes text tokens protection
-    × (source : Source) × HasSource text tokens source × elab.Explains (refusal_of source protection) e
+    (source : Source) × (protection : Protection) × HasSource text source protection
+    × elab.Explains (refusal_of source protection) e
 IsRefusedBy text (fault.Expressions e) =
-    (tokens : List Token) × (tokens_of text ≡ Ok tokens) × (protection : Protection) × HasEnvelopes text tokens protection
-    × (source : Source) × HasSource text tokens source × (refusal_of source protection ≡ None)
-    × expr.Explains (expr.refusal_of (design_of source protection)) e
+    (source : Source) × (protection : Protection) × HasSource text source protection
+    × (refusal_of source protection ≡ None) × expr.Explains (expr.refusal_of (design_of source protection)) e
 IsRefusedBy text fault.NoMemory = Unit {0}
 IsRefusedBy text (fault.Policy e) = ⊥
 IsRefusedBy text (fault.World e) = ⊥

@@ -1,5 +1,5 @@
 -- A script: the lines of one session with a world, in which the simulation runs behind each request (profile).
-use Rattle.std.specs.Prelude.{◌≡◌, ◌⊎◌, ◌<◌, IsUtf8, length, ℕ, zero, suc, List, [], ◌∷◌, ◌++◌, Option, Some, None, IsSome, Ok}
+use Rattle.std.specs.Prelude.{◌≡◌, ◌⊎◌, ◌<◌, ◌≤◌, IsUtf8, length, ℕ, zero, suc, Bool, true, List, [], ◌∷◌, ◌++◌, Option, Some, None, IsSome, Ok}
 use Rattle.vp_elab.specs.Built.{Elaborated}
 use Rattle.vp_policy.specs.Faults.{Explains}
 use Rattle.vp_policy_file.specs.File.{file_of}
@@ -65,9 +65,10 @@ abbrev pub Happen : ℕ → Logged → Logged → Type 0
 Happen zero w v = v ≡ w
 Happen (suc n) w v = (u : Logged) × Happen n w u × (refused_by u (next_event u) ≡ None) × (v ≡ with_entry u (next_event u))
 
--- the simulation runs until the world refuses its next event
-abbrev pub Runs : Logged → Logged → Type 0
-Runs w v = (n : ℕ) × Happen n w v × IsSome (refused_by v (next_event v))
+-- the simulation runs until the world refuses its next event; or, where memory may have been lacking, up to an event for which
+-- there was none
+abbrev pub Runs : (starved : Bool) → Logged → Logged → Type 0
+Runs starved w v = (n : ℕ) × Happen n w v × ((starved ≡ true) ⊎ IsSome (refused_by v (next_event v)))
 
 -- ---- a script
 
@@ -89,11 +90,11 @@ session_behind session (reply.Opened id) = Some id
 session_behind session told = session
 
 -- a script's request is answered by the world, and then the simulation runs
-pub record Serves (before : Script) (r : Request) (told : Reply) (after : Script) : Type 0 where
+pub record Serves (starved : Bool) (before : Script) (r : Request) (told : Reply) (after : Script) : Type 0 where
   pub asked : Logged
   pub applied : Applied (event_of before.session r) before.world told asked
   pub session : after.session ≡ session_behind before.session told
-  pub runs : Runs asked after.world
+  pub runs : Runs starved asked after.world
 
 -- a script in which nothing has happened
 abbrev pub opened : Opening → Script
@@ -109,85 +110,111 @@ greatest = record { log = 4194304; book = 65536; sessions = 64 }
 pub record IsOpened (text policy : List ℕ) (script : Script) : Type 0 where
   pub design : Elaborated
   pub is_design : IsDesignOf text design
+  pub fits : length policy ≤ text_limit
   pub users : List Member
   pub are_users : file_of (length design.tree.authors) policy ≡ Ok users
   pub fresh : script ≡ opened (record { design = design; users = users; limits = greatest })
 
 -- a script over an input has read it to the end, so many lines, and each was told what the script answers it
-pub record IsAnswered (script : Script) (unread still_unread held holds : Option (List ℕ)) (lines : ℕ) : Type 0 where
+pub record IsAnswered (starved : Bool) (script : Script) (unread still_unread held holds : Option (List ℕ)) (lines : ℕ) : Type 0 where
   pub end : Point Script
-  pub whole : IsWhole Serves unread still_unread held holds script end lines
+  pub whole : IsWhole (Serves starved) unread still_unread held holds script end lines
   pub behind : Script
-  pub closes : Closes Serves end.stage end.caller behind
+  pub closes : Closes (Serves starved) end.stage end.caller behind
 
 -- the script of a text and a policy file over an input
-pub record IsScript (text policy : List ℕ) (unread still_unread held holds : Option (List ℕ)) (lines : ℕ) : Type 0 where
+pub record IsScript (starved : Bool) (text policy : List ℕ) (unread still_unread held holds : Option (List ℕ)) (lines : ℕ) : Type 0 where
   pub script : Script
   pub opened : IsOpened text policy script
-  pub answered : IsAnswered script unread still_unread held holds lines
-
--- a bundle's design, policy and script: what stands before its first line `%%`, between this and the next, and behind that
-pub record IsBundle (bundle : List ℕ) (held holds : Option (List ℕ)) (lines : ℕ) : Type 0 where
-  pub text : List ℕ
-  pub rest : List ℕ
-  pub first_cut : cut_of bundle ≡ Some (text, rest)
-  pub policy : List ℕ
-  pub input : List ℕ
-  pub second_cut : cut_of rest ≡ Some (policy, input)
-  pub script : IsScript text policy (Some input) (Some []) held holds lines
+  pub answered : IsAnswered starved script unread still_unread held holds lines
 
 -- ---- faults
 
 -- a script over an input has stopped by a fault of the reader or the writer, and each line that was answered till then was told what
 -- the script answers it
 pub record IsStopped (e : WireError) (script : Script) (unread still_unread held holds : Option (List ℕ)) : Type 0 where
+  pub starved : Bool
   pub end : Point Script
-  pub stops : Stops e Serves unread still_unread held holds script end
+  pub stops : Stops e (Serves starved) unread still_unread held holds script end
   pub behind : Script
-  pub closes : Closes Serves end.stage end.caller behind
+  pub closes : Closes (Serves starved) end.stage end.caller behind
 
--- a policy file is refused by a fault, behind a text that has this design
+-- a policy file is refused by a fault, behind a text that has this design: it is too long, or it is none; or memory is lacking
 abbrev pub IsPolicyRefusedBy : Elaborated → List ℕ → ServeFault → Type 0
-IsPolicyRefusedBy design policy (fault.Policy e) = Explains (file_of (length design.tree.authors) policy) e
 IsPolicyRefusedBy design policy fault.TooLong = text_limit < length policy
+IsPolicyRefusedBy design policy (fault.Policy e) =
+    (length policy ≤ text_limit) × Explains (file_of (length design.tree.authors) policy) e
 IsPolicyRefusedBy design policy (fault.World e) = e ≡ error.NoMemory
 IsPolicyRefusedBy design policy fault.NoMemory = Unit {0}
 IsPolicyRefusedBy design policy f = ⊥
 
--- no script is opened for a text and a policy file, by a fault of the text, or else of the file; or memory is lacking
+-- no script is opened for a text and a policy file, by a fault of the text, or, where it has none, of the file; or memory is lacking
 abbrev pub IsUnopened : List ℕ → List ℕ → ServeFault → Type 0
 IsUnopened text policy f =
     IsRefusedBy text f ⊎ ((design : Elaborated) × IsDesignOf text design × IsPolicyRefusedBy design policy f)
 
+-- a fault before the script: nothing was read and nothing was written
+pub record EndsUnopened (text policy : List ℕ) (unread still_unread held holds : Option (List ℕ)) (f : ServeFault) : Type 0 where
+  pub unopened : IsUnopened text policy f
+  pub unread_still : still_unread ≡ unread
+  pub unwritten : holds ≡ held
+
 -- the fault that ended a script over an input: of the text, then of the policy file, then of the reader or the writer; or memory is
--- lacking
+-- lacking to open it
 abbrev pub EndsBy : List ℕ → List ℕ → (unread still_unread held holds : Option (List ℕ)) → ServeFault → Type 0
 EndsBy text policy unread still_unread held holds (fault.Lines e) =
     (script : Script) × IsOpened text policy script × IsStopped e script unread still_unread held holds
-EndsBy text policy unread still_unread held holds f = IsUnopened text policy f ⊎ (f ≡ fault.NoMemory)
+EndsBy text policy unread still_unread held holds f = EndsUnopened text policy unread still_unread held holds f
+
+-- ---- bundles
 
 -- the greatest length of a bundle, in bytes (profile)
 abbrev pub bundle_limit : ℕ
 bundle_limit = 16777216
 
--- bytes are no bundle: they have no first line `%%`, or none behind that, or what stands before the first is no text
-abbrev pub IsNoBundle : List ℕ → Type 0
-IsNoBundle bundle =
-    (cut_of bundle ≡ None) ⊎ ((text : List ℕ) × (rest : List ℕ) × (cut_of bundle ≡ Some (text, rest)) × ((cut_of rest ≡ None) ⊎ (IsUtf8 text → ⊥)))
-
--- the fault that ended a bundle by its script
-pub record IsBundleFault (bundle : List ℕ) (held holds : Option (List ℕ)) (f : ServeFault) : Type 0 where
+-- the parts of a bundle
+pub record Parts : Type 0 where
   pub text : List ℕ
-  pub rest : List ℕ
-  pub first_cut : cut_of bundle ≡ Some (text, rest)
   pub policy : List ℕ
   pub input : List ℕ
-  pub second_cut : cut_of rest ≡ Some (policy, input)
-  pub still_unread : Option (List ℕ)
-  pub ends : EndsBy text policy (Some input) still_unread held holds f
 
--- the fault that ended a bundle: it is too long, or it is none, or its text is too long, or else by its script
+-- a bundle is not too long, and has these parts: what stands before its first line `%%`, between this and the next, and behind that
+pub record HasParts (bundle : List ℕ) (parts : Parts) : Type 0 where
+  pub fits : length bundle ≤ bundle_limit
+  pub rest : List ℕ
+  pub first_cut : cut_of bundle ≡ Some (parts.text, rest)
+  pub second_cut : cut_of rest ≡ Some (parts.policy, parts.input)
+
+-- it has no two lines `%%`
+abbrev pub HasNoParts : List ℕ → Type 0
+HasNoParts bundle =
+    (cut_of bundle ≡ None) ⊎ ((text : List ℕ) × (rest : List ℕ) × (cut_of bundle ≡ Some (text, rest)) × (cut_of rest ≡ None))
+
+-- the script of a bundle: that of its parts, whose first is a text
+pub record IsBundle (starved : Bool) (bundle : List ℕ) (held holds : Option (List ℕ)) (lines : ℕ) : Type 0 where
+  pub parts : Parts
+  pub has : HasParts bundle parts
+  pub text : IsUtf8 parts.text
+  pub script : IsScript starved parts.text parts.policy (Some parts.input) (Some []) held holds lines
+
+-- the fault of a bundle before its script: it is too long; it has no two lines `%%`; its design is too long; it is no text. Each where
+-- those before it are not
+abbrev pub IsBadBundle : List ℕ → ServeFault → Type 0
+IsBadBundle bundle fault.TooLong =
+    (bundle_limit < length bundle) ⊎ ((parts : Parts) × HasParts bundle parts × (text_limit < length parts.text))
+IsBadBundle bundle fault.BadBundle =
+    ((length bundle ≤ bundle_limit) × HasNoParts bundle)
+    ⊎ ((parts : Parts) × HasParts bundle parts × (length parts.text ≤ text_limit) × (IsUtf8 parts.text → ⊥))
+IsBadBundle bundle f = ⊥
+
+-- the fault that ended the script of a bundle
+pub record EndsPartsBy (bundle : List ℕ) (held holds : Option (List ℕ)) (f : ServeFault) : Type 0 where
+  pub parts : Parts
+  pub has : HasParts bundle parts
+  pub text : IsUtf8 parts.text
+  pub still_unread : Option (List ℕ)
+  pub ends : EndsBy parts.text parts.policy (Some parts.input) still_unread held holds f
+
+-- the fault that ended a bundle: its own, before which nothing was written, or that of its script
 abbrev pub EndsBundleBy : List ℕ → (held holds : Option (List ℕ)) → ServeFault → Type 0
-EndsBundleBy bundle held holds fault.TooLong = (bundle_limit < length bundle) ⊎ ((text : List ℕ) × (rest : List ℕ) × (cut_of bundle ≡ Some (text, rest)) × (text_limit < length text)) ⊎ IsBundleFault bundle held holds fault.TooLong
-EndsBundleBy bundle held holds fault.BadBundle = IsNoBundle bundle
-EndsBundleBy bundle held holds f = IsBundleFault bundle held holds f
+EndsBundleBy bundle held holds f = (IsBadBundle bundle f × (holds ≡ held)) ⊎ EndsPartsBy bundle held holds f

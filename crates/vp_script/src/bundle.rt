@@ -34,15 +34,18 @@ fn cut(bytes: &[u8]) -> Option<(&[u8], &[u8])>
     None
 }
 
-/// Runs a bundle: a design, a line `%%`, a policy, a line `%%`, and a script; or the first fault: `TooLong` (1603),
-/// `BadBundle` (1601), then those of `run_script`.
+/// Runs a bundle: a design, a line `%%`, a policy, a line `%%`, and a script; or the first fault: `TooLong` (1603) of the bundle,
+/// `BadBundle` (1601) where it has no two such lines, `TooLong` of its design, `BadBundle` where that is no UTF-8, before all of which
+/// nothing is written; then those of `run_script`.
 pub fn run_bundle<W: Write>(
     alloc: Global,
     bundle: &[u8],
     writer: &mut Counted<W>,
 ) -> Result<Ran, ServeFault>
-    ensures script { IfOk result (λ ran. IsBundle bundle.now (W.contents writer.old.inner) (W.contents writer.new.inner) ran.lines) }
-    ensures fault { IfErr result (λ fault. EndsBundleBy bundle.now (W.contents writer.old.inner) (W.contents writer.new.inner) fault) }
+    ensures script { IfOk result (λ ran. IsBundle ran.starved bundle.now
+        (W.contents writer.old.inner) (W.contents writer.new.inner) ran.lines) }
+    ensures fault { IfErr result (λ fault. EndsBundleBy bundle.now
+        (W.contents writer.old.inner) (W.contents writer.new.inner) fault) }
 {
     if bundle.len() > BUNDLE_LIMIT {
         return Err(ServeFault::TooLong);

@@ -1,9 +1,8 @@
-ghost use Rattle.std.specs.Prelude.{◌≡◌, ◌⊎◌, None, Some, IfErr, IfSome, IsSome, OnErr, OnOk, true, false, ◌||◌};
-ghost use Rattle.vp_present.specs.declared.event.Event.TheVariants as event;
+ghost use Rattle.std.specs.Prelude.{◌≡◌, ◌⊎◌, None, IfErr, IfSome, IsSome, OnErr, OnOk, is_err, false};
 ghost use Rattle.vp_present.specs.declared.fault.WorldError.TheVariants.{NoMemory};
 ghost use Rattle.vp_present.specs.Events.{IsWellFormed};
 ghost use Rattle.vp_script.specs.Keeping.{Keeps};
-ghost use Rattle.vp_script.specs.Scripts.{Applied, Runs, event_of, next_event, refused_by, session_behind, with_entry};
+ghost use Rattle.vp_script.specs.Scripts.{Applied, Runs, event_of, next_event, refused_by, with_entry};
 
 use std::alloc::AllocError;
 use vp_dialogue::Caller;
@@ -57,7 +56,7 @@ fn proceed(world: &mut World) -> Result<(), WorldError>
 
 /// Lets the simulation run as far as the world lets it, or until there is no memory.
 fn run(world: &mut World) -> Result<(), AllocError>
-    ensures { OnOk result (Runs world.old world.new) }
+    ensures { Runs (is_err result) world.old world.new }
 {
     loop {
         match proceed(world) {
@@ -99,7 +98,8 @@ impl Keeper {
 impl Caller for Keeper {
     ghost calls = { Keeps };
 
-    /// Answers a request, and then lets the simulation run.
+    /// Answers a request, and then lets the simulation run. Where there is no memory for its next event it goes on behind the
+    /// next request.
     fn call(&mut self, request: Request) -> Reply {
         let event = event_of(self.session, request);
         let reply = applied(&mut self.world, event);

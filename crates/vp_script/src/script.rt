@@ -1,6 +1,5 @@
-ghost use Rattle.std.specs.Prelude.{◌≡◌, ◌⊎◌, length, IfErr, IfOk, Ok};
-ghost use Rattle.vp_wire.specs.declared.fault.WireError.{WireError};
-ghost use Rattle.vp_script.specs.declared.fault.ServeFault.TheVariants.{Lines, NoMemory};
+ghost use Rattle.std.specs.Prelude.{◌≡◌, ◌≤◌, length, IfErr, IfOk, OnOk, Ok};
+ghost use Rattle.vp_elab.specs.Built.{Elaborated};
 ghost use Rattle.vp_policy_file.specs.File.{file_of};
 ghost use Rattle.vp_script.specs.Keeping.{script_of};
 ghost use Rattle.vp_script.specs.Designs.{IsDesignOf, IsRefusedBy};
@@ -21,6 +20,7 @@ use vp_policy::Policy;
 use vp_policy_file::read_policy;
 use vp_pragma::envelopes;
 use vp_present::Limits;
+use vp_wire::WireError;
 use vp_world::World;
 
 /// How a script ended: at the end of its input.
@@ -28,6 +28,8 @@ use vp_world::World;
 pub struct Ran {
     /// How many lines were read.
     pub lines: u64,
+    /// At some time there was no memory to let the simulation run on.
+    pub starved: bool,
 }
 
 /// The checked design of a text; or the first fault of its tokens, its envelopes, its grammar, its names or its
@@ -49,6 +51,7 @@ fn checked(alloc: Global, text: &str) -> Result<Checked, ServeFault>
 /// The policy of a file, for a design.
 fn policy_of(alloc: Global, bytes: &[u8], design: &Design) -> Result<Policy, ServeFault>
     ensures users { IfOk result (λ policy. file_of (length design.now.tree.authors) bytes.now ≡ Ok policy) }
+    ensures fits { OnOk result (length bytes.now ≤ TEXT_LIMIT) }
     ensures refused { IfErr result (λ fault. IsPolicyRefusedBy design.now bytes.now fault) }
 {
     if bytes.len() > TEXT_LIMIT {
@@ -69,29 +72,31 @@ fn opened(alloc: Global, design: &str, policy: &[u8]) -> Result<Keeper, ServeFau
     Ok(Keeper::new(world))
 }
 
-/// Answers the lines of a reader by a script, up to the end of the input; or the fault of the reader or the writer, or want of
-/// memory for the simulation.
+/// Answers the lines of a reader by a script, up to the end of the input; or the fault of the reader or the writer.
 fn answered<R: Read, W: Write>(
     alloc: Global,
     keeper: &mut Keeper,
     reader: &mut Counted<R>,
     writer: &mut Counted<W>,
-) -> Result<Ran, ServeFault>
-    ensures answered { IfOk result (λ ran. IsAnswered (script_of keeper.old) (R.remaining reader.old.inner) (R.remaining reader.new.inner) (W.contents writer.old.inner) (W.contents writer.new.inner) ran.lines) }
-    ensures stopped { IfErr result (λ fault. (fault ≡ NoMemory) ⊎ ((e : WireError) × (fault ≡ Lines e) × IsStopped e (script_of keeper.old) (R.remaining reader.old.inner) (R.remaining reader.new.inner) (W.contents writer.old.inner) (W.contents writer.new.inner))) }
+) -> Result<Ran, WireError>
+    ensures answered { IfOk result (λ ran. IsAnswered ran.starved (script_of keeper.old)
+        (R.remaining reader.old.inner) (R.remaining reader.new.inner)
+        (W.contents writer.old.inner) (W.contents writer.new.inner) ran.lines) }
+    ensures stopped { IfErr result (λ e. IsStopped e (script_of keeper.old)
+        (R.remaining reader.old.inner) (R.remaining reader.new.inner)
+        (W.contents writer.old.inner) (W.contents writer.new.inner)) }
 {
-    let ended = session(alloc, reader, writer, keeper);
-    if keeper.is_starved() {
-        return Err(ServeFault::NoMemory);
-    }
-    match ended {
-        Ok(ended) => Ok(Ran { lines: ended.lines }),
-        Err(error) => Err(ServeFault::Lines(error)),
+    match session(alloc, reader, writer, keeper) {
+        Ok(ended) => Ok(Ran {
+            lines: ended.lines,
+            starved: keeper.is_starved(),
+        }),
+        Err(error) => Err(error),
     }
 }
 
-/// Answers the lines of a reader about a design under a policy, up to the end of the input; or the first fault of
-/// the design, then of the policy, then of the reader or the writer; or want of memory (1607).
+/// Answers the lines of a reader about a design under a policy, up to the end of the input; or the first fault: of the design, then of
+/// the policy, before which nothing is read and nothing written; then of the reader or the writer; or want of memory to begin (1607).
 pub fn run_script<R: Read, W: Write>(
     alloc: Global,
     design: &str,
@@ -99,9 +104,18 @@ pub fn run_script<R: Read, W: Write>(
     reader: &mut Counted<R>,
     writer: &mut Counted<W>,
 ) -> Result<Ran, ServeFault>
-    ensures script { IfOk result (λ ran. IsScript design.now policy.now (R.remaining reader.old.inner) (R.remaining reader.new.inner) (W.contents writer.old.inner) (W.contents writer.new.inner) ran.lines) }
-    ensures fault { IfErr result (λ fault. EndsBy design.now policy.now (R.remaining reader.old.inner) (R.remaining reader.new.inner) (W.contents writer.old.inner) (W.contents writer.new.inner) fault) }
+    ensures script { IfOk result (λ ran. IsScript ran.starved design.now policy.now
+        (R.remaining reader.old.inner) (R.remaining reader.new.inner)
+        (W.contents writer.old.inner) (W.contents writer.new.inner) ran.lines) }
+    ensures fault { IfErr result (λ fault. EndsBy design.now policy.now
+        (R.remaining reader.old.inner) (R.remaining reader.new.inner)
+        (W.contents writer.old.inner) (W.contents writer.new.inner) fault) }
+    // A text has one design.
+    ensures one_design { (d e : Elaborated) → IsDesignOf design.now d → IsDesignOf design.now e → d ≡ e }
 {
     let mut keeper = opened(alloc, design, policy)?;
-    answered(alloc, &mut keeper, reader, writer)
+    match answered(alloc, &mut keeper, reader, writer) {
+        Ok(ran) => Ok(ran),
+        Err(error) => Err(ServeFault::Lines(error)),
+    }
 }

@@ -4,10 +4,22 @@ use std::io::BufRead;
 use vp_dialogue::Counted;
 use vp_script::run_bundle;
 
-/// The count and the text of a line that stands for so many copies of the text.
+/// The count and the text of a line that stands for so many copies of the text, behind its mark.
 fn copies(line: &str) -> Option<(usize, &str)> {
-    let (count, text) = line.strip_prefix("%* ")?.split_once(' ')?;
+    let (count, text) = line.split_once(' ')?;
     Some((count.parse().ok()?, text))
+}
+
+/// Adds a line to a bundle, or the copies that it stands for: with a newline behind them, or with none.
+fn add_to(bundle: &mut String, alloc: Global, line: &str) -> Result<(), AllocError> {
+    if let Some((count, text)) = line.strip_prefix("%+ ").and_then(copies) {
+        return bundle.push_str(&text.repeat(alloc, count)?);
+    }
+    match line.strip_prefix("%* ").and_then(copies) {
+        Some((count, text)) => bundle.push_str(&text.repeat(alloc, count)?)?,
+        None => bundle.push_str(line)?,
+    }
+    bundle.push('\n')
 }
 
 /// A bundle, and what it must print.
@@ -41,11 +53,7 @@ impl Case {
             self.wanted.push_str(line)?;
             self.wanted.push('\n')?;
         } else {
-            match copies(line) {
-                Some((count, text)) => self.bundle.push_str(&text.repeat(alloc, count)?)?,
-                None => self.bundle.push_str(line)?,
-            }
-            self.bundle.push('\n')?;
+            add_to(&mut self.bundle, alloc, line)?;
         }
         Ok(())
     }

@@ -1,7 +1,7 @@
 //! Runs the cases of the files that its words name: bundles, each with what it must print. A case is a line `## ` with its
 //! name, the bundle, a line `==`, and the lines that the bundle must print; behind a line `=/=` the bundle's last line lacks its
-//! newline. A line `%* COUNT TEXT` of a bundle stands for so many copies of the text. Then it runs designs and policies of files
-//! on the script of standard input.
+//! newline. A line `%* COUNT TEXT` of a bundle stands for so many copies of the text, and a newline; of a line `%+ COUNT TEXT` the
+//! next line goes on. Then it runs designs and policies of files on the script of standard input.
 #![tactic(auto)]
 
 mod cases;

@@ -6,10 +6,16 @@ use std::{env, io};
 use vp_command::{Command, Misuse, command};
 use vp_script::{Ran, ServeFault, run_files, run_input};
 
-/// Prints the fault that ended a run, if one did; the status is 1 then.
-fn ended<R: Print>(rt: &R, ran: Result<Ran, ServeFault>) -> io::Result<ExitCode> {
+/// Prints the fault that ended a run, if one did; the status is 1 then. That there was no memory to let the simulation run on is
+/// told on standard error.
+fn ended<R: Print + Eprint>(rt: &R, ran: Result<Ran, ServeFault>) -> io::Result<ExitCode> {
     match ran {
-        Ok(_) => Ok(ExitCode::SUCCESS),
+        Ok(ran) => {
+            if ran.starved {
+                rt.eprint("there was no memory to let the simulation run on\n")?;
+            }
+            Ok(ExitCode::SUCCESS)
+        }
         Err(fault) => {
             let code = fault.code();
             let line = fault.line();

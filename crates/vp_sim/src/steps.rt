@@ -137,7 +137,7 @@ impl Machine {
     pub fn eligible(&self) -> usize
         ensures { result ≡ length (eligible self.now.state) }
     {
-        self.queue.eligible()
+        self.queue.choices()
     }
 
     /// The object of the process whose event is the k-th of those that a step can take; the first object where there is none.

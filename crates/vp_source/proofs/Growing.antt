@@ -22,41 +22,54 @@ use Rattle.vp_source.proofs.GrowingParts.{Extends, Grows, longer, onward, pushed
 -- lists that have others at their heads
 pub record AllGrow (first all : Lists) : Type 0 where
   pub items : Extends first.items all.items
+  pub connections : Extends first.connections all.connections
   pub parts : Grows first.parts all.parts
 
 pub all_kept : (lists : Lists) → AllGrow lists lists
-all_kept lists = record { items = same lists.items; parts = unchanged lists.parts }
+all_kept lists = record { items = same lists.items; connections = same lists.connections; parts = unchanged lists.parts }
 
 pub further_on : {a b c : Lists} → AllGrow a b → AllGrow b c → AllGrow a c
-further_on h k = record { items = twice h.items k.items; parts = onward h.parts k.parts }
+further_on h k = record {
+  items = twice h.items k.items;
+  connections = twice h.connections k.connections;
+  parts = onward h.parts k.parts;
+}
 
 -- ---- items
 
 connection_by_grows : (place : ℕ) (port : Option ℕ) (value : Option Expr) (lists : Lists) → AllGrow lists (put_connection_by place port value lists)
-connection_by_grows place port None lists = record { items = same lists.items; parts = unchanged lists.parts }
-connection_by_grows place port (Some e) lists = record { items = same lists.items; parts = value_grows e lists.parts }
+connection_by_grows place port None lists = record {
+  items = same lists.items;
+  connections = pushed lists.connections _;
+  parts = unchanged lists.parts;
+}
+connection_by_grows place port (Some e) lists = record {
+  items = same lists.items;
+  connections = pushed lists.connections _;
+  parts = value_grows e lists.parts;
+}
 
-connection_grows : (behind : Symbol) (c : Connection) (lists : Lists) → AllGrow lists (put_connection behind c lists)
+pub connection_grows : (behind : Symbol) (c : Connection) (lists : Lists) → AllGrow lists (put_connection behind c lists)
 connection_grows behind (Ordered value) lists = connection_by_grows (first_place (value_text value (behind ∷ []))) None value lists
 connection_grows behind (Named period port opening value closing) lists =
     connection_by_grows (first_place (value_text value (symbol_at (symbol.Punctuator punctuator.RightParenthesis) closing ∷ []))) (Some port) value lists
 
-connected_grows : (closing : ℕ) (c : Connection) (fs : List (Further Connection)) (lists : Lists) → AllGrow lists (put_connected closing c fs lists)
+pub connected_grows : (closing : ℕ) (c : Connection) (fs : List (Further Connection)) (lists : Lists) → AllGrow lists (put_connected closing c fs lists)
 connected_grows closing c [] lists = connection_grows (symbol_at (symbol.Punctuator punctuator.RightParenthesis) closing) c lists
 connected_grows closing c (f ∷ fs) lists =
     further_on (connection_grows (comma_at f.comma) c lists) (connected_grows closing f.part fs (put_connection (comma_at f.comma) c lists))
 
-connections_grow : (closing : ℕ) (cs : Connections) (lists : Lists) → AllGrow lists (put_connections closing cs lists)
+pub connections_grow : (closing : ℕ) (cs : Connections) (lists : Lists) → AllGrow lists (put_connections closing cs lists)
 connections_grow closing Unconnected lists = all_kept lists
 connections_grow closing (Connected first further) lists = connected_grows closing first further lists
 
 -- one more item
 pub with_item_grows : (i : source.Item) (lists : Lists) → AllGrow lists (with_item i lists)
-with_item_grows i lists = record { items = pushed lists.items i; parts = unchanged lists.parts }
+with_item_grows i lists = record { items = pushed lists.items i; connections = same lists.connections; parts = unchanged lists.parts }
 
 -- the parts have grown
 pub parts_grow : (lists : Lists) (parts : layout.Lists) → Grows lists.parts parts → AllGrow lists (record lists { parts = parts })
-parts_grow lists parts h = record { items = same lists.items; parts = h }
+parts_grow lists parts h = record { items = same lists.items; connections = same lists.connections; parts = h }
 
 -- one more item behind a value
 valued_grows : (i : ℕ → source.Item) (e : Expr) (lists : Lists) → (let v = put_value e lists.parts in AllGrow lists (with_item (i v.0) (record lists { parts = v.1 })))
@@ -64,7 +77,7 @@ valued_grows i e lists =
     let v = put_value e lists.parts in
     further_on (parts_grow lists v.1 (value_grows e lists.parts)) (with_item_grows (i v.0) (record lists { parts = v.1 }))
 
-declarator_grows : (declaration : Declaration) (x : Declarator) (lists : Lists) → AllGrow lists (put_declarator declaration x lists)
+pub declarator_grows : (declaration : Declaration) (x : Declarator) (lists : Lists) → AllGrow lists (put_declarator declaration x lists)
 declarator_grows (Nets place range) (Plain name) lists = with_item_grows _ lists
 declarator_grows (Nets place range) (Valued name equals value) lists =
     let v = put_value value lists.parts in
@@ -78,7 +91,7 @@ declarator_grows (Instances definition) (Instance name opening connections closi
     further_on (connections_grow closing connections lists) (with_item_grows _ (put_connections closing connections lists))
 declarator_grows _ _ lists = all_kept lists
 
-further_grow : (declaration : Declaration) (fs : List (Further Declarator)) (lists : Lists) → AllGrow lists (put_further declaration fs lists)
+pub further_grow : (declaration : Declaration) (fs : List (Further Declarator)) (lists : Lists) → AllGrow lists (put_further declaration fs lists)
 further_grow declaration [] lists = all_kept lists
 further_grow declaration (f ∷ fs) lists = further_on (declarator_grows declaration f.part lists) (further_grow declaration fs (put_declarator declaration f.part lists))
 

@@ -21,7 +21,7 @@ use Rattle.vp_expr.specs.Tables.{action_of, tables_of}
 use Rattle.vp_resolve.specs.Names.{scope_of}
 use Rattle.vp_resolve.specs.Operands.{operands_of, sizes_of}
 use Rattle.vp_expr.specs.declared.tables.Action.TheVariants.{Nothing}
-use Rattle.vp_expr.proofs.Wholes.{in_range}
+use Rattle.vp_resolve.proofs.Gapless.{in_range}
 use Rattle.vp_statement.specs.Derived.{AreItems, AreLabels, AreTerms, IsActionOf, IsAssignment, IsChain, IsItem, IsSelected, Runs}
 use Rattle.vp_source.proofs.GrowingParts.{Extends, Grows, blocking_grows, choices_grow, event_grows, expr_last, items_grow, item_grows, labels_grow, longer, statement_grows, stmt_grows, stmts_grow, target_grows, terms_are, twice, value_grows}
 use Rattle.vp_statement.proofs.Places.{made_at}
@@ -35,7 +35,7 @@ runs_there d m number place whole one low high = record {
 }
 
 -- a part of a list that lies behind others
-cut_behind : {X : Type 0} (first own behind all : List X) → all ≡ (first ++ own) ++ behind → range_of all (length first) (length (first ++ own)) ≡ own
+pub cut_behind : {X : Type 0} (first own behind all : List X) → all ≡ (first ++ own) ++ behind → range_of all (length first) (length (first ++ own)) ≡ own
 cut_behind first own behind all h =
     let a = length first in
     let b = length (first ++ own) in
@@ -50,26 +50,26 @@ cut_behind first own behind all h =
 
 module _ (d : Elaborated) (m : Module) (number : ℕ) (whole : AreWhole d.source) (one : slice_get d.source.modules number ≡ Some m) where
   -- lists lie behind the first statement and expression of the module
-  record Behind (lists : Lists) : Type 0 where
-    statements : m.statements.first ≤ length lists.statements
-    expressions : m.expressions.first ≤ length lists.expressions
+  pub record Behind (lists : Lists) : Type 0 where
+    pub statements : m.statements.first ≤ length lists.statements
+    pub expressions : m.expressions.first ≤ length lists.expressions
 
-  later : {a b : Lists} → Grows a b → Behind a → Behind b
+  pub later : {a b : Lists} → Grows a b → Behind a → Behind b
   later h k = record {
     statements = (let l = longer h.statements in let s = k.statements in omega arith);
     expressions = (let l = longer h.expressions in let e = k.expressions in omega arith);
   }
 
   -- lists are the first parts of the design's, and end in the module
-  record Within (lists : Lists) : Type 0 where
-    statements : Extends lists.statements d.source.statements
-    expressions : Extends lists.expressions d.source.expressions
-    terms : Extends lists.terms d.source.terms
-    choices : Extends lists.choices d.source.choices
-    statements_to : length lists.statements ≤ m.statements.end
-    expressions_to : length lists.expressions ≤ m.expressions.end
+  pub record Within (lists : Lists) : Type 0 where
+    pub statements : Extends lists.statements d.source.statements
+    pub expressions : Extends lists.expressions d.source.expressions
+    pub terms : Extends lists.terms d.source.terms
+    pub choices : Extends lists.choices d.source.choices
+    pub statements_to : length lists.statements ≤ m.statements.end
+    pub expressions_to : length lists.expressions ≤ m.expressions.end
 
-  earlier : {a b : Lists} → Grows a b → Within b → Within a
+  pub earlier : {a b : Lists} → Grows a b → Within b → Within a
   earlier h k = record {
     statements = twice h.statements k.statements;
     expressions = twice h.expressions k.expressions;
@@ -80,7 +80,7 @@ module _ (d : Elaborated) (m : Module) (number : ℕ) (whole : AreWhole d.source
   }
 
   -- a statement that is laid out runs at its place
-  runs : (n : Statement) (lists : Lists) → Behind lists → Within (with_statement n lists).1 → Runs d m (length lists.statements) n
+  pub runs : (n : Statement) (lists : Lists) → Behind lists → Within (with_statement n lists).1 → Runs d m (length lists.statements) n
   runs n lists b w =
       let low = b.statements in
       let high = w.statements_to in
@@ -92,7 +92,7 @@ module _ (d : Elaborated) (m : Module) (number : ℕ) (whole : AreWhole d.source
       subst (λ (s : Statement). Runs d m (length lists.statements) s) there (runs_there d m number (length lists.statements) whole one low (omega arith))
 
   -- an expression that is laid out stands at its place
-  value_stands : (e : expression.Expr) (lists : Lists) → Behind lists → Within (put_value e lists).1 → StandsAt d m (put_value e lists).0 e
+  pub value_stands : (e : expression.Expr) (lists : Lists) → Behind lists → Within (put_value e lists).1 → StandsAt d m (put_value e lists).0 e
   value_stands e lists b w = record {
     number = number;
     one = one;
@@ -121,7 +121,7 @@ module _ (d : Elaborated) (m : Module) (number : ℕ) (whole : AreWhole d.source
       let w1 = earlier (value_grows e x.1) w2 in
       (x.0, v.0, runs n v.1 b2 w, selected s lists b w1, value_stands e x.1 b1 w2)
 
-  terms_stand : (e : Event) (lists : Lists) → Within (put_event e lists).1 → AreTerms d (put_event e lists).0 e
+  pub terms_stand : (e : Event) (lists : Lists) → Within (put_event e lists).1 → AreTerms d (put_event e lists).0 e
   terms_stand (Any star) lists w = refl
   terms_stand (AnyGrouped opening star closing) lists w = refl
   terms_stand (Change name) lists w = (_, refl, cut_behind lists.terms (put_term (Level name) ∷ []) w.terms.more d.source.terms w.terms.is)
@@ -131,12 +131,12 @@ module _ (d : Elaborated) (m : Module) (number : ℕ) (whole : AreWhole d.source
       (_, refl, ap (λ (t : List EventTerm). range_of d.source.terms (length lists.terms) (length t)) are ∙ cut_behind lists.terms own w.terms.more d.source.terms (w.terms.is ∙ ap (λ (t : List EventTerm). t ++ w.terms.more) are))
 
   -- labels that are laid out behind others
-  record Labelled (l : LabelList) (labels : List ℕ) (lists : Lists) : Type 0 where
-    own : List ℕ
-    are : (put_labels l labels lists).0 ≡ labels ++ own
-    stand : AreLabels d m own l
+  pub record Labelled (l : LabelList) (labels : List ℕ) (lists : Lists) : Type 0 where
+    pub own : List ℕ
+    pub are : (put_labels l labels lists).0 ≡ labels ++ own
+    pub stand : AreLabels d m own l
 
-  labels_stand : (l : LabelList) (labels : List ℕ) (lists : Lists) → Behind lists → Within (put_labels l labels lists).1 → Labelled l labels lists
+  pub labels_stand : (l : LabelList) (labels : List ℕ) (lists : Lists) → Behind lists → Within (put_labels l labels lists).1 → Labelled l labels lists
   labels_stand (Only e) labels lists b w =
       let v = put_value e lists in
       record { own = v.0 ∷ []; are = refl; stand = (v.0, refl, value_stands e lists b w) }
@@ -272,17 +272,23 @@ module _ (d : Elaborated) (m : Module) (number : ℕ) (whole : AreWhole d.source
         let y = put_items l x.1 in
         (x.0, y.0, refl, item_runs i lists b (earlier (items_grow l x.1) w), items_run l x.1 (later (item_grows i lists) b) w)
 
+module _ (d : Elaborated) (m : Module) (place : ℕ) (s : Stmt) (whole : AreWhole d.source) (h : StatementStandsAt d.source m place s) where
+  -- what is laid out before a statement that stands in a design lies behind the first parts of its module
+  pub starts : Behind d m h.number whole h.one h.before
+  starts = record { statements = h.statements_from; expressions = h.expressions_from }
+
+  -- and what is laid out up to its end is the design's
+  pub ends : Within d m h.number whole h.one (put_stmt s h.before).1
+  ends = record {
+    statements = record { more = h.behind.statements; is = h.statements };
+    expressions = record { more = h.behind.expressions; is = h.expressions };
+    terms = record { more = h.behind.terms; is = h.terms };
+    choices = record { more = h.behind.choices; is = h.choices };
+    statements_to = h.statements_to;
+    expressions_to = h.expressions_to;
+  }
+
 -- at the place of a derivation runs what it says
 pub derived : (d : Elaborated) (m : Module) (place : ℕ) (s : Stmt) → AreWhole d.source → StatementStandsAt d.source m place s → IsActionOf d m place s
 derived d m place s whole h =
-    subst (λ (p : ℕ). IsActionOf d m p s) (sym h.there)
-    (stmt_runs d m h.number whole h.one s h.before
-    (record { statements = h.statements_from; expressions = h.expressions_from })
-    (record {
-      statements = record { more = h.behind.statements; is = h.statements };
-      expressions = record { more = h.behind.expressions; is = h.expressions };
-      terms = record { more = h.behind.terms; is = h.terms };
-      choices = record { more = h.behind.choices; is = h.choices };
-      statements_to = h.statements_to;
-      expressions_to = h.expressions_to;
-    }))
+    subst (λ (p : ℕ). IsActionOf d m p s) (sym h.there) (stmt_runs d m h.number whole h.one s h.before (starts d m place s whole h) (ends d m place s whole h))

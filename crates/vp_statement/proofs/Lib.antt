@@ -1,5 +1,8 @@
 pub mod Beginning
 pub mod Places
 pub mod Derivations
+pub mod Bounds
+pub mod Readings
 pub mod Rows
 mod DerivedRows
+mod ReadRows

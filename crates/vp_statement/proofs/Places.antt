@@ -6,7 +6,7 @@ use Rattle.vp_list.specs.Lists.{range_of}
 use Rattle.vp_source.specs.declared.source.Module.{Module}
 use Rattle.vp_source.specs.Whole.{AreGapless}
 use Rattle.vp_source.specs.declared.statement.Span.{Span}
-use Rattle.vp_expr.proofs.Wholes.{gapless_up, in_range}
+use Rattle.vp_resolve.proofs.Gapless.{gapless_up, in_range}
 
 module _ {X Y : Type 0} (span : Module → Span) (made : Module → X → Y) (xs : List X) (x0 : X) (y0 : Y) where
   -- the part of a module, and what is made of it

@@ -1,3 +1,4 @@
 pub mod Walking
 pub mod Effects
 pub mod Derived
+pub mod Reads

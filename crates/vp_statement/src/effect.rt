@@ -1,11 +1,14 @@
-ghost use Rattle.std.specs.Prelude.{◌≡◌, drop, length};
+ghost use Rattle.std.specs.Prelude.{◌≡◌, [], drop, length, slice_index_or};
+ghost use Rattle.vp_expr.specs.Awaits.{awaits_of};
 ghost use Rattle.vp_expr.specs.Tables.{tables_of};
+ghost use Rattle.vp_resolve.specs.Names.{scope_of};
+ghost use Rattle.vp_resolve.specs.Operands.{operands_of};
 ghost use Rattle.vp_source.specs.declared.source.Module.{Module};
 ghost use Rattle.vp_source.specs.Standing.{StatementStandsAt};
-ghost use Rattle.vp_source.specs.Whole.{AreWhole};
 ghost use Rattle.vp_source.specs.StmtGrammar.{Stmt};
 ghost use Rattle.vp_statement.specs.Derived.{IsActionOf};
 ghost use Rattle.vp_statement.specs.Effects.{assigned, choices_in, chosen, cut_to, default_of, deferred, effect_at, effect_by, holds, is_taken, matches, object_at, proceeds, turned, waited};
+ghost use Rattle.vp_statement.specs.Reads.{stmt_awaits};
 
 use crate::walk::action_at;
 use vp_bits::{Bit, Bits};
@@ -286,13 +289,17 @@ fn effect_by(
     }
 }
 
-/// What the statement at a place does in an instance, from the values of the objects; it is an event itself. Where the modules hold all
-/// statements of the source, one behind the other, the tables have there what the derivation says that stands at the place.
+/// What the statement at a place does in an instance, from the values of the objects; it is an event itself. The tables have there
+/// what the derivation says that stands at the place, and the statement waits for what that waits for.
 #[tactic(auto, unfolding(crate::specs::Effects::effect_at))]
 pub fn effect_of(checked: &Checked, values: &Values, instance: ObjectId, place: u32) -> Effect
     ensures effect { result ≡ effect_at checked.now instance (drop instance.0 values.now) place }
-    ensures derived { AreWhole checked.now.source → (m : Module) (s : Stmt) → StatementStandsAt checked.now.source m place s → IsActionOf checked.now m place s }
+    ensures derived { (m : Module) (s : Stmt) → StatementStandsAt checked.now.source m place s → IsActionOf checked.now m place s }
+    ensures awaits { (m : Module) (s : Stmt) → StatementStandsAt checked.now.source m place s
+        → slice_index_or (awaits_of checked.now (operands_of checked.now)) place []
+        ≡ stmt_awaits checked.now (scope_of checked.now m) s }
 {
+    checked.design().source_is_whole();
     let action = action_at(checked.tables().actions.as_slice(), place);
     effect_by(checked, values, instance, place, action)
 }

@@ -1,6 +1,7 @@
 ghost use Rattle.std.specs.Prelude.{◌≡◌, ◌<◌, ◌≤◌, ◌+◌, ◌++◌, ◌∷◌, [], drop, length, slice_get, Err, IfErr, IfOk, IsOk, OnErr, OnOk};
 ghost use Rattle.vp_strata.specs.declared.fault.StrataError.TheVariants.{NoMemory, TimeLimit};
 ghost use Rattle.vp_strata.specs.declared.event.Event.TheVariants.{Evaluation, NetUpdate};
+ghost use Rattle.vp_strata.specs.Events.{eligible_places};
 ghost use Rattle.vp_strata.specs.Queues.{activated, advanced, first_time, inactive_activated, is_done, no_events, nonblocking_activated, peeked, put_in, ready, scheduled, taken, with_active, with_future, with_inactive, with_nonblocking};
 
 use crate::active::ActiveRegion;
@@ -193,12 +194,19 @@ impl Strata {
         Ok(())
     }
 
-    /// How many events are eligible, behind the activation that a step would make.
+    /// How many of the active events are eligible.
     pub fn eligible(&self) -> usize
+        ensures { result ≡ length (eligible_places self.now.queue.active) }
+    {
+        self.active.count_eligible()
+    }
+
+    /// How many events are eligible behind the activation that a step would make: the choices of the step.
+    pub fn choices(&self) -> usize
         ensures { result ≡ length (ready self.now.queue) }
     {
         if !self.active.events().is_empty() {
-            return self.active.count_eligible();
+            return self.eligible();
         }
         if !self.inactive.is_empty() {
             return self.inactive.len();

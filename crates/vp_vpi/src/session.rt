@@ -72,7 +72,7 @@ impl Session {
         ensures refused { IfErr result (λ e. Explains (handle_of self.old.handles (look_of design.now.tree (member_at policy.now self.old.user) [] (parts 46 name.now))) e) }
         ensures unchanged { OnErr result (self.new ≡ self.old) }
     {
-        let found = policy.look(design, self.user, name);
+        let found = policy.look(design, self.user, None, name);
         let object = self.room_for(found)?;
         let handle = self.newest + 1;
         self.handles.insert(handle, object)?;

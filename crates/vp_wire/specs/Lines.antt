@@ -12,6 +12,7 @@ use Rattle.vp_pragma.specs.Rights.{name_of}
 use Rattle.vp_policy.specs.declared.denial.By.{By}
 use Rattle.vp_policy.specs.declared.denial.By.TheVariants as by
 use Rattle.vp_policy.specs.declared.denial.Denial.{Denial}
+use Rattle.vp_policy.specs.Filter.{run_denied}
 use Rattle.vp_present.specs.declared.event.Request.{Request}
 use Rattle.vp_present.specs.declared.event.Request.TheVariants as request
 use Rattle.vp_present.specs.declared.reply.Refusal.{Refusal}
@@ -50,9 +51,9 @@ abbrev pub denial_data : Denial → List ℕ → Option (List ℕ) → Data
 denial_data denial author name =
     only (codes "denied") (object (denial_members author (by_text denial.by) denial.envelope name (name_of denial.right)))
 
--- the denial of a run: by the grant for the open text, which has no author (profile)
+-- the denial of a run, as the filter has it; the open text has no author (profile)
 abbrev pub run_denial_data : Data
-run_denial_data = only (codes "denied") (object (denial_members [] (codes "grant") 0 None (codes "run")))
+run_denial_data = only (codes "denied") (object (denial_members [] (by_text run_denied.0) run_denied.1 None run_denied.2))
 
 -- the current time as JSON, its keys in the order of their bytes (profile)
 abbrev pub time_data : ℕ → Bool → Data

@@ -5,6 +5,7 @@ use Rattle.vp_waking.specs.declared.change.Change.{Change}
 use Rattle.vp_present.specs.declared.fault.WorldError.{WorldError}
 use Rattle.vp_present.specs.declared.reply.Reply.{Reply}
 use Rattle.vp_present.specs.declared.entry.Entry.{Entry}
+use Rattle.vp_present.specs.Events.{IsWellFormed}
 use Rattle.vp_present.specs.History.{Explains, IsLegal, Keeps, after, answer, changed, entry_of, refusal_behind, state_behind}
 use Rattle.vp_present.specs.Worlds.{Opening, Standing, State, start}
 
@@ -18,17 +19,19 @@ pub state_more : (opening : Opening) (log : List Entry) (e : Entry) → state_be
 state_more opening log e = fold_more (λ s (x : Entry). after opening s x.event) (start opening) log e
 
 -- it is legal, if the entry is
-pub legal_more : (opening : Opening) (before log : List Entry) (e : Entry) → IsLegal opening before log → refusal_behind opening (before ++ log) e.event ≡ None → e ≡ entry_of opening (state_behind opening (before ++ log)) e.event → IsLegal opening before (log ++ e ∷ [])
-legal_more opening before [] e legal accepted is = (
+pub legal_more : (opening : Opening) (before log : List Entry) (e : Entry) → IsLegal opening before log → IsWellFormed e.event → refusal_behind opening (before ++ log) e.event ≡ None → e ≡ entry_of opening (state_behind opening (before ++ log)) e.event → IsLegal opening before (log ++ e ∷ [])
+legal_more opening before [] e legal formed accepted is = (
+  formed,
   subst (λ l. refusal_behind opening l e.event ≡ None) (append-nil before) accepted,
   subst (λ l. e ≡ entry_of opening (state_behind opening l) e.event) (append-nil before) is,
   tt,
 )
-legal_more opening before (x ∷ log) e (first_accepted, first_is, legal) accepted is =
+legal_more opening before (x ∷ log) e (first_formed, first_accepted, first_is, legal) formed accepted is =
     let same : before ++ x ∷ log ≡ (before ++ x ∷ []) ++ log = sym (append_assoc before (x ∷ []) log) in (
+      first_formed,
       first_accepted,
       first_is,
-      legal_more opening (before ++ x ∷ []) log e legal
+      legal_more opening (before ++ x ∷ []) log e legal formed
           (subst (λ l. refusal_behind opening l e.event ≡ None) same accepted)
           (subst (λ l. e ≡ entry_of opening (state_behind opening l) e.event) same is),
     )
@@ -43,13 +46,13 @@ entry_is opening s behind e is reply change time finished =
     ∙ ap (λ (b : State). entry_of opening b e.event) is
 
 -- a world keeps its log with one entry more
-pub keeps_more : (w next : Standing) (log more : List Entry) (e : Entry) → Keeps w log → next ≡ record { opening = w.opening; state = after w.opening w.state e.event } → more ≡ log ++ e ∷ [] → refusal_behind w.opening log e.event ≡ None → e ≡ entry_of w.opening (state_behind w.opening log) e.event → Keeps next more
-keeps_more w next log more e keeps is added accepted entry =
+pub keeps_more : (w next : Standing) (log more : List Entry) (e : Entry) → Keeps w log → next ≡ record { opening = w.opening; state = after w.opening w.state e.event } → more ≡ log ++ e ∷ [] → IsWellFormed e.event → refusal_behind w.opening log e.event ≡ None → e ≡ entry_of w.opening (state_behind w.opening log) e.event → Keeps next more
+keeps_more w next log more e keeps is added formed accepted entry =
     subst (λ n. Keeps n more) (sym is)
     (subst (λ l. Keeps (record { opening = w.opening; state = after w.opening w.state e.event }) l) (sym added)
     (record {
       state = ap (λ s. after w.opening s e.event) keeps.state ∙ sym (state_more w.opening log e);
-      legal = legal_more w.opening [] log e keeps.legal accepted entry;
+      legal = legal_more w.opening [] log e keeps.legal formed accepted entry;
     }))
 
 -- a refusal explains itself

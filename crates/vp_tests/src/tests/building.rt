@@ -1,6 +1,7 @@
 //! Designs of texts, and a policy for them. Each function has few values of its own, which keeps its proof short.
-ghost use Rattle.std.specs.Prelude.{◌≤◌, length};
+ghost use Rattle.std.specs.Prelude.{◌≤◌, length, IfSome};
 ghost use Rattle.vp_lex.specs.declared.token.TheConstants.{TEXT_LIMIT};
+ghost use Rattle.vp_source.specs.Whole.{AreWhole};
 
 use std::alloc::Global;
 use std::sync::Arc;
@@ -24,6 +25,7 @@ fn envelopes_of(alloc: Global, text: &str) -> Option<Envelopes>
 /// The source of a text.
 fn source_of(alloc: Global, text: &str) -> Option<Source>
     requires { length text.now ≤ TEXT_LIMIT }
+    ensures { IfSome result AreWhole }
 {
     let tokens = tokens(alloc, text).ok()?;
     parse(alloc, text, &tokens).ok()

@@ -50,7 +50,7 @@ fn policy_view(rt: HostRuntime) {
 
 /// The object of the first viewport that matches an object.
 fn first_viewport(alloc: Global, object: &SeenObject) -> Option<Text> {
-    object.viewports.as_slice().first()?.object(alloc).ok()
+    Text::copy(alloc, object.viewports.as_slice().first()?.object.as_str()).ok()
 }
 
 /// The object of the viewport through which Ann sees the last object.

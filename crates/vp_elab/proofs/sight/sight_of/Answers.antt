@@ -6,7 +6,7 @@ use Rattle.vp_pragma.specs.Rights.{RightSet, set_of}
 use Rattle.vp_elab.specs.declared.sight.Sight.{Sight}
 use Rattle.vp_elab.specs.Tree.{Step, matches, step_named}
 use Rattle.vp_elab.proofs.Sights.{beside, either-nothing, first_beside, first_next, first_none, pair_same, rights_next}
-use Rattle.vp_elab.specs.Positions.{position_is}
+use Rattle.vp_elab.specs.laws.Positions.{position_is}
 use Rattle.vp_elab.proofs.sight.sight_of.Goals as goal
 use Rattle.vp_elab.proofs.sight.sight_of.Goals.{then-is_on, else-is_on}
 

@@ -1,6 +1,6 @@
 use Rattle.std.proofs.Common.{◌∙◌, ap, length}
 use Rattle.vp_operand.specs.Arena.{term_made, value_in}
-use Rattle.vp_operand.specs.Laws.{length-value}
+use Rattle.vp_operand.specs.laws.Terms.{length-value}
 use Rattle.vp_expr.proofs.evaluation.+evaluation.Goals as goal
 
 pub value_below-returns-in-Some-clause-width : goal.value_below-returns-in-Some-clause-width

@@ -1,5 +1,8 @@
-use Rattle.std.proofs.Common.{◌∙◌, ℕ, List, ap, drop}
+use Rattle.std.proofs.Common.{◌∙◌, ℕ, List, ap, drop, subst}
 use Rattle.vp_bits.specs.declared.bit.Bit.{Bit}
+use Rattle.vp_source.specs.Whole.{AreWhole}
+use Rattle.vp_elab.specs.Built.{Elaborated}
+use Rattle.vp_elab.specs.Tree.{AreAlike}
 use Rattle.vp_expr.specs.declared.tables.Tables.{Tables}
 use Rattle.vp_operand.specs.Arena.{term_below, value_at, value_in}
 use Rattle.vp_expr.specs.Evaluation.{eval}
@@ -7,6 +10,7 @@ use Rattle.vp_expr.specs.Tables.{tables_of}
 use Rattle.vp_operand.specs.Terms.{Term, value}
 use Rattle.vp_operand.proofs.Arenas.{term_whole}
 use Rattle.vp_expr.proofs.Derivations.{value_derived}
+use Rattle.vp_expr.proofs.Instances.{value_alike}
 use Rattle.vp_expr.proofs.Sized.{tables_sized}
 use Rattle.vp_expr.proofs.evaluation.eval.Goals as goal
 
@@ -28,4 +32,12 @@ value_below-requires-clause-sized c =
     tables_sized c.args.checked.now c.tables-tables.result.now c.tables-tables.ensures.tables c.tables-tables.ensures.fit
 
 pub returns-clause-derived : goal.returns-clause-derived
-returns-clause-derived c = λ whole m e s. returns-clause-value c ∙ value_derived c.args.checked.now m (drop c.args.instance.0 c.args.values.now) c.args.id e whole s
+returns-clause-derived c = λ m e s.
+    let whole = subst (λ (d : Elaborated). AreWhole d.source) c.design.ensures c.source_is_whole.ensures in
+    returns-clause-value c ∙ value_derived c.args.checked.now m (drop c.args.instance.0 c.args.values.now) c.args.id e whole s
+
+pub returns-clause-instance : goal.returns-clause-instance
+returns-clause-instance c = λ m e s is.
+    let alike = subst (λ (d : Elaborated). AreAlike d.tree.nodes) c.design-2.ensures c.instances_are_alike.ensures in
+    returns-clause-derived c m e s
+    ∙ value_alike c.args.checked.now m c.args.instance.0 (drop c.args.instance.0 c.args.values.now) c.args.id.size e alike is

@@ -17,11 +17,12 @@ sized c = ap (λ os. fitting (sizes_in os)) (sym c.as_slice.ensures) ∙ sym c.i
 
 pub returns-clause-tables : goal.returns-clause-tables
 returns-clause-tables c =
-    tables_checked c.args.design.now c.args.operands c.in-Some.widths c.in-Some-2.sizes c.requires (wide c) (sized c) _ _
+    tables_checked c.args.design.now c.args.operands c.in-Some.widths c.in-Some-2.sizes c.requires.operands (wide c) (sized c) _ _
     _ _
     (c.in_ok-actions.ensures ∙ ap (actions_of c.args.design.now) c.as_slice-2.ensures)
     (c.in_ok-processes.ensures ∙ ap (processes_of c.args.design.now) c.as_slice-3.ensures)
     (rw (c.from_vec.ensures, c.from_vec-2.ensures) (c.in_ok-awaits.ensures ∙ ap (λ os. laid_of (awaits_of c.args.design.now os)) c.as_slice-4.ensures))
+    c.requires.accepted
 
 pub returns-clause-fit : goal.returns-clause-fit
-returns-clause-fit c = design_fits c.args.design.now c.args.operands c.in-Some.widths c.in-Some-2.sizes c.requires (wide c) (sized c)
+returns-clause-fit c = design_fits c.args.design.now c.args.operands c.in-Some.widths c.in-Some-2.sizes c.requires.operands (wide c) (sized c)

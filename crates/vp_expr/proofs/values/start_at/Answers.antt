@@ -4,7 +4,8 @@ use Rattle.std.proofs.lemmas.Bool.{ltb-false}
 use Rattle.std.proofs.lemmas.Option.{slice_get_past, slice_get_read}
 use Rattle.vp_elab.specs.Built.{Elaborated}
 use Rattle.vp_elab.specs.declared.object.Object.{Object}
-use Rattle.vp_expr.specs.Start.{constant_at, start_value}
+use Rattle.vp_resolve.specs.Constants.{constant_at}
+use Rattle.vp_expr.specs.Start.{start_value}
 use Rattle.vp_expr.proofs.Starts.{none_there, start_there}
 use Rattle.vp_expr.proofs.values.start_at.Goals as goal
 

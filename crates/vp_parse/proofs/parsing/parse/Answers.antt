@@ -4,7 +4,7 @@ use Rattle.vp_parse.specs.Reading.{read}
 use Rattle.vp_parse.specs.Placing.{lists_in}
 use Rattle.vp_parse.proofs.Found.{stops_alike, tells_none, found_by}
 use Rattle.vp_source.proofs.Growing.{source_whole}
-use Rattle.vp_source.proofs.Standing.{procedures_stand}
+use Rattle.vp_source.proofs.Standing.{items_stand}
 use Rattle.vp_parse.proofs.parsing.parse.Goals as goal
 
 pub returns-in-Ok-clause-found : goal.returns-in-Ok-clause-found
@@ -28,6 +28,6 @@ returns-clause-none c =
     let symbols = symbols_of c.args.text.now c.args.tokens.now in
     tells_none c.args.tokens.now symbols c.error_of.result (returns-clause-fault c)
 
-pub returns-in-Ok-clause-procedures : goal.returns-in-Ok-clause-procedures
-returns-in-Ok-clause-procedures c =
-    IfOk-weaker c.source_with.result _ _ (λ source found d is. procedures_stand c.args.text.now c.args.tokens.now d source is) (returns-in-Ok-clause-found c)
+pub returns-in-Ok-clause-items : goal.returns-in-Ok-clause-items
+returns-in-Ok-clause-items c =
+    IfOk-weaker c.source_with.result _ _ (λ source found d is. items_stand c.args.text.now c.args.tokens.now d source is) (returns-in-Ok-clause-found c)

@@ -18,7 +18,7 @@ list-returns-in_err-last-clause-read t c =
 
 pub list-loop-arena-preserved : goal.list-loop-arena-preserved
 list-loop-arena-preserved t c =
-    let e : Made = (c.in_ok-last.last, lists_in c.statement.new.arena, c.in_ok-last.after.now) in
+    let e : Made = (c.in_ok-last.last, lists_in c.statement_at.new.arena, c.in_ok-last.after.now) in
     record {
       lighter = omega (arith, c.in_ok-last.ensures.lighter, c.in_ok-so_far-2.ensures.len);
       no_longer = omega (arith, c.in_ok-last.ensures.shorter);
@@ -28,12 +28,12 @@ list-loop-arena-preserved t c =
 pub list-returns-clause-read : goal.list-returns-clause-read
 list-returns-clause-read t c = chain_done (stmt_into c.args.limit c.args.depth) c.loop-arena.so_far (lists_in c.loop-arena.arena) c.loop-arena.rest.now _ (sym c.goes_on.ensures ∙ c.loop-arena-test.false) c.loop-arena.invariant.goes_on
 
-pub statement-returns-then-depth-eq0-clause-read :
-    goal.statement-returns-then-depth-eq0-clause-read
-statement-returns-then-depth-eq0-clause-read t c = stmt_none c.args.limit c.args.depth (lists_in c.args.arena.now) c.args.symbols.now c.if-depth-eq0.true
+pub statement_at-returns-then-depth-eq0-clause-read :
+    goal.statement_at-returns-then-depth-eq0-clause-read
+statement_at-returns-then-depth-eq0-clause-read t c = stmt_none c.args.limit c.args.depth (lists_in c.args.arena.now) c.args.symbols.now c.if-depth-eq0.true
 
-pub statement-returns-clause-read : goal.statement-returns-clause-read
-statement-returns-clause-read t c = rw (stmt_step c.args.limit c.args.depth (lists_in c.args.arena.now) c.args.symbols.now c.if-depth-eq0.false) c.form.ensures.read
+pub statement_at-returns-clause-read : goal.statement_at-returns-clause-read
+statement_at-returns-clause-read t c = rw (stmt_step c.args.limit c.args.depth (lists_in c.args.arena.now) c.args.symbols.now c.if-depth-eq0.false) c.form.ensures.read
 
 pub further_items-returns-in_err-after-clause-read : goal.further_items-returns-in_err-after-clause-read
 further_items-returns-in_err-after-clause-read t c =

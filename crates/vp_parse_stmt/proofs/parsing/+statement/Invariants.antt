@@ -62,8 +62,8 @@ decreases-conditional l = 8 * l.depth + 3
 abbrev pub decreases-form : goal.decreases-form
 decreases-form l = 8 * l.depth + 7
 
-abbrev pub decreases-statement : goal.decreases-statement
-decreases-statement l = 8 * l.depth
+abbrev pub decreases-statement_at : goal.decreases-statement_at
+decreases-statement_at l = 8 * l.depth
 
 abbrev pub invariant-list-loop-arena : goal.invariant-list-loop-arena
 invariant-list-loop-arena l = record {

@@ -3,7 +3,7 @@ use Rattle.std.proofs.lemmas.List.FromFn.{length-enumerate_from}
 use Rattle.std.proofs.lemmas.Result.{err_from_is_err_and}
 use Rattle.vp_pragma.specs.declared.fault.PragmaError.{PragmaError}
 use Rattle.vp_pragma.specs.EnvelopesOf.{Progress}
-use Rattle.vp_pragma.specs.Pragmas.{deeds_from}
+use Rattle.vp_pragma.specs.LineReading.{deeds_from}
 use Rattle.vp_pragma.specs.Faults.{Explains}
 use Rattle.vp_pragma.specs.Reading.{HasPlaces, after_all, placed}
 use Rattle.vp_pragma.proofs.Refusals.{at_some, next_left, all_some}

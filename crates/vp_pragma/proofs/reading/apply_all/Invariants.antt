@@ -1,5 +1,5 @@
 use Rattle.std.proofs.Common.{◌≡◌, ◌-◌}
-use Rattle.vp_pragma.specs.Pragmas.{deeds_from, all_deeds}
+use Rattle.vp_pragma.specs.LineReading.{deeds_from, all_deeds}
 use Rattle.vp_pragma.specs.Reading.{HasPlaces, HasRoom, after_all, placed}
 use Rattle.vp_pragma.proofs.reading.apply_all.Given as goal
 

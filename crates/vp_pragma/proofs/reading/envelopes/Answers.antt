@@ -1,15 +1,31 @@
-use Rattle.std.proofs.Common.{Result, sym, ap, subst, ◌∙◌}
-use Rattle.std.proofs.lemmas.Result.{MatchResult-weaker}
+use Rattle.std.proofs.Common.{Result, Ok, refl, sym, ap, subst, ◌∙◌}
+use Rattle.std.proofs.lemmas.Result.{MatchResult-weaker, err_from_is_err_and}
 use Rattle.vp_pragma.specs.declared.fault.PragmaError.{PragmaError}
-use Rattle.vp_pragma.specs.EnvelopesOf.{Progress, envelopes_behind}
+use Rattle.vp_pragma.specs.EnvelopesOf.{AreEnvelopes, Progress, after_deeds, at_start, envelopes_behind}
 use Rattle.vp_pragma.specs.Faults.{Explains}
+use Rattle.vp_pragma.specs.LineReading.{deeds_of_text, envelopes_read}
+use Rattle.vp_pragma.proofs.Refusals.{explains_through}
+use Rattle.vp_pragma.proofs.Lines.{are_read}
 use Rattle.vp_pragma.proofs.reading.envelopes.Goals as goal
+
+pub returns-in_err-read-clause-fault : goal.returns-in_err-read-clause-fault
+returns-in_err-read-clause-fault c =
+    let text = c.args.text.now in
+    let tokens = c.args.tokens.now in
+    let p = err_from_is_err_and c.from_residual.result c.from_residual.ensures.1 in
+    let explained = explains_through envelopes_behind (after_deeds text tokens (Ok at_start) (deeds_of_text text tokens)) c.in_err-read.field-0.0 (λ x. refl) (c.in_err-read.ensures {u = tt}).done in
+    rw (p.1, p.2) (envelopes_read text tokens, are_read text tokens, explained)
 
 pub returns-clause-ok : goal.returns-clause-ok
 returns-clause-ok c =
-    MatchResult-weaker c.ended.result (c.ended.ensures c.args.text.now) (λ _ h. ap envelopes_behind c.in_ok-read.ensures.done ∙ h) (λ _ _. tt)
+    let text = c.args.text.now in
+    let tokens = c.args.tokens.now in
+    MatchResult-weaker c.ended.result (c.ended.ensures text)
+    (λ _ h. subst (AreEnvelopes text tokens) (ap envelopes_behind c.in_ok-read.ensures.done ∙ h) (are_read text tokens)) (λ _ _. tt)
 
 pub returns-clause-fault : goal.returns-clause-fault
 returns-clause-fault c =
-    MatchResult-weaker c.ended.result (c.ended.ensures c.args.text.now) (λ _ _. tt)
-    (λ e h. subst (λ (r : Result Progress PragmaError). Explains (envelopes_behind r) e) (sym c.in_ok-read.ensures.done) h)
+    let text = c.args.text.now in
+    let tokens = c.args.tokens.now in
+    MatchResult-weaker c.ended.result (c.ended.ensures text) (λ _ _. tt)
+    (λ e h. (envelopes_read text tokens, are_read text tokens, subst (λ (r : Result Progress PragmaError). Explains (envelopes_behind r) e) (sym c.in_ok-read.ensures.done) h))

@@ -1,6 +1,6 @@
 use Rattle.std.proofs.Common.{◌≡◌, Ok}
 use Rattle.vp_pragma.specs.EnvelopesOf.{after_deeds, at_start}
-use Rattle.vp_pragma.specs.Pragmas.{deeds_of_text}
+use Rattle.vp_pragma.specs.LineReading.{deeds_of_text}
 use Rattle.vp_pragma.specs.Reading.{HasRoom, IsBefore, after_left}
 use Rattle.vp_pragma.proofs.reading.read.Given as goal
 

@@ -1,20 +1,17 @@
-use Rattle.std.proofs.Common.{◌≡◌, ℕ, List, [], Some, length}
+use Rattle.std.proofs.Common.{◌≡◌, length}
 use Rattle.std.specs.Prelude.{IsUtf8, option_map}
 use Rattle.vp_list.specs.Texts.{parts}
-use Rattle.vp_elab.specs.Tree.{scope_names}
-use Rattle.vp_policy.specs.declared.denial.Look.TheVariants as look
-use Rattle.vp_policy.specs.Filter.{look_of, walk}
+use Rattle.vp_policy.specs.Filter.{look_in}
 use Rattle.vp_policy.specs.Users.{member_at}
 use Rattle.vp_policy.proofs.policy.Policy.look.Given as goal
 
--- the scope has names, and the walk goes on from them
+-- what is left of the name is looked up in the scope that was reached
 abbrev pub invariant-loop-object : goal.invariant-loop-object
 invariant-loop-object l = record {
   text : IsUtf8 l.rest;
   left :
-      (names : List (List ℕ))
-      × (scope_names l.design.tree.nodes (option_map (λ o. o.0) l.scope) ≡ Some names)
-      × (walk l.design.tree (member_at l.self l.user.0) look.Absent names (parts 46 l.rest) ≡ look_of l.design.tree (member_at l.self l.user.0) [] (parts 46 l.name));
+      look_in l.design.tree (member_at l.self l.user.0) (option_map (λ o. o.0) l.scope) (parts 46 l.rest)
+      ≡ look_in l.design.tree (member_at l.self l.user.0) (option_map (λ o. o.0) l.fn.scope) (parts 46 l.name);
 }
 
 abbrev pub decreases-loop-object : goal.decreases-loop-object

@@ -11,7 +11,7 @@ returns-clause-node c =
     let user : Member = member_at c.args.self.now c.args.user.0 in
     let object = c.in-Some.object in
     let known = c.in-Some.ensures {u = tt} in
-    seen_is c.args.design.now.tree user c.args.id.0 object known.node _ c.requires.listed
+    seen_is c.args.design.now user c.args.id.0 object known.node _ c.requires.listed
     (c.number_in.ensures ∙ ap (λ (ns : List (Option ℕ)). number_in ns (option_map (λ (p : ObjectId). p.0) object.parent)) c.requires.numbers)
-    (c.in_ok-copy.ensures {u = tt} ∙ c.name.ensures) refl c.rights.ensures (c.in_ok-viewports_on.ensures {u = tt}).viewports refl refl c.line.ensures
-    (c.in_ok-copied.ensures {u = tt} ∙ c.definition.ensures) (c.in_ok-closed.ensures {u = tt}).numbers
+    (c.in_ok-copy.ensures {u = tt} ∙ c.name.ensures) refl c.rights-rights.ensures (c.in_ok-viewports_on.ensures {u = tt}).viewports refl refl c.line.ensures
+    (c.in_ok-copied.ensures {u = tt} ∙ c.def_name.ensures) c.seen_value.ensures (c.in_ok-closed.ensures {u = tt}).numbers

@@ -1,5 +1,6 @@
 use Rattle.std.proofs.Common.{◌≡◌, ◌∙◌, ◌<◌, ◌∷◌, ◌++◌, [], ℕ, Option, Some, None, Vec, Global, true, false, ap, length, sym, arith}
 use Rattle.std.proofs.lemmas.List.{length-append}
+use Rattle.vp_elab.specs.Built.{Elaborated}
 use Rattle.vp_policy.specs.declared.view.SeenObject.{SeenObject}
 use Rattle.vp_policy.specs.Filter.{is_listed_at}
 use Rattle.vp_policy.specs.SeenObjects.{nodes_from}
@@ -10,7 +11,8 @@ use Rattle.vp_policy.proofs.policy.Policy.seen_objects.Goals as goal
 
 pub loop-number-preserved : goal.loop-number-preserved
 loop-number-preserved c =
-    let tree = c.args.design.now.tree in
+    let design : Elaborated = c.args.design.now in
+    let tree = design.tree in
     let user : Member = member_at c.args.self.now c.args.user.0 in
     let n = c.loop-number.number in
     let before = c.loop-number.invariant in
@@ -25,8 +27,8 @@ loop-number-preserved c =
           let more = length-append os (o ∷ []) in
           let longer = ap length objects in
           record {
-            nodes = ap (nodes_from []) objects ∙ nodes_listed tree user n within os o listed before.nodes (w.in_ok-object.ensures {u = tt}).node;
-            numbers = numbers ∙ numbers_listed tree user n within os c.loop-number.numbers.items w.len.result listed before.nodes before.numbers (omega arith);
+            nodes = ap (nodes_from []) objects ∙ nodes_listed design user n within os o listed before.nodes (w.in_ok-object.ensures {u = tt}).node;
+            numbers = numbers ∙ numbers_listed design user n within os c.loop-number.numbers.items w.len.result listed before.nodes before.numbers (omega arith);
             few = omega arith;
           }
       | else-is_listed+in_ok-push-3 w ↦
@@ -35,8 +37,8 @@ loop-number-preserved c =
           let numbers : c.if-is_listed.numbers.items ≡ c.loop-number.numbers.items ++ None ∷ [] = ap (λ (v : Vec (Option ℕ) Global). v.items) w.numbers-is ∙ (w.in_ok-push-3.ensures {u = tt}).items in
           let same = ap length objects in
           record {
-            nodes = ap (nodes_from []) objects ∙ nodes_hidden tree user n within os hidden before.nodes;
-            numbers = numbers ∙ numbers_hidden tree user n within c.loop-number.numbers.items hidden before.numbers;
+            nodes = ap (nodes_from []) objects ∙ nodes_hidden design user n within os hidden before.nodes;
+            numbers = numbers ∙ numbers_hidden design user n within c.loop-number.numbers.items hidden before.numbers;
             few = omega arith;
           }
     ]

@@ -22,7 +22,7 @@ returns-clause-made c =
     let added = (c.in_ok-insert.ensures {u = tt}).entries in
     made_ok (handle_of c.args.self.now.handles _) o c.args.self.now _
     (ap (λ (user : ℕ). handle_of c.args.self.now.handles (look_of c.args.design.now.tree (member_at c.args.policy.now user) [] (parts 46 c.args.name.now))) (sym (ap (λ (x : Seat). x.user) c.self.view_is))
-    ∙ ap (handle_of c.args.self.now.handles) (sym c.look-found.ensures) ∙ room)
+    ∙ ap (handle_of c.args.self.now.handles) (sym c.look-found.ensures.found) ∙ room)
     (ap (λ (es : List (ℕ × ObjectId)). (let x : Seat = record { user = s.user.0; handles = record { made = map shown es; newest = s.newest + 1 } } in x)) added
     ∙ made_next s.user.0 s.newest s.handles.entries o c.self.invariant
     ∙ ap (λ (x : Seat). (let y : Seat = record { user = x.user; handles = with_handle o.0 x.handles } in y)) c.self.view_is)

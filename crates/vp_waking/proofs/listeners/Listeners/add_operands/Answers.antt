@@ -17,7 +17,7 @@ add_slots-requires c =
     let P = λ (slot : ℕ). may_listen tables (object_at c.args.instance slot) c.args.process ≡ true in
     let read : List ℕ = reads (term_at tables.operands c.args.value.place) in
     let slots : c.deref-2.result.now ≡ map slot_at read =
-    c.deref-2.ensures.value ∙ c.in_ok-add_reads.ensures {u = tt}
+    c.deref-2.ensures.value ∙ (c.in_ok-add_reads.ensures {u = tt}).read
     ∙ ap (λ (l : List Slot). l ++ map slot_at (reads (term_at (tables_of c.deref.result.now).operands c.place.result))) c.new-slots.ensures.items
     ∙ ap (λ (place : ℕ). map slot_at (reads (term_at (tables_of c.deref.result.now).operands place))) c.place.ensures
     ∙ ap (λ (d : Elaborated). map slot_at (reads (term_at (tables_of d).operands c.args.value.place))) (c.deref.ensures ∙ ap (λ (r : Listening). r.design) c.self.view_is) in
@@ -29,7 +29,7 @@ returns-clause-heard c =
     let instance = c.args.instance in
     let read : List ℕ = reads (term_at tables.operands c.args.value.place) in
     let slots : c.deref-2.result.now ≡ map slot_at read =
-    c.deref-2.ensures.value ∙ c.in_ok-add_reads.ensures {u = tt}
+    c.deref-2.ensures.value ∙ (c.in_ok-add_reads.ensures {u = tt}).read
     ∙ ap (λ (l : List Slot). l ++ map slot_at (reads (term_at (tables_of c.deref.result.now).operands c.place.result))) c.new-slots.ensures.items
     ∙ ap (λ (place : ℕ). map slot_at (reads (term_at (tables_of c.deref.result.now).operands place))) c.place.ensures
     ∙ ap (λ (d : Elaborated). map slot_at (reads (term_at (tables_of d).operands c.args.value.place))) (c.deref.ensures ∙ ap (λ (r : Listening). r.design) c.self.view_is) in

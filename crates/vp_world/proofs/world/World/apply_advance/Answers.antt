@@ -14,5 +14,5 @@ invariant_of-self-2 c =
     let entry : Entry = record { event = event.Advance; reply = reply.Done; change = None; time = c.time.result; finished = c.finished.result } in
     let added : c.push_reserved.new.self.items ≡ log ++ entry ∷ [] = search rules in
     let accepted : refusal_behind w.opening log (event.Advance) ≡ None = search rules in
-    keeps_more w c.advance.new.self log c.push_reserved.new.self.items entry c.self.invariant done.after added accepted
+    keeps_more w c.advance.new.self log c.push_reserved.new.self.items entry c.self.invariant done.after added tt accepted
     (entry_is w.opening w.state (state_behind w.opening log) entry c.self.invariant.state refl (sym done.change) (search rules) (search rules))

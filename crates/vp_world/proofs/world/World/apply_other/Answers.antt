@@ -20,5 +20,5 @@ invariant_of-self-2 c =
     let entry : Entry = record { event = c.args.event; reply = answer.kept; change = answer.change; time = c.time.result; finished = c.finished.result } in
     let added : c.push_reserved.new.self.items ≡ log ++ entry ∷ [] = search rules in
     let accepted : refusal_behind w.opening log c.args.event ≡ None = search rules in
-    keeps_more w c.perform.new.self log c.push_reserved.new.self.items entry c.self.invariant done.after added accepted
+    keeps_more w c.perform.new.self log c.push_reserved.new.self.items entry c.self.invariant done.after added c.requires accepted
     (entry_is w.opening w.state (state_behind w.opening log) entry c.self.invariant.state done.kept done.change (search rules) (search rules))

@@ -1,0 +1,11 @@
+use Rattle.std.proofs.Common.{sym, ap, Option}
+use Rattle.std.specs.Option.{option_map_or}
+use Rattle.vp_elab.specs.Tree.{Node, node_envelope}
+use Rattle.vp_elab.proofs.LastSteps.{envelope_there}
+use Rattle.vp_elab.proofs.design.Design.envelope.Goals as goal
+
+pub returns-in-Some : goal.returns-in-Some
+returns-in-Some c = sym (envelope_there c.args.self.now.tree c.args.id.0 c.in-Some.object (c.in-Some.ensures {u = tt}).node)
+
+pub returns-in-None : goal.returns-in-None
+returns-in-None c = sym (ap (λ (o : Option Node). option_map_or node_envelope o 0) (c.in-None.ensures {u = tt}).node)
