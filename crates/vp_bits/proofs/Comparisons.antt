@@ -12,7 +12,7 @@ use Rattle.vp_bits.specs.Vector.{bits_of, bit_from, same_bit, same_bits, IsStore
 use Rattle.vp_bits.specs.Comparing.{is_unknown, has_unknown, is_known_difference, at_some_place, has_known_difference, equal, is_difference_but_z, casez_matches}
 use Rattle.vp_bits.specs.Arithmetic.{bit_of_digit, bits_of_number}
 use Rattle.vp_bits.specs.Tables.{folded, and_bit, or_bit, xor_bit, and_of_all, or_of_all, xor_of_all}
-use Rattle.vp_bits.specs.Words.{half_below, length-bits_of}
+use Rattle.vp_bits.specs.laws.Words.{half_below, length-bits_of}
 use Rattle.vp_bits.proofs.Vectors.{bits_of_known_ones}
 use Rattle.vp_bits.proofs.Formulas.{Formula, Aval, Bval, OtherAval, OtherBval, And, Or, Xor, value, value_at, value-below, value-half, value-first_at, at_each_pair, at_each_pair-at}
 

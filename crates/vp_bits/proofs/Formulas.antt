@@ -6,7 +6,7 @@ use Rattle.vp_bits.specs.declared.bit.Bit.{Bit}
 use Rattle.vp_bits.specs.declared.bit.Bit.TheVariants.{Zero, One, Unknown, HighImpedance}
 use Rattle.vp_bits.specs.Vector.{bits_of, bit_from, aval_bit, bval_bit, same_bit}
 use Rattle.vp_bits.specs.Tables.{bitwise}
-use Rattle.vp_bits.specs.Words.{same_bit-same, aval_bit-bit_from, bval_bit-bit_from}
+use Rattle.vp_bits.specs.laws.Words.{same_bit-same, aval_bit-bit_from, bval_bit-bit_from}
 
 -- a formula over the words of two vectors
 pub data Formula : Type 0 where

@@ -7,7 +7,7 @@ use Rattle.vp_bits.specs.declared.bit.Bit.{Bit}
 use Rattle.vp_bits.specs.declared.bit.Bit.TheVariants.{Unknown}
 use Rattle.vp_bits.specs.declared.bits.Bits.TheInside.{Inside}
 use Rattle.vp_bits.specs.Vector.{bits_of, bit_from, IsStored}
-use Rattle.vp_bits.specs.Words.{length-bits_of, half_below}
+use Rattle.vp_bits.specs.laws.Words.{length-bits_of, half_below}
 use Rattle.vp_bits.specs.Arithmetic.{bit_value, number_of, bit_of_digit, bits_of_number, with_numbers, computed}
 use Rattle.vp_bits.proofs.Vectors.{bits_of-low}
 

@@ -7,7 +7,7 @@ use Rattle.vp_bits.specs.declared.bit.Bit.TheVariants.{Zero, One, Unknown, HighI
 use Rattle.vp_bits.specs.declared.bits.Bits.TheInside.{Inside}
 use Rattle.vp_bits.specs.Vector.{bits_of, IsStored}
 use Rattle.vp_bits.specs.Tables.{bitwise, not_bit}
-use Rattle.vp_bits.specs.Words.{length-bits_of}
+use Rattle.vp_bits.specs.laws.Words.{length-bits_of}
 use Rattle.vp_bits.proofs.Formulas.{Formula, Aval, Bval, OtherAval, Or, Xor, value, value-below, bit_at_both, same_rows, bits_of-values, bits_of-table}
 use Rattle.vp_bits.proofs.Vectors.{bits_of_known_ones}
 

@@ -9,7 +9,7 @@ use Rattle.vp_bits.specs.declared.bit.Bit.{Bit}
 use Rattle.vp_bits.specs.declared.bit.Bit.TheVariants.{Zero}
 use Rattle.vp_bits.specs.declared.bits.Bits.TheInside.{Inside}
 use Rattle.vp_bits.specs.Vector.{bits_of, bit_from, resized, IsStored}
-use Rattle.vp_bits.specs.Words.{length-bits_of, half_below}
+use Rattle.vp_bits.specs.laws.Words.{length-bits_of, half_below}
 use Rattle.vp_bits.specs.Shaping.{shl_by, shr_by, repeated}
 use Rattle.vp_bits.proofs.Vectors.{bits_of-low, bits_of-resized, bits_of_zeros, first_of_ones, rest_of_ones}
 use Rattle.vp_bits.proofs.Numbers.{mod_by_parts}

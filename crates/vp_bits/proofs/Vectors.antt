@@ -8,7 +8,7 @@ use Rattle.std.specs.Bool.{Decides}
 use Rattle.vp_bits.specs.declared.bit.Bit.{Bit}
 use Rattle.vp_bits.specs.declared.bit.Bit.TheVariants.{Zero, One, Unknown, HighImpedance}
 use Rattle.vp_bits.specs.Vector.{bits_of, bit_from, aval_bit, bval_bit, aval_of, bval_of, resized}
-use Rattle.vp_bits.specs.Words.{length-bits_of, aval_of-bits_of, bval_of-bits_of, half_below}
+use Rattle.vp_bits.specs.laws.Words.{length-bits_of, aval_of-bits_of, bval_of-bits_of, half_below}
 
 -- ---- the lowest bits of a word
 

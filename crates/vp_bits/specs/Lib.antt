@@ -5,5 +5,4 @@ pub mod Arithmetic
 pub mod Comparing
 pub mod Shaping
 pub mod Codes
-pub mod Words
-pub mod Inverse
+pub mod laws

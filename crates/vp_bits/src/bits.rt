@@ -4,7 +4,7 @@ ghost use Rattle.vp_bits.specs.declared.bit.Bit.TheVariants.{HighImpedance, Unkn
 ghost use Rattle.vp_bits.specs.Arithmetic.{bits_of_number};
 ghost use Rattle.vp_bits.specs.Digits.{digits_bits, digit_of};
 ghost use Rattle.vp_bits.specs.Vector.{IsWidth, resized, same_bits};
-ghost use Rattle.vp_bits.specs.Words.{same_bits_equiv};
+ghost use Rattle.vp_bits.specs.laws.Words.{same_bits_equiv};
 
 mod arithmetic;
 mod bitwise;
@@ -41,7 +41,7 @@ impl Model for Bits {
 
     ghost inverse = { λ bits. record { width = length bits; aval = aval_of bits; bval = bval_of bits } };
 
-    ghost use Rattle.vp_bits.specs.Inverse.{inverse_of_view};
+    ghost use Rattle.vp_bits.specs.laws.Inverse.{inverse_of_view};
 
     ghost inverse_ok = { inverse_of_view };
 }

@@ -5,7 +5,8 @@ use Rattle.std.proofs.KnownBytes.{Appends-trans}
 use Rattle.std.specs.Io.KnownBytes.{Appends}
 use Rattle.std.specs.Result.{IfOk, IsErr, MatchResult}
 use Rattle.std.specs.List.{concat}
-use Rattle.vp_list.specs.Texts.{behind_part, parts, parts_some}
+use Rattle.vp_list.specs.Texts.{behind_part, parts}
+use Rattle.vp_list.specs.laws.Texts.{parts_some}
 use Rattle.vp_present.specs.declared.event.Request.{Request}
 use Rattle.vp_present.specs.declared.reply.Reply.{Reply}
 use Rattle.vp_dialogue.specs.declared.dialogue.Dialogue.{Dialogue}

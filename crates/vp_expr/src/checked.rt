@@ -68,7 +68,8 @@ impl Checked {
     /// The expression at a place has the size, the sign and the reads of the derivation that stands there (clauses 5.4.1, 5.5.1 and
     /// 9.7.5).
     pub fn derivations_are_expressions(&self)
-        ensures { (m : Module) (place : ℕ) (e : Expr) → StandsAt self.now m place e → HasTerm self.now place (expr_term self.now (scope_of self.now m) e) }
+        ensures { (m : Module) (place : ℕ) (e : Expr) → StandsAt self.now m place e
+            → HasTerm self.now place (expr_term self.now (scope_of self.now m) e) }
     {
         self.design.source_is_whole();
     }

@@ -187,9 +187,12 @@ fn value_of(tables: &Tables, values: &[Bits], place: usize, operand: Operand, co
 pub fn eval(checked: &Checked, values: &Values, instance: ObjectId, id: ExprId) -> Bits
     ensures value { result ≡ eval (tables_of checked.now) (drop instance.0 values.now) id }
     ensures width { length result ≡ id.size }
-    ensures derived { (m : Module) (e : Expr) → StandsAt checked.now m id.place e → result ≡ derived_value checked.now (scope_of checked.now m) (drop instance.0 values.now) id.size e }
+    ensures derived { (m : Module) (e : Expr) → StandsAt checked.now m id.place e
+        → result ≡ derived_value checked.now (scope_of checked.now m) (drop instance.0 values.now) id.size e }
     // In an instance of that module its names are looked up in this very instance.
-    ensures instance { (m : Module) (e : Expr) → StandsAt checked.now m id.place e → IsInstanceOf checked.now m instance.0 → result ≡ derived_value checked.now (Some instance.0) (drop instance.0 values.now) id.size e }
+    ensures instance { (m : Module) (e : Expr) → StandsAt checked.now m id.place e
+        → IsInstanceOf checked.now m instance.0
+        → result ≡ derived_value checked.now (Some instance.0) (drop instance.0 values.now) id.size e }
 {
     checked.design().source_is_whole();
     checked.design().instances_are_alike();
@@ -235,8 +238,10 @@ pub fn place_set(
 /// Adds the slots that the expression at a place of a design reads, those of indexes too, in the order of the text, to others. For
 /// want of memory it adds some of them. Takes memory.
 pub fn add_reads(checked: &Checked, place: u32, slots: &mut Vec<Slot>) -> Result<(), AllocError>
-    ensures read { OnOk result (slots.new.items ≡ slots.old.items ++ map slot_at (reads (term_at (tables_of checked.now).operands place))) }
-    ensures derived { OnOk result ((m : Module) (e : Expr) → StandsAt checked.now m place e → slots.new.items ≡ slots.old.items ++ map slot_at (reads (expr_term checked.now (scope_of checked.now m) e))) }
+    ensures read { OnOk result (slots.new.items
+        ≡ slots.old.items ++ map slot_at (reads (term_at (tables_of checked.now).operands place))) }
+    ensures derived { OnOk result ((m : Module) (e : Expr) → StandsAt checked.now m place e → slots.new.items
+        ≡ slots.old.items ++ map slot_at (reads (expr_term checked.now (scope_of checked.now m) e))) }
 {
     checked.design().source_is_whole();
     add_slots(checked.tables().operands.as_slice(), place, slots)

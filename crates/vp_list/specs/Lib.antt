@@ -1,3 +1,3 @@
 pub mod Texts
 pub mod Lists
-pub mod Searches
+pub mod laws

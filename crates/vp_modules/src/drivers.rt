@@ -81,7 +81,8 @@ fn driven_in(
     definition: Module,
 ) -> Result<Vec<u32>, AllocError>
     requires { tables.now ≡ tables_in source.now }
-    ensures { IfOk result (λ places. places.items ≡ flat_map (driven_by source.now) (items_in source.now definition)) }
+    ensures { IfOk result (λ places. places.items
+        ≡ flat_map (driven_by source.now) (items_in source.now definition)) }
 {
     let mut places = Vec::new(alloc);
     for item in items_of(source, definition) {

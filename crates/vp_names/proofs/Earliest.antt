@@ -1,6 +1,7 @@
 -- The first of the places that the parts of a list give, found one after another.
 use Rattle.std.proofs.Common.{◌≡◌, ℕ, ◌+◌, ◌<◌, List, ◌∷◌, length, drop, get_or, Option, sym, ap, ◌∙◌, add-one, drop-cons}
-use Rattle.vp_source.specs.Places.{earlier, earliest, earlier-assoc}
+use Rattle.vp_source.specs.Places.{earlier, earliest}
+use Rattle.vp_source.specs.laws.Places.{earlier-assoc}
 
 -- one more place is found
 pub earliest_step :

@@ -5,7 +5,7 @@ use Rattle.std.proofs.lemmas.Option.{slice_get-get_or}
 use Rattle.std.specs.Prelude.{slice_get}
 use Rattle.std.specs.Option.{option_and_then}
 use Rattle.std.specs.Str.{bytes_eq}
-use Rattle.vp_list.specs.Searches.{position-map}
+use Rattle.vp_list.specs.laws.Searches.{position-map}
 use Rattle.vp_source.specs.declared.source.Module.{Module}
 
 -- a module that is in no text, for what stands behind the end of a list

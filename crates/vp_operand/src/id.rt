@@ -13,7 +13,8 @@ pub struct ExprId {
 
 impl Model for ExprId {
     ghost use Rattle.vp_bits.specs.Vector.{IsWidth};
-    ghost use Rattle.vp_operand.specs.Ids.{Sized, inverse_of_view};
+    ghost use Rattle.vp_operand.specs.Ids.{Sized};
+    ghost use Rattle.vp_operand.specs.laws.Ids.{inverse_of_view};
 
     ghost Value = { Sized };
 

@@ -111,8 +111,10 @@ fn literal_at<'a>(
     symbols: &'a [Symbol],
 ) -> Result<Found<'a>, Stop>
     requires { vec_len expressions.old + length symbols.now < 2 ^ 32 }
-    ensures read { Gives (λ found. (found.place, found.depth, expressions.new.items, found.rest.now)) result (literal_into expressions.old.items symbols.now) }
-    ensures lighter { IfOk result (λ found. vec_len expressions.new + length found.rest.now ≤ vec_len expressions.old + length symbols.now) }
+    ensures read { Gives (λ found. (found.place, found.depth, expressions.new.items, found.rest.now))
+        result (literal_into expressions.old.items symbols.now) }
+    ensures lighter { IfOk result (λ found. vec_len expressions.new + length found.rest.now
+        ≤ vec_len expressions.old + length symbols.now) }
     ensures shorter { IfOk result (λ found. length found.rest.now < length symbols.now) }
 {
     let [first, rest @ ..] = symbols else {
@@ -133,10 +135,13 @@ pub fn literal<'a>(
     symbols: &'a [Symbol],
 ) -> Result<Found<'a>, Stop>
     requires { vec_len expressions.old + length symbols.now < 2 ^ 32 }
-    ensures read { Gives (λ found. (found.place, found.depth, expressions.new.items, found.rest.now)) result (literal_into expressions.old.items symbols.now) }
-    ensures found { IfOk result (λ found. (e : Expr) × IsLiteralOf expressions.old.items symbols.now (found.place, found.depth, expressions.new.items, found.rest.now) e) }
+    ensures read { Gives (λ found. (found.place, found.depth, expressions.new.items, found.rest.now))
+        result (literal_into expressions.old.items symbols.now) }
+    ensures found { IfOk result (λ found. (e : Expr) × IsLiteralOf expressions.old.items symbols.now
+        (found.place, found.depth, expressions.new.items, found.rest.now) e) }
     ensures none { IfErr result (λ stop. (stop ≡ NoMemory) ⊎ NoLiteral symbols.now) }
-    ensures lighter { IfOk result (λ found. vec_len expressions.new + length found.rest.now ≤ vec_len expressions.old + length symbols.now) }
+    ensures lighter { IfOk result (λ found. vec_len expressions.new + length found.rest.now
+        ≤ vec_len expressions.old + length symbols.now) }
     ensures shorter { IfOk result (λ found. length found.rest.now < length symbols.now) }
 {
     literal_at(expressions, symbols)
@@ -632,7 +637,8 @@ pub fn expression<'a>(
     ensures read { Gives (λ found. (found.place, found.depth, expressions.new.items, found.rest.now)) result (expr_into depth 0 expressions.old.items symbols.now) }
     ensures found { IfOk result (λ found. (e : Expr) × IsExpressionOf depth expressions.old.items symbols.now (found.place, found.depth, expressions.new.items, found.rest.now) e) }
     ensures none { IfErr result (λ stop. (stop ≡ NoMemory) ⊎ NoExpression depth symbols.now) }
-    ensures lighter { IfOk result (λ found. vec_len expressions.new + length found.rest.now ≤ vec_len expressions.old + length symbols.now) }
+    ensures lighter { IfOk result (λ found. vec_len expressions.new + length found.rest.now
+        ≤ vec_len expressions.old + length symbols.now) }
     ensures shorter { IfOk result (λ found. length found.rest.now < length symbols.now) }
     ensures depth { IfOk result (λ found. found.depth ≤ depth) }
 {
@@ -650,7 +656,8 @@ pub fn selection<'a>(
     ensures read { Gives (λ found. (found.selection, found.depth, expressions.new.items, found.rest.now)) result (selection_into depth expressions.old.items symbols.now) }
     ensures found { IfOk result (λ found. (s : SelectionRead) × IsSelectionOf depth expressions.old.items symbols.now (found.selection, found.depth, expressions.new.items, found.rest.now) s) }
     ensures none { IfErr result (λ stop. (stop ≡ NoMemory) ⊎ NoSelection depth symbols.now) }
-    ensures lighter { IfOk result (λ found. vec_len expressions.new + length found.rest.now ≤ vec_len expressions.old + length symbols.now) }
+    ensures lighter { IfOk result (λ found. vec_len expressions.new + length found.rest.now
+        ≤ vec_len expressions.old + length symbols.now) }
     ensures no_longer { IfOk result (λ found. length found.rest.now ≤ length symbols.now) }
     ensures depth { IfOk result (λ found. found.depth ≤ depth) }
 {

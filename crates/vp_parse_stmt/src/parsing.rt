@@ -740,7 +740,8 @@ fn statement_at<'a>(
     symbols: &'a [Symbol],
 ) -> Result<(u32, &'a [Symbol]), Stop>
     requires { weight arena.old symbols.now < 2 ^ 32 }
-    ensures read { Gives (λ found. (found.0, lists_in arena.new, found.1.now)) result (stmt_into limit depth (lists_in arena.old) symbols.now) }
+    ensures read { Gives (λ found. (found.0, lists_in arena.new, found.1.now))
+        result (stmt_into limit depth (lists_in arena.old) symbols.now) }
     ensures lighter { IfOk result (λ found. weight arena.new found.1.now < weight arena.old symbols.now) }
     ensures shorter { IfOk result (λ found. length found.1.now < length symbols.now) }
 {
@@ -760,8 +761,10 @@ pub fn statement<'a>(
     symbols: &'a [Symbol],
 ) -> Result<(u32, &'a [Symbol]), Stop>
     requires { weight arena.old symbols.now < 2 ^ 32 }
-    ensures read { Gives (λ found. (found.0, lists_in arena.new, found.1.now)) result (stmt_into limit depth (lists_in arena.old) symbols.now) }
-    ensures found { IfOk result (λ found. (s : Stmt) × IsStatementOf limit depth (lists_in arena.old) symbols.now (found.0, lists_in arena.new, found.1.now) s) }
+    ensures read { Gives (λ found. (found.0, lists_in arena.new, found.1.now))
+        result (stmt_into limit depth (lists_in arena.old) symbols.now) }
+    ensures found { IfOk result (λ found. (s : Stmt) × IsStatementOf limit depth (lists_in arena.old) symbols.now
+        (found.0, lists_in arena.new, found.1.now) s) }
     ensures none { IfErr result (λ stop. (stop ≡ NoMemory) ⊎ NoStatement limit depth symbols.now) }
     ensures lighter { IfOk result (λ found. weight arena.new found.1.now < weight arena.old symbols.now) }
     ensures shorter { IfOk result (λ found. length found.1.now < length symbols.now) }

@@ -122,7 +122,8 @@ fn one_name(item: &str) -> Option<(Option<&str>, &str)>
 
 /// The item of two names, the first of which is its module's.
 fn two_names<'a>(module: &'a str, item: &'a str) -> Option<(Option<&'a str>, &'a str)>
-    ensures { option_map (λ n. (option_map (λ m. m.now) n.0, n.1.now)) result ≡ item_named («module».entry.now ∷ item.entry.now ∷ []) }
+    ensures { option_map (λ n. (option_map (λ m. m.now) n.0, n.1.now)) result
+        ≡ item_named («module».entry.now ∷ item.entry.now ∷ []) }
 {
     if is_name(module) && is_name(item) {
         Some((Some(module), item))

@@ -27,7 +27,7 @@ gapless_up from (s ∷ spans) to h =
     omega arith
 
 -- what the spans of modules hold is all from the first place on
-hold_all : {X : Type 0} (span : Module → Span) (xs : List X) (from : ℕ) (ms : List Module) → AreGapless from (map span ms) (length xs) → flat_map (λ m. range_of xs (span m).first (span m).end) ms ≡ drop from xs
+pub hold_all : {X : Type 0} (span : Module → Span) (xs : List X) (from : ℕ) (ms : List Module) → AreGapless from (map span ms) (length xs) → flat_map (λ m. range_of xs (span m).first (span m).end) ms ≡ drop from xs
 hold_all span xs from [] h = sym (ap (λ (n : ℕ). drop n xs) h ∙ drop-length xs)
 hold_all span xs from (m ∷ ms) h =
     let s = span m in

@@ -4,7 +4,8 @@ use Rattle.std.proofs.lemmas.Bool.{and_from, and_parts}
 use Rattle.std.proofs.lemmas.Bool.Decides.{eqb_tells}
 use Rattle.std.specs.List.{list_all}
 use Rattle.vp_source.specs.declared.source.Source.{Source}
-use Rattle.vp_source.specs.Places.{earlier, earliest, earliest-more}
+use Rattle.vp_source.specs.Places.{earlier, earliest}
+use Rattle.vp_source.specs.laws.Places.{earliest-more}
 use Rattle.vp_elab.specs.Tree.{below}
 use Rattle.vp_resolve.specs.declared.fault.ExprError.{ExprError}
 use Rattle.vp_resolve.specs.Checks.{place_if, refused_at}

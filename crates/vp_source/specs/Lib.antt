@@ -9,3 +9,4 @@ pub mod Layout
 pub mod Places
 pub mod Standing
 pub mod Whole
+pub mod laws

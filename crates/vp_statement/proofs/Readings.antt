@@ -1,11 +1,8 @@
 -- What a statement reads that is laid out in a design, and the changes for which it waits, are those of its derivation.
-use Rattle.std.proofs.Common.{◌≡◌, ◌∙◌, ℕ, ◌+◌, ◌≤◌, ◌<◌, Bool, false, cond, eqb, List, [], ◌∷◌, ◌++◌, length, map, take, drop, slice_get, get_or, Option, Some, None, refl, sym, ap, subst, append_assoc, append-nil, arith}
+use Rattle.std.proofs.Common.{◌≡◌, ◌∙◌, ℕ, ◌+◌, ◌≤◌, ◌<◌, Bool, false, cond, eqb, List, [], ◌∷◌, ◌++◌, length, map, take, slice_get, get_or, Option, Some, None, refl, sym, ap, subst, append_assoc, append-nil, arith}
 use Rattle.std.proofs.lemmas.Bool.{eq-eqb, ne_eqb}
 use Rattle.std.proofs.lemmas.List.{get_or-take, get_or_append_left, get_or_push, length-append, length_push}
-use Rattle.std.proofs.lemmas.List.Folds.{drop_split}
-use Rattle.std.proofs.Math.Seq.{drop-length}
-use Rattle.std.specs.List.{filter_map, flat_map, slice_range}
-use Rattle.vp_list.specs.Lists.{range_of}
+use Rattle.std.specs.List.{filter_map}
 use Rattle.vp_source.specs.declared.expression.Selection as chosen
 use Rattle.vp_source.specs.ExprGrammar as expression
 use Rattle.vp_source.specs.declared.statement.Choice.{Choice}
@@ -17,7 +14,7 @@ use Rattle.vp_source.specs.StmtGrammar.{Stmt, Assign, Block, Null, Nonblocking, 
 use Rattle.vp_source.specs.StmtLayout.{Lists, awaited, choices_of, is_wild, put_blocking, put_event, put_hold, put_item, put_items, put_labels, put_stmt, put_stmts, put_target, put_term, put_terms, put_value, with_choices, with_statement}
 use Rattle.vp_source.specs.declared.source.Module.{Module}
 use Rattle.vp_source.specs.Standing.{StatementStandsAt}
-use Rattle.vp_source.specs.Whole.{AreGapless, AreWhole}
+use Rattle.vp_source.specs.Whole.{AreWhole}
 use Rattle.vp_elab.specs.Built.{Elaborated}
 use Rattle.vp_operand.specs.declared.operand.Operand.{Operand}
 use Rattle.vp_operand.specs.declared.operand.Slot.{Slot}
@@ -28,24 +25,13 @@ use Rattle.vp_expr.specs.Awaits.{any_change, awaited_by, awaits_of, body_reads, 
 use Rattle.vp_expr.proofs.Derivations.{has_term}
 use Rattle.vp_resolve.specs.Names.{scope_of}
 use Rattle.vp_resolve.specs.Operands.{operands_of}
-use Rattle.vp_resolve.proofs.Gapless.{gapless_up, in_range}
+use Rattle.vp_resolve.proofs.Gapless.{hold_all}
 use Rattle.vp_source.proofs.GrowingParts.{blocking_grows, choices_grow, event_grows, items_grow, item_grows, labels_grow, longer, statement_grows, stmt_grows, stmts_grow, target_grows, terms_are, value_grows}
 use Rattle.vp_statement.specs.Derived.{AreLabels, AreTerms, IsActionOf, IsChain}
 use Rattle.vp_statement.specs.Reads.{assignment_reads, block_reads, event_awaits, expr_reads, item_reads, items_reads, label_reads, stmt_awaits, stmt_reads, target_reads, terms_of}
 use Rattle.vp_statement.proofs.Bounds.{stmt_from, stmt_last}
 use Rattle.vp_statement.proofs.Derivations as laid
 use Rattle.vp_statement.proofs.Derivations.{cut_behind, derived}
-
--- what the modules hold of statements is all from the first place on
-held : (xs : List Statement) (from : ℕ) (ms : List Module) → AreGapless from (map (λ (m : Module). m.statements) ms) (length xs) → flat_map (λ (m : Module). range_of xs m.statements.first m.statements.end) ms ≡ drop from xs
-held xs from [] h = sym (ap (λ (n : ℕ). drop n xs) h ∙ drop-length xs)
-held xs from (m ∷ ms) h =
-    let s = m.statements in
-    let up = gapless_up s.end (map (λ (m : Module). m.statements) ms) (length xs) h.2 in
-    ap (λ l. l ++ flat_map (λ (m : Module). range_of xs m.statements.first m.statements.end) ms) (in_range xs s.first s.end h.1 up)
-    ∙ ap (λ l. slice_range xs s.first s.end ++ l) (held xs s.end ms h.2)
-    ∙ sym (drop_split xs s.first s.end h.1)
-    ∙ ap (λ (n : ℕ). drop n xs) h.0
 
 -- lists of slots, one behind the other
 both : {a b c e : List Slot} → a ≡ b → c ≡ e → a ++ c ≡ b ++ e
@@ -108,7 +94,7 @@ module _ (d : Elaborated) (m : Module) (number : ℕ) (whole : AreWhole d.source
       let k = length ss in
       let all = statements_of d.source in
       let p = length_push ss n in
-      let is : all ≡ (ss ++ n ∷ []) ++ w.statements.more = held d.source.statements 0 d.source.modules whole.statements ∙ w.statements.is in
+      let is : all ≡ (ss ++ n ∷ []) ++ w.statements.more = hold_all (λ (m : Module). m.statements) d.source.statements 0 d.source.modules whole.statements ∙ w.statements.is in
       let long = ap length is in
       let inside : k < length all = omega (arith, length-append (ss ++ n ∷ []) w.statements.more) in
       let at : get_or all k n ≡ n =

@@ -294,7 +294,8 @@ fn effect_by(
 #[tactic(auto, unfolding(crate::specs::Effects::effect_at))]
 pub fn effect_of(checked: &Checked, values: &Values, instance: ObjectId, place: u32) -> Effect
     ensures effect { result ≡ effect_at checked.now instance (drop instance.0 values.now) place }
-    ensures derived { (m : Module) (s : Stmt) → StatementStandsAt checked.now.source m place s → IsActionOf checked.now m place s }
+    ensures derived { (m : Module) (s : Stmt) → StatementStandsAt checked.now.source m place s
+        → IsActionOf checked.now m place s }
     ensures awaits { (m : Module) (s : Stmt) → StatementStandsAt checked.now.source m place s
         → slice_index_or (awaits_of checked.now (operands_of checked.now)) place []
         ≡ stmt_awaits checked.now (scope_of checked.now m) s }

@@ -1,5 +1,6 @@
 use Rattle.std.proofs.Common.{◌∙◌, ℕ, Option, sym, ap}
-use Rattle.vp_source.specs.Places.{earlier, earliest, earliest-more}
+use Rattle.vp_source.specs.Places.{earlier, earliest}
+use Rattle.vp_source.specs.laws.Places.{earliest-more}
 use Rattle.vp_elab.specs.Tree.{below}
 use Rattle.vp_resolve.specs.Checks.{wide_among}
 use Rattle.vp_resolve.proofs.Fitting.{below-more}

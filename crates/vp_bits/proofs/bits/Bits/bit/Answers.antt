@@ -1,5 +1,5 @@
 use Rattle.std.proofs.Common.{◌<◌, ap, length, arith}
-use Rattle.vp_bits.specs.Words.{length-bits_of}
+use Rattle.vp_bits.specs.laws.Words.{length-bits_of}
 use Rattle.vp_bits.proofs.Vectors.{slice_get-bits_of}
 use Rattle.vp_bits.proofs.bits.Bits.bit.Goals as goal
 

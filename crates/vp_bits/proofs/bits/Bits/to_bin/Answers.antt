@@ -1,6 +1,6 @@
 use Rattle.std.proofs.Common.{◌≡◌, ◌≤◌, ◌<◌, ◌++◌, length, map, reverse, string_bytes, ap, sym, ◌∙◌, arith}
 use Rattle.std.proofs.lemmas.List.{drop_all}
-use Rattle.vp_bits.specs.Words.{length-bits_of}
+use Rattle.vp_bits.specs.laws.Words.{length-bits_of}
 use Rattle.vp_bits.specs.Digits.{digit_of}
 use Rattle.vp_bits.proofs.Writing.{digit_of_below, written_more}
 use Rattle.vp_bits.proofs.bits.Bits.to_bin.Goals as goal

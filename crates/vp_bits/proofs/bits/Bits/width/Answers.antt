@@ -1,5 +1,5 @@
 use Rattle.std.proofs.Common.{sym}
-use Rattle.vp_bits.specs.Words.{length-bits_of}
+use Rattle.vp_bits.specs.laws.Words.{length-bits_of}
 use Rattle.vp_bits.proofs.bits.Bits.width.Goals as goal
 
 pub returns-clause-length : goal.returns-clause-length

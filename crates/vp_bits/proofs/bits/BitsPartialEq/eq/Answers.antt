@@ -2,7 +2,7 @@ use Rattle.std.proofs.Common.{◌≡◌, ◌==◌, ◌&&◌}
 use Rattle.std.specs.Bool.{Decides}
 use Rattle.std.proofs.lemmas.Bool.Decides.{Decides-at, same_from_decides}
 use Rattle.vp_bits.specs.Vector.{same_bits}
-use Rattle.vp_bits.specs.Words.{same_bits-Decides}
+use Rattle.vp_bits.specs.laws.Words.{same_bits-Decides}
 use Rattle.vp_bits.proofs.Vectors.{same_words-Decides}
 use Rattle.vp_bits.proofs.bits.BitsPartialEq.eq.Goals as goal
 

@@ -3,7 +3,7 @@ use Rattle.std.specs.Prelude.{not, string_bytes}
 use Rattle.std.specs.Str.{bytes_eq}
 use Rattle.std.specs.List.{list_any}
 use Rattle.vp_names.specs.Items.{is_among}
-use Rattle.vp_list.specs.Searches.{list_any-map}
+use Rattle.vp_list.specs.laws.Searches.{list_any-map}
 use Rattle.vp_names.proofs.names.Names.add.Goals as goal
 
 pub returns-clause-added : goal.returns-clause-added

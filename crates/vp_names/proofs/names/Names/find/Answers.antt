@@ -1,7 +1,7 @@
 use Rattle.std.proofs.Common.{sym, ◌∙◌, ap, position}
 use Rattle.std.specs.Prelude.{string_bytes}
 use Rattle.std.specs.Str.{bytes_eq}
-use Rattle.vp_list.specs.Searches.{position-map}
+use Rattle.vp_list.specs.laws.Searches.{position-map}
 use Rattle.vp_names.proofs.names.Names.find.Goals as goal
 
 pub returns : goal.returns

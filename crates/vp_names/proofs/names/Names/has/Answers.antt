@@ -2,7 +2,7 @@ use Rattle.std.proofs.Common.{sym, ◌∙◌, ap}
 use Rattle.std.specs.Prelude.{string_bytes}
 use Rattle.std.specs.Str.{bytes_eq}
 use Rattle.vp_names.specs.Items.{is_among}
-use Rattle.vp_list.specs.Searches.{list_any-map}
+use Rattle.vp_list.specs.laws.Searches.{list_any-map}
 use Rattle.vp_names.proofs.names.Names.has.Goals as goal
 
 pub returns : goal.returns
