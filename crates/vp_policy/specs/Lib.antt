@@ -7,3 +7,5 @@ pub mod Members
 pub mod Filter
 pub mod View
 pub mod SeenObjects
+pub mod File
+pub mod Listing

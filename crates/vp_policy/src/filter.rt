@@ -41,7 +41,8 @@ impl Policy {
     /// What is opened to a user at the step to an object: what is granted to him in its envelope, and what viewports
     /// open.
     fn opened(&self, user: UserId, envelope: u8, sight: Sight) -> Rights
-        ensures { set_of result ≡ either (granted (member_at self.now user.0) envelope) (set_of sight.rights) }
+        ensures { set_of result ≡ either (granted (member_at self.now user.0) envelope)
+            (set_of sight.rights) }
     {
         self.granted(user, envelope).either(sight.rights)
     }
@@ -49,7 +50,11 @@ impl Policy {
     /// A denial of a right at the step to an object: by the first viewport that matches it, else by the user's grant
     /// or by the envelope.
     fn denial(&self, user: UserId, envelope: u8, sight: Sight, right: Right) -> Denial
-        ensures { result ≡ record { by = by_first (member_at self.now user.0) envelope sight.viewport; envelope = envelope; right = right } }
+        ensures { result ≡ record {
+          by = by_first (member_at self.now user.0) envelope sight.viewport;
+          envelope = envelope;
+          right = right;
+        } }
     {
         let by = match sight.viewport {
             Some(viewport) => By::Viewport(viewport),
@@ -107,7 +112,8 @@ impl Policy {
     /// Why a right on an object is denied, which he lacks: by the first step of its path at which it is not opened.
     pub fn deny(&self, design: &Design, user: UserId, object: ObjectId, right: Right) -> Denial
         requires { IsSome (denial_at design.now.tree (member_at self.now user.0) right object.0) }
-        ensures { denial_at design.now.tree (member_at self.now user.0) right object.0 ≡ Some result }
+        ensures { denial_at design.now.tree (member_at self.now user.0) right object.0
+            ≡ Some result }
     {
         match self.lacking(design, user, object, right) {
             Some(denial) => denial,
@@ -131,7 +137,9 @@ impl Policy {
         user: UserId,
         scope: Option<ObjectId>,
     ) -> Result<Sequence<u8>, PolicyError>
-        ensures numbers { IfOk result (λ numbers. numbers ≡ filter (is_closed (member_at self.now user.0)) (declared_envelopes design.now.tree (option_map (λ o. o.0) scope))) }
+        ensures numbers { IfOk result
+            (λ numbers. numbers ≡ filter (is_closed (member_at self.now user.0))
+            (declared_envelopes design.now.tree (option_map (λ o. o.0) scope))) }
         ensures err { IsOkUnless result PolicyError.NoMemory }
     {
         let mut numbers = Vec::new(alloc);
@@ -146,7 +154,9 @@ impl Policy {
     /// What is answered to a name that is not listed in a scope: it is denied by the scope's first closed
     /// envelope, the same for a hidden name as for an absent one.
     fn unlisted(&self, design: &Design, user: UserId, scope: Option<ObjectId>) -> Look
-        ensures { result ≡ unlisted (member_at self.now user.0) (filter (is_closed (member_at self.now user.0)) (declared_envelopes design.now.tree (option_map (λ o. o.0) scope))) }
+        ensures { result ≡ unlisted (member_at self.now user.0)
+            (filter (is_closed (member_at self.now user.0))
+            (declared_envelopes design.now.tree (option_map (λ o. o.0) scope))) }
     {
         for envelope in design.envelopes(scope) {
             if self.is_closed(user, *envelope) {
@@ -175,7 +185,9 @@ impl Policy {
         scope: Option<ObjectId>,
         name: &str,
     ) -> Option<ObjectId>
-        ensures { option_map (λ o. o.0) result ≡ listed_in design.now.tree (member_at self.now user.0) (find_in design.now.tree.nodes (option_map (λ o. o.0) scope) name.now) }
+        ensures { option_map (λ o. o.0) result
+            ≡ listed_in design.now.tree (member_at self.now user.0)
+            (find_in design.now.tree.nodes (option_map (λ o. o.0) scope) name.now) }
     {
         match design.find(scope, name) {
             Some(object) if self.is_listed(design, user, object) => Some(object),

@@ -1,4 +1,4 @@
-//! The policy: who may do what with which object, and what is denied to whom.
+//! The policy: its file, who may do what with which object, and what is denied to whom.
 #![tactic(auto)]
 
 mod denial;
@@ -6,10 +6,12 @@ mod fault;
 mod filter;
 mod grant;
 mod policy;
+mod reading;
 mod view;
 
 pub use denial::{By, Denial, Look};
 pub use fault::PolicyError;
 pub use grant::Grant;
 pub use policy::{Policy, User, UserId};
+pub use reading::{USER_LIMIT, read_policy};
 pub use view::{SeenEnvelope, SeenObject, SeenViewport, View};

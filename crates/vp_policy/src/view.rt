@@ -180,7 +180,9 @@ impl Policy {
         numbers: &[Option<u32>],
     ) -> Result<SeenObject, PolicyError>
         requires listed { is_listed_at design.now.tree (member_at self.now user.0) id.0 ≡ true }
-        requires numbers { numbers.now ≡ numbers_from design.now.tree (member_at self.now user.0) 0 (take id.0 design.now.tree.nodes) }
+        requires numbers { numbers.now
+            ≡ numbers_from design.now.tree (member_at self.now user.0) 0
+            (take id.0 design.now.tree.nodes) }
         ensures node { let user : Member = member_at self.now user.0 in
             let before : List Node = take id.0 design.now.tree.nodes in
             IfOk result (λ o. IfSome (slice_get design.now.tree.nodes id.0)
@@ -239,7 +241,9 @@ impl Policy {
         design: &Design,
         user: UserId,
     ) -> Result<Sequence<SeenEnvelope>, PolicyError>
-        ensures envelopes { IfOk result (λ envelopes. map envelope_shown envelopes ≡ seen_envelopes (member_at self.now user.0) 1 design.now.tree.authors) }
+        ensures envelopes { IfOk result
+            (λ envelopes. map envelope_shown envelopes
+            ≡ seen_envelopes (member_at self.now user.0) 1 design.now.tree.authors) }
         ensures err { IsOkUnless result PolicyError.NoMemory }
     {
         let mut envelopes = Vec::new(alloc);

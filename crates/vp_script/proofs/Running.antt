@@ -3,12 +3,12 @@ use Rattle.std.proofs.Common.{◌≡◌, ℕ, ◌-◌, ◌<◌, Bool, true, fals
 use Rattle.std.proofs.lemmas.Bool.{leb-false}
 use Rattle.std.proofs.lemmas.List.{length-append}
 use Rattle.vp_sim.specs.declared.fault.SimError.TheVariants as sim
-use Rattle.vp_present.specs.declared.event.Event.TheVariants as event
-use Rattle.vp_present.specs.declared.fault.WorldError.{WorldError}
-use Rattle.vp_present.specs.declared.fault.WorldError.TheVariants as error
-use Rattle.vp_present.specs.History.{is_log_full, refusal_of, state_behind}
-use Rattle.vp_present.specs.Worlds.{Logged, Opening, State}
-use Rattle.vp_script.specs.Scripts.{next_event, next_event_by, refused_by, with_entry}
+use Rattle.vp_world.specs.declared.event.Event.TheVariants as event
+use Rattle.vp_world.specs.declared.fault.WorldError.{WorldError}
+use Rattle.vp_world.specs.declared.fault.WorldError.TheVariants as error
+use Rattle.vp_world.specs.History.{is_log_full, refusal_of, refused_by, state_behind, with_entry}
+use Rattle.vp_world.specs.Worlds.{Logged, Opening, State}
+use Rattle.vp_script.specs.Scripts.{next_event, next_event_by}
 
 -- an event of the simulation that is accepted finds the log not full
 not_full : (opening : Opening) (s : State) (full : Bool) (stepped : Option WorldError) → refusal_of opening full s (next_event_by stepped) ≡ None → full ≡ false

@@ -1,13 +1,13 @@
 -- A kept script serves as the script says.
 use Rattle.std.proofs.Common.{inl, inr, ◌≡◌, ◌∙◌, ℕ, Bool, true, List, [], ◌∷◌, Option, ap}
-use Rattle.vp_dialogue.specs.declared.dialogue.Stage.{Stage}
-use Rattle.vp_dialogue.specs.declared.dialogue.Stage.TheVariants.{Before, Open, Closed}
-use Rattle.vp_present.specs.declared.event.Request.{Request}
-use Rattle.vp_present.specs.declared.reply.Reply.{Reply}
-use Rattle.vp_present.specs.Worlds.{Logged}
+use Rattle.vp_wire.specs.declared.dialogue.Stage.{Stage}
+use Rattle.vp_wire.specs.declared.dialogue.Stage.TheVariants.{Before, Open, Closed}
+use Rattle.vp_world.specs.declared.event.Request.{Request}
+use Rattle.vp_world.specs.declared.reply.Reply.{Reply}
+use Rattle.vp_world.specs.Worlds.{Logged}
 use Rattle.vp_wire.specs.declared.fault.WireError.{WireError}
 use Rattle.vp_wire.specs.declared.fault.WireError.TheVariants as wire
-use Rattle.vp_dialogue.specs.Dialogue.{Stops, Answers, AnswersAll, Calls, Closes, IsWhole, Point, Tells, Turn, turn_of}
+use Rattle.vp_wire.specs.Dialogue.{Stops, Answers, AnswersAll, Calls, Closes, IsWhole, Point, Tells, Turn, turn_of}
 use Rattle.vp_script.specs.declared.keeper.Keeper.{Keeper}
 use Rattle.vp_script.specs.Keeping.{Keeps, script_of}
 use Rattle.vp_script.specs.Scripts.{IsAnswered, IsStopped, Runs, Script, Serves}

@@ -6,7 +6,7 @@ use Rattle.vp_parse.specs.Faults as parse
 use Rattle.vp_names.specs.Faults as elab
 use Rattle.vp_resolve.specs.Faults as expr
 use Rattle.vp_policy.specs.Faults as policy
-use Rattle.vp_present.specs.Faults as world
+use Rattle.vp_world.specs.Faults as world
 use Rattle.vp_wire.specs.Faults as wire
 use Rattle.vp_script.specs.declared.fault.ServeFault.{ServeFault}
 use Rattle.vp_script.specs.declared.fault.ServeFault.TheVariants.{Tokens, Envelopes, Source, Design, Expressions, Policy, World, Lines, BadBundle, ReadFailed, TooLong, NoMemory}

@@ -1,7 +1,7 @@
 -- A script that the program keeps.
 use Rattle.std.specs.Prelude.{◌≡◌, true}
-use Rattle.vp_present.specs.declared.event.Request.{Request}
-use Rattle.vp_present.specs.declared.reply.Reply.{Reply}
+use Rattle.vp_world.specs.declared.event.Request.{Request}
+use Rattle.vp_world.specs.declared.reply.Reply.{Reply}
 use Rattle.vp_script.specs.declared.keeper.Keeper.{Keeper}
 use Rattle.vp_script.specs.Scripts.{Script, Serves}
 

@@ -2,25 +2,25 @@
 use Rattle.std.specs.Prelude.{◌≡◌, ◌⊎◌, ◌<◌, ◌≤◌, IsUtf8, length, ℕ, zero, suc, Bool, true, List, [], ◌∷◌, ◌++◌, Option, Some, None, IsSome, Ok}
 use Rattle.vp_elab.specs.Built.{Elaborated}
 use Rattle.vp_policy.specs.Faults.{Explains}
-use Rattle.vp_policy_file.specs.File.{file_of}
+use Rattle.vp_policy.specs.File.{file_of}
 use Rattle.vp_policy.specs.Users.{Member}
 use Rattle.vp_sim.specs.declared.fault.SimError.TheVariants.{Idle}
-use Rattle.vp_present.specs.declared.event.Event.{Event}
-use Rattle.vp_present.specs.declared.event.Event.TheVariants as event
-use Rattle.vp_present.specs.declared.event.Request.{Request}
-use Rattle.vp_present.specs.declared.event.Request.TheVariants as request
-use Rattle.vp_present.specs.declared.event.SessionId.{SessionId}
-use Rattle.vp_present.specs.declared.fault.WorldError.{WorldError}
-use Rattle.vp_present.specs.declared.fault.WorldError.TheVariants as error
-use Rattle.vp_present.specs.declared.limits.Limits.{Limits}
-use Rattle.vp_present.specs.declared.reply.Refusal.TheVariants as refusal
-use Rattle.vp_present.specs.declared.reply.Reply.{Reply}
-use Rattle.vp_present.specs.declared.reply.Reply.TheVariants as reply
-use Rattle.vp_present.specs.History.{answer, entry_of, refusal_behind, state_behind}
-use Rattle.vp_present.specs.Refusals.{refusal_of_error}
-use Rattle.vp_present.specs.Worlds.{Logged, Opening}
+use Rattle.vp_world.specs.declared.event.Event.{Event}
+use Rattle.vp_world.specs.declared.event.Event.TheVariants as event
+use Rattle.vp_world.specs.declared.event.Request.{Request}
+use Rattle.vp_world.specs.declared.event.Request.TheVariants as request
+use Rattle.vp_world.specs.declared.event.SessionId.{SessionId}
+use Rattle.vp_world.specs.declared.fault.WorldError.{WorldError}
+use Rattle.vp_world.specs.declared.fault.WorldError.TheVariants as error
+use Rattle.vp_world.specs.declared.limits.Limits.{Limits}
+use Rattle.vp_world.specs.declared.reply.Refusal.TheVariants as refusal
+use Rattle.vp_world.specs.declared.reply.Reply.{Reply}
+use Rattle.vp_world.specs.declared.reply.Reply.TheVariants as reply
+use Rattle.vp_world.specs.History.{answered_by, refused_by, with_entry}
+use Rattle.vp_world.specs.Refusals.{refusal_of_error}
+use Rattle.vp_world.specs.Worlds.{Logged, Opening}
 use Rattle.vp_wire.specs.declared.fault.WireError.{WireError}
-use Rattle.vp_dialogue.specs.Dialogue.{Closes, IsWhole, Point, Stops}
+use Rattle.vp_wire.specs.Dialogue.{Closes, IsWhole, Point, Stops}
 use Rattle.vp_script.specs.Bundles.{cut_of}
 use Rattle.vp_script.specs.declared.fault.ServeFault.{ServeFault}
 use Rattle.vp_script.specs.declared.fault.ServeFault.TheVariants as fault
@@ -28,20 +28,12 @@ use Rattle.vp_script.specs.Designs.{IsDesignOf, IsRefusedBy, text_limit}
 
 -- ---- one event
 
--- the refusal of an event by a world; none where it is accepted
-abbrev pub refused_by : Logged → Event → Option WorldError
-refused_by w e = refusal_behind w.opening w.log e
-
--- the world with the entry of an event more
-abbrev pub with_entry : Logged → Event → Logged
-with_entry w e = record w { log = w.log ++ entry_of w.opening (state_behind w.opening w.log) e ∷ [] }
-
 -- what a world does with an event, by its refusal: it answers and logs it, or tells the refusal; or there is no memory, and
 -- nothing happens
 abbrev pub AppliedBy : Option WorldError → Logged → Event → Reply → Logged → Type 0
 AppliedBy (Some e) w happens told v = (told ≡ reply.Error (refusal_of_error e)) × (v ≡ w)
 AppliedBy None w happens told v =
-    ((told ≡ answer w.opening (state_behind w.opening w.log) happens) × (v ≡ with_entry w happens))
+    ((told ≡ answered_by w happens) × (v ≡ with_entry w happens))
     ⊎ ((told ≡ reply.Error refusal.NoMemory) × (v ≡ w))
 
 -- what a world does with an event, if there is one: a request of a session that was not opened is none

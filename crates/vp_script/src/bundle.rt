@@ -8,8 +8,8 @@ use crate::script::{Ran, run_script};
 use crate::sources::{BUNDLE_LIMIT, text_of};
 use std::alloc::Global;
 use std::io::Write;
-use vp_dialogue::Counted;
 use vp_list::first_piece;
+use vp_wire::Counted;
 
 /// A line is `%%`.
 fn is_mark(line: &[u8]) -> bool

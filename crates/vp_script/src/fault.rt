@@ -8,9 +8,9 @@ use vp_names::ElabError;
 use vp_parse::ParseError;
 use vp_policy::PolicyError;
 use vp_pragma::PragmaError;
-use vp_present::WorldError;
 use vp_resolve::ExprError;
 use vp_wire::WireError;
+use vp_world::WorldError;
 
 /// Why a run has ended without success.
 #[derive(Debug, Drop, Error)]

@@ -6,7 +6,7 @@ use crate::sources::{BUNDLE_LIMIT, TEXT_LIMIT, read_at_most, text_of};
 use std::io::BufWriter;
 use std::rt::Files;
 use std::{fs, io};
-use vp_dialogue::Counted;
+use vp_wire::Counted;
 
 /// Runs the script of standard input over the files of a design and a policy; a file that can't be read is `ReadFailed`
 /// (1602), and then the faults are those of `run_script`.

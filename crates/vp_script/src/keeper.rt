@@ -1,14 +1,14 @@
 ghost use Rattle.std.specs.Prelude.{◌≡◌, ◌⊎◌, None, IfErr, IfSome, IsSome, OnErr, OnOk, is_err, false};
-ghost use Rattle.vp_present.specs.declared.fault.WorldError.TheVariants.{NoMemory};
-ghost use Rattle.vp_present.specs.Events.{IsWellFormed};
+ghost use Rattle.vp_world.specs.declared.fault.WorldError.TheVariants.{NoMemory};
+ghost use Rattle.vp_world.specs.Events.{IsWellFormed};
 ghost use Rattle.vp_script.specs.Keeping.{Keeps};
-ghost use Rattle.vp_script.specs.Scripts.{Applied, Runs, event_of, next_event, refused_by, with_entry};
+ghost use Rattle.vp_script.specs.Scripts.{Applied, Runs, event_of, next_event};
+ghost use Rattle.vp_world.specs.History.{refused_by, with_entry};
 
 use std::alloc::AllocError;
-use vp_dialogue::Caller;
-use vp_present::{Event, Refusal, Reply, Request, SessionId, WorldError};
 use vp_sim::SimError;
-use vp_world::World;
+use vp_wire::Caller;
+use vp_world::{Event, Refusal, Reply, Request, SessionId, World, WorldError};
 
 /// The event of a request; none where it is of a session and none was opened.
 fn event_of(session: Option<SessionId>, request: Request) -> Option<Event>
@@ -40,8 +40,11 @@ fn applied(world: &mut World, event: Option<Event>) -> Reply
 /// Lets the next event of the simulation happen: the first that a step can take, or, where nothing is left to do at the current
 /// time, an advance; or tells why not.
 fn proceed(world: &mut World) -> Result<(), WorldError>
-    ensures ok { OnOk result ((refused_by world.old (next_event world.old) ≡ None) × (world.new ≡ with_entry world.old (next_event world.old))) }
-    ensures refused { IfErr result (λ e. (e ≡ NoMemory) ⊎ IsSome (refused_by world.old (next_event world.old))) }
+    ensures ok { OnOk result
+        ((refused_by world.old (next_event world.old) ≡ None)
+        × (world.new ≡ with_entry world.old (next_event world.old))) }
+    ensures refused { IfErr result
+        (λ e. (e ≡ NoMemory) ⊎ IsSome (refused_by world.old (next_event world.old))) }
     ensures unchanged { OnErr result (world.new ≡ world.old) }
 {
     match world.apply(Event::Step(0)) {

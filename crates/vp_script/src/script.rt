@@ -1,6 +1,6 @@
 ghost use Rattle.std.specs.Prelude.{◌≡◌, ◌≤◌, length, IfErr, IfOk, OnOk, Ok};
 ghost use Rattle.vp_elab.specs.Built.{Elaborated};
-ghost use Rattle.vp_policy_file.specs.File.{file_of};
+ghost use Rattle.vp_policy.specs.File.{file_of};
 ghost use Rattle.vp_script.specs.Keeping.{script_of};
 ghost use Rattle.vp_script.specs.Designs.{IsDesignOf, IsRefusedBy};
 ghost use Rattle.vp_script.specs.Scripts.{EndsBy, IsAnswered, IsOpened, IsPolicyRefusedBy, IsScript, IsStopped, IsUnopened};
@@ -11,17 +11,14 @@ use crate::sources::TEXT_LIMIT;
 use std::alloc::Global;
 use std::io::{Read, Write};
 use std::sync::Arc;
-use vp_dialogue::{Counted, session};
 use vp_elab::{Design, elaborate};
 use vp_expr::{Checked, check};
 use vp_lex::tokens;
 use vp_parse::parse;
-use vp_policy::Policy;
-use vp_policy_file::read_policy;
+use vp_policy::{Policy, read_policy};
 use vp_pragma::envelopes;
-use vp_present::Limits;
-use vp_wire::WireError;
-use vp_world::World;
+use vp_wire::{Counted, WireError, session};
+use vp_world::{Limits, World};
 
 /// How a script ended: at the end of its input.
 #[derive(Clone, Copy, Debug, PartialEq, Eq)]
@@ -50,7 +47,8 @@ fn checked(alloc: Global, text: &str) -> Result<Checked, ServeFault>
 
 /// The policy of a file, for a design.
 fn policy_of(alloc: Global, bytes: &[u8], design: &Design) -> Result<Policy, ServeFault>
-    ensures users { IfOk result (λ policy. file_of (length design.now.tree.authors) bytes.now ≡ Ok policy) }
+    ensures users { IfOk result
+        (λ policy. file_of (length design.now.tree.authors) bytes.now ≡ Ok policy) }
     ensures fits { OnOk result (length bytes.now ≤ TEXT_LIMIT) }
     ensures refused { IfErr result (λ fault. IsPolicyRefusedBy design.now bytes.now fault) }
 {
@@ -111,7 +109,8 @@ pub fn run_script<R: Read, W: Write>(
         (R.remaining reader.old.inner) (R.remaining reader.new.inner)
         (W.contents writer.old.inner) (W.contents writer.new.inner) fault) }
     // A text has one design.
-    ensures one_design { (d e : Elaborated) → IsDesignOf design.now d → IsDesignOf design.now e → d ≡ e }
+    ensures one_design { (d e : Elaborated) → IsDesignOf design.now d → IsDesignOf design.now e
+        → d ≡ e }
 {
     let mut keeper = opened(alloc, design, policy)?;
     match answered(alloc, &mut keeper, reader, writer) {

@@ -34,7 +34,8 @@ pub fn text_of(bytes: &[u8], no_text: ServeFault) -> Result<&str, ServeFault>
     ensures ok { IfOk result (λ text. text.now ≡ bytes.now) }
     ensures accepted { OnOk result ((length bytes.now ≤ TEXT_LIMIT) × IsUtf8 bytes.now) }
     ensures too_long { IfErr result (λ e. TEXT_LIMIT < length bytes.now → e ≡ TooLong) }
-    ensures no_text { IfErr result (λ e. length bytes.now ≤ TEXT_LIMIT → (e ≡ no_text) × (IsUtf8 bytes.now → ⊥)) }
+    ensures no_text { IfErr result (λ e. length bytes.now ≤ TEXT_LIMIT
+        → (e ≡ no_text) × (IsUtf8 bytes.now → ⊥)) }
 {
     if bytes.len() > TEXT_LIMIT {
         return Err(ServeFault::TooLong);

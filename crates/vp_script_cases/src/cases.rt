@@ -1,8 +1,8 @@
 use std::alloc::{AllocError, Global};
 use std::io;
 use std::io::BufRead;
-use vp_dialogue::Counted;
 use vp_script::run_bundle;
+use vp_wire::Counted;
 
 /// The count and the text of a line that stands for so many copies of the text, behind its mark.
 fn copies(line: &str) -> Option<(usize, &str)> {

@@ -1,9 +1,15 @@
 //! The program: it answers a script of request lines about one design under one policy.
 #![tactic(auto)]
 
+mod parser;
+#[cfg(test)]
+mod tests;
+mod words;
+
+use crate::parser::command;
+use crate::words::{Command, Misuse};
 use std::process::ExitCode;
 use std::{env, io};
-use vp_command::{Command, Misuse, command};
 use vp_script::{Ran, ServeFault, run_files, run_input};
 
 /// Prints the fault that ended a run, if one did; the status is 1 then. That there was no memory to let the simulation run on is

@@ -5,7 +5,7 @@
 //! prints. They call `Text::copy`, `tokens`, `string_value`, `envelopes`, `parse`, `elaborate`, `check`, `read_policy`,
 //! `Values::new`, `Sim::new` and `step`, the pushes of `Strata`, `World::new` and `apply`, `Session::handle_by_name`, `vp_json`'s `read`,
 //! `Bits::to_bin`, `request`, `reply_line`, `session`, `run_bundle` and `run_files`. Here stand those that it does not make, and
-//! what tokens, simulations and worlds show by themselves; then dialogues whose reader or writer fails, and command lines.
+//! what tokens, simulations and worlds show by themselves; then dialogues whose reader or writer fails.
 #![tactic(auto)]
 
 #[cfg(test)]

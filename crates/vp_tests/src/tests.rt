@@ -1,5 +1,4 @@
 mod building;
-mod commands;
 mod designs;
 mod dialogues;
 mod simulations;

@@ -68,8 +68,17 @@ impl Session {
         name: &str,
     ) -> Result<u32, VpiError>
         ensures handle { IfOk result (λ handle. handle ≡ suc self.old.handles.newest) }
-        ensures made { IfOk result (λ handle. IsOkAnd (handle_of self.old.handles (look_of design.now.tree (member_at policy.now self.old.user) [] (parts 46 name.now))) (λ o. self.new ≡ record { user = self.old.user; handles = with_handle o self.old.handles })) }
-        ensures refused { IfErr result (λ e. Explains (handle_of self.old.handles (look_of design.now.tree (member_at policy.now self.old.user) [] (parts 46 name.now))) e) }
+        ensures made { IfOk result
+            (λ handle. IsOkAnd (handle_of self.old.handles
+            (look_of design.now.tree (member_at policy.now self.old.user) [] (parts 46 name.now)))
+            (λ o. self.new ≡ record {
+              user = self.old.user;
+              handles = with_handle o self.old.handles;
+            })) }
+        ensures refused { IfErr result
+            (λ e. Explains (handle_of self.old.handles
+            (look_of design.now.tree (member_at policy.now self.old.user) []
+            (parts 46 name.now))) e) }
         ensures unchanged { OnErr result (self.new ≡ self.old) }
     {
         let found = policy.look(design, self.user, None, name);
@@ -111,8 +120,14 @@ impl Session {
         values: &Values,
         handle: u32,
     ) -> Result<Bits, VpiError>
-        ensures ok { IfOk result (λ value. value_of (observer_of design.now.tree (member_at policy.now self.now.user) values.now) (object_of self.now.handles.made handle) ≡ Ok value) }
-        ensures refused { IfErr result (λ e. value_of (observer_of design.now.tree (member_at policy.now self.now.user) values.now) (object_of self.now.handles.made handle) ≡ Err e) }
+        ensures ok { IfOk result
+            (λ value. value_of (observer_of design.now.tree
+            (member_at policy.now self.now.user) values.now)
+            (object_of self.now.handles.made handle) ≡ Ok value) }
+        ensures refused { IfErr result
+            (λ e. value_of (observer_of design.now.tree
+            (member_at policy.now self.now.user) values.now)
+            (object_of self.now.handles.made handle) ≡ Err e) }
     {
         let object = self.object(handle).ok_or(VpiError::BadHandle)?;
         if let Some(denial) = policy.lacking(design, self.user, object, Right::Read) {

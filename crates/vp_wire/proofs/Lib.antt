@@ -1,2 +1,9 @@
 pub mod Meanings
 pub mod LineRows
+pub mod DialogueRows
+pub mod Writing
+pub mod ErrorRows
+pub mod Parting
+pub mod Answering
+pub mod Progressing
+pub mod Ending

@@ -7,9 +7,9 @@ use Rattle.serde_json.proofs.OnLiterals.{serde_json_on_literals}
 use Rattle.vp_bits.specs.declared.bit.Bit.TheVariants.{Zero, One, Unknown, HighImpedance}
 use Rattle.vp_pragma.specs.declared.rights.Right.TheVariants as right
 use Rattle.vp_policy.specs.declared.denial.By.TheVariants as by
-use Rattle.vp_present.specs.declared.event.Request.TheVariants as request
-use Rattle.vp_present.specs.declared.reply.Refusal.TheVariants as refusal
-use Rattle.vp_present.specs.declared.reply.Reply.TheVariants as reply
+use Rattle.vp_world.specs.declared.event.Request.TheVariants as request
+use Rattle.vp_world.specs.declared.reply.Refusal.TheVariants as refusal
+use Rattle.vp_world.specs.declared.reply.Reply.TheVariants as reply
 use Rattle.vp_wire.specs.Lines.{line_of, meaning_of, NotJson, NotRequest, Asks}
 
 done : line_of reply.Done ≡ codes "{\"ok\":true}\n"

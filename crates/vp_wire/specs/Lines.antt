@@ -13,12 +13,12 @@ use Rattle.vp_policy.specs.declared.denial.By.{By}
 use Rattle.vp_policy.specs.declared.denial.By.TheVariants as by
 use Rattle.vp_policy.specs.declared.denial.Denial.{Denial}
 use Rattle.vp_policy.specs.Filter.{run_denied}
-use Rattle.vp_present.specs.declared.event.Request.{Request}
-use Rattle.vp_present.specs.declared.event.Request.TheVariants as request
-use Rattle.vp_present.specs.declared.reply.Refusal.{Refusal}
-use Rattle.vp_present.specs.declared.reply.Reply.{Reply}
-use Rattle.vp_present.specs.declared.reply.Reply.TheVariants as reply
-use Rattle.vp_present.specs.Refusals.{text_of}
+use Rattle.vp_world.specs.declared.event.Request.{Request}
+use Rattle.vp_world.specs.declared.event.Request.TheVariants as request
+use Rattle.vp_world.specs.declared.reply.Refusal.{Refusal}
+use Rattle.vp_world.specs.declared.reply.Reply.{Reply}
+use Rattle.vp_world.specs.declared.reply.Reply.TheVariants as reply
+use Rattle.vp_world.specs.Refusals.{text_of}
 
 -- ---- replies
 

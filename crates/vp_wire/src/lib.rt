@@ -1,10 +1,16 @@
-//! Requests and replies as lines of JSON.
+//! Lines of JSON, and the dialogue over them: lines from a reader, each answered by a line to a writer.
 #![tactic(auto)]
 
+mod counted;
+mod dialogue;
 mod fault;
+mod line;
 mod replies;
 mod requests;
 
+pub use counted::{Counted, Failed};
+pub use dialogue::{Caller, Ended, Stage, TURN_LIMIT, session};
 pub use fault::WireError;
+pub use line::LINE_LIMIT;
 pub use replies::reply_line;
 pub use requests::request;

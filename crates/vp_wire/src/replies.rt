@@ -9,7 +9,7 @@ use serde_json::{Map, Value, put};
 use std::alloc::{AllocError, Global};
 use vp_bits::Bits;
 use vp_policy::{By, Denial};
-use vp_present::{Refusal, Reply};
+use vp_world::{Refusal, Reply};
 
 /// An object of one member.
 fn only(alloc: Global, key: &str, value: Value) -> Result<Value, AllocError>
@@ -62,7 +62,8 @@ fn put_text(
     key: &str,
     text: &str,
 ) -> Result<(), AllocError>
-    ensures { OnOk result (members_view members.new.entries ≡ with_member key.now (string text.now) (members_view members.old.entries)) }
+    ensures { OnOk result (members_view members.new.entries
+        ≡ with_member key.now (string text.now) (members_view members.old.entries)) }
 {
     put(members, alloc, key, Value::try_from_str(alloc, text)?)
 }
@@ -75,7 +76,8 @@ fn denial_members(
     number: u8,
     right: &str,
 ) -> Result<Map<String, Value>, AllocError>
-    ensures { IfOk result (λ m. members_view m.entries ≡ denial_members author.now by.now number None right.now) }
+    ensures { IfOk result (λ m. members_view m.entries
+        ≡ denial_members author.now by.now number None right.now) }
 {
     let mut members = Map::new(alloc);
     put_text(alloc, &mut members, "author", author)?;

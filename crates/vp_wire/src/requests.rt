@@ -9,7 +9,7 @@ use serde_json::Value;
 use std::alloc::{AllocError, Global};
 use vp_json::{ReadError, has_keys, number, read, text};
 use vp_list::Text;
-use vp_present::Request;
+use vp_world::Request;
 
 /// Every time is below this one, in time units.
 const TIME_END: u64 = 1 << 62;
@@ -157,7 +157,8 @@ pub fn request(alloc: Global, line: &[u8]) -> Result<Request, WireError>
     ensures ok { IfOk result (λ r. meaning_of line.now ≡ Asks r) }
     ensures bad_json { IsErrOf result WireError.BadJson → meaning_of line.now ≡ NotJson }
     ensures bad_request { IsErrOf result WireError.BadRequest → meaning_of line.now ≡ NotRequest }
-    ensures err { IfErr result (λ e. (e ≡ WireError.BadJson) ⊎ ((e ≡ WireError.BadRequest) ⊎ (e ≡ WireError.NoMemory))) }
+    ensures err { IfErr result
+        (λ e. (e ≡ WireError.BadJson) ⊎ ((e ≡ WireError.BadRequest) ⊎ (e ≡ WireError.NoMemory))) }
 {
     match read(alloc, line) {
         Ok(value) => request_of(alloc, &value),

@@ -1,1 +1,5 @@
+pub mod Lists
+pub mod Standings
+pub mod Naming
+pub mod WorldRows
 pub mod Logs

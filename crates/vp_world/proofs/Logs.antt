@@ -2,12 +2,12 @@
 use Rattle.std.proofs.Common.{◌≡◌, ◌∙◌, Bool, List, [], ◌∷◌, ◌++◌, Option, Some, None, Result, Err, ℕ, refl, sym, ap, subst, append_assoc, append-nil}
 use Rattle.std.specs.Prelude.{IfErr, fold}
 use Rattle.vp_waking.specs.declared.change.Change.{Change}
-use Rattle.vp_present.specs.declared.fault.WorldError.{WorldError}
-use Rattle.vp_present.specs.declared.reply.Reply.{Reply}
-use Rattle.vp_present.specs.declared.entry.Entry.{Entry}
-use Rattle.vp_present.specs.Events.{IsWellFormed}
-use Rattle.vp_present.specs.History.{Explains, IsLegal, Keeps, after, answer, changed, entry_of, refusal_behind, state_behind}
-use Rattle.vp_present.specs.Worlds.{Opening, Standing, State, start}
+use Rattle.vp_world.specs.declared.fault.WorldError.{WorldError}
+use Rattle.vp_world.specs.declared.reply.Reply.{Reply}
+use Rattle.vp_world.specs.declared.entry.Entry.{Entry}
+use Rattle.vp_world.specs.Events.{IsWellFormed}
+use Rattle.vp_world.specs.History.{Explains, IsLegal, Keeps, after, answer, changed, entry_of, refusal_behind, state_behind}
+use Rattle.vp_world.specs.Worlds.{Opening, Standing, State, start}
 
 -- a left fold of one item more
 pub fold_more : {A B : Type 0} (f : B → A → B) (a : B) (xs : List A) (y : A) → fold f a (xs ++ y ∷ []) ≡ f (fold f a xs) y

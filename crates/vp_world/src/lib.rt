@@ -1,6 +1,18 @@
 //! The world: sessions of users over one design, changed by one event at a time, and the log of these events.
 #![tactic(auto)]
 
+mod entry;
+mod event;
+mod fault;
+mod limits;
+mod present;
+mod reply;
+mod session;
 mod world;
 
+pub use entry::Entry;
+pub use event::{Event, Request, SessionId};
+pub use fault::WorldError;
+pub use limits::Limits;
+pub use reply::{Refusal, Reply};
 pub use world::World;

@@ -1,16 +1,21 @@
-ghost use Rattle.std.specs.Prelude.{◌≡◌, ◌++◌, ◌∷◌, [], None, IfErr, IfOk, IsOkUnless, OnErr, OnOk};
+ghost use Rattle.std.specs.Prelude.{◌≡◌, [], None, IfErr, IfOk, IsOkUnless, OnErr, OnOk};
 ghost use Rattle.std.specs.Arc.{arc_value};
-ghost use Rattle.vp_present.specs.declared.event.Event.TheVariants as event;
-ghost use Rattle.vp_present.specs.declared.fault.WorldError.TheVariants.{NoMemory};
-ghost use Rattle.vp_present.specs.Events.{IsWellFormed};
-ghost use Rattle.vp_present.specs.History.{Explains, IsLegal, answer, entry_of, refusal_behind, state_behind};
+ghost use Rattle.vp_world.specs.declared.event.Event.TheVariants as event;
+ghost use Rattle.vp_world.specs.declared.fault.WorldError.TheVariants.{NoMemory};
+ghost use Rattle.vp_world.specs.Events.{IsWellFormed};
+ghost use Rattle.vp_world.specs.History.{Explains, IsLegal, answered_by, refused_by, with_entry};
 
+use crate::entry::Entry;
+use crate::event::Event;
+use crate::fault::WorldError;
+use crate::limits::Limits;
+use crate::present::Present;
+use crate::reply::Reply;
 use std::alloc::Global;
 use std::marker::Model;
 use std::sync::Arc;
 use vp_expr::Checked;
 use vp_policy::Policy;
-use vp_present::{Entry, Event, Limits, Present, Reply, WorldError};
 
 /// A design with a policy, its simulation, the sessions of its users, and the log of what has happened. A contract sees how it
 /// began and its log, of which its state is a function.
@@ -21,8 +26,8 @@ pub struct World {
 }
 
 impl Model for World {
-    ghost use Rattle.vp_present.specs.History.{Keeps};
-    ghost use Rattle.vp_present.specs.Worlds.{Logged};
+    ghost use Rattle.vp_world.specs.History.{Keeps};
+    ghost use Rattle.vp_world.specs.Worlds.{Logged};
 
     ghost Value = { Logged };
 
@@ -39,7 +44,15 @@ impl World {
         policy: Policy,
         limits: Limits,
     ) -> Result<World, WorldError>
-        ensures world { IfOk result (λ world. world ≡ record { opening = record { design = arc_value checked; users = policy; limits = limits }; log = [] }) }
+        ensures world { IfOk result
+            (λ world. world ≡ record {
+              opening = record {
+                design = arc_value checked;
+                users = policy;
+                limits = limits;
+              };
+              log = [];
+            }) }
         ensures refused { IsOkUnless result NoMemory }
     {
         let present = Present::new(alloc, checked, policy, limits)?;
@@ -63,10 +76,10 @@ impl World {
     /// memory (1307). A refusal leaves the world as it was.
     pub fn apply(&mut self, event: Event) -> Result<Reply, WorldError>
         requires { IsWellFormed event }
-        ensures accepted { OnOk result (refusal_behind self.old.opening self.old.log event ≡ None) }
-        ensures reply { IfOk result (λ reply. reply ≡ answer self.old.opening (state_behind self.old.opening self.old.log) event) }
-        ensures logged { OnOk result (self.new ≡ record { opening = self.old.opening; log = self.old.log ++ entry_of self.old.opening (state_behind self.old.opening self.old.log) event ∷ [] }) }
-        ensures refused { IfErr result (λ e. Explains (refusal_behind self.old.opening self.old.log event) e) }
+        ensures accepted { OnOk result (refused_by self.old event ≡ None) }
+        ensures reply { IfOk result (λ reply. reply ≡ answered_by self.old event) }
+        ensures logged { OnOk result (self.new ≡ with_entry self.old event) }
+        ensures refused { IfErr result (λ e. Explains (refused_by self.old event) e) }
         ensures unchanged { OnErr result (self.new ≡ self.old) }
     {
         match event {
@@ -78,10 +91,10 @@ impl World {
 
     /// The same for a Step, whose entry is made in its place.
     fn apply_step(&mut self, k: usize) -> Result<Reply, WorldError>
-        ensures accepted { OnOk result (refusal_behind self.old.opening self.old.log (event.Step k) ≡ None) }
-        ensures reply { IfOk result (λ reply. reply ≡ answer self.old.opening (state_behind self.old.opening self.old.log) (event.Step k)) }
-        ensures logged { OnOk result (self.new ≡ record { opening = self.old.opening; log = self.old.log ++ entry_of self.old.opening (state_behind self.old.opening self.old.log) (event.Step k) ∷ [] }) }
-        ensures refused { IfErr result (λ e. Explains (refusal_behind self.old.opening self.old.log (event.Step k)) e) }
+        ensures accepted { OnOk result (refused_by self.old (event.Step k) ≡ None) }
+        ensures reply { IfOk result (λ reply. reply ≡ answered_by self.old (event.Step k)) }
+        ensures logged { OnOk result (self.new ≡ with_entry self.old (event.Step k)) }
+        ensures refused { IfErr result (λ e. Explains (refused_by self.old (event.Step k)) e) }
         ensures unchanged { OnErr result (self.new ≡ self.old) }
     {
         let full = self.log.len() >= self.present.log_limit();
@@ -100,10 +113,10 @@ impl World {
 
     /// The same for an Advance.
     fn apply_advance(&mut self) -> Result<Reply, WorldError>
-        ensures accepted { OnOk result (refusal_behind self.old.opening self.old.log event.Advance ≡ None) }
-        ensures reply { IfOk result (λ reply. reply ≡ answer self.old.opening (state_behind self.old.opening self.old.log) event.Advance) }
-        ensures logged { OnOk result (self.new ≡ record { opening = self.old.opening; log = self.old.log ++ entry_of self.old.opening (state_behind self.old.opening self.old.log) event.Advance ∷ [] }) }
-        ensures refused { IfErr result (λ e. Explains (refusal_behind self.old.opening self.old.log event.Advance) e) }
+        ensures accepted { OnOk result (refused_by self.old event.Advance ≡ None) }
+        ensures reply { IfOk result (λ reply. reply ≡ answered_by self.old event.Advance) }
+        ensures logged { OnOk result (self.new ≡ with_entry self.old event.Advance) }
+        ensures refused { IfErr result (λ e. Explains (refused_by self.old event.Advance) e) }
         ensures unchanged { OnErr result (self.new ≡ self.old) }
     {
         let full = self.log.len() >= self.present.log_limit();
@@ -123,10 +136,10 @@ impl World {
     /// The same for any event.
     fn apply_other(&mut self, event: Event) -> Result<Reply, WorldError>
         requires { IsWellFormed event }
-        ensures accepted { OnOk result (refusal_behind self.old.opening self.old.log event ≡ None) }
-        ensures reply { IfOk result (λ reply. reply ≡ answer self.old.opening (state_behind self.old.opening self.old.log) event) }
-        ensures logged { OnOk result (self.new ≡ record { opening = self.old.opening; log = self.old.log ++ entry_of self.old.opening (state_behind self.old.opening self.old.log) event ∷ [] }) }
-        ensures refused { IfErr result (λ e. Explains (refusal_behind self.old.opening self.old.log event) e) }
+        ensures accepted { OnOk result (refused_by self.old event ≡ None) }
+        ensures reply { IfOk result (λ reply. reply ≡ answered_by self.old event) }
+        ensures logged { OnOk result (self.new ≡ with_entry self.old event) }
+        ensures refused { IfErr result (λ e. Explains (refused_by self.old event) e) }
         ensures unchanged { OnErr result (self.new ≡ self.old) }
     {
         let full = self.log.len() >= self.present.log_limit();

@@ -9,8 +9,7 @@ use vp_elab::{Design, elaborate};
 use vp_expr::{Checked, check};
 use vp_lex::tokens;
 use vp_parse::parse;
-use vp_policy::Policy;
-use vp_policy_file::read_policy;
+use vp_policy::{Policy, read_policy};
 use vp_pragma::{Envelopes, envelopes};
 use vp_source::Source;
 

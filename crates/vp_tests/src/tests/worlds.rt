@@ -1,15 +1,14 @@
 //! What a design with a policy answers beside the program: closed envelopes, and a world's limits and log.
 //! The helpers are short and give plain answers, which keeps each test's proof short.
 ghost use Rattle.std.specs.Prelude.{IfSome};
-ghost use Rattle.vp_present.specs.Events.{IsWellFormed};
+ghost use Rattle.vp_world.specs.Events.{IsWellFormed};
 
 use crate::tests::building::{policy_for, shared_of};
 use std::alloc::Global;
 use vp_elab::{Design, ObjectId};
 use vp_list::{Sequence, Text};
 use vp_policy::{Policy, UserId};
-use vp_present::{Event, Limits, Reply, Request, SessionId, WorldError};
-use vp_world::World;
+use vp_world::{Event, Limits, Reply, Request, SessionId, World, WorldError};
 
 /// The README's design. Its objects are `top` (0), `a` (1), `k` (2) and the process (3).
 const DESIGN: &str = "module top;

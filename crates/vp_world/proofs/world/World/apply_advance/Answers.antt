@@ -1,8 +1,8 @@
 use Rattle.std.proofs.Common.{rules, ◌≡◌, ◌++◌, ◌∷◌, [], None, refl, sym}
-use Rattle.vp_present.specs.declared.entry.Entry.{Entry}
-use Rattle.vp_present.specs.declared.event.Event.TheVariants as event
-use Rattle.vp_present.specs.declared.reply.Reply.TheVariants as reply
-use Rattle.vp_present.specs.History.{refusal_behind, state_behind}
+use Rattle.vp_world.specs.declared.entry.Entry.{Entry}
+use Rattle.vp_world.specs.declared.event.Event.TheVariants as event
+use Rattle.vp_world.specs.declared.reply.Reply.TheVariants as reply
+use Rattle.vp_world.specs.History.{refusal_behind, state_behind}
 use Rattle.vp_world.proofs.Logs.{entry_is, keeps_more}
 use Rattle.vp_world.proofs.world.World.apply_advance.Goals as goal
 

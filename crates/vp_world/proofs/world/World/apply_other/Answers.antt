@@ -1,6 +1,6 @@
 use Rattle.std.proofs.Common.{rules, ◌≡◌, ◌++◌, ◌∷◌, [], None, Some, Err}
-use Rattle.vp_present.specs.declared.entry.Entry.{Entry}
-use Rattle.vp_present.specs.History.{refusal_behind, state_behind}
+use Rattle.vp_world.specs.declared.entry.Entry.{Entry}
+use Rattle.vp_world.specs.History.{refusal_behind, state_behind}
 use Rattle.vp_world.proofs.Logs.{entry_is, explained, keeps_more}
 use Rattle.vp_world.proofs.world.World.apply_other.Goals as goal
 

@@ -1,3 +1,0 @@
-pub mod Dialogue
-pub mod Failures
-pub mod Reading

@@ -1,0 +1,29 @@
+use Rattle.std.proofs.Common.{◌≡◌, ◌∙◌, ℕ, List, Err, Ok, ap, length, subst, sym, IfErr, IfOk}
+use Rattle.std.specs.Prelude.{Result}
+use Rattle.serde_json.specs.View.{view}
+use Rattle.vp_policy.specs.declared.fault.PolicyError.{PolicyError}
+use Rattle.vp_policy.specs.Faults.{Explains}
+use Rattle.vp_policy.specs.File.{policy_of}
+use Rattle.vp_policy.specs.Users.{Member}
+use Rattle.vp_policy.proofs.Files.{file_of_json, file_of_other}
+use Rattle.vp_policy.proofs.reading.read_policy.Goals as goal
+
+pub returns-in-Ok-clause-ok : goal.returns-in-Ok-clause-ok
+returns-in-Ok-clause-ok c =
+    let envelopes : ℕ = length c.args.design.now.tree.authors in
+    let read = c.in-Ok.ensures {u = tt} in
+    subst (λ (due : Result (List Member) PolicyError). IfOk c.policy_of.result (λ policy. due ≡ Ok policy))
+    (ap (λ (n : ℕ). policy_of n (view c.in-Ok.file)) c.envelope_count.ensures
+    ∙ sym (file_of_json envelopes c.args.bytes.now (view c.in-Ok.file) read.utf8 read.value)) c.policy_of.ensures.ok
+
+pub returns-in-Ok-clause-refused : goal.returns-in-Ok-clause-refused
+returns-in-Ok-clause-refused c =
+    let envelopes : ℕ = length c.args.design.now.tree.authors in
+    let read = c.in-Ok.ensures {u = tt} in
+    subst (λ (due : Result (List Member) PolicyError). IfErr c.policy_of.result (λ e. Explains due e))
+    (ap (λ (n : ℕ). policy_of n (view c.in-Ok.file)) c.envelope_count.ensures
+    ∙ sym (file_of_json envelopes c.args.bytes.now (view c.in-Ok.file) read.utf8 read.value)) c.policy_of.ensures.refused
+
+pub returns-in-Err-NotJson-clause-refused : goal.returns-in-Err-NotJson-clause-refused
+returns-in-Err-NotJson-clause-refused c =
+    file_of_other (length c.args.design.now.tree.authors) c.args.bytes.now ((c.in-Err-NotJson.ensures {u = tt}).not_json (ap Err c.in-Err-NotJson.field-0-is))

@@ -1,4 +1,0 @@
-pub mod Files
-pub mod FileRows
-pub mod Items
-pub mod Tables

@@ -1,7 +1,0 @@
-use Rattle.std.proofs.Common.{◌≡◌, drop}
-use Rattle.std.specs.List.{list_all}
-use Rattle.vp_policy_file.specs.File.{is_word_byte}
-use Rattle.vp_policy_file.proofs.reading.has_word_bytes.Given as goal
-
-abbrev pub invariant-loop-byte : goal.invariant-loop-byte
-invariant-loop-byte l = list_all is_word_byte (drop l.byte-index l.word) ≡ list_all is_word_byte l.word

@@ -1,4 +1,0 @@
-pub mod Lists
-pub mod Standings
-pub mod Naming
-pub mod WorldRows

@@ -1,9 +1,0 @@
-use Rattle.std.proofs.Common.{rules}
-use Rattle.std.specs.Arc.{arc_value}
-use Rattle.vp_present.proofs.Standings.{fresh_shown}
-use Rattle.vp_present.proofs.present.Present.new.Goals as goal
-
-pub returns-clause-state : goal.returns-clause-state
-returns-clause-state c =
-    fresh_shown (arc_value c.args.checked) c.in-Ok.sim c.args.policy c.args.limits c.new-2.result.items c.in_ok-opens.opens.items
-    (search rules) (search rules) (search rules)

@@ -1,8 +1,0 @@
--- The answer to what is done without more.
-use Rattle.std.specs.Prelude.{None}
-use Rattle.vp_present.specs.declared.present.Answer.{Answer}
-use Rattle.vp_present.specs.declared.reply.Reply.TheVariants as reply
-
--- it is told and kept that it was done, and nothing changed
-abbrev pub done : Answer
-done = record { told = reply.Done; kept = reply.Done; change = None }

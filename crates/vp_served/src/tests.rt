@@ -1,0 +1,42 @@
+//! The command line.
+
+use crate::parser::command;
+use crate::words::{Command, Misuse};
+use std::alloc::Global;
+
+/// The words of a command line, as strings.
+fn words(alloc: Global, line: &[&str]) -> Vec<String> {
+    let mut words = Vec::new(alloc);
+    for word in line {
+        let _pushed = words.push(String::from_str(alloc, word).unwrap_or(String::new(alloc)));
+    }
+    words
+}
+
+/// What a command line asks, in a word.
+fn asked(alloc: Global, line: &[&str]) -> &'static str {
+    match command(alloc, &words(alloc, line)) {
+        Ok(Command::Bundle) => "bundle",
+        Ok(Command::Run { design, policy }) if design == "d.v" && policy == "p.json" => "run",
+        Ok(Command::Show(_)) => "show",
+        Err(Misuse::BadWords(_)) => "misuse",
+        _ => "other",
+    }
+}
+
+#[test]
+fn command_lines(rt: HostRuntime) {
+    let rows: [(&[&str], &str); 8] = [
+        (&["vp_served"], "bundle"),
+        (&["vp_served", "run", "d.v", "p.json"], "run"),
+        (&["vp_served", "--help"], "show"),
+        (&["vp_served", "run", "--help"], "show"),
+        (&["vp_served", "--version"], "show"),
+        (&["vp_served", "run", "d.v"], "misuse"),
+        (&["vp_served", "run", "d.v", "p.json", "q"], "misuse"),
+        (&["vp_served", "walk"], "misuse"),
+    ];
+    for (line, want) in rows {
+        assert_eq!(rt; asked(rt.alloc(), line), want);
+    }
+}

@@ -1,0 +1,36 @@
+use vp_list::Text;
+
+/// What the program's words ask.
+#[derive(Drop)]
+pub enum Command<'a> {
+    /// To run the script of standard input over two files.
+    Run { design: &'a str, policy: &'a str },
+    /// To run the bundle of standard input.
+    Bundle,
+    /// To print the help or the version.
+    Show(Text),
+}
+
+/// Why the program's words are refused.
+#[derive(Drop)]
+pub enum Misuse {
+    /// They ask for nothing that the program does; with the text that says so (1608).
+    BadWords(Text),
+    /// Want of memory (1607).
+    NoMemory,
+}
+
+impl Misuse {
+    ghost use Rattle.std.specs.Prelude.{◌≡◌};
+    ghost use Rattle.vp_served.specs.Misuses.{code_of};
+
+    /// Its number.
+    pub fn code(&self) -> u32
+        ensures { result ≡ code_of self.now }
+    {
+        match self {
+            Misuse::BadWords(_) => 1608,
+            Misuse::NoMemory => 1607,
+        }
+    }
+}

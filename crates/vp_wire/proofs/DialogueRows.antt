@@ -1,0 +1,51 @@
+-- The lines of an input, and what becomes of a request, computed. Each row is an equation that holds by computation.
+use Rattle.std.proofs.Common.{◌≡◌, [], ◌∷◌, refl}
+use Rattle.std.specs.Prelude.{codes}
+use Rattle.vp_world.specs.declared.event.Request.TheVariants as request
+use Rattle.vp_world.specs.declared.reply.Refusal.TheVariants as refusal
+use Rattle.vp_world.specs.declared.reply.Reply.TheVariants as reply
+use Rattle.vp_wire.specs.declared.dialogue.Stage.TheVariants.{Before, Closed, Open}
+use Rattle.vp_wire.specs.Dialogue.{Calls, Tells, lines_of, stage_behind, turn_of_request, whole_lines}
+
+two_lines : lines_of (codes "a\nb\n") ≡ codes "a" ∷ codes "b" ∷ []
+two_lines = refl
+
+-- a last line may lack its newline
+last_line : lines_of (codes "a\nb") ≡ codes "a" ∷ codes "b" ∷ []
+last_line = refl
+
+empty_line : lines_of (codes "\n") ≡ [] ∷ []
+empty_line = refl
+
+no_line : lines_of [] ≡ []
+no_line = refl
+
+before_open : turn_of_request Before request.Time ≡ Tells (codes "not open")
+before_open = refl
+
+opened_once : turn_of_request Open (request.Open (codes "ann") (codes "t1")) ≡ Tells (codes "bad request")
+opened_once = refl
+
+-- behind a close the caller is asked, and says that no session is open
+behind_close : turn_of_request Closed request.Time ≡ Calls request.Time
+behind_close = refl
+
+refused_open : stage_behind Before (request.Open (codes "ann") (codes "t2")) (reply.Error refusal.BadToken) ≡ Before
+refused_open = refl
+
+-- both answers to an `open` are written alike, and behind either the session is open
+opened_open : stage_behind Before (request.Open (codes "ann") (codes "t1")) (reply.Opened (record { user = record { 0 = 0 }; opens = 1 })) ≡ Open
+opened_open = refl
+
+done_open : stage_behind Before (request.Open (codes "ann") (codes "t1")) reply.Done ≡ Open
+done_open = refl
+
+done_close : stage_behind Open request.Close reply.Done ≡ Closed
+done_close = refl
+
+-- a line that was only begun is no whole line
+begun_line : whole_lines (codes "a\nb") ≡ codes "a" ∷ []
+begun_line = refl
+
+ended_line : whole_lines (codes "a\nb\n") ≡ codes "a" ∷ codes "b" ∷ []
+ended_line = refl

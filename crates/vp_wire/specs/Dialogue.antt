@@ -1,0 +1,192 @@
+-- A dialogue: how an input is cut into lines, and what each line is answered (profile).
+use Rattle.std.specs.Prelude.{◌≡◌, ◌⊎◌, ℕ, nat_lt, if◌then◌else◌, List, [], ◌∷◌, ◌++◌, length, Option, codes}
+use Rattle.std.specs.List.{concat}
+use Rattle.std.specs.Io.KnownBytes.{Appends, Consumes, IsAtEnd}
+use Rattle.vp_list.specs.Texts.{parts}
+use Rattle.serde_json.specs.Data.{string}
+use Rattle.serde_json.specs.Written.{compact_text}
+use Rattle.vp_world.specs.declared.event.Request.{Request}
+use Rattle.vp_world.specs.declared.event.Request.TheVariants as request
+use Rattle.vp_world.specs.declared.reply.Reply.{Reply}
+use Rattle.vp_world.specs.declared.reply.Reply.TheVariants as reply
+use Rattle.vp_wire.specs.declared.dialogue.Stage.{Stage}
+use Rattle.vp_wire.specs.declared.dialogue.Stage.TheVariants.{Before, Open, Closed}
+use Rattle.vp_wire.specs.declared.fault.WireError.{WireError}
+use Rattle.vp_wire.specs.declared.fault.WireError.TheVariants as fault
+use Rattle.vp_wire.specs.Lines.{Meaning, NotJson, NotRequest, Asks, line_of, meaning_of, only}
+
+-- ---- lines
+
+-- the lines of what stands between newlines: nothing behind the last newline is no line
+abbrev pub without_empty_end : List (List ℕ) → List (List ℕ)
+without_empty_end [] = []
+without_empty_end ([] ∷ []) = []
+without_empty_end ((b ∷ bs) ∷ []) = (b ∷ bs) ∷ []
+without_empty_end (l ∷ m ∷ ls) = l ∷ without_empty_end (m ∷ ls)
+
+-- the lines of an input; a last line may lack its newline
+abbrev pub lines_of : List ℕ → List (List ℕ)
+lines_of input = without_empty_end (parts 10 input)
+
+-- all but the last
+abbrev pub without_last : List (List ℕ) → List (List ℕ)
+without_last [] = []
+without_last (l ∷ []) = []
+without_last (l ∷ m ∷ ls) = l ∷ without_last (m ∷ ls)
+
+-- the lines of an input that end in a newline
+abbrev pub whole_lines : List ℕ → List (List ℕ)
+whole_lines input = without_last (parts 10 input)
+
+-- the greatest length of a line, in bytes without its newline
+abbrev pub line_limit : ℕ
+line_limit = 65536
+
+-- ---- what a line is answered
+
+-- what becomes of a line: it is answered by an error at once, or the caller is asked
+pub data Turn : Type 0 where
+  Tells : List ℕ → Turn
+  Calls : Request → Turn
+
+-- an `open` is asked once; before it is answered every other request is told that no session is open
+abbrev pub turn_of_request : Stage → Request → Turn
+turn_of_request Before (request.Open user token) = Calls (request.Open user token)
+turn_of_request Open (request.Open user token) = Tells (codes "bad request")
+turn_of_request Closed (request.Open user token) = Tells (codes "bad request")
+turn_of_request Before request.Close = Tells (codes "not open")
+turn_of_request Open request.Close = Calls request.Close
+turn_of_request Closed request.Close = Calls request.Close
+turn_of_request Before (request.Handle name) = Tells (codes "not open")
+turn_of_request Open (request.Handle name) = Calls (request.Handle name)
+turn_of_request Closed (request.Handle name) = Calls (request.Handle name)
+turn_of_request Before (request.Value handle) = Tells (codes "not open")
+turn_of_request Open (request.Value handle) = Calls (request.Value handle)
+turn_of_request Closed (request.Value handle) = Calls (request.Value handle)
+turn_of_request Before (request.Run until) = Tells (codes "not open")
+turn_of_request Open (request.Run until) = Calls (request.Run until)
+turn_of_request Closed (request.Run until) = Calls (request.Run until)
+turn_of_request Before request.Time = Tells (codes "not open")
+turn_of_request Open request.Time = Calls request.Time
+turn_of_request Closed request.Time = Calls request.Time
+
+-- what becomes of a line that is not too long, by what it means
+abbrev pub turn_of_meaning : Stage → Meaning → Turn
+turn_of_meaning stage NotJson = Tells (codes "bad json")
+turn_of_meaning stage NotRequest = Tells (codes "bad request")
+turn_of_meaning stage (Asks r) = turn_of_request stage r
+
+-- what becomes of a line: too long, no JSON, no request, in this order, else by the request
+abbrev pub turn_of : Stage → List ℕ → Turn
+turn_of stage line =
+    if nat_lt line_limit (length line) then Tells (codes "line too long") else turn_of_meaning stage (meaning_of line)
+
+-- the line that tells an error
+abbrev pub error_line : List ℕ → List ℕ
+error_line text = compact_text (only (codes "error") (string text)) ++ 10 ∷ []
+
+-- how far the session is behind a request and its reply: an `open` that was answered ok, in either form, opens it, a `close` that
+-- was done closes it
+abbrev pub stage_behind : Stage → Request → Reply → Stage
+stage_behind stage (request.Open user token) (reply.Opened session) = Open
+stage_behind stage (request.Open user token) reply.Done = Open
+stage_behind stage request.Close reply.Done = Closed
+stage_behind stage r answer = stage
+
+-- ---- a dialogue with a caller
+
+-- a point of a dialogue: how far its session is, and its caller
+pub record Point (C : Type 0) : Type 0 where
+  pub stage : Stage
+  pub caller : C
+
+-- what is written to tell a line: that line, or, where memory runs out, the one that says so
+abbrev pub IsTold : List ℕ → List ℕ → Type 0
+IsTold line told = (told ≡ line) ⊎ (told ≡ error_line (codes "no memory"))
+
+-- a caller is asked, from one point of a dialogue to the next: its reply is told, and opens or closes the session
+pub record Asked {C : Type 0} (calls : C → Request → Reply → C → Type 0) (r : Request) (p : Point C) (told : List ℕ) (q : Point C) : Type 0 where
+  pub reply : Reply
+  pub called : calls p.caller r reply q.caller
+  pub is_told : IsTold (line_of reply) told
+  pub stage : q.stage ≡ stage_behind p.stage r reply
+
+-- a line is answered, from one point of a dialogue to the next: by its error, or by the caller's reply, who is not asked where
+-- there is no memory for the request
+abbrev pub Answers : {C : Type 0} → (C → Request → Reply → C → Type 0) → Turn → Point C → List ℕ → Point C → Type 0
+Answers calls (Tells text) p told q = IsTold (error_line text) told × (q ≡ p)
+Answers calls (Calls r) p told q = Asked calls r p told q ⊎ ((told ≡ error_line (codes "no memory")) × (q ≡ p))
+
+-- lines are answered in turn, each by one text
+abbrev pub AnswersAll : {C : Type 0} → (C → Request → Reply → C → Type 0) → List (List ℕ) → Point C → List (List ℕ) → Point C → Type 0
+AnswersAll calls [] p [] q = q ≡ p
+AnswersAll calls [] p (told ∷ more) q = ⊥
+AnswersAll calls (line ∷ lines) p [] q = ⊥
+AnswersAll {C} calls (line ∷ lines) p (told ∷ more) q =
+    (next : Point C) × Answers calls (turn_of p.stage line) p told next × AnswersAll calls lines next more q
+
+-- at the end of a dialogue an open session is closed, and that reply is not told
+abbrev pub Closes : {C : Type 0} → (C → Request → Reply → C → Type 0) → Stage → C → C → Type 0
+Closes calls Before c d = d ≡ c
+Closes calls Open c d = (reply : Reply) × calls c request.Close reply d
+Closes calls Closed c d = d ≡ c
+
+-- ---- a dialogue over a reader and a writer
+
+-- bytes are a front of others
+abbrev pub IsFront : List ℕ → List ℕ → Type 0
+IsFront front bytes = (rest : List ℕ) × (bytes ≡ front ++ rest)
+
+-- lines are all that an input has
+abbrev pub AreAll : List ℕ → List (List ℕ) → Type 0
+AreAll input lines = lines ≡ lines_of input
+
+-- lines are those of an input that end in a newline
+abbrev pub AreWhole : List ℕ → List (List ℕ) → Type 0
+AreWhole input lines = lines ≡ whole_lines input
+
+-- lines are the first of those of an input
+abbrev pub AreFirst : List ℕ → List (List ℕ) → Type 0
+AreFirst input lines = (more : List (List ℕ)) × (lines_of input ≡ lines ++ more)
+
+-- what goes out: all that was told
+abbrev pub IsOut : List (List ℕ) → List ℕ → Type 0
+IsOut told written = written ≡ concat told
+
+-- what goes out where a writer fails: all that was told, or all but the end of the last line
+abbrev pub IsCutShort : List (List ℕ) → List ℕ → Type 0
+IsCutShort told written = (written ≡ concat told) ⊎ ((before : List (List ℕ)) × (last : List ℕ) × (front : List ℕ) ×
+    (told ≡ before ++ last ∷ []) × IsFront front last × (written ≡ concat before ++ front))
+
+-- a dialogue from a caller to a point: what was read of a reader, the lines of that which were answered, what was told to them,
+-- and what of that went out of a writer
+pub record IsDialogue {C : Type 0} (calls : C → Request → Reply → C → Type 0)
+    (are_lines : List ℕ → List (List ℕ) → Type 0) (goes_out : List (List ℕ) → List ℕ → Type 0)
+    (unread still_unread held holds : Option (List ℕ)) (caller : C) (end : Point C) : Type 0 where
+  pub input : List ℕ
+  pub read : Consumes unread still_unread input
+  pub lines : List (List ℕ)
+  pub are_its : are_lines input lines
+  pub told : List (List ℕ)
+  pub answers : AnswersAll calls lines (record { stage = Before; caller = caller }) told end
+  pub written : List ℕ
+  pub is_out : goes_out told written
+  pub appended : Appends held holds written
+
+-- a dialogue that read its input to the end, and answered so many lines: all
+pub record IsWhole {C : Type 0} (calls : C → Request → Reply → C → Type 0)
+    (unread still_unread held holds : Option (List ℕ)) (caller : C) (end : Point C) (answered : ℕ) : Type 0 where
+  pub dialogue : IsDialogue calls AreAll IsOut unread still_unread held holds caller end
+  pub at_end : IsAtEnd still_unread
+  pub count : answered ≡ length dialogue.lines
+
+-- a dialogue that ended by a fault: at one of the reader, and at too many reads, its whole lines were answered; at one of the
+-- writer, those up to the one whose answer did not go out
+abbrev pub Stops : {C : Type 0} → WireError → (C → Request → Reply → C → Type 0) → (unread still_unread held holds : Option (List ℕ)) → C → Point C → Type 0
+Stops fault.ReadFault calls unread still_unread held holds caller end = IsDialogue calls AreWhole IsOut unread still_unread held holds caller end
+Stops fault.TurnLimit calls unread still_unread held holds caller end = IsDialogue calls AreWhole IsOut unread still_unread held holds caller end
+Stops fault.WriteFault calls unread still_unread held holds caller end = IsDialogue calls AreFirst IsCutShort unread still_unread held holds caller end
+Stops fault.LineTooLong calls unread still_unread held holds caller end = ⊥
+Stops fault.BadJson calls unread still_unread held holds caller end = ⊥
+Stops fault.BadRequest calls unread still_unread held holds caller end = ⊥
+Stops fault.NoMemory calls unread still_unread held holds caller end = ⊥

@@ -1,0 +1,239 @@
+-- A world, computed event by event. Each row is an equation that holds by computation.
+use Rattle.std.proofs.Common.{◌≡◌, ℕ, true, false, List, [], ◌∷◌, Option, Some, None, refl}
+use Rattle.std.specs.Prelude.{codes, fold}
+use Rattle.std.specs.Fmt.{digits}
+use Rattle.std.specs.Str.{chars, is_utf8}
+use Rattle.std.proofs.Math.Utf8.{encode}
+use Rattle.vp_bits.specs.declared.bit.Bit.TheVariants.{Unknown, One}
+use Rattle.vp_pragma.specs.declared.rights.Right.TheVariants as right
+use Rattle.vp_pragma.specs.Rights.{nothing, with_right}
+use Rattle.vp_lex.specs.declared.token.Token.{Token}
+use Rattle.vp_lex.specs.declared.token.TokenKind.TheVariants.{Name}
+use Rattle.vp_source.specs.declared.source.Source.{Source}
+use Rattle.vp_source.specs.declared.expression.Expression.TheVariants as expression
+use Rattle.vp_source.specs.declared.expression.Selection.TheVariants as selection
+use Rattle.vp_source.specs.declared.statement.Statement.TheVariants as statement
+use Rattle.vp_source.specs.declared.source.Item.TheVariants as item
+use Rattle.vp_elab.specs.declared.object.Kind.{Kind}
+use Rattle.vp_elab.specs.declared.object.Kind.TheVariants.{Module, Reg, Initial}
+use Rattle.vp_elab.specs.Tree.{Node, Tree}
+use Rattle.vp_operand.specs.Arena.{sizes_in}
+use Rattle.vp_expr.specs.Tables.{tables_of}
+use Rattle.vp_statement.specs.Effects.{effect_at}
+use Rattle.vp_policy.specs.declared.denial.By.TheVariants as by
+use Rattle.vp_policy.specs.Users.{Member}
+use Rattle.vp_world.specs.declared.event.SessionId.{SessionId}
+use Rattle.vp_world.specs.declared.event.Request.TheVariants as request
+use Rattle.vp_world.specs.declared.event.Event.{Event}
+use Rattle.vp_world.specs.declared.event.Event.TheVariants as event
+use Rattle.vp_world.specs.declared.fault.WorldError.TheVariants as error
+use Rattle.vp_world.specs.declared.reply.Refusal.TheVariants as refusal
+use Rattle.vp_world.specs.declared.reply.Reply.{Reply}
+use Rattle.vp_world.specs.declared.reply.Reply.TheVariants as reply
+use Rattle.vp_waking.specs.declared.change.Change.{Change}
+use Rattle.vp_sim.specs.declared.fault.SimError.TheVariants as sim
+use Rattle.vp_world.specs.declared.entry.Entry.{Entry}
+use Rattle.vp_world.specs.Worlds.{Opening, State, start}
+use Rattle.vp_world.specs.History.{IsLegal, after, answer, refusal_of}
+
+-- ---- one module with an envelope, one user, at most one session
+
+abbrev object : List ℕ → ℕ → ℕ → Kind → Node
+object name place envelope kind = record {
+  path =
+      record { name = codes "top"; place = 1; envelope = 0; in_module = None }
+      ∷ record { name = name; place = place; envelope = envelope; in_module = Some (codes "top") }
+      ∷ [];
+  kind = kind;
+  width = 1;
+  lowest = None;
+  line = 2;
+  definition = None;
+}
+
+abbrev tree : Tree
+tree = record {
+  nodes =
+      record {
+        path = record { name = codes "top"; place = 1; envelope = 0; in_module = None } ∷ [];
+        kind = Module;
+        width = 1;
+        lowest = None;
+        line = 1;
+        definition = Some (codes "top");
+      }
+      ∷ object (codes "a") 4 0 Reg
+      ∷ object (codes "k") 14 1 Reg
+      ∷ object (codes "initial@6:3") 19 0 Initial
+      ∷ [];
+  viewports = [];
+  authors = codes "acme" ∷ [];
+}
+
+abbrev word : ℕ → ℕ → Token
+word from to = record { kind = Name; start = from; end = to; line = 1; column = 1; directive = false }
+
+-- `reg a, k; initial begin a = 1 'b1; k = a; end` in a module, of which these lists name the words alone, and where the `initial` stands
+abbrev source : Source
+source = record {
+  text = codes "top a k 'b1";
+  tokens =
+      word 0 3 ∷ word 4 5 ∷ word 6 7 ∷ word 8 11
+      ∷ record { kind = Name; start = 11; end = 11; line = 6; column = 3; directive = false } ∷ [];
+  modules =
+      record {
+        name = 0;
+        items = record { first = 0; end = 3 };
+        ports = 0;
+        statements = record { first = 0; end = 5 };
+        expressions = record { first = 0; end = 2 };
+        terms = record { first = 0; end = 0 };
+        choices = record { first = 0; end = 0 };
+      }
+      ∷ [];
+  connections = [];
+  items = item.Reg 1 None ∷ item.Reg 2 None ∷ item.Initial 4 4 ∷ [];
+  statements =
+      statement.Empty ∷ statement.Assign 1 selection.Whole 0 ∷ statement.Then 0 1 ∷ statement.Assign 2 selection.Whole 1 ∷ statement.Then 2 3 ∷ [];
+  expressions = expression.Literal 9 1 3 ∷ expression.Name 1 selection.Whole ∷ [];
+  terms = [];
+  choices = [];
+}
+
+abbrev ann : Member
+ann = record {
+  name = codes "ann";
+  token = codes "t1";
+  open_set = with_right right.Read (with_right right.List nothing);
+  grants = [];
+  run = true;
+}
+
+abbrev opening : Opening
+opening = record {
+  design = record { source = source; tree = tree };
+  users = ann ∷ [];
+  limits = record { log = 7; book = 65536; sessions = 1 };
+}
+
+abbrev first : SessionId
+first = record { user = record { 0 = 0 }; opens = 1 }
+
+abbrev opens : Event
+opens = event.Open (codes "ann") (codes "t1")
+
+abbrev asks : List ℕ → Event
+asks name = event.Ask first (request.Handle name)
+
+abbrev reads : ℕ → Event
+reads handle = event.Ask first (request.Value handle)
+
+abbrev hidden : Reply
+hidden = reply.Denied (record { by = by.Envelope; envelope = 1; right = right.List }) (codes "acme") None
+
+abbrev runs : Event
+runs = event.Ask first (request.Run 0)
+
+abbrev steps : ℕ → Event
+steps k = event.Step k
+
+-- the state behind these events
+abbrev behind : List Event → State
+behind events = fold (after opening) (start opening) events
+
+-- what an event is answered behind others
+abbrev answered : List Event → Event → Reply
+answered events e = answer opening (behind events) e
+
+-- why an event is refused behind others, whose log is not full
+abbrev refused : List Event → Event → Option error.the_data
+refused events e = refusal_of opening false (behind events) e
+
+opened : answered [] opens ≡ reply.Opened first
+opened = refl
+
+first_handle : answered (opens ∷ []) (asks (codes "top.a")) ≡ reply.Handle 1
+first_handle = refl
+
+second_handle : answered (opens ∷ asks (codes "top.a") ∷ []) (asks (codes "top.a")) ≡ reply.Handle 2
+second_handle = refl
+
+value_read : answered (opens ∷ asks (codes "top.a") ∷ []) (reads 1) ≡ reply.Value (Unknown ∷ [])
+value_read = refl
+
+value_behind_a_step : answered (opens ∷ asks (codes "top.a") ∷ runs ∷ steps 0 ∷ []) (reads 1) ≡ reply.Value (One ∷ [])
+unfolding digits is_utf8 chars encode sizes_in tables_of effect_at
+value_behind_a_step = refl
+
+time_read : answered (opens ∷ []) (event.Ask first request.Time) ≡ reply.Time 0 false
+time_read = refl
+
+hidden_name : answered (opens ∷ []) (asks (codes "top.k")) ≡ hidden
+hidden_name = refl
+
+absent_name : answered (opens ∷ []) (asks (codes "top.zz")) ≡ hidden
+absent_name = refl
+
+unknown_root : answered (opens ∷ []) (asks (codes "zz")) ≡ reply.Error refusal.NoSuchName
+unknown_root = refl
+
+bad_handle : answered (opens ∷ []) (reads 1) ≡ reply.Error refusal.BadHandle
+bad_handle = refl
+
+value_of_a_module : answered (opens ∷ asks (codes "top") ∷ []) (reads 1) ≡ reply.Error refusal.WrongKind
+value_of_a_module = refl
+
+bad_token : refused [] (event.Open (codes "ann") (codes "t2")) ≡ Some error.BadToken
+bad_token = refl
+
+sessions_full : refused (opens ∷ []) opens ≡ Some error.SessionsFull
+sessions_full = refl
+
+-- a wrong token is told before a full house
+bad_token_first : refused (opens ∷ []) (event.Open (codes "ann") (codes "t2")) ≡ Some error.BadToken
+bad_token_first = refl
+
+not_open : refused (opens ∷ event.Close first ∷ []) (reads 1) ≡ Some error.NotOpen
+not_open = refl
+
+-- the next session of a user has the next number
+reopened : answered (opens ∷ event.Close first ∷ []) opens ≡ reply.Opened (record { user = record { 0 = 0 }; opens = 2 })
+reopened = refl
+
+-- without a run nothing moves; then there is one process, with two events
+before_a_run : refused (opens ∷ []) (steps 0) ≡ Some error.BeyondGoal
+before_a_run = refl
+
+advance_before_a_run : refused (opens ∷ []) event.Advance ≡ Some error.BeyondGoal
+advance_before_a_run = refl
+
+no_such_choice : refused (opens ∷ runs ∷ []) (steps 1) ≡ Some (error.Sim sim.NoSuchChoice)
+unfolding digits is_utf8 chars encode sizes_in tables_of effect_at
+no_such_choice = refl
+
+idle : refused (opens ∷ runs ∷ steps 0 ∷ steps 0 ∷ []) (steps 0) ≡ Some (error.Sim sim.Idle)
+unfolding digits is_utf8 chars encode sizes_in tables_of effect_at
+idle = refl
+
+no_future : refused (opens ∷ runs ∷ steps 0 ∷ steps 0 ∷ []) event.Advance ≡ Some (error.Sim sim.Idle)
+unfolding digits is_utf8 chars encode sizes_in tables_of effect_at
+no_future = refl
+
+-- a full log is told before the goal, and behind a session that is not open
+log_full_first : refusal_of opening true (behind (opens ∷ [])) (steps 0) ≡ Some error.LogFull
+log_full_first = refl
+
+not_open_first : refusal_of opening true (behind []) (reads 1) ≡ Some error.NotOpen
+not_open_first = refl
+
+-- a log with the definition's replies is legal
+abbrev entry : Event → Reply → Option Change → Entry
+entry e r change = record { event = e; reply = r; change = change; time = 0; finished = false }
+
+legal :
+    IsLegal opening []
+    (entry opens (reply.Opened first) None ∷ entry (asks (codes "top.k")) hidden None ∷ entry runs reply.Done None
+    ∷ entry (steps 0) reply.Done (Some (record { object = record { 0 = 1 }; value = One ∷ [] }))
+    ∷ entry (event.Close first) reply.Done None ∷ [])
+unfolding digits is_utf8 chars encode sizes_in tables_of effect_at
+legal = (tt, refl, refl, (tt, refl, refl, (tt, refl, refl, (tt, refl, refl, (tt, refl, refl, tt)))))

@@ -1,0 +1,14 @@
+-- The numbers of the refusals of an event.
+use Rattle.std.specs.Prelude.{ℕ}
+use Rattle.vp_world.specs.declared.fault.WorldError.{WorldError}
+use Rattle.vp_world.specs.declared.fault.WorldError.TheVariants.{BadToken, SessionsFull, NotOpen, LogFull, BeyondGoal, Sim, NoMemory}
+
+-- the number of a refusal (profile)
+abbrev pub code_of : WorldError → ℕ
+code_of BadToken = 1302
+code_of SessionsFull = 1301
+code_of NotOpen = 1303
+code_of LogFull = 1304
+code_of BeyondGoal = 1305
+code_of (Sim e) = 1308
+code_of NoMemory = 1307

@@ -1,0 +1,245 @@
+-- The world as a function of its events.
+use Rattle.std.specs.Prelude.{◌≡◌, ℕ, ◌+◌, ◌||◌, nat_le, nat_lt, max, Bool, true, false, if◌then◌else◌, List, [], ◌∷◌, ◌++◌, length, fold, slice_get, slice_index, slice_set, Option, Some, None, option_and_then}
+use Rattle.std.specs.List.{remove}
+use Rattle.std.specs.Option.{option_map_or}
+use Rattle.vp_policy.specs.Users.{Member, login_of, member_at}
+use Rattle.vp_waking.specs.declared.change.Change.{Change}
+use Rattle.vp_sim.specs.States as sim
+use Rattle.vp_vpi.specs.Observers.{Seat, no_handles, observer_of, with_handle}
+use Rattle.vp_world.specs.declared.entry.Entry.{Entry}
+use Rattle.vp_world.specs.declared.event.SessionId.{SessionId}
+use Rattle.vp_world.specs.declared.event.Request.{Request}
+use Rattle.vp_world.specs.declared.event.Event.{Event}
+use Rattle.vp_world.specs.declared.event.Event.TheVariants as event
+use Rattle.vp_world.specs.declared.fault.WorldError.{WorldError}
+use Rattle.vp_world.specs.declared.fault.WorldError.TheVariants as error
+use Rattle.vp_world.specs.declared.reply.Refusal.TheVariants as refusal
+use Rattle.vp_world.specs.declared.reply.Reply.{Reply}
+use Rattle.vp_world.specs.declared.reply.Reply.TheVariants as reply
+use Rattle.vp_world.specs.Events.{IsWellFormed}
+use Rattle.vp_world.specs.Worlds.{Logged, Opening, SessionState, Standing, State, index_of, start}
+use Rattle.vp_world.specs.Answers.{Outlook, goal_by, made_by, reply_to}
+
+-- ---- refusals
+
+-- there is no room for a session of a user: as many are open as there may be, or no count of 64 bits is left (profile)
+abbrev pub is_full : Opening → State → ℕ → Bool
+is_full opening s u =
+    nat_le opening.limits.sessions (length s.sessions) || nat_le 18446744073709551615 (slice_index s.opens u)
+
+-- the log is full (profile)
+abbrev pub refusal_of_log : Bool → Option WorldError
+refusal_of_log full = if full then Some error.LogFull else None
+
+-- why an opening is refused: a wrong name or token, too many sessions, then a full log (profile)
+abbrev pub refusal_of_open : Opening → Bool → State → Option ℕ → Option WorldError
+refusal_of_open opening full s None = Some error.BadToken
+refusal_of_open opening full s (Some u) = if is_full opening s u then Some error.SessionsFull else refusal_of_log full
+
+-- why an event of a session is refused: it is not open, then a full log (profile)
+abbrev pub refusal_of_session : Bool → Option ℕ → Option WorldError
+refusal_of_session full None = Some error.NotOpen
+refusal_of_session full (Some place) = refusal_of_log full
+
+-- why the simulation refuses a step, if it does
+abbrev pub refusal_of_outcome : sim.Outcome → Option WorldError
+refusal_of_outcome (sim.Goes run change) = None
+refusal_of_outcome (sim.Refuses e) = Some (error.Sim e)
+
+-- a time lies beyond the goal; each does where there is none (profile)
+abbrev pub is_beyond : Option ℕ → ℕ → Bool
+is_beyond None t = true
+is_beyond (Some goal) t = nat_lt goal t
+
+-- the time of the next event lies beyond the goal; without a goal it does, also where there is no such event (profile)
+abbrev pub is_next_beyond : Option ℕ → Option ℕ → Bool
+is_next_beyond None next = true
+is_next_beyond (Some goal) None = false
+is_next_beyond (Some goal) (Some t) = nat_lt goal t
+
+-- why a step or an advance is refused: a full log, a goal that does not reach so far, then the simulation's refusal (profile)
+abbrev pub refusal_of_step : Bool → Bool → sim.Outcome → Option WorldError
+refusal_of_step full beyond outcome =
+    (if full then Some error.LogFull else
+    (if beyond then Some error.BeyondGoal else refusal_of_outcome outcome))
+
+-- the first refusal of an event that holds, in a state, behind a log that is full or not; none where the event is accepted.
+-- Want of memory is no part of it (profile)
+abbrev pub refusal_of : Opening → Bool → State → Event → Option WorldError
+refusal_of opening full s (event.Open name token) = refusal_of_open opening full s (login_of opening.users name token)
+refusal_of opening full s (event.Ask id request) = refusal_of_session full (index_of s.sessions id)
+refusal_of opening full s (event.Close id) = refusal_of_session full (index_of s.sessions id)
+refusal_of opening full s (event.Step k) = refusal_of_step full (is_beyond s.goal s.run.time) (sim.step s.run k)
+refusal_of opening full s event.Advance =
+    refusal_of_step full (is_next_beyond s.goal (sim.next_time s.run)) (sim.advance s.run)
+
+-- an error is the refusal; where there is none, it is want of memory
+abbrev pub Explains : Option WorldError → WorldError → Type 0
+Explains (Some refusal) e = refusal ≡ e
+Explains None e = e ≡ error.NoMemory
+
+-- ---- what an event that is accepted is answered
+
+-- the name of the next session of a user: how often he has opened one, and one more (profile)
+abbrev pub next_session : State → ℕ → SessionId
+next_session s u = record { user = record { 0 = u }; opens = slice_index s.opens u + 1 }
+
+-- what a session can look up
+abbrev pub outlook_of : Opening → State → Seat → Outlook
+outlook_of opening s seat =
+    let user : Member = member_at opening.users seat.user in
+    record {
+      eyes = observer_of opening.design.tree user s.run.values;
+      may_run = user.run;
+      time = s.run.time;
+      finished = s.run.finished;
+    }
+
+-- the open session of a name
+abbrev pub session_of : List SessionState → SessionId → Option SessionState
+session_of sessions id = option_and_then (slice_get sessions) (index_of sessions id)
+
+-- the reply to a request of an open session
+abbrev pub asked : Opening → State → Option SessionState → Request → Reply
+asked opening s None r = reply.Error refusal.NotOpen
+asked opening s (Some session) r = reply_to (outlook_of opening s session.seat) session.seat.handles r
+
+-- the reply to an event that is accepted
+abbrev pub answer : Opening → State → Event → Reply
+answer opening s (event.Open name token) =
+    option_map_or (λ u. reply.Opened (next_session s u)) (login_of opening.users name token) (reply.Error refusal.BadToken)
+answer opening s (event.Ask id request) = asked opening s (session_of s.sessions id) request
+answer opening s (event.Close id) = reply.Done
+answer opening s (event.Step k) = reply.Done
+answer opening s event.Advance = reply.Done
+
+-- what a step of the simulation changes
+abbrev pub change_of : sim.Outcome → Option Change
+change_of (sim.Goes run change) = change
+change_of (sim.Refuses e) = None
+
+-- what an event that is accepted changes
+abbrev pub changed : State → Event → Option Change
+changed s (event.Open name token) = None
+changed s (event.Ask id request) = None
+changed s (event.Close id) = None
+changed s (event.Step k) = change_of (sim.step s.run k)
+changed s event.Advance = change_of (sim.advance s.run)
+
+-- ---- the state that an event that is accepted leaves
+
+-- the state with one session more, of a user
+abbrev pub opened_by : State → ℕ → State
+opened_by s u = record s {
+  sessions = s.sessions ++ record { id = next_session s u; seat = record { user = u; handles = no_handles } } ∷ [];
+  opens = slice_set s.opens u (slice_index s.opens u + 1);
+}
+
+-- a session with one handle more
+abbrev pub with_handle_of : ℕ → SessionState → SessionState
+with_handle_of object session = record session { seat = record { user = session.seat.user; handles = with_handle object session.seat.handles } }
+
+-- the state with another session in a place
+abbrev pub with_session : State → ℕ → SessionState → State
+with_session s place session = record s { sessions = slice_set s.sessions place session }
+
+-- the later of a goal, if there is one, and a time
+abbrev pub later : Option ℕ → ℕ → ℕ
+later None until = until
+later (Some goal) until = max goal until
+
+-- a goal, raised to a time, if there is one (profile)
+abbrev pub raised : Option ℕ → Option ℕ → Option ℕ
+raised goal None = goal
+raised goal (Some until) = Some (later goal until)
+
+-- the state behind a request of the session in a place: with the handle that it makes, and the goal that it sets
+abbrev pub state_asked : Opening → State → ℕ → Option SessionState → Request → State
+state_asked opening s place None r = s
+state_asked opening s place (Some session) r =
+    let look : Outlook = outlook_of opening s session.seat in
+    option_map_or (λ o. with_session s place (with_handle_of o session)) (made_by look session.seat.handles r)
+    (record s { goal = raised s.goal (goal_by look r) })
+
+-- the state behind a request of a session, which is open in a place
+abbrev pub asked_at : Opening → State → Option ℕ → Request → State
+asked_at opening s None r = s
+asked_at opening s (Some place) r = state_asked opening s place (slice_get s.sessions place) r
+
+-- the state without the session in a place
+abbrev pub closed_at : State → Option ℕ → State
+closed_at s None = s
+closed_at s (Some place) = record s { sessions = remove s.sessions place }
+
+-- the state behind a step of the simulation
+abbrev pub stepped : State → sim.Outcome → State
+stepped s (sim.Goes run change) = record s { run = run }
+stepped s (sim.Refuses e) = s
+
+-- the state behind an event that is accepted
+abbrev pub after : Opening → State → Event → State
+after opening s (event.Open name token) = option_map_or (opened_by s) (login_of opening.users name token) s
+after opening s (event.Ask id request) = asked_at opening s (index_of s.sessions id) request
+after opening s (event.Close id) = closed_at s (index_of s.sessions id)
+after opening s (event.Step k) = stepped s (sim.step s.run k)
+after opening s event.Advance = stepped s (sim.advance s.run)
+
+-- ---- logs
+
+-- the state that a log leads to: a left fold of its events
+abbrev pub state_behind : Opening → List Entry → State
+state_behind opening log = fold (λ s e. after opening s e.event) (start opening) log
+
+-- a log has as many entries as the limit allows (profile)
+abbrev pub is_log_full : Opening → List Entry → Bool
+is_log_full opening log = nat_le opening.limits.log (length log)
+
+-- the refusal of an event behind a log; none where it is accepted
+abbrev pub refusal_behind : Opening → List Entry → Event → Option WorldError
+refusal_behind opening log e = refusal_of opening (is_log_full opening log) (state_behind opening log) e
+
+-- the entry of an event that is accepted in a state: its reply, what it changed, and the time and $finish after it
+abbrev pub entry_of : Opening → State → Event → Entry
+entry_of opening s e =
+    let next : State = after opening s e in
+    record { event = e; reply = answer opening s e; change = changed s e; time = next.run.time; finished = next.run.finished }
+
+-- a log is legal behind another: each entry is that of a well-formed event that is accepted behind those before it
+abbrev pub IsLegal : Opening → List Entry → List Entry → Type 0
+IsLegal opening before [] = Unit {0}
+IsLegal opening before (e ∷ log) =
+    IsWellFormed e.event × (refusal_behind opening before e.event ≡ None)
+    × (e ≡ entry_of opening (state_behind opening before) e.event) × IsLegal opening (before ++ e ∷ []) log
+
+-- a world that stands so has this log: its state is that which the log leads to, and the log is legal
+pub record Keeps (w : Standing) (log : List Entry) : Type 0 where
+  pub state : w.state ≡ state_behind w.opening log
+  pub legal : IsLegal w.opening [] log
+
+-- ---- a world, by its opening and its log
+
+-- the refusal of an event by a world; none where it is accepted
+abbrev pub refused_by : Logged → Event → Option WorldError
+refused_by w e = refusal_behind w.opening w.log e
+
+-- the reply of a world to an event that it accepts
+abbrev pub answered_by : Logged → Event → Reply
+answered_by w e = answer w.opening (state_behind w.opening w.log) e
+
+-- the world with the entry of an event more
+abbrev pub with_entry : Logged → Event → Logged
+with_entry w e = record w { log = w.log ++ entry_of w.opening (state_behind w.opening w.log) e ∷ [] }
+
+-- ---- a world without its log, by how it began and its state
+
+-- the world in another state
+abbrev pub with_state : Standing → State → Standing
+with_state w s = record w { state = s }
+
+-- the refusal of an event, behind a log that is full or not
+abbrev pub refusal_in : Standing → Bool → Event → Option WorldError
+refusal_in w full e = refusal_of w.opening full w.state e
+
+-- the reply to a request of the session in a place
+abbrev pub asked_in : Standing → ℕ → Request → Reply
+asked_in w place r = asked w.opening w.state (slice_get w.state.sessions place) r

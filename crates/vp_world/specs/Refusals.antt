@@ -1,0 +1,30 @@
+-- What a line is told where it is refused.
+use Rattle.std.specs.Prelude.{ℕ, List, codes}
+use Rattle.vp_world.specs.declared.fault.WorldError.{WorldError}
+use Rattle.vp_world.specs.declared.fault.WorldError.TheVariants as error
+use Rattle.vp_world.specs.declared.reply.Refusal.{Refusal}
+use Rattle.vp_world.specs.declared.reply.Refusal.TheVariants.{BadHandle, WrongKind, TooManyHandles, NoSuchName, SessionsFull, BadToken, NotOpen, LogFull, BeyondGoal, Simulation, NoMemory}
+
+-- what a line is told where the world refuses its event (profile)
+abbrev pub refusal_of_error : WorldError → Refusal
+refusal_of_error error.BadToken = BadToken
+refusal_of_error error.SessionsFull = SessionsFull
+refusal_of_error error.NotOpen = NotOpen
+refusal_of_error error.LogFull = LogFull
+refusal_of_error error.BeyondGoal = BeyondGoal
+refusal_of_error (error.Sim e) = Simulation
+refusal_of_error error.NoMemory = NoMemory
+
+-- the text that a line gives for a refusal (profile)
+abbrev pub text_of : Refusal → List ℕ
+text_of BadHandle = codes "bad handle"
+text_of WrongKind = codes "wrong kind"
+text_of TooManyHandles = codes "too many handles"
+text_of NoSuchName = codes "no such name"
+text_of SessionsFull = codes "sessions full"
+text_of BadToken = codes "bad token"
+text_of NotOpen = codes "not open"
+text_of LogFull = codes "log full"
+text_of BeyondGoal = codes "beyond the goal"
+text_of Simulation = codes "simulation"
+text_of NoMemory = codes "no memory"

@@ -1,0 +1,18 @@
+-- What a contract sees of the fields of a world.
+use Rattle.std.specs.Prelude.{ℕ, List, map, Option}
+use Rattle.vp_policy.specs.Users.{Member}
+use Rattle.vp_sim.specs.States as sim
+use Rattle.vp_world.specs.declared.limits.Limits.{Limits}
+use Rattle.vp_world.specs.declared.session.OpenSession.{OpenSession}
+use Rattle.vp_world.specs.Worlds.{SessionState, Standing}
+
+-- an open session
+abbrev pub session_shown : OpenSession → SessionState
+session_shown s = record { id = s.id; seat = s.session }
+
+-- how a world of these fields began, and its state
+abbrev pub shown : sim.State → List Member → Limits → List OpenSession → List ℕ → Option ℕ → Standing
+shown run users limits sessions opens goal = record {
+  opening = record { design = run.design; users = users; limits = limits };
+  state = record { run = run; sessions = map session_shown sessions; opens = opens; goal = goal };
+}

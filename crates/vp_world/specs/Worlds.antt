@@ -1,0 +1,56 @@
+-- A world: how it begins, and its state.
+use Rattle.std.specs.Prelude.{ℕ, ◌==◌, ◌&&◌, Bool, List, [], map, Option, None}
+use Rattle.std.specs.List.{position}
+use Rattle.vp_elab.specs.Built.{Elaborated}
+use Rattle.vp_policy.specs.Users.{Member}
+use Rattle.vp_sim.specs.States as sim
+use Rattle.vp_vpi.specs.Observers.{Seat}
+use Rattle.vp_world.specs.declared.entry.Entry.{Entry}
+use Rattle.vp_world.specs.declared.event.SessionId.{SessionId}
+use Rattle.vp_world.specs.declared.limits.Limits.{Limits}
+
+-- how a world begins: a design, its users and its limits
+pub record Opening : Type 0 where
+  pub design : Elaborated
+  pub users : List Member
+  pub limits : Limits
+
+-- an open session: its name; its user and his handles
+pub record SessionState : Type 0 where
+  pub id : SessionId
+  pub seat : Seat
+
+-- the state of a world: the state of its simulation, its open sessions, how often each user has opened one, and the goal, the
+-- time until which the simulation may run, if there is one (profile)
+pub record State : Type 0 where
+  pub run : sim.State
+  pub sessions : List SessionState
+  pub opens : List ℕ
+  pub goal : Option ℕ
+
+-- how a world began, and its state
+pub record Standing : Type 0 where
+  pub opening : Opening
+  pub state : State
+
+-- a world: how it began, and its log
+pub record Logged : Type 0 where
+  pub opening : Opening
+  pub log : List Entry
+
+-- two sessions' names are the same
+abbrev pub same_session : SessionId → SessionId → Bool
+same_session a b = (a.user.0 == b.user.0) && (a.opens == b.opens)
+
+-- where the open session of a name stands among the open sessions; none where it is not open
+abbrev pub index_of : List SessionState → SessionId → Option ℕ
+index_of sessions id = position (λ s. same_session s.id id) sessions
+
+-- a state in which nothing has happened
+abbrev pub start : Opening → State
+start opening = record {
+  run = sim.start opening.design;
+  sessions = [];
+  opens = map (λ u. 0) opening.users;
+  goal = None;
+}

@@ -1,0 +1,68 @@
+ghost use Rattle.std.specs.Prelude.{◌≡◌};
+ghost use Rattle.vp_world.specs.declared.fault.WorldError.TheVariants.{NoMemory};
+
+use std::alloc::{AllocError, AllocFailed};
+use thiserror::Error;
+use vp_sim::SimError;
+
+/// Why an event is refused. Those of an event are tested in the order in which they stand here, but that a step and an advance
+/// meet the log's limit first.
+#[derive(Clone, Copy, Debug, PartialEq, Eq, Error)]
+pub enum WorldError {
+    /// No user of this name has this token (1302).
+    #[error("bad token")]
+    BadToken,
+    /// As many sessions are open as the limit allows (1301).
+    #[error("sessions full")]
+    SessionsFull,
+    /// The session is not open (1303).
+    #[error("not open")]
+    NotOpen,
+    /// The log has as many entries as the limit allows (1304).
+    #[error("log full")]
+    LogFull,
+    /// No run reaches so far (1305).
+    #[error("beyond the goal")]
+    BeyondGoal,
+    /// The simulation refuses it (1308).
+    #[error("simulation: {0}")]
+    Sim(SimError),
+    /// Want of memory (1307).
+    #[error("no memory")]
+    NoMemory,
+}
+
+impl WorldError {
+    ghost use Rattle.vp_world.specs.Faults.{code_of};
+
+    /// The number of the refusal, 1301 to 1308.
+    pub fn code(&self) -> u32
+        ensures { result ≡ code_of self.now }
+    {
+        match self {
+            WorldError::BadToken => 1302,
+            WorldError::SessionsFull => 1301,
+            WorldError::NotOpen => 1303,
+            WorldError::LogFull => 1304,
+            WorldError::BeyondGoal => 1305,
+            WorldError::Sim(_) => 1308,
+            WorldError::NoMemory => 1307,
+        }
+    }
+}
+
+impl From<AllocError> for WorldError {
+    ghost from_gives = { λ _ e. e ≡ NoMemory };
+
+    fn from(_e: AllocError) -> WorldError {
+        WorldError::NoMemory
+    }
+}
+
+impl<T: Drop> From<AllocFailed<T>> for WorldError {
+    ghost from_gives = { λ _ e. e ≡ NoMemory };
+
+    fn from(_e: AllocFailed<T>) -> WorldError {
+        WorldError::NoMemory
+    }
+}

@@ -1,0 +1,545 @@
+ghost use Rattle.std.specs.Prelude.{◌≡◌, ◌≢◌, ◌<◌, false, true, length, slice_get, slice_index, slice_set, None, Some, IfErr, IfOk, IsOkUnless, OnErr, OnOk};
+ghost use Rattle.std.specs.Arc.{arc_value};
+ghost use Rattle.vp_policy.specs.Filter.{told_of, viewport_object};
+ghost use Rattle.vp_sim.specs.States as sim;
+ghost use Rattle.vp_vpi.specs.declared.fault.VpiError.TheVariants as vpi_error;
+ghost use Rattle.vp_world.specs.declared.event.Event.TheVariants as event;
+ghost use Rattle.vp_world.specs.declared.event.Request.TheVariants as request;
+ghost use Rattle.vp_world.specs.declared.fault.WorldError.TheVariants as world_error;
+ghost use Rattle.vp_world.specs.declared.reply.Reply.TheVariants as reply;
+ghost use Rattle.vp_world.specs.Answers.{refused};
+ghost use Rattle.vp_world.specs.Events.{IsAsked, IsWellFormed};
+ghost use Rattle.vp_world.specs.History.{after, answer, asked_at, asked_in, change_of, changed, closed_at, is_beyond, is_full, is_next_beyond, later, next_session, opened_by, refusal_in, refusal_of_log, refusal_of_session, stepped, with_state};
+ghost use Rattle.vp_sim.specs.States.{IsStep};
+ghost use Rattle.vp_world.specs.Done.{done};
+ghost use Rattle.vp_world.specs.Worlds.{index_of, start};
+
+use crate::event::{Event, Request, SessionId};
+use crate::fault::WorldError;
+use crate::limits::Limits;
+use crate::reply::{Refusal, Reply};
+use crate::session::{OpenSession, place_of};
+use std::alloc::Global;
+use std::marker::Model;
+use std::sync::Arc;
+use vp_elab::Design;
+use vp_expr::Checked;
+use vp_list::Text;
+use vp_policy::{By, Denial, Policy, UserId};
+use vp_sim::Sim;
+use vp_vpi::{Session, VpiError};
+use vp_waking::Change;
+
+/// A world without its log: a design with a policy, its simulation, and the sessions of its users. A contract sees how it began
+/// and its state.
+#[derive(Drop)]
+pub struct Present {
+    alloc: Global,
+    sim: Sim,
+    policy: Policy,
+    limits: Limits,
+    /// Those that are open, in the order in which they were opened.
+    sessions: Vec<OpenSession>,
+    /// How often each user has opened a session, by his number.
+    opens: Vec<u64>,
+    /// Until when the simulation may run, in time units.
+    goal: Option<u64>,
+}
+
+impl Model for Present {
+    ghost use Rattle.vp_world.specs.Shown.{shown};
+    ghost use Rattle.vp_world.specs.Worlds.{Standing};
+
+    ghost Value = { Standing };
+
+    ghost view = { λ w. shown w.sim w.policy w.limits w.sessions.items w.opens.items w.goal };
+}
+
+/// What an event is answered: the reply to be told, the same to be kept, and what the event changed.
+#[derive(Drop)]
+pub struct Answer {
+    pub told: Reply,
+    pub kept: Reply,
+    pub change: Option<Change>,
+}
+
+/// The reply to a request that a session refused; want of memory is the world's.
+fn session_reply(alloc: Global, design: &Design, error: VpiError) -> Result<Reply, WorldError>
+    ensures reply { IfOk result (λ told. told ≡ refused (told_of design.now.tree) error) }
+    ensures told { OnOk result (error ≢ vpi_error.NoMemory) }
+    ensures refused { IsOkUnless result world_error.NoMemory }
+{
+    Ok(match error {
+        VpiError::Denied(denial) => denial_reply(alloc, design, denial)?,
+        VpiError::BadHandle => Reply::Error(Refusal::BadHandle),
+        VpiError::WrongKind => Reply::Error(Refusal::WrongKind),
+        VpiError::TooManyHandles => Reply::Error(Refusal::TooManyHandles),
+        VpiError::NoSuchName => Reply::Error(Refusal::NoSuchName),
+        VpiError::NoMemory => return Err(WorldError::NoMemory),
+    })
+}
+
+/// The object of the viewport that keeps a user out, if one does.
+fn viewport_object(alloc: Global, design: &Design, by: By) -> Result<Option<Text>, WorldError>
+    ensures object { IfOk result (λ object. object ≡ viewport_object design.now.tree.viewports by) }
+    ensures refused { IsOkUnless result world_error.NoMemory }
+{
+    let By::Viewport(number) = by else {
+        return Ok(None);
+    };
+    match design.viewports().get(number) {
+        Some(viewport) => Ok(Some(viewport.object(alloc)?)),
+        None => Ok(None),
+    }
+}
+
+/// The reply of a denial, which names the envelope's author, and the viewport's object.
+fn denial_reply(alloc: Global, design: &Design, denial: Denial) -> Result<Reply, WorldError>
+    ensures reply { IfOk result
+        (λ told. told ≡ reply.Denied denial (told_of design.now.tree denial).0
+        (told_of design.now.tree denial).1) }
+    ensures refused { IsOkUnless result world_error.NoMemory }
+{
+    let author = design.author(denial.envelope);
+    Ok(Reply::Denied {
+        denial,
+        author: Text::copy(alloc, author)?,
+        object: viewport_object(alloc, design, denial.by)?,
+    })
+}
+
+/// The answer to a request that a session refused; want of memory is the world's.
+fn session_answer(alloc: Global, design: &Design, error: VpiError) -> Result<Answer, WorldError>
+    ensures told { IfOk result (λ a. a.told ≡ refused (told_of design.now.tree) error) }
+    ensures kept { IfOk result (λ a. a.kept ≡ refused (told_of design.now.tree) error) }
+    ensures change { IfOk result (λ a. a.change ≡ None) }
+    ensures reason { OnOk result (error ≢ vpi_error.NoMemory) }
+    ensures refused { IsOkUnless result world_error.NoMemory }
+{
+    Ok(Answer {
+        told: session_reply(alloc, design, error)?,
+        kept: session_reply(alloc, design, error)?,
+        change: None,
+    })
+}
+
+/// The answer that it was done.
+fn done() -> Answer
+    ensures { result ≡ done }
+{
+    Answer {
+        told: Reply::Done,
+        kept: Reply::Done,
+        change: None,
+    }
+}
+
+/// The later of a goal, if there is one, and a time.
+fn later(goal: Option<u64>, until: u64) -> u64
+    ensures { result ≡ later goal until }
+{
+    match goal {
+        Some(goal) => goal.max(until),
+        None => until,
+    }
+}
+
+/// The log is not full; else the refusal (1304).
+fn check_log(full: bool) -> Result<(), WorldError>
+    ensures accepted { OnOk result (refusal_of_log full ≡ None) }
+    ensures refused { IfErr result (λ e. refusal_of_log full ≡ Some e) }
+{
+    if full {
+        Err(WorldError::LogFull)
+    } else {
+        Ok(())
+    }
+}
+
+/// Sets how often a user has opened a session.
+fn set_count(opens: &mut Vec<u64>, user: UserId, count: u64)
+    ensures { opens.new.items ≡ slice_set opens.old.items user.0 count }
+{
+    if let Some(place) = opens.get_mut(user.0) {
+        *place = count;
+    }
+}
+
+impl Present {
+    /// A world in which nothing has happened; or want of memory (1307). The policy was read for the design.
+    pub fn new(
+        alloc: Global,
+        checked: Arc<Checked>,
+        policy: Policy,
+        limits: Limits,
+    ) -> Result<Present, WorldError>
+        ensures opening { IfOk result
+            (λ world. world.opening ≡ record {
+              design = arc_value checked;
+              users = policy;
+              limits = limits;
+            }) }
+        ensures state { IfOk result (λ world. world.state ≡ start world.opening) }
+        ensures refused { IsOkUnless result world_error.NoMemory }
+    {
+        let Ok(sim) = Sim::new(alloc, checked) else {
+            return Err(WorldError::NoMemory);
+        };
+        let opens = vec![in alloc; 0u64; policy.count()]?;
+        Ok(Present {
+            alloc,
+            sim,
+            policy,
+            limits,
+            sessions: Vec::new(alloc),
+            opens,
+            goal: None,
+        })
+    }
+
+    /// The most entries of a log.
+    pub fn log_limit(&self) -> usize
+        ensures { result ≡ self.now.opening.limits.log }
+    {
+        self.limits.log
+    }
+
+    /// The current time, in time units.
+    pub fn time(&self) -> u64
+        ensures { result ≡ self.now.state.run.time }
+    {
+        self.sim.time()
+    }
+
+    /// `$finish` was executed.
+    pub fn finished(&self) -> bool
+        ensures { result ≡ self.now.state.run.finished }
+    {
+        self.sim.finished()
+    }
+
+    /// How often a user has opened a session.
+    fn opened(&self, user: UserId) -> u64
+        ensures { result ≡ slice_index self.now.state.opens user.0 }
+    {
+        match self.opens.get(user.0) {
+            Some(count) => *count,
+            None => 0,
+        }
+    }
+
+    /// There is no room for a session of a user.
+    fn is_full(&self, user: UserId) -> bool
+        ensures { result ≡ is_full self.now.opening self.now.state user.0 }
+    {
+        self.sessions.len() >= self.limits.sessions || self.opened(user) == u64::MAX
+    }
+
+    /// The goal does not reach the current time.
+    fn is_beyond(&self) -> bool
+        ensures { result ≡ is_beyond self.now.state.goal self.now.state.run.time }
+    {
+        match self.goal {
+            Some(goal) => goal < self.sim.time(),
+            None => true,
+        }
+    }
+
+    /// The goal does not reach the time of the next event.
+    fn is_next_beyond(&self) -> bool
+        ensures { result ≡ is_next_beyond self.now.state.goal (sim.next_time self.now.state.run) }
+    {
+        let Some(goal) = self.goal else {
+            return true;
+        };
+        match self.sim.next_time() {
+            Some(next) => goal < next,
+            None => false,
+        }
+    }
+
+    /// The first refusal of an event, in a world whose log is full or not (1302, 1301, 1303, 1304, 1305, 1308).
+    pub fn check(&self, event: &Event, full: bool) -> Result<(), WorldError>
+        ensures accepted { OnOk result (refusal_in self.now full event.now ≡ None) }
+        ensures refused { IfErr result (λ e. refusal_in self.now full event.now ≡ Some e) }
+    {
+        match event {
+            Event::Open { user, token } => self.check_open(user.as_str(), token.as_str(), full),
+            Event::Ask { session, .. } | Event::Close { session } => {
+                self.check_session(*session, full)
+            }
+            Event::Step(k) => self.check_step(*k, full),
+            Event::Advance => self.check_advance(full),
+        }
+    }
+
+    fn check_open(&self, name: &str, token: &str, full: bool) -> Result<(), WorldError>
+        ensures accepted { OnOk result
+            (refusal_in self.now full (event.Open name.now token.now) ≡ None) }
+        ensures refused { IfErr result
+            (λ e. refusal_in self.now full (event.Open name.now token.now) ≡ Some e) }
+    {
+        let user = self.policy.login(name, token).ok_or(WorldError::BadToken)?;
+        if self.is_full(user) {
+            return Err(WorldError::SessionsFull);
+        }
+        check_log(full)
+    }
+
+    fn check_session(&self, id: SessionId, full: bool) -> Result<(), WorldError>
+        ensures accepted { OnOk result
+            (refusal_of_session full (index_of self.now.state.sessions id) ≡ None) }
+        ensures refused { IfErr result
+            (λ e. refusal_of_session full (index_of self.now.state.sessions id) ≡ Some e) }
+    {
+        match place_of(self.sessions.as_slice(), id) {
+            Some(_) => check_log(full),
+            None => Err(WorldError::NotOpen),
+        }
+    }
+
+    /// Step k is not refused (1304, 1305, 1308).
+    pub fn check_step(&self, k: usize, full: bool) -> Result<(), WorldError>
+        ensures accepted { OnOk result (refusal_in self.now full (event.Step k) ≡ None) }
+        ensures refused { IfErr result (λ e. refusal_in self.now full (event.Step k) ≡ Some e) }
+    {
+        check_log(full)?;
+        if self.is_beyond() {
+            return Err(WorldError::BeyondGoal);
+        }
+        self.sim.check_step(k).map_err(WorldError::Sim)
+    }
+
+    /// An Advance is not refused (1304, 1305, 1308).
+    pub fn check_advance(&self, full: bool) -> Result<(), WorldError>
+        ensures accepted { OnOk result (refusal_in self.now full event.Advance ≡ None) }
+        ensures refused { IfErr result (λ e. refusal_in self.now full event.Advance ≡ Some e) }
+    {
+        check_log(full)?;
+        if self.is_next_beyond() {
+            return Err(WorldError::BeyondGoal);
+        }
+        self.sim.check_advance().map_err(WorldError::Sim)
+    }
+
+    /// Lets an event happen that is accepted, or is refused for want of memory. A refusal leaves the world as it was.
+    pub fn perform(&mut self, event: &Event) -> Result<Answer, WorldError>
+        requires asked { IsWellFormed event.now }
+        requires accepted { refusal_in self.old false event.now ≡ None }
+        ensures told { IfOk result
+            (λ a. a.told ≡ answer self.old.opening self.old.state event.now) }
+        ensures kept { IfOk result
+            (λ a. a.kept ≡ answer self.old.opening self.old.state event.now) }
+        ensures change { IfOk result (λ a. a.change ≡ changed self.old.state event.now) }
+        ensures after { OnOk result
+            (self.new ≡ with_state self.old (after self.old.opening self.old.state event.now)) }
+        ensures refused { IsOkUnless result world_error.NoMemory }
+        ensures unchanged { OnErr result (self.new ≡ self.old) }
+    {
+        match event {
+            Event::Open { user, token } => match self.policy.login(user.as_str(), token.as_str()) {
+                Some(user) => self.open_for(user),
+                None => unreachable!(),
+            },
+            Event::Ask { session, request } => self.ask(*session, request),
+            Event::Close { session } => Ok(self.close(*session)),
+            Event::Step(k) => Ok(Answer {
+                told: Reply::Done,
+                kept: Reply::Done,
+                change: self.step(*k)?,
+            }),
+            Event::Advance => {
+                self.advance()?;
+                Ok(done())
+            }
+        }
+    }
+
+    /// Opens a session of a user, for which there is room.
+    fn open_for(&mut self, user: UserId) -> Result<Answer, WorldError>
+        requires { is_full self.old.opening self.old.state user.0 ≡ false }
+        ensures told { IfOk result
+            (λ a. a.told ≡ reply.Opened (next_session self.old.state user.0)) }
+        ensures kept { IfOk result
+            (λ a. a.kept ≡ reply.Opened (next_session self.old.state user.0)) }
+        ensures change { IfOk result (λ a. a.change ≡ None) }
+        ensures after { OnOk result
+            (self.new ≡ with_state self.old (opened_by self.old.state user.0)) }
+        ensures refused { IsOkUnless result world_error.NoMemory }
+        ensures unchanged { OnErr result (self.new ≡ self.old) }
+    {
+        let id = SessionId {
+            user,
+            opens: self.opened(user) + 1,
+        };
+        let session = Session::new(self.alloc, user);
+        self.sessions.push(OpenSession { id, session })?;
+        set_count(&mut self.opens, user, id.opens);
+        Ok(Answer {
+            told: Reply::Opened(id),
+            kept: Reply::Opened(id),
+            change: None,
+        })
+    }
+
+    /// Closes a session that is open.
+    fn close(&mut self, id: SessionId) -> Answer
+        requires { refusal_of_session false (index_of self.old.state.sessions id) ≡ None }
+        ensures answer { result ≡ done }
+        ensures after { self.new
+            ≡ with_state self.old (closed_at self.old.state (index_of self.old.state.sessions id)) }
+    {
+        match place_of(self.sessions.as_slice(), id) {
+            Some(place) => {
+                self.sessions.remove(place);
+            }
+            None => unreachable!(),
+        }
+        done()
+    }
+
+    /// Takes the k-th of the events that a step can take, and tells what it changes; or want of memory (1307), which leaves the world as it was.
+    pub fn step(&mut self, k: usize) -> Result<Option<Change>, WorldError>
+        requires { IsStep (sim.step self.old.state.run k) }
+        ensures change { IfOk result
+            (λ change. change ≡ change_of (sim.step self.old.state.run k)) }
+        ensures after { OnOk result
+            (self.new ≡ with_state self.old
+            (stepped self.old.state (sim.step self.old.state.run k))) }
+        ensures refused { IsOkUnless result world_error.NoMemory }
+        ensures unchanged { OnErr result (self.new ≡ self.old) }
+    {
+        match self.sim.step(k) {
+            Ok(change) => Ok(change),
+            Err(_) => Err(WorldError::NoMemory),
+        }
+    }
+
+    /// Goes on to the time of the next event; or want of memory (1307), which leaves the world as it was.
+    pub fn advance(&mut self) -> Result<(), WorldError>
+        ensures change { OnOk result (change_of (sim.advance self.old.state.run) ≡ None) }
+        ensures after { OnOk result
+            (self.new ≡ with_state self.old
+            (stepped self.old.state (sim.advance self.old.state.run))) }
+        ensures refused { IsOkUnless result world_error.NoMemory }
+        ensures unchanged { OnErr result (self.new ≡ self.old) }
+    {
+        match self.sim.advance() {
+            Ok(()) => Ok(()),
+            Err(_) => Err(WorldError::NoMemory),
+        }
+    }
+
+    /// Answers a request of a session that is open.
+    fn ask(&mut self, id: SessionId, request: &Request) -> Result<Answer, WorldError>
+        requires asked { IsAsked request.now }
+        requires is_open { refusal_of_session false (index_of self.old.state.sessions id) ≡ None }
+        ensures told { IfOk result
+            (λ a. a.told ≡ answer self.old.opening self.old.state (event.Ask id request.now)) }
+        ensures kept { IfOk result
+            (λ a. a.kept ≡ answer self.old.opening self.old.state (event.Ask id request.now)) }
+        ensures change { IfOk result (λ a. a.change ≡ None) }
+        ensures after { OnOk result
+            (self.new ≡ with_state self.old
+            (asked_at self.old.opening self.old.state
+            (index_of self.old.state.sessions id) request.now)) }
+        ensures refused { IsOkUnless result world_error.NoMemory }
+        ensures unchanged { OnErr result (self.new ≡ self.old) }
+    {
+        let Some(place) = place_of(self.sessions.as_slice(), id) else {
+            unreachable!()
+        };
+        match request {
+            Request::Handle { name } => self.handle(place, name.as_str()),
+            Request::Value { handle } => self.value(place, *handle),
+            Request::Run { until } => Ok(self.run_until(place, *until)),
+            Request::Time => Ok(self.tell_time()),
+            Request::Open { .. } | Request::Close => unreachable!(),
+        }
+    }
+
+    /// Makes a handle for the session in a place.
+    fn handle(&mut self, place: usize, name: &str) -> Result<Answer, WorldError>
+        requires { place < length self.old.state.sessions }
+        ensures told { IfOk result
+            (λ a. a.told ≡ asked_in self.old place (request.Handle name.now)) }
+        ensures kept { IfOk result
+            (λ a. a.kept ≡ asked_in self.old place (request.Handle name.now)) }
+        ensures change { IfOk result (λ a. a.change ≡ None) }
+        ensures after { OnOk result
+            (self.new ≡ with_state self.old
+            (asked_at self.old.opening self.old.state (Some place) (request.Handle name.now))) }
+        ensures refused { IsOkUnless result world_error.NoMemory }
+        ensures unchanged { OnErr result (self.new ≡ self.old) }
+    {
+        let design = self.sim.design();
+        let session = &mut self.sessions[place].session;
+        match session.handle_by_name(design, &self.policy, name) {
+            Ok(handle) => Ok(Answer {
+                told: Reply::Handle(handle),
+                kept: Reply::Handle(handle),
+                change: None,
+            }),
+            Err(error) => session_answer(self.alloc, design, error),
+        }
+    }
+
+    /// Reads the value of a handle of the session in a place.
+    fn value(&self, place: usize, handle: u32) -> Result<Answer, WorldError>
+        requires { place < length self.now.state.sessions }
+        ensures told { IfOk result (λ a. a.told ≡ asked_in self.now place (request.Value handle)) }
+        ensures kept { IfOk result (λ a. a.kept ≡ asked_in self.now place (request.Value handle)) }
+        ensures change { IfOk result (λ a. a.change ≡ None) }
+        ensures refused { IsOkUnless result world_error.NoMemory }
+    {
+        let design = self.sim.design();
+        let session = &self.sessions[place].session;
+        match session.get_value(design, &self.policy, self.sim.values(), handle) {
+            Ok(value) => Ok(Answer {
+                told: Reply::Value(value),
+                kept: Reply::Value(value),
+                change: None,
+            }),
+            Err(error) => session_answer(self.alloc, design, error),
+        }
+    }
+
+    /// Raises the goal, if the user of the session in a place may let the design run.
+    fn run_until(&mut self, place: usize, until: u64) -> Answer
+        requires { place < length self.old.state.sessions }
+        ensures told { result.told ≡ asked_in self.old place (request.Run until) }
+        ensures kept { result.kept ≡ asked_in self.old place (request.Run until) }
+        ensures change { result.change ≡ None }
+        ensures after { self.new
+            ≡ with_state self.old (asked_at self.old.opening self.old.state (Some place)
+            (request.Run until)) }
+    {
+        let user = self.sessions[place].session.user();
+        if !self.policy.may_run(user) {
+            return Answer {
+                told: Reply::RunDenied,
+                kept: Reply::RunDenied,
+                change: None,
+            };
+        }
+        self.goal = Some(later(self.goal, until));
+        done()
+    }
+
+    /// The current time.
+    fn tell_time(&self) -> Answer
+        ensures told { result.told
+            ≡ reply.Time self.now.state.run.time self.now.state.run.finished }
+        ensures kept { result.kept
+            ≡ reply.Time self.now.state.run.time self.now.state.run.finished }
+        ensures change { result.change ≡ None }
+    {
+        let time = self.sim.time();
+        let finished = self.sim.finished();
+        Answer {
+            told: Reply::Time { time, finished },
+            kept: Reply::Time { time, finished },
+            change: None,
+        }
+    }
+}

@@ -1,0 +1,93 @@
+ghost use Rattle.std.specs.Prelude.{◌≡◌};
+
+use crate::event::SessionId;
+use crate::fault::WorldError;
+use vp_bits::Bits;
+use vp_list::Text;
+use vp_policy::Denial;
+
+/// What a line is told where it is refused.
+#[derive(Clone, Copy, Debug, PartialEq, Eq)]
+pub enum Refusal {
+    BadHandle,
+    WrongKind,
+    TooManyHandles,
+    NoSuchName,
+    SessionsFull,
+    BadToken,
+    NotOpen,
+    LogFull,
+    BeyondGoal,
+    Simulation,
+    NoMemory,
+}
+
+impl Refusal {
+    ghost use Rattle.vp_world.specs.Refusals.{text_of};
+
+    /// The refusal's text in lines.
+    pub fn text(self) -> &'static str
+        ensures { result.now ≡ text_of self }
+    {
+        match self {
+            Refusal::BadHandle => "bad handle",
+            Refusal::WrongKind => "wrong kind",
+            Refusal::TooManyHandles => "too many handles",
+            Refusal::NoSuchName => "no such name",
+            Refusal::SessionsFull => "sessions full",
+            Refusal::BadToken => "bad token",
+            Refusal::NotOpen => "not open",
+            Refusal::LogFull => "log full",
+            Refusal::BeyondGoal => "beyond the goal",
+            Refusal::Simulation => "simulation",
+            Refusal::NoMemory => "no memory",
+        }
+    }
+}
+
+impl From<WorldError> for Refusal {
+    ghost use Rattle.vp_world.specs.Refusals.{refusal_of_error};
+
+    ghost from_gives = { λ error refusal. refusal ≡ refusal_of_error error };
+
+    fn from(error: WorldError) -> Refusal {
+        match error {
+            WorldError::BadToken => Refusal::BadToken,
+            WorldError::SessionsFull => Refusal::SessionsFull,
+            WorldError::NotOpen => Refusal::NotOpen,
+            WorldError::LogFull => Refusal::LogFull,
+            WorldError::BeyondGoal => Refusal::BeyondGoal,
+            WorldError::Sim(_) => Refusal::Simulation,
+            WorldError::NoMemory => Refusal::NoMemory,
+        }
+    }
+}
+
+/// What an event is answered.
+#[derive(Drop)]
+pub enum Reply {
+    /// A session was opened.
+    Opened(SessionId),
+    /// It was done.
+    Done,
+    /// A handle was made.
+    Handle(u32),
+    /// The value of an object.
+    Value(Bits),
+    /// A right is lacking. The author is that of the envelope; the object is that of the viewport, if one keeps the
+    /// user out.
+    Denied {
+        denial: Denial,
+        author: Text,
+        object: Option<Text>,
+    },
+    /// The user may not let the design run.
+    RunDenied,
+    /// The current time, in time units, and whether `$finish` was executed.
+    Time {
+        time: u64,
+        finished: bool,
+    },
+    /// Another refusal.
+    Error(Refusal),
+}

@@ -1,0 +1,32 @@
+ghost use Rattle.std.specs.Prelude.{◌≡◌, ◌<◌, length, map, IfSome};
+ghost use Rattle.vp_world.specs.Shown.{session_shown};
+ghost use Rattle.vp_world.specs.Worlds.{index_of, same_session};
+
+use crate::event::SessionId;
+use vp_vpi::Session;
+
+/// An open session, with its name.
+#[derive(Drop)]
+pub struct OpenSession {
+    pub id: SessionId,
+    pub session: Session,
+}
+
+fn is_same(a: SessionId, b: SessionId) -> bool
+    ensures { result ≡ same_session a b }
+{
+    a.user.0 == b.user.0 && a.opens == b.opens
+}
+
+/// Where the open session of a name stands.
+pub fn place_of(sessions: &[OpenSession], id: SessionId) -> Option<usize>
+    ensures place { result ≡ index_of (map session_shown sessions.now) id }
+    ensures within { IfSome result (λ place. place < length sessions.now) }
+{
+    for place in 0..sessions.len() {
+        if is_same(sessions[place].id, id) {
+            return Some(place);
+        }
+    }
+    None
+}
