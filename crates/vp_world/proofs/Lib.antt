@@ -3,3 +3,4 @@ pub mod Standings
 pub mod Naming
 pub mod WorldRows
 pub mod Logs
+pub mod Outcomes

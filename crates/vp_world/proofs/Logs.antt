@@ -6,8 +6,8 @@ use Rattle.vp_world.specs.declared.fault.WorldError.{WorldError}
 use Rattle.vp_world.specs.declared.reply.Reply.{Reply}
 use Rattle.vp_world.specs.declared.entry.Entry.{Entry}
 use Rattle.vp_world.specs.Events.{IsWellFormed}
-use Rattle.vp_world.specs.History.{Explains, IsLegal, Keeps, after, answer, changed, entry_of, refusal_behind, state_behind}
-use Rattle.vp_world.specs.Worlds.{Opening, Standing, State, start}
+use Rattle.vp_world.specs.History.{Explains, IsLegal, Keeps, after, answer, changed, entry_of, refusal_behind, state_behind, with_entry}
+use Rattle.vp_world.specs.Worlds.{Logged, Opening, Standing, State, start}
 
 -- a left fold of one item more
 pub fold_more : {A B : Type 0} (f : B → A → B) (a : B) (xs : List A) (y : A) → fold f a (xs ++ y ∷ []) ≡ f (fold f a xs) y
@@ -58,3 +58,10 @@ keeps_more w next log more e keeps is added formed accepted entry =
 -- a refusal explains itself
 pub explained : {A : Type 0} (r : Result A WorldError) (e : WorldError) (refusal : Option WorldError) → r ≡ Err e → refusal ≡ Some e → IfErr r (λ x. Explains refusal x)
 explained r e refusal is told = subst (λ x. IfErr x (λ y. Explains refusal y)) (sym is) (subst (λ x. Explains x e) (sym told) refl)
+
+-- and is seen with it
+pub seen_more : (w next : Standing) (log more : List Entry) (e : Entry) (v : Logged) → (let seen : Logged = record { opening = w.opening; log = log } in seen ≡ v) → next ≡ record { opening = w.opening; state = next.state } → more ≡ log ++ e ∷ [] → e ≡ entry_of w.opening (state_behind w.opening log) e.event → (let now : Logged = record { opening = next.opening; log = more } in now ≡ with_entry v e.event)
+seen_more w next log more e v is same added entry =
+    ap (λ (s : Standing). (let now : Logged = record { opening = s.opening; log = more } in now)) same
+    ∙ ap (λ (l : List Entry). (let now : Logged = record { opening = w.opening; log = l } in now)) (added ∙ ap (λ (x : Entry). log ++ x ∷ []) entry)
+    ∙ ap (λ (x : Logged). with_entry x e.event) is

@@ -1,5 +1,7 @@
 -- The numbers of the refusals of an event.
 use Rattle.std.specs.Prelude.{ℕ}
+use Rattle.vp_sim.specs.declared.fault.SimError.{SimError}
+use Rattle.vp_sim.specs.declared.fault.SimError.TheVariants as sim
 use Rattle.vp_world.specs.declared.fault.WorldError.{WorldError}
 use Rattle.vp_world.specs.declared.fault.WorldError.TheVariants.{BadToken, SessionsFull, NotOpen, LogFull, BeyondGoal, Sim, NoMemory}
 
@@ -12,3 +14,8 @@ code_of LogFull = 1304
 code_of BeyondGoal = 1305
 code_of (Sim e) = 1308
 code_of NoMemory = 1307
+
+-- the refusal by an error of the simulation; its want of memory is the world's
+abbrev pub error_of : SimError → WorldError
+error_of sim.NoMemory = NoMemory
+error_of e = Sim e

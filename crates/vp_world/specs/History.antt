@@ -243,3 +243,11 @@ refusal_in w full e = refusal_of w.opening full w.state e
 -- the reply to a request of the session in a place
 abbrev pub asked_in : Standing → ℕ → Request → Reply
 asked_in w place r = asked w.opening w.state (slice_get w.state.sessions place) r
+
+-- the refusal of a step, behind a log that is full or not, by its outcome
+abbrev pub due_step : Standing → Bool → sim.Outcome → Option WorldError
+due_step w full outcome = refusal_of_step full (is_beyond w.state.goal w.state.run.time) outcome
+
+-- the refusal of an advance, behind a log that is full or not, by its outcome
+abbrev pub due_advance : Standing → Bool → sim.Outcome → Option WorldError
+due_advance w full outcome = refusal_of_step full (is_next_beyond w.state.goal (sim.next_time w.state.run)) outcome

@@ -51,6 +51,19 @@ impl WorldError {
     }
 }
 
+impl From<SimError> for WorldError {
+    ghost use Rattle.vp_world.specs.Faults.{error_of};
+
+    ghost from_gives = { λ error refusal. refusal ≡ error_of error };
+
+    fn from(error: SimError) -> WorldError {
+        match error {
+            SimError::NoMemory => WorldError::NoMemory,
+            other => WorldError::Sim(other),
+        }
+    }
+}
+
 impl From<AllocError> for WorldError {
     ghost from_gives = { λ _ e. e ≡ NoMemory };
 

@@ -1,6 +1,7 @@
 ghost use Rattle.std.specs.Prelude.{◌≡◌, ◌≢◌, ◌<◌, false, true, length, slice_get, slice_index, slice_set, None, Some, IfErr, IfOk, IsOkUnless, OnErr, OnOk};
 ghost use Rattle.std.specs.Arc.{arc_value};
 ghost use Rattle.vp_policy.specs.Filter.{told_of, viewport_object};
+ghost use Rattle.vp_policy.specs.Users.{login_of};
 ghost use Rattle.vp_sim.specs.States as sim;
 ghost use Rattle.vp_vpi.specs.declared.fault.VpiError.TheVariants as vpi_error;
 ghost use Rattle.vp_world.specs.declared.event.Event.TheVariants as event;
@@ -8,13 +9,12 @@ ghost use Rattle.vp_world.specs.declared.event.Request.TheVariants as request;
 ghost use Rattle.vp_world.specs.declared.fault.WorldError.TheVariants as world_error;
 ghost use Rattle.vp_world.specs.declared.reply.Reply.TheVariants as reply;
 ghost use Rattle.vp_world.specs.Answers.{refused};
-ghost use Rattle.vp_world.specs.Events.{IsAsked, IsWellFormed};
-ghost use Rattle.vp_world.specs.History.{after, answer, asked_at, asked_in, change_of, changed, closed_at, is_beyond, is_full, is_next_beyond, later, next_session, opened_by, refusal_in, refusal_of_log, refusal_of_session, stepped, with_state};
-ghost use Rattle.vp_sim.specs.States.{IsStep};
+ghost use Rattle.vp_world.specs.Events.{IsAsked};
+ghost use Rattle.vp_world.specs.History.{Explains, asked_at, asked_in, change_of, closed_at, is_beyond, is_full, is_next_beyond, later, next_session, opened_by, refusal_in, refusal_of_log, refusal_of_outcome, refusal_of_session, refusal_of_step, due_advance, due_step, stepped, with_state};
 ghost use Rattle.vp_world.specs.Done.{done};
 ghost use Rattle.vp_world.specs.Worlds.{index_of, start};
 
-use crate::event::{Event, Request, SessionId};
+use crate::event::{Request, SessionId};
 use crate::fault::WorldError;
 use crate::limits::Limits;
 use crate::reply::{Refusal, Reply};
@@ -55,12 +55,11 @@ impl Model for Present {
     ghost view = { λ w. shown w.sim w.policy w.limits w.sessions.items w.opens.items w.goal };
 }
 
-/// What an event is answered: the reply to be told, the same to be kept, and what the event changed.
+/// What a request is answered: the reply to be told, and the same to be kept.
 #[derive(Drop)]
 pub struct Answer {
     pub told: Reply,
     pub kept: Reply,
-    pub change: Option<Change>,
 }
 
 /// The reply to a request that a session refused; want of memory is the world's.
@@ -112,14 +111,12 @@ fn denial_reply(alloc: Global, design: &Design, denial: Denial) -> Result<Reply,
 fn session_answer(alloc: Global, design: &Design, error: VpiError) -> Result<Answer, WorldError>
     ensures told { IfOk result (λ a. a.told ≡ refused (told_of design.now.tree) error) }
     ensures kept { IfOk result (λ a. a.kept ≡ refused (told_of design.now.tree) error) }
-    ensures change { IfOk result (λ a. a.change ≡ None) }
     ensures reason { OnOk result (error ≢ vpi_error.NoMemory) }
     ensures refused { IsOkUnless result world_error.NoMemory }
 {
     Ok(Answer {
         told: session_reply(alloc, design, error)?,
         kept: session_reply(alloc, design, error)?,
-        change: None,
     })
 }
 
@@ -130,7 +127,6 @@ fn done() -> Answer
     Answer {
         told: Reply::Done,
         kept: Reply::Done,
-        change: None,
     }
 }
 
@@ -154,6 +150,23 @@ fn check_log(full: bool) -> Result<(), WorldError>
     } else {
         Ok(())
     }
+}
+
+/// Neither a log that is full or not nor a goal that does not reach so far, or does, refuses a step or an advance; else the refusal
+/// (1304, 1305).
+fn check_due(full: bool, is_beyond: bool) -> Result<(), WorldError>
+    ensures accepted { OnOk result ((o : sim.Outcome)
+        → refusal_of_step full is_beyond o ≡ refusal_of_outcome o) }
+    ensures refused { IfErr result (λ e. (o : sim.Outcome)
+        → refusal_of_step full is_beyond o ≡ Some e) }
+{
+    if full {
+        return Err(WorldError::LogFull);
+    }
+    if is_beyond {
+        return Err(WorldError::BeyondGoal);
+    }
+    Ok(())
 }
 
 /// Sets how often a user has opened a session.
@@ -258,22 +271,12 @@ impl Present {
         }
     }
 
-    /// The first refusal of an event, in a world whose log is full or not (1302, 1301, 1303, 1304, 1305, 1308).
-    pub fn check(&self, event: &Event, full: bool) -> Result<(), WorldError>
-        ensures accepted { OnOk result (refusal_in self.now full event.now ≡ None) }
-        ensures refused { IfErr result (λ e. refusal_in self.now full event.now ≡ Some e) }
-    {
-        match event {
-            Event::Open { user, token } => self.check_open(user.as_str(), token.as_str(), full),
-            Event::Ask { session, .. } | Event::Close { session } => {
-                self.check_session(*session, full)
-            }
-            Event::Step(k) => self.check_step(*k, full),
-            Event::Advance => self.check_advance(full),
-        }
-    }
-
-    fn check_open(&self, name: &str, token: &str, full: bool) -> Result<(), WorldError>
+    /// The user whose name and token an opening gives, where it is not refused; else the refusal (1302, 1301, 1304).
+    pub fn admit(&self, name: &str, token: &str, full: bool) -> Result<UserId, WorldError>
+        ensures user { IfOk result
+            (λ user. login_of self.now.opening.users name.now token.now ≡ Some user.0) }
+        ensures room { IfOk result
+            (λ user. is_full self.now.opening self.now.state user.0 ≡ false) }
         ensures accepted { OnOk result
             (refusal_in self.now full (event.Open name.now token.now) ≡ None) }
         ensures refused { IfErr result
@@ -283,86 +286,69 @@ impl Present {
         if self.is_full(user) {
             return Err(WorldError::SessionsFull);
         }
-        check_log(full)
+        check_log(full)?;
+        Ok(user)
     }
 
-    fn check_session(&self, id: SessionId, full: bool) -> Result<(), WorldError>
+    /// Where the open session of a name stands, where its event is not refused; else the refusal (1303, 1304).
+    pub fn place(&self, id: SessionId, full: bool) -> Result<usize, WorldError>
+        ensures place { IfOk result (λ place. index_of self.now.state.sessions id ≡ Some place) }
+        ensures within { IfOk result (λ place. place < length self.now.state.sessions) }
         ensures accepted { OnOk result
             (refusal_of_session full (index_of self.now.state.sessions id) ≡ None) }
         ensures refused { IfErr result
             (λ e. refusal_of_session full (index_of self.now.state.sessions id) ≡ Some e) }
     {
-        match place_of(self.sessions.as_slice(), id) {
-            Some(_) => check_log(full),
-            None => Err(WorldError::NotOpen),
-        }
+        let Some(place) = place_of(self.sessions.as_slice(), id) else {
+            return Err(WorldError::NotOpen);
+        };
+        check_log(full)?;
+        Ok(place)
     }
 
-    /// Step k is not refused (1304, 1305, 1308).
-    pub fn check_step(&self, k: usize, full: bool) -> Result<(), WorldError>
-        ensures accepted { OnOk result (refusal_in self.now full (event.Step k) ≡ None) }
-        ensures refused { IfErr result (λ e. refusal_in self.now full (event.Step k) ≡ Some e) }
+    /// Neither a log that is full or not nor the goal refuses a step; else the refusal (1304, 1305).
+    pub fn check_goal(&self, full: bool) -> Result<(), WorldError>
+        ensures accepted { OnOk result ((o : sim.Outcome)
+            → due_step self.now full o ≡ refusal_of_outcome o) }
+        ensures refused { IfErr result (λ e. (o : sim.Outcome)
+            → due_step self.now full o ≡ Some e) }
     {
-        check_log(full)?;
-        if self.is_beyond() {
-            return Err(WorldError::BeyondGoal);
-        }
+        check_due(full, self.is_beyond())
+    }
+
+    /// Neither a log that is full or not nor the goal refuses an advance; else the refusal (1304, 1305).
+    pub fn check_next_goal(&self, full: bool) -> Result<(), WorldError>
+        ensures accepted { OnOk result ((o : sim.Outcome)
+            → due_advance self.now full o ≡ refusal_of_outcome o) }
+        ensures refused { IfErr result (λ e. (o : sim.Outcome)
+            → due_advance self.now full o ≡ Some e) }
+    {
+        check_due(full, self.is_next_beyond())
+    }
+
+    /// The simulation does not refuse step k; else its refusal (1308).
+    pub fn check_step(&self, k: usize) -> Result<(), WorldError>
+        ensures accepted { OnOk result (refusal_of_outcome (sim.step self.now.state.run k) ≡ None) }
+        ensures refused { IfErr result
+            (λ e. refusal_of_outcome (sim.step self.now.state.run k) ≡ Some e) }
+    {
         self.sim.check_step(k).map_err(WorldError::Sim)
     }
 
-    /// An Advance is not refused (1304, 1305, 1308).
-    pub fn check_advance(&self, full: bool) -> Result<(), WorldError>
-        ensures accepted { OnOk result (refusal_in self.now full event.Advance ≡ None) }
-        ensures refused { IfErr result (λ e. refusal_in self.now full event.Advance ≡ Some e) }
+    /// The simulation does not refuse an advance; else its refusal (1308).
+    pub fn check_advance(&self) -> Result<(), WorldError>
+        ensures accepted { OnOk result
+            (refusal_of_outcome (sim.advance self.now.state.run) ≡ None) }
+        ensures refused { IfErr result
+            (λ e. refusal_of_outcome (sim.advance self.now.state.run) ≡ Some e) }
     {
-        check_log(full)?;
-        if self.is_next_beyond() {
-            return Err(WorldError::BeyondGoal);
-        }
         self.sim.check_advance().map_err(WorldError::Sim)
     }
 
-    /// Lets an event happen that is accepted, or is refused for want of memory. A refusal leaves the world as it was.
-    pub fn perform(&mut self, event: &Event) -> Result<Answer, WorldError>
-        requires asked { IsWellFormed event.now }
-        requires accepted { refusal_in self.old false event.now ≡ None }
-        ensures told { IfOk result
-            (λ a. a.told ≡ answer self.old.opening self.old.state event.now) }
-        ensures kept { IfOk result
-            (λ a. a.kept ≡ answer self.old.opening self.old.state event.now) }
-        ensures change { IfOk result (λ a. a.change ≡ changed self.old.state event.now) }
-        ensures after { OnOk result
-            (self.new ≡ with_state self.old (after self.old.opening self.old.state event.now)) }
-        ensures refused { IsOkUnless result world_error.NoMemory }
-        ensures unchanged { OnErr result (self.new ≡ self.old) }
-    {
-        match event {
-            Event::Open { user, token } => match self.policy.login(user.as_str(), token.as_str()) {
-                Some(user) => self.open_for(user),
-                None => unreachable!(),
-            },
-            Event::Ask { session, request } => self.ask(*session, request),
-            Event::Close { session } => Ok(self.close(*session)),
-            Event::Step(k) => Ok(Answer {
-                told: Reply::Done,
-                kept: Reply::Done,
-                change: self.step(*k)?,
-            }),
-            Event::Advance => {
-                self.advance()?;
-                Ok(done())
-            }
-        }
-    }
-
-    /// Opens a session of a user, for which there is room.
-    fn open_for(&mut self, user: UserId) -> Result<Answer, WorldError>
+    /// Opens a session of a user, for which there is room; or want of memory (1307), which leaves the world as it was.
+    pub fn open_for(&mut self, user: UserId) -> Result<SessionId, WorldError>
         requires { is_full self.old.opening self.old.state user.0 ≡ false }
-        ensures told { IfOk result
-            (λ a. a.told ≡ reply.Opened (next_session self.old.state user.0)) }
-        ensures kept { IfOk result
-            (λ a. a.kept ≡ reply.Opened (next_session self.old.state user.0)) }
-        ensures change { IfOk result (λ a. a.change ≡ None) }
+        ensures id { IfOk result (λ id. id ≡ next_session self.old.state user.0) }
         ensures after { OnOk result
             (self.new ≡ with_state self.old (opened_by self.old.state user.0)) }
         ensures refused { IsOkUnless result world_error.NoMemory }
@@ -375,80 +361,69 @@ impl Present {
         let session = Session::new(self.alloc, user);
         self.sessions.push(OpenSession { id, session })?;
         set_count(&mut self.opens, user, id.opens);
-        Ok(Answer {
-            told: Reply::Opened(id),
-            kept: Reply::Opened(id),
-            change: None,
-        })
+        Ok(id)
     }
 
-    /// Closes a session that is open.
-    fn close(&mut self, id: SessionId) -> Answer
-        requires { refusal_of_session false (index_of self.old.state.sessions id) ≡ None }
-        ensures answer { result ≡ done }
-        ensures after { self.new
-            ≡ with_state self.old (closed_at self.old.state (index_of self.old.state.sessions id)) }
+    /// Closes the session in a place.
+    pub fn close(&mut self, place: usize)
+        requires { place < length self.old.state.sessions }
+        ensures { self.new ≡ with_state self.old (closed_at self.old.state (Some place)) }
     {
-        match place_of(self.sessions.as_slice(), id) {
-            Some(place) => {
-                self.sessions.remove(place);
-            }
-            None => unreachable!(),
-        }
-        done()
+        self.sessions.remove(place);
     }
 
-    /// Takes the k-th of the events that a step can take, and tells what it changes; or want of memory (1307), which leaves the world as it was.
+    /// Takes the k-th of the events that a step can take, and tells what it changes; else the simulation's refusal (1308), or want of
+    /// memory (1307). A refusal leaves the world as it was.
+    #[tactic(auto, using(crate::proofs::Outcomes::step_explained))]
     pub fn step(&mut self, k: usize) -> Result<Option<Change>, WorldError>
-        requires { IsStep (sim.step self.old.state.run k) }
+        ensures accepted { OnOk result (refusal_of_outcome (sim.step self.old.state.run k) ≡ None) }
         ensures change { IfOk result
             (λ change. change ≡ change_of (sim.step self.old.state.run k)) }
         ensures after { OnOk result
             (self.new ≡ with_state self.old
             (stepped self.old.state (sim.step self.old.state.run k))) }
-        ensures refused { IsOkUnless result world_error.NoMemory }
+        ensures refused { IfErr result
+            (λ e. Explains (refusal_of_outcome (sim.step self.old.state.run k)) e) }
         ensures unchanged { OnErr result (self.new ≡ self.old) }
     {
         match self.sim.step(k) {
             Ok(change) => Ok(change),
-            Err(_) => Err(WorldError::NoMemory),
+            Err(error) => Err(WorldError::from(error)),
         }
     }
 
-    /// Goes on to the time of the next event; or want of memory (1307), which leaves the world as it was.
+    /// Goes on to the time of the next event; else the simulation's refusal (1308), or want of memory (1307). A refusal leaves the
+    /// world as it was.
+    #[tactic(auto, using(crate::proofs::Outcomes::advance_explained))]
     pub fn advance(&mut self) -> Result<(), WorldError>
+        ensures accepted { OnOk result
+            (refusal_of_outcome (sim.advance self.old.state.run) ≡ None) }
         ensures change { OnOk result (change_of (sim.advance self.old.state.run) ≡ None) }
         ensures after { OnOk result
             (self.new ≡ with_state self.old
             (stepped self.old.state (sim.advance self.old.state.run))) }
-        ensures refused { IsOkUnless result world_error.NoMemory }
+        ensures refused { IfErr result
+            (λ e. Explains (refusal_of_outcome (sim.advance self.old.state.run)) e) }
         ensures unchanged { OnErr result (self.new ≡ self.old) }
     {
         match self.sim.advance() {
             Ok(()) => Ok(()),
-            Err(_) => Err(WorldError::NoMemory),
+            Err(error) => Err(WorldError::from(error)),
         }
     }
 
-    /// Answers a request of a session that is open.
-    fn ask(&mut self, id: SessionId, request: &Request) -> Result<Answer, WorldError>
+    /// Answers a request of the session in a place; or want of memory (1307), which leaves the world as it was.
+    pub fn ask(&mut self, place: usize, request: &Request) -> Result<Answer, WorldError>
         requires asked { IsAsked request.now }
-        requires is_open { refusal_of_session false (index_of self.old.state.sessions id) ≡ None }
-        ensures told { IfOk result
-            (λ a. a.told ≡ answer self.old.opening self.old.state (event.Ask id request.now)) }
-        ensures kept { IfOk result
-            (λ a. a.kept ≡ answer self.old.opening self.old.state (event.Ask id request.now)) }
-        ensures change { IfOk result (λ a. a.change ≡ None) }
+        requires within { place < length self.old.state.sessions }
+        ensures told { IfOk result (λ a. a.told ≡ asked_in self.old place request.now) }
+        ensures kept { IfOk result (λ a. a.kept ≡ asked_in self.old place request.now) }
         ensures after { OnOk result
             (self.new ≡ with_state self.old
-            (asked_at self.old.opening self.old.state
-            (index_of self.old.state.sessions id) request.now)) }
+            (asked_at self.old.opening self.old.state (Some place) request.now)) }
         ensures refused { IsOkUnless result world_error.NoMemory }
         ensures unchanged { OnErr result (self.new ≡ self.old) }
     {
-        let Some(place) = place_of(self.sessions.as_slice(), id) else {
-            unreachable!()
-        };
         match request {
             Request::Handle { name } => self.handle(place, name.as_str()),
             Request::Value { handle } => self.value(place, *handle),
@@ -465,7 +440,6 @@ impl Present {
             (λ a. a.told ≡ asked_in self.old place (request.Handle name.now)) }
         ensures kept { IfOk result
             (λ a. a.kept ≡ asked_in self.old place (request.Handle name.now)) }
-        ensures change { IfOk result (λ a. a.change ≡ None) }
         ensures after { OnOk result
             (self.new ≡ with_state self.old
             (asked_at self.old.opening self.old.state (Some place) (request.Handle name.now))) }
@@ -478,7 +452,6 @@ impl Present {
             Ok(handle) => Ok(Answer {
                 told: Reply::Handle(handle),
                 kept: Reply::Handle(handle),
-                change: None,
             }),
             Err(error) => session_answer(self.alloc, design, error),
         }
@@ -489,7 +462,6 @@ impl Present {
         requires { place < length self.now.state.sessions }
         ensures told { IfOk result (λ a. a.told ≡ asked_in self.now place (request.Value handle)) }
         ensures kept { IfOk result (λ a. a.kept ≡ asked_in self.now place (request.Value handle)) }
-        ensures change { IfOk result (λ a. a.change ≡ None) }
         ensures refused { IsOkUnless result world_error.NoMemory }
     {
         let design = self.sim.design();
@@ -498,7 +470,6 @@ impl Present {
             Ok(value) => Ok(Answer {
                 told: Reply::Value(value),
                 kept: Reply::Value(value),
-                change: None,
             }),
             Err(error) => session_answer(self.alloc, design, error),
         }
@@ -509,7 +480,6 @@ impl Present {
         requires { place < length self.old.state.sessions }
         ensures told { result.told ≡ asked_in self.old place (request.Run until) }
         ensures kept { result.kept ≡ asked_in self.old place (request.Run until) }
-        ensures change { result.change ≡ None }
         ensures after { self.new
             ≡ with_state self.old (asked_at self.old.opening self.old.state (Some place)
             (request.Run until)) }
@@ -519,7 +489,6 @@ impl Present {
             return Answer {
                 told: Reply::RunDenied,
                 kept: Reply::RunDenied,
-                change: None,
             };
         }
         self.goal = Some(later(self.goal, until));
@@ -532,14 +501,12 @@ impl Present {
             ≡ reply.Time self.now.state.run.time self.now.state.run.finished }
         ensures kept { result.kept
             ≡ reply.Time self.now.state.run.time self.now.state.run.finished }
-        ensures change { result.change ≡ None }
     {
         let time = self.sim.time();
         let finished = self.sim.finished();
         Answer {
             told: Reply::Time { time, finished },
             kept: Reply::Time { time, finished },
-            change: None,
         }
     }
 }

@@ -2,11 +2,11 @@ ghost use Rattle.std.specs.Prelude.{◌≡◌, [], None, IfErr, IfOk, IsOkUnless
 ghost use Rattle.std.specs.Arc.{arc_value};
 ghost use Rattle.vp_world.specs.declared.event.Event.TheVariants as event;
 ghost use Rattle.vp_world.specs.declared.fault.WorldError.TheVariants.{NoMemory};
-ghost use Rattle.vp_world.specs.Events.{IsWellFormed};
-ghost use Rattle.vp_world.specs.History.{Explains, IsLegal, answered_by, refused_by, with_entry};
+ghost use Rattle.vp_world.specs.Events.{IsAsked, IsWellFormed};
+ghost use Rattle.vp_world.specs.History.{Explains, IsLegal, answered_by, is_log_full, refused_by, with_entry};
 
 use crate::entry::Entry;
-use crate::event::Event;
+use crate::event::{Event, Request, SessionId};
 use crate::fault::WorldError;
 use crate::limits::Limits;
 use crate::present::Present;
@@ -15,6 +15,7 @@ use std::alloc::Global;
 use std::marker::Model;
 use std::sync::Arc;
 use vp_expr::Checked;
+use vp_list::Text;
 use vp_policy::Policy;
 
 /// A design with a policy, its simulation, the sessions of its users, and the log of what has happened. A contract sees how it
@@ -70,6 +71,13 @@ impl World {
         self.log.as_slice()
     }
 
+    /// The log has as many entries as it may.
+    fn is_full(&self) -> bool
+        ensures { result ≡ is_log_full self.now.opening self.now.log }
+    {
+        self.log.len() >= self.present.log_limit()
+    }
+
     /// Lets an event happen, answers it, and adds it to the log. An Open is refused by a wrong name or token (1302), too many
     /// sessions (1301) or a full log (1304); an Ask and a Close by a session that is not open (1303) or a full log; a Step and an
     /// Advance by a full log, by a goal that does not reach so far (1305) or by the simulation (1308); and each for want of
@@ -83,13 +91,15 @@ impl World {
         ensures unchanged { OnErr result (self.new ≡ self.old) }
     {
         match event {
+            Event::Open { user, token } => self.apply_open(user, token),
+            Event::Ask { session, request } => self.apply_ask(session, request),
+            Event::Close { session } => self.apply_close(session),
             Event::Step(k) => self.apply_step(k),
             Event::Advance => self.apply_advance(),
-            other => self.apply_other(other),
         }
     }
 
-    /// The same for a Step, whose entry is made in its place.
+    /// The same of a Step.
     fn apply_step(&mut self, k: usize) -> Result<Reply, WorldError>
         ensures accepted { OnOk result (refused_by self.old (event.Step k) ≡ None) }
         ensures reply { IfOk result (λ reply. reply ≡ answered_by self.old (event.Step k)) }
@@ -97,9 +107,13 @@ impl World {
         ensures refused { IfErr result (λ e. Explains (refused_by self.old (event.Step k)) e) }
         ensures unchanged { OnErr result (self.new ≡ self.old) }
     {
-        let full = self.log.len() >= self.present.log_limit();
-        self.present.check_step(k, full)?;
-        self.log.reserve(1)?;
+        let full = self.is_full();
+        self.present.check_goal(full)?;
+        if let Err(lacking) = self.log.reserve(1) {
+            // The simulation's own refusal comes before want of memory.
+            self.present.check_step(k)?;
+            return Err(WorldError::from(lacking));
+        }
         let change = self.present.step(k)?;
         self.log.push_reserved(Entry {
             event: Event::Step(k),
@@ -111,7 +125,7 @@ impl World {
         Ok(Reply::Done)
     }
 
-    /// The same for an Advance.
+    /// The same of an Advance.
     fn apply_advance(&mut self) -> Result<Reply, WorldError>
         ensures accepted { OnOk result (refused_by self.old event.Advance ≡ None) }
         ensures reply { IfOk result (λ reply. reply ≡ answered_by self.old event.Advance) }
@@ -119,9 +133,12 @@ impl World {
         ensures refused { IfErr result (λ e. Explains (refused_by self.old event.Advance) e) }
         ensures unchanged { OnErr result (self.new ≡ self.old) }
     {
-        let full = self.log.len() >= self.present.log_limit();
-        self.present.check_advance(full)?;
-        self.log.reserve(1)?;
+        let full = self.is_full();
+        self.present.check_next_goal(full)?;
+        if let Err(lacking) = self.log.reserve(1) {
+            self.present.check_advance()?;
+            return Err(WorldError::from(lacking));
+        }
         self.present.advance()?;
         self.log.push_reserved(Entry {
             event: Event::Advance,
@@ -133,27 +150,76 @@ impl World {
         Ok(Reply::Done)
     }
 
-    /// The same for any event.
-    fn apply_other(&mut self, event: Event) -> Result<Reply, WorldError>
-        requires { IsWellFormed event }
-        ensures accepted { OnOk result (refused_by self.old event ≡ None) }
-        ensures reply { IfOk result (λ reply. reply ≡ answered_by self.old event) }
-        ensures logged { OnOk result (self.new ≡ with_entry self.old event) }
-        ensures refused { IfErr result (λ e. Explains (refused_by self.old event) e) }
+    /// The same of an Open.
+    fn apply_open(&mut self, user: Text, token: Text) -> Result<Reply, WorldError>
+        ensures accepted { OnOk result (refused_by self.old (event.Open user token) ≡ None) }
+        ensures reply { IfOk result
+            (λ reply. reply ≡ answered_by self.old (event.Open user token)) }
+        ensures logged { OnOk result (self.new ≡ with_entry self.old (event.Open user token)) }
+        ensures refused { IfErr result
+            (λ e. Explains (refused_by self.old (event.Open user token)) e) }
         ensures unchanged { OnErr result (self.new ≡ self.old) }
     {
-        let full = self.log.len() >= self.present.log_limit();
-        self.present.check(&event, full)?;
+        let full = self.is_full();
+        let number = self.present.admit(user.as_str(), token.as_str(), full)?;
         self.log.reserve(1)?;
-        let answer = self.present.perform(&event)?;
+        let id = self.present.open_for(number)?;
+        self.log.push_reserved(Entry {
+            event: Event::Open { user, token },
+            reply: Reply::Opened(id),
+            change: None,
+            time: self.present.time(),
+            finished: self.present.finished(),
+        });
+        Ok(Reply::Opened(id))
+    }
+
+    /// The same of an Ask.
+    fn apply_ask(&mut self, session: SessionId, request: Request) -> Result<Reply, WorldError>
+        requires { IsAsked request }
+        ensures accepted { OnOk result (refused_by self.old (event.Ask session request) ≡ None) }
+        ensures reply { IfOk result
+            (λ reply. reply ≡ answered_by self.old (event.Ask session request)) }
+        ensures logged { OnOk result (self.new ≡ with_entry self.old (event.Ask session request)) }
+        ensures refused { IfErr result
+            (λ e. Explains (refused_by self.old (event.Ask session request)) e) }
+        ensures unchanged { OnErr result (self.new ≡ self.old) }
+    {
+        let full = self.is_full();
+        let place = self.present.place(session, full)?;
+        self.log.reserve(1)?;
+        let answer = self.present.ask(place, &request)?;
         let entry = Entry {
-            event,
+            event: Event::Ask { session, request },
             reply: answer.kept,
-            change: answer.change,
+            change: None,
             time: self.present.time(),
             finished: self.present.finished(),
         };
         self.log.push_reserved(entry);
         Ok(answer.told)
+    }
+
+    /// The same of a Close.
+    fn apply_close(&mut self, session: SessionId) -> Result<Reply, WorldError>
+        ensures accepted { OnOk result (refused_by self.old (event.Close session) ≡ None) }
+        ensures reply { IfOk result (λ reply. reply ≡ answered_by self.old (event.Close session)) }
+        ensures logged { OnOk result (self.new ≡ with_entry self.old (event.Close session)) }
+        ensures refused { IfErr result
+            (λ e. Explains (refused_by self.old (event.Close session)) e) }
+        ensures unchanged { OnErr result (self.new ≡ self.old) }
+    {
+        let full = self.is_full();
+        let place = self.present.place(session, full)?;
+        self.log.reserve(1)?;
+        self.present.close(place);
+        self.log.push_reserved(Entry {
+            event: Event::Close { session },
+            reply: Reply::Done,
+            change: None,
+            time: self.present.time(),
+            finished: self.present.finished(),
+        });
+        Ok(Reply::Done)
     }
 }

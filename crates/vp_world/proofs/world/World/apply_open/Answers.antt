@@ -1,0 +1,64 @@
+use Rattle.std.proofs.Common.{rules, ◌≡◌, ◌++◌, List, ◌∷◌, [], None, Some, Err, Option, ℕ, refl, ap, sym, ◌∙◌}
+use Rattle.std.specs.Option.{option_map_or}
+use Rattle.vp_policy.specs.Users.{login_of}
+use Rattle.vp_world.specs.declared.entry.Entry.{Entry}
+use Rattle.vp_world.specs.declared.event.Event.{Event}
+use Rattle.vp_world.specs.declared.event.Event.TheVariants as event
+use Rattle.vp_world.specs.declared.event.SessionId.{SessionId}
+use Rattle.vp_world.specs.declared.reply.Refusal.TheVariants as refusal
+use Rattle.vp_world.specs.declared.reply.Reply.TheVariants as reply
+use Rattle.vp_world.specs.History.{after, answer, entry_of, next_session, opened_by, refusal_behind, state_behind, with_state}
+use Rattle.vp_world.specs.Worlds.{Standing}
+use Rattle.vp_world.proofs.Logs.{entry_is, explained, keeps_more, seen_more}
+use Rattle.vp_world.proofs.world.World.apply_open.Goals as goal
+
+pub returns-in_err-number-clause-refused : goal.returns-in_err-number-clause-refused
+returns-in_err-number-clause-refused c =
+    let v = c.args.self.now in
+    let happens = event.Open c.args.user c.args.token in
+    let e = c.in_err-number.field-0.0 in
+    let is : c.from_residual.result ≡ Err e = search rules in
+    let why : refusal_behind v.opening v.log happens ≡ Some e = search rules in
+    explained c.from_residual.result e (refusal_behind v.opening v.log happens) is why
+
+module _ (c : goal.After-push_reserved) where
+  abbrev w : Standing
+  w = c.self.inside.present
+
+  abbrev log : List Entry
+  log = c.self.inside.log.items
+
+  abbrev happens : Event
+  happens = event.Open c.args.user c.args.token
+
+  abbrev entry : Entry
+  entry = record { event = happens; reply = reply.Opened c.in_ok-id.id; change = None; time = c.time.result; finished = c.finished.result }
+
+  found : login_of w.opening.users c.args.user c.args.token ≡ Some c.in_ok-number.number.0
+  found = search rules
+
+  behind : c.open_for.new.self ≡ with_state w (after w.opening w.state happens)
+  behind =
+      (c.in_ok-id.ensures {u = tt}).after
+      ∙ ap (λ (o : Option ℕ). with_state w (option_map_or (opened_by w.state) o w.state)) (sym found)
+
+  told : reply.Opened c.in_ok-id.id ≡ answer w.opening w.state happens
+  told =
+      ap (λ (id : SessionId). reply.Opened id) (c.in_ok-id.ensures {u = tt}).id
+      ∙ ap (λ (o : Option ℕ). option_map_or (λ u. reply.Opened (next_session w.state u)) o (reply.Error refusal.BadToken)) (sym found)
+
+  added : c.push_reserved.new.self.items ≡ log ++ entry ∷ []
+  added = search rules
+
+  made : entry ≡ entry_of w.opening (state_behind w.opening log) happens
+  made = entry_is w.opening w.state (state_behind w.opening log) entry c.self.invariant.state told refl (c.time.ensures ∙ ap (λ (s : Standing). s.state.run.time) behind) (c.finished.ensures ∙ ap (λ (s : Standing). s.state.run.finished) behind)
+
+pub invariant_of-self-2 : goal.invariant_of-self-2
+invariant_of-self-2 c =
+    let accepted : refusal_behind (w c).opening (log c) (happens c) ≡ None = search rules in
+    keeps_more (w c) c.open_for.new.self (log c) c.push_reserved.new.self.items (entry c) c.self.invariant (behind c) (added c) tt accepted (made c)
+
+pub returns-clause-logged : goal.returns-clause-logged
+returns-clause-logged c =
+    seen_more (w c) c.open_for.new.self (log c) c.push_reserved.new.self.items (entry c) c.args.self.now c.self.view_is
+    (behind c ∙ ap (λ (s : Standing). with_state (w c) s.state) (sym (behind c))) (added c) (made c)
