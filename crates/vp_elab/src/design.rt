@@ -80,7 +80,9 @@ fn number_at(objects: &[Object], id: ObjectId) -> Option<usize>
 
 /// What the module of an object declares; none of an object that is no module.
 fn scope_at<'a>(objects: &[Object], scopes: &'a [Scope], id: ObjectId) -> Option<&'a Scope>
-    ensures { option_map (λ s. s.now) result ≡ option_and_then (slice_get scopes.now) (option_and_then (λ o. o.scope) (slice_get objects.now id.0)) }
+    ensures { option_map (λ s. s.now) result
+        ≡ option_and_then (slice_get scopes.now)
+        (option_and_then (λ o. o.scope) (slice_get objects.now id.0)) }
 {
     let number = number_at(objects, id)?;
     scopes.get(number)
@@ -88,7 +90,9 @@ fn scope_at<'a>(objects: &[Object], scopes: &'a [Scope], id: ObjectId) -> Option
 
 /// The names that are declared in the module of an object; none of an object that is no module.
 fn names_at<'a>(objects: &[Object], names: &'a [Names], id: ObjectId) -> Option<&'a Names>
-    ensures { option_map (λ n. n.now) result ≡ option_and_then (slice_get names.now) (option_and_then (λ o. o.scope) (slice_get objects.now id.0)) }
+    ensures { option_map (λ n. n.now) result
+        ≡ option_and_then (slice_get names.now)
+        (option_and_then (λ o. o.scope) (slice_get objects.now id.0)) }
 {
     let number = number_at(objects, id)?;
     names.get(number)
@@ -96,14 +100,18 @@ fn names_at<'a>(objects: &[Object], names: &'a [Names], id: ObjectId) -> Option<
 
 /// The index of a name that is declared in the module of an object.
 fn index_at(objects: &[Object], names: &[Names], id: ObjectId, name: &str) -> Option<usize>
-    ensures { result ≡ option_and_then (λ ns. position (bytes_eq name.now) ns) (option_and_then (slice_get names.now) (option_and_then (λ o. o.scope) (slice_get objects.now id.0))) }
+    ensures { result ≡ option_and_then (λ ns. position (bytes_eq name.now) ns)
+        (option_and_then (slice_get names.now)
+        (option_and_then (λ o. o.scope) (slice_get objects.now id.0))) }
 {
     names_at(objects, names, id)?.find(name)
 }
 
 /// The name of an index in the module of an object.
 fn child_name<'a>(objects: &[Object], names: &'a [Names], id: ObjectId, index: u32) -> &'a str
-    ensures { result.now ≡ option_map_or (λ ns. slice_index_or ns index []) (option_and_then (slice_get names.now) (option_and_then (λ o. o.scope) (slice_get objects.now id.0))) [] }
+    ensures { result.now ≡ option_map_or (λ ns. slice_index_or ns index [])
+        (option_and_then (slice_get names.now)
+        (option_and_then (λ o. o.scope) (slice_get objects.now id.0))) [] }
 {
     match names_at(objects, names, id) {
         Some(names) => names.at(index as usize),
@@ -113,7 +121,9 @@ fn child_name<'a>(objects: &[Object], names: &'a [Names], id: ObjectId, index: u
 
 /// The item of an index in the module of an object.
 fn child_item(source: &Source, objects: &[Object], id: ObjectId, index: u32) -> Option<Item>
-    ensures { result ≡ option_and_then (λ m. slice_get (items_in source.now m) index) (option_and_then (slice_get source.now.modules) (option_and_then (λ o. o.scope) (slice_get objects.now id.0))) }
+    ensures { result ≡ option_and_then (λ m. slice_get (items_in source.now m) index)
+        (option_and_then (slice_get source.now.modules)
+        (option_and_then (λ o. o.scope) (slice_get objects.now id.0))) }
 {
     let module = module_at(source, number_at(objects, id))?;
     items_of(source, module).get(index as usize).copied()
@@ -121,7 +131,9 @@ fn child_item(source: &Source, objects: &[Object], id: ObjectId, index: u32) -> 
 
 /// How far the item of an index stands behind the object of its module.
 fn slot_at(objects: &[Object], scopes: &[Scope], id: ObjectId, index: usize) -> u32
-    ensures { result ≡ option_map_or (λ s. slice_index_or s.slots index 0) (option_and_then (slice_get scopes.now) (option_and_then (λ o. o.scope) (slice_get objects.now id.0))) 0 }
+    ensures { result ≡ option_map_or (λ s. slice_index_or s.slots index 0)
+        (option_and_then (slice_get scopes.now)
+        (option_and_then (λ o. o.scope) (slice_get objects.now id.0))) 0 }
 {
     match scope_at(objects, scopes, id) {
         Some(scope) => scope.slot(index),
@@ -131,7 +143,9 @@ fn slot_at(objects: &[Object], scopes: &[Scope], id: ObjectId, index: usize) -> 
 
 /// What viewports open of the item of an index in the module of an object.
 fn child_sight(objects: &[Object], scopes: &[Scope], id: ObjectId, index: u32) -> Sight
-    ensures { shown result ≡ option_map_or (λ s. slice_index_or s.sights index (nothing, None)) (option_and_then (slice_get scopes.now) (option_and_then (λ o. o.scope) (slice_get objects.now id.0))) (nothing, None) }
+    ensures { shown result ≡ option_map_or (λ s. slice_index_or s.sights index (nothing, None))
+        (option_and_then (slice_get scopes.now)
+        (option_and_then (λ o. o.scope) (slice_get objects.now id.0))) (nothing, None) }
 {
     match scope_at(objects, scopes, id) {
         Some(scope) => scope.sight(index as usize),
@@ -141,7 +155,9 @@ fn child_sight(objects: &[Object], scopes: &[Scope], id: ObjectId, index: u32) -
 
 /// The name of the module of an object; none of an object that is no module.
 fn module_name<'a>(names: &'a Names, objects: &[Object], id: ObjectId) -> Option<&'a str>
-    ensures { option_map (λ n. n.now) result ≡ option_and_then (slice_get names.now) (option_and_then (λ o. o.scope) (slice_get objects.now id.0)) }
+    ensures { option_map (λ n. n.now) result
+        ≡ option_and_then (slice_get names.now)
+        (option_and_then (λ o. o.scope) (slice_get objects.now id.0)) }
 {
     let number = number_at(objects, id)?;
     names.get(number)
@@ -193,7 +209,8 @@ impl Design {
         ensures nodes { AreObjects self.now.tree.nodes result.now }
         ensures kinds { map (λ o. o.kind) result.now ≡ map (λ n. n.kind) self.now.tree.nodes }
         ensures widths { map (λ o. o.width) result.now ≡ map (λ n. n.width) self.now.tree.nodes }
-        ensures scopes { map (λ o. module_name_at self.now.source o.scope) result.now ≡ map (λ n. n.definition) self.now.tree.nodes }
+        ensures scopes { map (λ o. module_name_at self.now.source o.scope) result.now
+            ≡ map (λ n. n.definition) self.now.tree.nodes }
         ensures some { All (λ o. 1 ≤ o.width) result.now }
         ensures vectors { map (λ o. o.lowest) result.now ≡ map (λ n. n.lowest) self.now.tree.nodes }
     {
@@ -209,8 +226,10 @@ impl Design {
 
     /// The object of a number; none behind the end.
     pub fn object(&self, id: ObjectId) -> Option<Object>
-        ensures node { MatchOption result (slice_get self.now.tree.nodes id.0 ≡ None) (λ o. StandsFor self.now.tree.nodes id.0 o) }
-        ensures scope { IfSome result (λ o. module_name_at self.now.source o.scope ≡ option_and_then (λ n. n.definition) (slice_get self.now.tree.nodes id.0)) }
+        ensures node { MatchOption result (slice_get self.now.tree.nodes id.0 ≡ None)
+            (λ o. StandsFor self.now.tree.nodes id.0 o) }
+        ensures scope { IfSome result (λ o. module_name_at self.now.source o.scope
+            ≡ option_and_then (λ n. n.definition) (slice_get self.now.tree.nodes id.0)) }
     {
         object_at(self.objects.all.as_slice(), id)
     }
@@ -247,7 +266,8 @@ impl Design {
 
     /// The item of the text that the object of a number is; none of a top module, and behind the end.
     pub fn item(&self, id: ObjectId) -> Option<Item>
-        ensures { result ≡ option_and_then (node_item self.now.source) (slice_get self.now.tree.nodes id.0) }
+        ensures { result ≡ option_and_then (node_item self.now.source)
+            (slice_get self.now.tree.nodes id.0) }
     {
         let objects = self.objects.all.as_slice();
         let object = object_at(objects, id)?;
@@ -270,7 +290,8 @@ impl Design {
 
     /// The object above that of a number, in which it is declared; none of a top module, and behind the end.
     pub fn parent(&self, id: ObjectId) -> Option<ObjectId>
-        ensures { option_map (λ o. o.0) result ≡ option_and_then (parent_of self.now.tree.nodes) (slice_get self.now.tree.nodes id.0) }
+        ensures { option_map (λ o. o.0) result
+            ≡ option_and_then (parent_of self.now.tree.nodes) (slice_get self.now.tree.nodes id.0) }
     {
         parent_at(self.objects.all.as_slice(), id)
     }
@@ -304,7 +325,8 @@ impl Design {
 
     /// The name of the definition of a module, by the number of its object; none of any other object.
     pub fn def_name(&self, id: ObjectId) -> Option<&str>
-        ensures { option_map (λ d. d.now) result ≡ option_and_then (λ n. n.definition) (slice_get self.now.tree.nodes id.0) }
+        ensures { option_map (λ d. d.now) result
+            ≡ option_and_then (λ n. n.definition) (slice_get self.now.tree.nodes id.0) }
     {
         module_name(&self.tables.modules, self.objects.all.as_slice(), id)
     }
@@ -332,7 +354,9 @@ impl Design {
 
     /// The name of the module in which an object is declared; none of a top module.
     fn module_of(&self, object: Object) -> Option<&str>
-        ensures { option_map (λ m. m.now) result ≡ option_and_then (λ p. option_and_then (λ n. n.definition) (slice_get self.now.tree.nodes p.0)) object.parent }
+        ensures { option_map (λ m. m.now) result
+            ≡ option_and_then (λ p. option_and_then (λ n. n.definition)
+            (slice_get self.now.tree.nodes p.0)) object.parent }
     {
         self.def_name(object.parent?)
     }
@@ -360,7 +384,8 @@ impl Design {
     /// The object of a name that is declared in a module, or among the top modules; none in an object that is no
     /// module, and in one that is not there.
     pub fn find(&self, scope: Option<ObjectId>, name: &str) -> Option<ObjectId>
-        ensures { option_map (λ o. o.0) result ≡ find_in self.now.tree.nodes (option_map (λ o. o.0) scope) name.now }
+        ensures { option_map (λ o. o.0) result
+            ≡ find_in self.now.tree.nodes (option_map (λ o. o.0) scope) name.now }
     {
         match scope {
             None => self.root(name),
@@ -377,7 +402,8 @@ impl Design {
     }
 
     fn child(&self, object: ObjectId, name: &str) -> Option<ObjectId>
-        ensures { option_map (λ o. o.0) result ≡ find_in self.now.tree.nodes (Some object.0) name.now }
+        ensures { option_map (λ o. o.0) result
+            ≡ find_in self.now.tree.nodes (Some object.0) name.now }
     {
         let objects = self.objects.all.as_slice();
         let index = index_at(objects, self.tables.scopes.as_slice(), object, name)?;
@@ -396,7 +422,8 @@ impl Design {
     /// The objects that are declared in a module, in the order of the text; none in an object that is no module, and
     /// in one that is not there. Takes memory.
     pub fn children(&self, alloc: Global, id: ObjectId) -> Result<Sequence<ObjectId>, AllocError>
-        ensures { IfOk result (λ ids. map (λ o. o.0) ids ≡ children_of self.now.tree.nodes (Some id.0)) }
+        ensures { IfOk result (λ ids. map (λ o. o.0) ids
+            ≡ children_of self.now.tree.nodes (Some id.0)) }
     {
         let objects = self.objects.all.as_slice();
         match scope_at(objects, self.scopes.as_slice(), id) {
@@ -442,7 +469,9 @@ impl Design {
 
     /// The first object of the module that has a number in the text: its top module or its first instance.
     pub fn first_instance(&self, number: usize) -> Option<ObjectId>
-        ensures { option_map (λ o. o.0) result ≡ option_and_then (first_of self.now.tree.nodes) (slice_get (module_names self.now.source self.now.source.modules) number) }
+        ensures { option_map (λ o. o.0) result
+            ≡ option_and_then (first_of self.now.tree.nodes)
+            (slice_get (module_names self.now.source self.now.source.modules) number) }
     {
         first_at(self.objects.firsts.as_slice(), number)
     }

@@ -65,9 +65,12 @@ fn all_objects(
     requires tops { are_tops.now ≡ map (is_top source.now) source.now.modules }
     requires right { modules.refusal_of source.now ≡ None }
     requires few { object_count source.now ≤ OBJECT_LIMIT }
-    ensures flat { IfOk result (λ o. o.all ≡ objects_within source.now envelopes.now.envelopes (suc further_limit) 0 0 source.now.modules) }
+    ensures flat { IfOk result (λ o. o.all
+        ≡ objects_within source.now envelopes.now.envelopes (suc further_limit) 0 0
+        source.now.modules) }
     ensures firsts { IfOk result (λ o. AreFirsts o.all (length source.now.modules) o.firsts) }
-    ensures roots { IfOk result (λ o. o.root_envelopes ≡ numbers_of envelopes.now.envelopes (map (λ m. m.name) (tops source.now))) }
+    ensures roots { IfOk result (λ o. o.root_envelopes
+        ≡ numbers_of envelopes.now.envelopes (map (λ m. m.name) (tops source.now))) }
 {
     let all = objects_of(alloc, source, envelopes, definitions, are_tops)?;
     let firsts = firsts_of(alloc, all.as_slice(), source.modules.len())?;
@@ -89,7 +92,8 @@ fn placed(
     requires whole { AreWhole source.now }
     requires resolved { resolved.now ≡ resolved_in source.now }
     requires right { modules.refusal_of source.now ≡ None }
-    ensures built { IfOk result (λ p. IsBuilt source.now envelopes.now resolved.now.tables p.0 p.1) }
+    ensures built { IfOk result (λ p. IsBuilt source.now envelopes.now resolved.now.tables p.0
+        p.1) }
     ensures accepted { OnOk result (refusal_of source.now envelopes.now ≡ None) }
     ensures refused { IfErr result (λ e. Explains (refusal_of source.now envelopes.now) e) }
 {
@@ -112,7 +116,8 @@ fn placed(
 /// The parts of the design of a text; or the first refusal that holds (501 to 509). Takes memory.
 fn parts_of(alloc: Global, source: &Source, envelopes: &Envelopes) -> Result<Parts, ElabError>
     requires { AreWhole source.now }
-    ensures built { IfOk result (λ p. IsBuilt source.now envelopes.now p.tables p.scopes p.objects) }
+    ensures built { IfOk result (λ p. IsBuilt source.now envelopes.now p.tables p.scopes
+        p.objects) }
     ensures accepted { OnOk result (refusal_of source.now envelopes.now ≡ None) }
     ensures refused { IfErr result (λ e. Explains (refusal_of source.now envelopes.now) e) }
 {

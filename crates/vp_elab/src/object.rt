@@ -88,7 +88,8 @@ pub fn range_width(range: Range) -> u32
 
 /// How many bits a literal with a size has; 1 of any other expression.
 fn literal_width(source: &Source, value: u32) -> u32
-    ensures { result ≡ width_of (option_and_then literal_range (slice_get source.now.expressions value)) }
+    ensures { result ≡ width_of (option_and_then literal_range
+        (slice_get source.now.expressions value)) }
 {
     match source.expressions.as_slice().get(value as usize) {
         Some(Expression::Literal { size, .. }) => size.saturating_sub(1) + 1,
@@ -98,7 +99,8 @@ fn literal_width(source: &Source, value: u32) -> u32
 
 /// The index of the least significant bit of a literal with a size; none of any other expression.
 fn literal_lowest(source: &Source, value: u32) -> Option<u16>
-    ensures { result ≡ lowest_of (option_and_then literal_range (slice_get source.now.expressions value)) }
+    ensures { result ≡ lowest_of (option_and_then literal_range
+        (slice_get source.now.expressions value)) }
 {
     match source.expressions.as_slice().get(value as usize) {
         Some(Expression::Literal { .. }) => Some(0),

@@ -40,8 +40,13 @@ fn add_object(
 ) -> Result<(), AllocError>
     requires definitions { definitions.now ≡ map (definition_number source.now) source.now.items }
     requires further { 1 ≤ further }
-    requires few { length objects.old.items + (1 + option_map_or (size source.now (further - 1)) (option_and_then (slice_get source.now.modules) object.scope) 0) ≤ OBJECT_LIMIT }
-    ensures { OnOk result (objects.new.items ≡ objects.old.items ++ object ∷ option_map_or (objects_below source.now envelopes.now.envelopes further (length objects.old.items)) (option_and_then (slice_get source.now.modules) object.scope) []) }
+    requires few { length objects.old.items +
+        (1 + option_map_or (size source.now (further - 1))
+        (option_and_then (slice_get source.now.modules) object.scope) 0) ≤ OBJECT_LIMIT }
+    ensures { OnOk result (objects.new.items ≡ objects.old.items
+        ++ object ∷ option_map_or (objects_below source.now envelopes.now.envelopes further
+        (length objects.old.items)) (option_and_then (slice_get source.now.modules) object.scope)
+        []) }
 {
     let id = ObjectId(objects.len() as u32);
     objects.push(object)?;
@@ -73,7 +78,8 @@ fn add_items(
     requires definitions { definitions.now ≡ map (definition_number source.now) source.now.items }
     requires behind { length objects.old.items ≡ parent.0 + 1 }
     requires few { length objects.old.items + size source.now further «module» ≤ OBJECT_LIMIT }
-    ensures { OnOk result (objects.new.items ≡ objects.old.items ++ objects_below source.now envelopes.now.envelopes (suc further) parent.0 «module») }
+    ensures { OnOk result (objects.new.items ≡ objects.old.items
+        ++ objects_below source.now envelopes.now.envelopes (suc further) parent.0 «module») }
 {
     let instantiated = definitions_of(definitions, module);
     for (index, item) in items_of(source, module).iter().enumerate() {
@@ -95,7 +101,9 @@ pub fn objects_of(
     requires definitions { definitions.now ≡ map (definition_number source.now) source.now.items }
     requires tops { tops.now ≡ map (is_top source.now) source.now.modules }
     requires few { object_count source.now ≤ OBJECT_LIMIT }
-    ensures { IfOk result (λ objects. objects ≡ objects_within source.now envelopes.now.envelopes (suc further_limit) 0 0 source.now.modules) }
+    ensures { IfOk result (λ objects. objects
+        ≡ objects_within source.now envelopes.now.envelopes (suc further_limit) 0 0
+        source.now.modules) }
 {
     let mut objects = Vec::new(alloc);
     let further = step_limit();

@@ -76,7 +76,8 @@ impl Scope {
 
 /// The numbers that are marked, rising, up to the last.
 fn marked(alloc: Global, marks: &[bool; 256], last: u8) -> Result<Sequence<u8>, AllocError>
-    ensures { IfOk result (λ numbers. numbers ≡ filter (λ e. slice_index_or marks.now e false) (below (suc last))) }
+    ensures { IfOk result (λ numbers. numbers
+        ≡ filter (λ e. slice_index_or marks.now e false) (below (suc last))) }
 {
     let mut numbers = Vec::new(alloc);
     for number in 0..last as usize + 1 {
@@ -89,7 +90,9 @@ fn marked(alloc: Global, marks: &[bool; 256], last: u8) -> Result<Sequence<u8>, 
 
 /// The envelopes of items are marked.
 fn marks_of(envelopes: &Envelopes, items: &[Item]) -> [bool; 256]
-    ensures { (e : ℕ) → e < 256 → slice_index_or result e false ≡ list_any (λ place. envelope_at envelopes.now.envelopes place == e) (map item_place items.now) }
+    ensures { (e : ℕ) → e < 256 → slice_index_or result e false
+        ≡ list_any (λ place. envelope_at envelopes.now.envelopes place == e)
+        (map item_place items.now) }
 {
     let mut marks = [false; 256];
     for item in items {
@@ -100,7 +103,9 @@ fn marks_of(envelopes: &Envelopes, items: &[Item]) -> [bool; 256]
 
 /// The envelopes of the names of modules are marked.
 fn root_marks_of(envelopes: &Envelopes, modules: &[Module]) -> [bool; 256]
-    ensures { (e : ℕ) → e < 256 → slice_index_or result e false ≡ list_any (λ place. envelope_at envelopes.now.envelopes place == e) (map (λ m. m.name) modules.now) }
+    ensures { (e : ℕ) → e < 256 → slice_index_or result e false
+        ≡ list_any (λ place. envelope_at envelopes.now.envelopes place == e)
+        (map (λ m. m.name) modules.now) }
 {
     let mut marks = [false; 256];
     for module in modules {
@@ -115,7 +120,8 @@ fn name_envelopes_of(
     envelopes: &Envelopes,
     modules: &[Module],
 ) -> Result<Sequence<u8>, AllocError>
-    ensures { IfOk result (λ numbers. numbers ≡ numbers_of envelopes.now.envelopes (map (λ m. m.name) modules.now)) }
+    ensures { IfOk result (λ numbers. numbers
+        ≡ numbers_of envelopes.now.envelopes (map (λ m. m.name) modules.now)) }
 {
     marked(alloc, &root_marks_of(envelopes, modules), envelopes.count())
 }
@@ -142,7 +148,8 @@ pub fn root_envelopes_of(
     are_tops: &[bool],
 ) -> Result<Sequence<u8>, AllocError>
     requires { are_tops.now ≡ map (is_top source.now) source.now.modules }
-    ensures { IfOk result (λ numbers. numbers ≡ numbers_of envelopes.now.envelopes (map (λ m. m.name) (tops source.now))) }
+    ensures { IfOk result (λ numbers. numbers
+        ≡ numbers_of envelopes.now.envelopes (map (λ m. m.name) (tops source.now))) }
 {
     let modules = tops_of(alloc, source, are_tops)?;
     name_envelopes_of(alloc, envelopes, modules.as_slice())
@@ -154,7 +161,8 @@ fn item_envelopes_of(
     envelopes: &Envelopes,
     items: &[Item],
 ) -> Result<Sequence<u8>, AllocError>
-    ensures { IfOk result (λ numbers. numbers ≡ numbers_of envelopes.now.envelopes (map item_place items.now)) }
+    ensures { IfOk result (λ numbers. numbers
+        ≡ numbers_of envelopes.now.envelopes (map item_place items.now)) }
 {
     marked(alloc, &marks_of(envelopes, items), envelopes.count())
 }
@@ -196,7 +204,8 @@ pub fn scopes_of(
     requires tables { tables.now ≡ tables_in source.now }
     requires definitions { definitions.now ≡ map (definition_number source.now) source.now.items }
     requires sizes { sizes.now ≡ sizes_in source.now further_limit }
-    ensures { IfOk result (λ scopes. scopes ≡ map (declared_in source.now envelopes.now) source.now.modules) }
+    ensures { IfOk result (λ scopes. scopes
+        ≡ map (declared_in source.now envelopes.now) source.now.modules) }
 {
     let mut scopes = Vec::new(alloc);
     for (number, module) in source.modules.as_slice().iter().enumerate() {

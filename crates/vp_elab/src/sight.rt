@@ -51,7 +51,8 @@ impl Sight {
 
 /// A viewport is on the item of this name in this module and this envelope.
 pub fn is_on(viewport: &Viewport, envelope: u8, module: &str, item: &str) -> bool
-    ensures { result ≡ matches (step_named envelope «module».now item.now) (viewport_of viewport.now) }
+    ensures { result ≡ matches (step_named envelope «module».now item.now)
+        (viewport_of viewport.now) }
 {
     let named = match &viewport.module {
         Some(name) => name.as_str() == module,
@@ -62,7 +63,8 @@ pub fn is_on(viewport: &Viewport, envelope: u8, module: &str, item: &str) -> boo
 
 /// What these viewports open of the item of this name in this module and this envelope.
 fn sight_of(viewports: &[Viewport], envelope: u8, module: &str, item: &str) -> Sight
-    ensures { shown result ≡ sight_of (map viewport_of viewports.now) (step_named envelope «module».now item.now) }
+    ensures { shown result ≡ sight_of (map viewport_of viewports.now)
+        (step_named envelope «module».now item.now) }
 {
     let mut sight = Sight::none();
     for (number, viewport) in viewports.iter().enumerate() {
@@ -83,7 +85,8 @@ fn item_sight(
     item: Item,
 ) -> Sight
     requires { slice_index_or names.now index [] ≡ item_name source.now item }
-    ensures { shown result ≡ sight_of envelopes.now.viewports (item_step source.now envelopes.now.envelopes «module» item) }
+    ensures { shown result ≡ sight_of envelopes.now.viewports
+        (item_step source.now envelopes.now.envelopes «module» item) }
 {
     let name = names.at(index);
     let envelope = envelopes.of(place_of(item));
@@ -104,7 +107,9 @@ pub fn sights_of(
     module: Module,
 ) -> Result<Sequence<Sight>, AllocError>
     requires { names.now ≡ scope_in source.now «module» }
-    ensures { IfOk result (λ sights. map shown sights ≡ map (λ i. sight_of envelopes.now.viewports (item_step source.now envelopes.now.envelopes «module» i)) (items_in source.now «module»)) }
+    ensures { IfOk result (λ sights. map shown sights
+        ≡ map (λ i. sight_of envelopes.now.viewports
+        (item_step source.now envelopes.now.envelopes «module» i)) (items_in source.now «module»)) }
 {
     let mut sights = Vec::new(alloc);
     for (index, item) in items_of(source, module).iter().enumerate() {
@@ -123,7 +128,8 @@ fn is_on_item(
 ) -> bool
     requires names { names.now ≡ scope_in source.now «module» }
     requires once { twice source.now [] (items_in source.now «module») ≡ None }
-    ensures { result ≡ list_any (is_on_item source.now envelopes.now.envelopes (viewport_of viewport.now) «module») (items_in source.now «module») }
+    ensures { result ≡ list_any (is_on_item source.now envelopes.now.envelopes
+        (viewport_of viewport.now) «module») (items_in source.now «module») }
 {
     let name = viewport.item.as_str();
     let Some(index) = names.find(name) else {
@@ -140,7 +146,8 @@ fn is_on_item(
 fn is_on_any(source: &Source, envelopes: &Envelopes, tables: &Tables, viewport: &Viewport) -> bool
     requires tables { tables.now ≡ tables_in source.now }
     requires once { twice_in source.now [] source.now.modules ≡ None }
-    ensures { result ≡ is_on_any source.now envelopes.now.envelopes (viewport_of viewport.now) source.now.modules }
+    ensures { result ≡ is_on_any source.now envelopes.now.envelopes (viewport_of viewport.now)
+        source.now.modules }
 {
     for (number, module) in source.modules.as_slice().iter().enumerate() {
         let names = &tables.scopes.as_slice()[number];
@@ -159,7 +166,8 @@ pub fn check_viewports(
 ) -> Result<(), ElabError>
     requires tables { tables.now ≡ tables_in source.now }
     requires once { twice_in source.now [] source.now.modules ≡ None }
-    ensures { MatchResult result (λ _. unmatched_in source.now envelopes.now ≡ None) (λ e. Explains (unmatched_in source.now envelopes.now) e) }
+    ensures { MatchResult result (λ _. unmatched_in source.now envelopes.now ≡ None)
+        (λ e. Explains (unmatched_in source.now envelopes.now) e) }
 {
     for viewport in envelopes.viewports() {
         if !is_on_any(source, envelopes, tables, viewport) {

@@ -68,7 +68,8 @@ fn first_size(items: &[Item]) -> u32
 
 /// The sizes of modules behind which paths have no step left.
 fn first_sizes(alloc: Global, source: &Source) -> Result<Vec<u32>, AllocError>
-    ensures { IfOk result (λ sizes. sizes.items ≡ map (λ m. capped (total (λ i. many) (items_in source.now m))) source.now.modules) }
+    ensures { IfOk result (λ sizes. sizes.items
+        ≡ map (λ m. capped (total (λ i. many) (items_in source.now m))) source.now.modules) }
 {
     let mut sizes = Vec::new(alloc);
     for module in source.modules.as_slice() {
@@ -84,7 +85,9 @@ fn next_sizes(
     definitions: &[Option<usize>],
     sizes: &[u32],
 ) -> Result<Vec<u32>, AllocError>
-    ensures { IfOk result (λ next. next.items ≡ map (λ m. capped (total (size_by sizes.now) (definitions_in definitions.now m))) source.now.modules) }
+    ensures { IfOk result (λ next. next.items
+        ≡ map (λ m. capped (total (size_by sizes.now) (definitions_in definitions.now m)))
+        source.now.modules) }
 {
     let mut next = Vec::new(alloc);
     for module in source.modules.as_slice() {
@@ -113,7 +116,8 @@ pub fn sizes_of(
 fn top_size(tops: &[bool], sizes: &[u32], number: usize) -> u32
     requires tops { number < length tops.now }
     requires sizes { number < length sizes.now }
-    ensures { result ≡ if slice_index_or tops.now number false then capped (1 + slice_index_or sizes.now number 0) else 0 }
+    ensures { result ≡ if slice_index_or tops.now number false
+        then capped (1 + slice_index_or sizes.now number 0) else 0 }
 {
     if tops[number] {
         sizes[number].saturating_add(1).min(MANY)
@@ -139,7 +143,8 @@ fn object_count(source: &Source, tops: &[bool], sizes: &[u32]) -> u32
 pub fn check_count(source: &Source, tops: &[bool], sizes: &[u32]) -> Result<(), ElabError>
     requires tops { tops.now ≡ map (is_top source.now) source.now.modules }
     requires sizes { sizes.now ≡ sizes_in source.now further_limit }
-    ensures { MatchResult result (λ _. object_count source.now ≤ OBJECT_LIMIT) (λ e. (OBJECT_LIMIT < object_count source.now) × (e ≡ TooManyObjects)) }
+    ensures { MatchResult result (λ _. object_count source.now ≤ OBJECT_LIMIT)
+        (λ e. (OBJECT_LIMIT < object_count source.now) × (e ≡ TooManyObjects)) }
 {
     if object_count(source, tops, sizes) == MANY {
         Err(ElabError::TooManyObjects)

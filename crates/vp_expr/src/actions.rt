@@ -55,7 +55,8 @@ fn named_target(
     name: u32,
     selection: Selection,
 ) -> Option<Target>
-    ensures { let scope = option_map (λ o. o.0) scope in result ≡ named_target design.now scope (object_named design.now scope name) selection }
+    ensures { let scope = option_map (λ o. o.0) scope in result
+        ≡ named_target design.now scope (object_named design.now scope name) selection }
 {
     match object_named(design, scope, name) {
         Some(object) => selected_target(design, scope, object, selection),
@@ -90,7 +91,8 @@ fn assigned(
     selection: Selection,
     value: u32,
 ) -> Option<(Target, ExprId)>
-    ensures { result ≡ assigned design.now (option_map (λ o. o.0) scope) sizes.now name selection value }
+    ensures { result ≡ assigned design.now (option_map (λ o. o.0) scope) sizes.now name selection
+        value }
 {
     let target = named_target(design, scope, name, selection)?;
     let size = target_width(target).max(size_at(sizes, value));
@@ -226,7 +228,8 @@ fn add_actions(
     actions: &mut Vec<Action>,
 ) -> Result<(), AllocError>
     requires { option_map (λ o. o.0) scope ≡ scope_of design.now «module» }
-    ensures { OnOk result (actions.new.items ≡ actions.old.items ++ actions_in design.now sizes.now «module») }
+    ensures { OnOk result (actions.new.items ≡ actions.old.items
+        ++ actions_in design.now sizes.now «module») }
 {
     for statement in statements_of(design.source(), module) {
         actions.push(action_of(design, scope, sizes, *statement))?;

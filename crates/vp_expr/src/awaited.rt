@@ -54,7 +54,8 @@ fn add_terms(
     terms: &[EventTerm],
     awaited: &mut Vec<Awaited>,
 ) -> Result<(), AllocError>
-    ensures { OnOk result (awaited.new.items ≡ awaited.old.items ++ filter_map (term_change design.now (option_map (λ o. o.0) scope)) terms.now) }
+    ensures { OnOk result (awaited.new.items ≡ awaited.old.items
+        ++ filter_map (term_change design.now (option_map (λ o. o.0) scope)) terms.now) }
 {
     for term in terms {
         if let Some(change) = term_change(design, scope, *term) {
@@ -87,7 +88,9 @@ fn add_awaited(
     statement: Statement,
     awaited: &mut Vec<Awaited>,
 ) -> Result<(), AllocError>
-    ensures { OnOk result (awaited.new.items ≡ awaited.old.items ++ awaited_by design.now (option_map (λ o. o.0) scope) operands.now (reads_in design.now.source operands.now statements.now) statement) }
+    ensures { OnOk result (awaited.new.items ≡ awaited.old.items
+        ++ awaited_by design.now (option_map (λ o. o.0) scope) operands.now
+        (reads_in design.now.source operands.now statements.now) statement) }
 {
     let source = design.source();
     match statement {
@@ -120,7 +123,10 @@ fn add_awaits(
     awaits: &mut Awaits,
 ) -> Result<(), AllocError>
     requires { option_map (λ o. o.0) scope ≡ scope_of design.now «module» }
-    ensures { OnOk result ((awaits.new.awaited.items, awaits.new.ends.items) ≡ fold laid_behind (awaits.old.awaited.items, awaits.old.ends.items) (awaits_in design.now operands.now (reads_in design.now.source operands.now statements.now) «module»)) }
+    ensures { OnOk result ((awaits.new.awaited.items, awaits.new.ends.items)
+        ≡ fold laid_behind (awaits.old.awaited.items, awaits.old.ends.items)
+        (awaits_in design.now operands.now (reads_in design.now.source operands.now statements.now)
+        «module»)) }
 {
     for statement in statements_of(design.source(), module) {
         add_awaited(
@@ -150,7 +156,8 @@ fn all_statements(alloc: Global, source: &Source) -> Result<Vec<Statement>, Allo
 
 /// The changes for which the statements of a design wait, by its expressions as operands. Takes memory.
 pub fn awaits_of(alloc: Global, design: &Design, operands: &[Operand]) -> Result<Awaits, AllocError>
-    ensures { IfOk result (λ awaits. (awaits.awaited.items, awaits.ends.items) ≡ laid_of (awaits_of design.now operands.now)) }
+    ensures { IfOk result (λ awaits. (awaits.awaited.items, awaits.ends.items)
+        ≡ laid_of (awaits_of design.now operands.now)) }
 {
     let statements = all_statements(alloc, design.source())?;
     let mut awaits = Awaits {

@@ -87,7 +87,8 @@ impl Checked {
     #[tactic(auto, unfolding(crate::specs::Tables::awaited_of))]
     pub fn awaited(&self, place: u32) -> &[Awaited]
         ensures cut { result.now ≡ awaited_of (tables_of self.now) place }
-        ensures awaited { result.now ≡ slice_index_or (awaits_of self.now (operands_of self.now)) place [] }
+        ensures awaited { result.now ≡ slice_index_or (awaits_of self.now (operands_of self.now))
+            place [] }
     {
         let tables = &self.tables;
         let ends = tables.awaited_ends.as_slice();

@@ -25,7 +25,8 @@ use vp_operand::{
 fn operand_below(tables: &Tables, end: usize, place: u32) -> Option<Operand>
     requires { IsSized tables.now.operands tables.now.sizes }
     ensures below { OnSome result (place < end) }
-    ensures term { MatchOption result (term_below tables.now.operands end place ≡ blank) (λ o. term_below tables.now.operands end place ≡ term_made tables.now.operands place o) }
+    ensures term { MatchOption result (term_below tables.now.operands end place ≡ blank)
+        (λ o. term_below tables.now.operands end place ≡ term_made tables.now.operands place o) }
     ensures fits { IfSome result (λ o. IsWidth (size (term_made tables.now.operands place o))) }
 {
     operand_before(tables.operands.as_slice(), end, place)
@@ -48,7 +49,8 @@ fn size_below(tables: &Tables, end: usize, place: u32) -> u8
 fn value_below(tables: &Tables, values: &[Bits], end: usize, place: u32, context: u8) -> Bits
     requires sized { IsSized tables.now.operands tables.now.sizes }
     requires fits { IsWidth context }
-    ensures value { result ≡ value (value_in values.now) context (term_below tables.now.operands end place) }
+    ensures value { result ≡ value (value_in values.now) context
+        (term_below tables.now.operands end place) }
     ensures width { length result ≡ context }
 {
     match operand_below(tables, end, place) {
@@ -61,7 +63,8 @@ fn value_below(tables: &Tables, values: &[Bits], end: usize, place: u32, context
 #[cycle(evaluation)]
 fn own_value(tables: &Tables, values: &[Bits], end: usize, place: u32) -> Bits
     requires { IsSized tables.now.operands tables.now.sizes }
-    ensures value { let term = term_below tables.now.operands end place in result ≡ value (value_in values.now) (size term) term }
+    ensures value { let term = term_below tables.now.operands end place in result
+        ≡ value (value_in values.now) (size term) term }
     ensures width { length result ≡ size (term_below tables.now.operands end place) }
 {
     value_below(tables, values, end, place, size_below(tables, end, place))
@@ -80,7 +83,8 @@ fn value_of_pair(
 ) -> Bits
     requires sized { IsSized tables.now.operands tables.now.sizes }
     requires fits { IsWidth context }
-    ensures { result ≡ value (value_in values.now) context (term_made tables.now.operands place (Operand.Paired operator left right)) }
+    ensures { result ≡ value (value_in values.now) context
+        (term_made tables.now.operands place (Operand.Paired operator left right)) }
 {
     match operator {
         Infix::Combined(operator) => {
@@ -119,7 +123,8 @@ fn value_of_choice(
 ) -> Bits
     requires sized { IsSized tables.now.operands tables.now.sizes }
     requires fits { IsWidth context }
-    ensures { result ≡ value (value_in values.now) context (term_made tables.now.operands place (Operand.Conditional condition first second)) }
+    ensures { result ≡ value (value_in values.now) context
+        (term_made tables.now.operands place (Operand.Conditional condition first second)) }
 {
     match own_value(tables, values, place, condition).truth() {
         Bit::One => value_below(tables, values, place, first, context),
@@ -137,7 +142,8 @@ fn value_of(tables: &Tables, values: &[Bits], place: usize, operand: Operand, co
     requires sized { IsSized tables.now.operands tables.now.sizes }
     requires own { IsWidth (size (term_made tables.now.operands place operand)) }
     requires fits { IsWidth context }
-    ensures { result ≡ value (value_in values.now) context (term_made tables.now.operands place operand) }
+    ensures { result ≡ value (value_in values.now) context
+        (term_made tables.now.operands place operand) }
 {
     match operand {
         Operand::Object { slot, .. } => value_in(values, slot.0).resize(context),
@@ -240,8 +246,8 @@ pub fn place_set(
 pub fn add_reads(checked: &Checked, place: u32, slots: &mut Vec<Slot>) -> Result<(), AllocError>
     ensures read { OnOk result (slots.new.items
         ≡ slots.old.items ++ map slot_at (reads (term_at (tables_of checked.now).operands place))) }
-    ensures derived { OnOk result ((m : Module) (e : Expr) → StandsAt checked.now m place e → slots.new.items
-        ≡ slots.old.items ++ map slot_at (reads (expr_term checked.now (scope_of checked.now m) e))) }
+    ensures derived { OnOk result ((m : Module) (e : Expr) → StandsAt checked.now m place e
+        → slots.new.items ≡ slots.old.items ++ map slot_at (reads (expr_term checked.now (scope_of checked.now m) e))) }
 {
     checked.design().source_is_whole();
     add_slots(checked.tables().operands.as_slice(), place, slots)

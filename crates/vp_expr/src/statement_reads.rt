@@ -34,7 +34,8 @@ fn add_index(
     selection: Selection,
     slots: &mut Vec<Slot>,
 ) -> Result<(), AllocError>
-    ensures { OnOk result (slots.new.items ≡ slots.old.items ++ index_slots operands.now selection) }
+    ensures { OnOk result (slots.new.items ≡ slots.old.items
+        ++ index_slots operands.now selection) }
 {
     match selection {
         Selection::Bit { index } => add_slots(operands, index, slots),
@@ -63,7 +64,8 @@ fn add_assignment(
     value: u32,
     slots: &mut Vec<Slot>,
 ) -> Result<(), AllocError>
-    ensures { OnOk result (slots.new.items ≡ slots.old.items ++ (index_slots operands.now selection ++ slots_at operands.now value)) }
+    ensures { OnOk result (slots.new.items ≡ slots.old.items
+        ++ (index_slots operands.now selection ++ slots_at operands.now value)) }
 {
     add_index(operands, selection, slots)?;
     add_slots(operands, value, slots)
@@ -79,7 +81,8 @@ pub fn add_below(
     place: u32,
     slots: &mut Vec<Slot>,
 ) -> Result<(), AllocError>
-    ensures { OnOk result (slots.new.items ≡ slots.old.items ++ reads_below source.now operands.now statements.now end place) }
+    ensures { OnOk result (slots.new.items ≡ slots.old.items
+        ++ reads_below source.now operands.now statements.now end place) }
 {
     match statement_below(statements, end, place) {
         Some(statement) => add_of(
@@ -104,7 +107,8 @@ fn add_optional(
     part: Option<u32>,
     slots: &mut Vec<Slot>,
 ) -> Result<(), AllocError>
-    ensures { OnOk result (slots.new.items ≡ slots.old.items ++ optional_reads (take end (reads_in source.now operands.now statements.now)) part) }
+    ensures { OnOk result (slots.new.items ≡ slots.old.items
+        ++ optional_reads (take end (reads_in source.now operands.now statements.now)) part) }
 {
     match part {
         Some(place) => add_below(source, operands, statements, end, place, slots),
@@ -124,7 +128,9 @@ fn add_block(
     last: u32,
     slots: &mut Vec<Slot>,
 ) -> Result<(), AllocError>
-    ensures { OnOk result (slots.new.items ≡ slots.old.items ++ (reads_below source.now operands.now statements.now end last ++ reads_below source.now operands.now statements.now end list)) }
+    ensures { OnOk result (slots.new.items ≡ slots.old.items
+        ++ (reads_below source.now operands.now statements.now end last
+        ++ reads_below source.now operands.now statements.now end list)) }
 {
     add_below(source, operands, statements, end, last, slots)?;
     let mut below = end;
@@ -148,7 +154,8 @@ fn add_body(
     body: u32,
     slots: &mut Vec<Slot>,
 ) -> Result<(), AllocError>
-    ensures { OnOk result (slots.new.items ≡ slots.old.items ++ body_reads (take end (reads_in source.now operands.now statements.now)) before body) }
+    ensures { OnOk result (slots.new.items ≡ slots.old.items
+        ++ body_reads (take end (reads_in source.now operands.now statements.now)) before body) }
 {
     match before {
         Some(before) if before == body => Ok(()),
@@ -166,7 +173,9 @@ fn add_choices(
     choices: &[Choice],
     slots: &mut Vec<Slot>,
 ) -> Result<(), AllocError>
-    ensures { OnOk result (slots.new.items ≡ slots.old.items ++ choice_reads operands.now (take end (reads_in source.now operands.now statements.now)) None choices.now) }
+    ensures { OnOk result (slots.new.items ≡ slots.old.items
+        ++ choice_reads operands.now (take end (reads_in source.now operands.now statements.now))
+        None choices.now) }
 {
     let mut before = None;
     for choice in choices {
@@ -195,7 +204,8 @@ fn add_of(
     statement: Statement,
     slots: &mut Vec<Slot>,
 ) -> Result<(), AllocError>
-    ensures { OnOk result (slots.new.items ≡ slots.old.items ++ reads_made source.now operands.now statements.now place statement) }
+    ensures { OnOk result (slots.new.items ≡ slots.old.items
+        ++ reads_made source.now operands.now statements.now place statement) }
 {
     match statement {
         Statement::Empty | Statement::Null | Statement::Finish => Ok(()),

@@ -260,7 +260,8 @@ pub fn tables_of(
     requires operands { operands ≡ operands_of design.now }
     requires accepted { refusal_of design.now ≡ None }
     ensures tables { IfOk result (λ tables. IfSome tables (λ t. IsChecked design.now t)) }
-    ensures fit { IfOk result (λ tables. MatchOption tables (all_fit design.now ≡ false) (λ t. all_fit design.now ≡ true)) }
+    ensures fit { IfOk result (λ tables. MatchOption tables (all_fit design.now ≡ false)
+        (λ t. all_fit design.now ≡ true)) }
 {
     let Some(widths) = widths_of(alloc, design)? else {
         return Ok(None);

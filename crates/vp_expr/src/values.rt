@@ -31,7 +31,8 @@ impl Model for Values {
 /// The value of an object before anything has happened, by its number.
 fn start(design: &Design, id: ObjectId, object: Object) -> Bits
     requires { IsWidth object.width }
-    ensures { result ≡ start_value object.kind object.width (constant_at design.now id.0 object.width) }
+    ensures { result ≡ start_value object.kind object.width
+        (constant_at design.now id.0 object.width) }
 {
     let width = object.width as u8;
     match object.kind {
@@ -44,7 +45,8 @@ fn start(design: &Design, id: ObjectId, object: Object) -> Bits
 
 /// The value of the object of a number before anything has happened; one unknown bit for a number that is not there.
 fn start_at(checked: &Checked, id: ObjectId) -> Bits
-    ensures { result ≡ option_map_or (start_of checked.now) (slice_get checked.now.tree.nodes id.0) no_value }
+    ensures { result ≡ option_map_or (start_of checked.now) (slice_get checked.now.tree.nodes id.0)
+        no_value }
 {
     match checked.objects().get(id.0 as usize) {
         Some(object) => start(checked.design(), id, *object),
@@ -65,7 +67,8 @@ pub fn value_in(values: &[Bits], place: u32) -> Bits
 impl Values {
     /// The values before anything has happened; takes memory (604).
     pub fn new(alloc: Global, checked: &Checked) -> Result<Values, ExprError>
-        ensures values { IfOk result (λ values. values ≡ map (start_of checked.now) checked.now.tree.nodes) }
+        ensures values { IfOk result (λ values. values
+            ≡ map (start_of checked.now) checked.now.tree.nodes) }
         ensures err { IsOkUnless result ExprError.NoMemory }
     {
         let mut values = Vec::new(alloc);

@@ -23,7 +23,8 @@ pub enum ReadError {
 pub fn read(alloc: Global, bytes: &[u8]) -> Result<Value, ReadError>
     ensures utf8 { IfOk result (λ v. IsUtf8 bytes.now) }
     ensures value { IfOk result (λ v. read_text bytes.now ≡ Some (view v)) }
-    ensures not_json { result ≡ Err ReadError.NotJson → IsUtf8 bytes.now → read_text bytes.now ≡ None }
+    ensures not_json { result ≡ Err ReadError.NotJson → IsUtf8 bytes.now → read_text bytes.now
+        ≡ None }
 {
     match Value::from_slice(alloc, bytes) {
         Ok(value) => Ok(value),
@@ -34,7 +35,8 @@ pub fn read(alloc: Global, bytes: &[u8]) -> Result<Value, ReadError>
 
 /// A value is an object with each of the required keys, and with no key that is neither required nor optional.
 pub fn has_keys(value: &Value, required: &[&str], optional: &[&str]) -> bool
-    ensures { result ≡ has_keys (map (λ k. k.now) required.now) (map (λ k. k.now) optional.now) (view value.now) }
+    ensures { result ≡ has_keys (map (λ k. k.now) required.now) (map (λ k. k.now) optional.now)
+        (view value.now) }
 {
     has_each(value, required) && has_only(value, required, optional)
 }
@@ -53,7 +55,8 @@ fn has_each(value: &Value, keys: &[&str]) -> bool
 
 /// A value is an object, and each of its keys is one of these.
 fn has_only(value: &Value, keys: &[&str], others: &[&str]) -> bool
-    ensures { result ≡ has_only (map (λ k. k.now) keys.now) (map (λ k. k.now) others.now) (view value.now) }
+    ensures { result ≡ has_only (map (λ k. k.now) keys.now) (map (λ k. k.now) others.now)
+        (view value.now) }
 {
     match value.as_object() {
         Some(object) => are_among(object, keys, others),
@@ -63,7 +66,8 @@ fn has_only(value: &Value, keys: &[&str], others: &[&str]) -> bool
 
 /// Each key of an object is one of these.
 fn are_among(object: &Map<String, Value>, keys: &[&str], others: &[&str]) -> bool
-    ensures { result ≡ list_all (λ e. is_one_of (map (λ k. k.now) keys.now) (string_bytes e.0) || is_one_of (map (λ k. k.now) others.now) (string_bytes e.0)) object.now.entries }
+    ensures { result ≡ list_all (λ e. is_one_of (map (λ k. k.now) keys.now) (string_bytes e.0) ||
+        is_one_of (map (λ k. k.now) others.now) (string_bytes e.0)) object.now.entries }
 {
     for (key, _) in object {
         if !is_among(key.as_str(), keys) && !is_among(key.as_str(), others) {
@@ -87,14 +91,16 @@ fn is_among(key: &str, keys: &[&str]) -> bool
 
 /// The text under a key of an object.
 pub fn text<'a>(value: &'a Value, key: &str) -> Option<&'a str>
-    ensures { option_map (λ t. t.now) result ≡ option_and_then as_str (get key.now (view value.now)) }
+    ensures { option_map (λ t. t.now) result
+        ≡ option_and_then as_str (get key.now (view value.now)) }
 {
     value.get(key).and_then(Value::as_str)
 }
 
 /// The number under a key of an object, where it is a whole number from 0 to 18,446,744,073,709,551,615.
 pub fn number(value: &Value, key: &str) -> Option<u64>
-    ensures { result ≡ option_and_then as_u64 (option_and_then as_number (get key.now (view value.now))) }
+    ensures { result ≡ option_and_then as_u64
+        (option_and_then as_number (get key.now (view value.now))) }
 {
     value.get(key).and_then(Value::as_u64)
 }

@@ -143,7 +143,8 @@ fn run_end(bytes: &[u8], start: usize, class: Class) -> usize
 /// The end of the longest run from a place on that begins with a byte of one class and goes on with another.
 fn begun_end(bytes: &[u8], start: usize, begins: Class, goes_on: Class) -> Option<usize>
     requires { start ≤ length bytes.now }
-    ensures end { result ≡ option_map (λ front. start + length front) (run_front (class_test begins) (class_test goes_on) (drop start bytes.now)) }
+    ensures end { result ≡ option_map (λ front. start + length front)
+        (run_front (class_test begins) (class_test goes_on) (drop start bytes.now)) }
     ensures within { IfSome result (λ end. (start ≤ end) × (end ≤ length bytes.now)) }
 {
     if start < bytes.len() && begins.holds(bytes[start]) {
@@ -189,7 +190,8 @@ fn goes_on_comment(bytes: &[u8], at: usize) -> bool
 /// The kind of the piece that begins at a byte.
 fn kind_at(bytes: &[u8], start: usize) -> Option<Kind>
     requires { start < length bytes.now }
-    ensures { option_map kind_of result ≡ kind_in_front (slice_index bytes.now start) (drop (start + 1) bytes.now) }
+    ensures { option_map kind_of result
+        ≡ kind_in_front (slice_index bytes.now start) (drop (start + 1) bytes.now) }
 {
     if bytes[start] == b'/' && goes_on_comment(bytes, start + 1) {
         Some(Kind::Comment)
@@ -292,7 +294,8 @@ fn digits_end(bytes: &[u8], start: usize, base: Base) -> Result<usize, Fault>
 /// The end of the name of a system task or function, from behind its dollar sign.
 fn system_end(bytes: &[u8], start: usize) -> Result<usize, Fault>
     requires { start ≤ length bytes.now }
-    ensures { result ≡ end_of start (or_bad (run_front begins_name goes_on_name (drop start bytes.now))) }
+    ensures { result ≡ end_of start
+        (or_bad (run_front begins_name goes_on_name (drop start bytes.now))) }
 {
     match begun_end(bytes, start, Class::Letter, Class::Name) {
         Some(end) => Ok(end),
@@ -303,7 +306,8 @@ fn system_end(bytes: &[u8], start: usize) -> Result<usize, Fault>
 /// The end of a directive that is read, from behind its accent.
 fn directive_end(bytes: &[u8], start: usize) -> Result<usize, Fault>
     requires { start ≤ length bytes.now }
-    ensures { result ≡ end_of start (known_directive (run_front begins_name goes_on_name (drop start bytes.now))) }
+    ensures { result ≡ end_of start
+        (known_directive (run_front begins_name goes_on_name (drop start bytes.now))) }
 {
     let Some(end) = begun_end(bytes, start, Class::Letter, Class::Name) else {
         return Err(Fault::BadCharacter);
@@ -325,7 +329,8 @@ fn is_known(name: &[u8]) -> bool
 /// The end of a piece of a kind, from behind its first byte.
 fn piece_end(bytes: &[u8], start: usize, kind: Kind) -> Result<usize, Fault>
     requires { start < length bytes.now }
-    ensures { result ≡ end_of (start + 1) (front_of (kind_of kind) (slice_index bytes.now start) (drop (start + 1) bytes.now)) }
+    ensures { result ≡ end_of (start + 1)
+        (front_of (kind_of kind) (slice_index bytes.now start) (drop (start + 1) bytes.now)) }
 {
     let behind = start + 1;
     match kind {
@@ -345,7 +350,8 @@ fn piece_end(bytes: &[u8], start: usize, kind: Kind) -> Result<usize, Fault>
 pub fn piece_at(bytes: &[u8], start: usize) -> Result<(Kind, usize), Fault>
     requires { start < length bytes.now }
     ensures within { IfOk result (λ found. (start < found.1) × (found.1 ≤ length bytes.now)) }
-    ensures ok { IfOk result (λ found. first_piece (drop start bytes.now) ≡ Ok (record { kind = kind_of found.0; bytes = slice_range bytes.now start found.1 })) }
+    ensures ok { IfOk result (λ found. first_piece (drop start bytes.now)
+        ≡ Ok (record { kind = kind_of found.0; bytes = slice_range bytes.now start found.1 })) }
     ensures fault { IfErr result (λ fault. first_piece (drop start bytes.now) ≡ Err fault) }
 {
     let Some(kind) = kind_at(bytes, start) else {

@@ -91,7 +91,8 @@ pub fn symbol(bytes: &[u8]) -> Option<Punctuator>
 /// The length of the longest symbol that bytes begin with, or of their first byte.
 fn symbol_length(bytes: &[u8]) -> usize
     requires { 0 < length bytes.now }
-    ensures length { result ≡ 1 + length (symbol_front (slice_index bytes.now 0) (drop 1 bytes.now)) }
+    ensures length { result ≡ 1 + length
+        (symbol_front (slice_index bytes.now 0) (drop 1 bytes.now)) }
     ensures within { result ≤ length bytes.now }
 {
     match bytes {
@@ -105,7 +106,8 @@ fn symbol_length(bytes: &[u8]) -> usize
 #[tactic(auto, using(std::proofs::lemmas::List::drop_more))]
 pub fn symbol_end(bytes: &[u8], start: usize) -> usize
     requires { start < length bytes.now }
-    ensures end { result ≡ start + 1 + length (symbol_front (slice_index bytes.now start) (drop (start + 1) bytes.now)) }
+    ensures end { result ≡ start + 1 + length
+        (symbol_front (slice_index bytes.now start) (drop (start + 1) bytes.now)) }
 {
     start + symbol_length(&bytes[start..])
 }

@@ -49,7 +49,8 @@ fn run(tokens: &[Token], line: u32) -> &[Token]
 
 /// The texts of some tokens are those of others.
 fn are_same(text: &str, some: &[Token], others: &[Token]) -> bool
-    ensures { result ≡ are_same (map (text_of text.now) some.now) (map (text_of text.now) others.now) }
+    ensures { result ≡ are_same (map (text_of text.now) some.now)
+        (map (text_of text.now) others.now) }
 {
     if some.len() != others.len() {
         return false;

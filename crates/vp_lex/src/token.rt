@@ -143,10 +143,13 @@ impl Position {
 
     /// The token that a piece from here to this end is; white space is none.
     fn token(self, text: &str, end: usize, kind: Kind) -> Option<Token>
-        requires within { (self.at < end) × (end ≤ length text.now) × (length text.now ≤ TEXT_LIMIT) }
+        requires within { (self.at < end) × (end ≤ length text.now)
+            × (length text.now ≤ TEXT_LIMIT) }
         requires place { IsPlace text.now self }
         requires piece { is_piece (kind_of kind) (slice_range text.now self.at end) ≡ true }
-        ensures { let bytes = slice_range text.now self.at end in result ≡ option_map (λ its. token_at (take self.at text.now) self.directive bytes its (is_mark (kind_of kind))) (token_kind (kind_of kind) bytes) }
+        ensures { let bytes = slice_range text.now self.at end in result
+            ≡ option_map (λ its. token_at (take self.at text.now) self.directive bytes its
+            (is_mark (kind_of kind))) (token_kind (kind_of kind) bytes) }
     {
         match token_kind(text, self.at, end, kind) {
             None => None,
@@ -167,7 +170,9 @@ impl Position {
         requires place { IsPlace bytes.now self }
         ensures at { result.at ≡ end }
         ensures place { IsPlace bytes.now result }
-        ensures directive { result.directive ≡ ((is_mark (kind_of kind) || self.directive) && list_all (λ byte. not (is_newline byte)) (slice_range bytes.now self.at end)) }
+        ensures directive { result.directive
+            ≡ ((is_mark (kind_of kind) || self.directive) && list_all
+            (λ byte. not (is_newline byte)) (slice_range bytes.now self.at end)) }
     {
         let mut here = Position {
             directive: kind.is_mark() || self.directive,
@@ -185,7 +190,8 @@ impl Position {
         requires place { IsPlace bytes.now self }
         ensures at { result.at ≡ self.at + 1 }
         ensures place { IsPlace bytes.now result }
-        ensures directive { result.directive ≡ (self.directive && not (is_newline (slice_index bytes.now self.at))) }
+        ensures directive { result.directive
+            ≡ (self.directive && not (is_newline (slice_index bytes.now self.at))) }
     {
         let at = self.at + 1;
         if bytes[self.at] == b'\n' {

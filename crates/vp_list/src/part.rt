@@ -6,7 +6,8 @@ ghost use Rattle.vp_list.specs.Texts.{behind_part, parts};
 /// character; the whole text where there is none.
 pub fn first_part(text: &str, separator: char) -> (&str, Option<&str>)
     requires { separator < 128 }
-    ensures parts { parts separator text.now ≡ behind_part separator result.0.now (option_map (λ r. r.now) result.1) }
+    ensures parts { parts separator text.now
+        ≡ behind_part separator result.0.now (option_map (λ r. r.now) result.1) }
     ensures text { IfSome result.1 (λ r. IsUtf8 r.now) }
     ensures shorter { IfSome result.1 (λ r. length r.now < length text.now) }
 {
@@ -33,8 +34,10 @@ fn first_place(bytes: &[u8], byte: u8) -> usize
 /// The part of some bytes before the first of a byte that separates their parts, and what follows that byte; all of them
 /// where there is none.
 pub fn first_piece(bytes: &[u8], separator: u8) -> (&[u8], Option<&[u8]>)
-    ensures parts { parts separator bytes.now ≡ behind_part separator result.0.now (option_map (λ r. r.now) result.1) }
-    ensures whole { MatchOption result.1 (bytes.now ≡ result.0.now) (λ r. bytes.now ≡ result.0.now ++ separator ∷ r.now) }
+    ensures parts { parts separator bytes.now
+        ≡ behind_part separator result.0.now (option_map (λ r. r.now) result.1) }
+    ensures whole { MatchOption result.1 (bytes.now ≡ result.0.now)
+        (λ r. bytes.now ≡ result.0.now ++ separator ∷ r.now) }
 {
     let end = first_place(bytes, separator);
     if end < bytes.len() {

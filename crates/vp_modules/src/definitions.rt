@@ -26,7 +26,8 @@ pub fn definitions_of(
     tables: &Tables,
 ) -> Result<Sequence<Option<usize>>, AllocError>
     requires { tables.now ≡ tables_in source.now }
-    ensures { IfOk result (λ definitions. definitions ≡ map (definition_number source.now) source.now.items) }
+    ensures { IfOk result (λ definitions. definitions
+        ≡ map (definition_number source.now) source.now.items) }
 {
     let mut definitions = Vec::new(alloc);
     for item in source.items.as_slice() {

@@ -38,7 +38,8 @@ fn add_driven(
     places: &mut Vec<u32>,
 ) -> Result<(), AllocError>
     requires { target.names.now ≡ scope_in source.now target.module }
-    ensures { OnOk result (places.new.items ≡ places.old.items ++ driven_through source.now target.entry.module 0 connections.now) }
+    ensures { OnOk result (places.new.items ≡ places.old.items
+        ++ driven_through source.now target.entry.module 0 connections.now) }
 {
     for (before, connection) in connections.iter().enumerate() {
         if let Some(place) = driven_from(source, target, before, *connection) {

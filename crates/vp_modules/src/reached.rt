@@ -38,7 +38,8 @@ impl Reached {
     /// Adds a module, where it is new. Takes memory.
     pub fn add(&mut self, number: usize) -> Result<(), AllocError>
         requires { number < length self.old.seen.items }
-        ensures order { OnOk result (self.new.order.items ≡ with_number self.old.order.items (Some number)) }
+        ensures order { OnOk result (self.new.order.items
+            ≡ with_number self.old.order.items (Some number)) }
         ensures count { length self.new.seen.items ≡ length self.old.seen.items }
     {
         if !self.seen[number] {
@@ -50,8 +51,10 @@ impl Reached {
 
     /// Adds the modules that items instantiate, where they are new. Takes memory.
     pub fn add_all(&mut self, definitions: &[Option<usize>]) -> Result<(), AllocError>
-        requires { (i k : ℕ) → slice_index_or definitions.now i None ≡ Some k → k < length self.old.seen.items }
-        ensures order { OnOk result (self.new.order.items ≡ with_numbers self.old.order.items definitions.now) }
+        requires { (i k : ℕ) → slice_index_or definitions.now i None ≡ Some k → k
+            < length self.old.seen.items }
+        ensures order { OnOk result (self.new.order.items
+            ≡ with_numbers self.old.order.items definitions.now) }
         ensures count { length self.new.seen.items ≡ length self.old.seen.items }
     {
         for definition in definitions {

@@ -54,7 +54,9 @@ fn marks_before(
     definitions: &[Option<usize>],
     marks: &[bool],
 ) -> Result<Vec<bool>, AllocError>
-    ensures { IfOk result (λ before. before.items ≡ map (λ m. list_any (is_marked marks.now) (definitions_in definitions.now m)) source.now.modules) }
+    ensures { IfOk result (λ before. before.items
+        ≡ map (λ m. list_any (is_marked marks.now) (definitions_in definitions.now m))
+        source.now.modules) }
 {
     let mut before = Vec::new(alloc);
     for module in source.modules.as_slice() {
@@ -106,7 +108,9 @@ fn leads_back(
     requires definitions { definitions.now ≡ map (definition_number source.now) source.now.items }
     requires once { twice_in source.now [] source.now.modules ≡ None }
     requires there { slice_get source.now.modules number ≡ Some «module» }
-    ensures { IfOk result (λ back. back ≡ leads source.now (word_at source.now «module».name) (length source.now.modules) «module») }
+    ensures { IfOk result (λ back. back
+        ≡ leads source.now (word_at source.now «module».name) (length source.now.modules)
+        «module») }
 {
     let count = source.modules.len();
     let mut reached = Reached::new(alloc, count)?;

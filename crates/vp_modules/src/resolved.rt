@@ -89,7 +89,8 @@ fn check_items(
 ) -> Result<(Sequence<Option<usize>>, Sequence<bool>), ElabError>
     requires tables { tables.now ≡ tables_in source.now }
     requires once { twice_in source.now [] source.now.modules ≡ None }
-    ensures definitions { IfOk result (λ found. found.0 ≡ map (definition_number source.now) source.now.items) }
+    ensures definitions { IfOk result
+        (λ found. found.0 ≡ map (definition_number source.now) source.now.items) }
     ensures tops { IfOk result (λ found. found.1 ≡ map (is_top source.now) source.now.modules) }
     ensures right { OnOk result (refusal_of source.now ≡ None) }
     ensures refused { IfErr result (λ e. Explains (refusal_of source.now) e) }

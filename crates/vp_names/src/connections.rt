@@ -92,7 +92,8 @@ fn is_whole_net(source: &Source, scope: Scope<'_>, place: u32, expression: Expre
 /// The value of an output's connection is a whole net.
 fn is_outward(source: &Source, scope: Scope<'_>, place: u32, value: u32) -> bool
     requires { scope.names.now ≡ scope_in source.now scope.module }
-    ensures { result ≡ option_map_or (is_whole_net source.now scope.entry.module place) (slice_get source.now.expressions value) false }
+    ensures { result ≡ option_map_or (is_whole_net source.now scope.entry.module place)
+        (slice_get source.now.expressions value) false }
 {
     match source.expressions.as_slice().get(value as usize) {
         Some(expression) => is_whole_net(source, scope, place, *expression),
@@ -135,7 +136,8 @@ fn connection_fault(
 ) -> Option<u32>
     requires outer { outer.names.now ≡ scope_in source.now outer.module }
     requires target { target.names.now ≡ scope_in source.now target.module }
-    ensures { result ≡ connection_fault source.now outer.entry.module target.entry.module named.now before connection }
+    ensures { result ≡ connection_fault source.now outer.entry.module target.entry.module named.now
+        before connection }
 {
     let first = connection.port.unwrap_or(connection.place);
     let Some(port) = port_of(source, target, before, connection) else {
@@ -176,7 +178,9 @@ fn connections_fault(
 ) -> Result<Option<u32>, ElabError>
     requires outer { outer.names.now ≡ scope_in source.now outer.module }
     requires target { target.names.now ≡ scope_in source.now target.module }
-    ensures fault { IfOk result (λ fault. fault ≡ connections_fault source.now outer.entry.module target.entry.module [] 0 connections.now) }
+    ensures fault { IfOk result (λ fault. fault
+        ≡ connections_fault source.now outer.entry.module target.entry.module [] 0
+        connections.now) }
     ensures failed { IfErr result (λ e. e ≡ NoMemory) }
 {
     let mut named = Names::new(alloc);
@@ -201,7 +205,8 @@ fn instance_fault(
 ) -> Result<Option<u32>, ElabError>
     requires tables { tables.now ≡ tables_in source.now }
     requires outer { outer.names.now ≡ scope_in source.now outer.module }
-    ensures fault { IfOk result (λ fault. fault ≡ instance_fault source.now outer.entry.module item) }
+    ensures fault { IfOk result (λ fault. fault
+        ≡ instance_fault source.now outer.entry.module item) }
     ensures failed { IfErr result (λ e. e ≡ NoMemory) }
 {
     match definition_of(source, tables, item) {

@@ -10,7 +10,8 @@ use vp_source::{Item, Module, Source};
 
 /// The first of these values whose name, in the table of their names, is the one looked for.
 fn value_named<T: Copy>(values: &[T], names: &Names, name: &str) -> Option<T>
-    ensures { result ≡ option_and_then (slice_get values.now) (position (bytes_eq name.now) names.now) }
+    ensures { result ≡ option_and_then (slice_get values.now)
+        (position (bytes_eq name.now) names.now) }
 {
     let index = names.find(name)?;
     values.get(index).copied()

@@ -33,7 +33,8 @@ impl Names {
     /// Adds a name behind the others; false, and nothing is changed, where it is there already. Takes memory.
     pub fn add(&mut self, name: String) -> Result<bool, AllocFailed<String>>
         ensures added { IfOk result (λ added. added ≡ not (is_among self.old (string_bytes name))) }
-        ensures names { IfOk result (λ added. self.new ≡ (if added then self.old ++ string_bytes name ∷ [] else self.old)) }
+        ensures names { IfOk result (λ added. self.new
+            ≡ (if added then self.old ++ string_bytes name ∷ [] else self.old)) }
     {
         self.names.insert(name)
     }

@@ -89,7 +89,8 @@ fn assigned_by(item: Item) -> Option<u32>
 /// The first target of a module's statements that is of no use for a purpose.
 fn unfit_target(source: &Source, module: Module, names: &Names, purpose: Purpose) -> Option<u32>
     requires { names.now ≡ scope_in source.now «module» }
-    ensures { result ≡ earliest (λ s. unfit source.now «module» (fits purpose) (target_of s)) (statements_in source.now «module») }
+    ensures { result ≡ earliest (λ s. unfit source.now «module» (fits purpose) (target_of s))
+        (statements_in source.now «module») }
 {
     let mut first = None;
     for statement in statements_of(source, module) {
@@ -104,7 +105,8 @@ fn unfit_target(source: &Source, module: Module, names: &Names, purpose: Purpose
 /// The first name in a module's expressions that is of no use for a purpose.
 fn unfit_operand(source: &Source, module: Module, names: &Names, purpose: Purpose) -> Option<u32>
     requires { names.now ≡ scope_in source.now «module» }
-    ensures { result ≡ earliest (λ e. unfit source.now «module» (fits purpose) (name_in e)) (expressions_in source.now «module») }
+    ensures { result ≡ earliest (λ e. unfit source.now «module» (fits purpose) (name_in e))
+        (expressions_in source.now «module») }
 {
     let mut first = None;
     for expression in expressions_of(source, module) {
@@ -119,7 +121,8 @@ fn unfit_operand(source: &Source, module: Module, names: &Names, purpose: Purpos
 /// The first target of a module's continuous assignments that is of no use for a purpose.
 fn unfit_assigned(source: &Source, module: Module, names: &Names, purpose: Purpose) -> Option<u32>
     requires { names.now ≡ scope_in source.now «module» }
-    ensures { result ≡ earliest (λ i. unfit source.now «module» (fits purpose) (assigned_by i)) (items_in source.now «module») }
+    ensures { result ≡ earliest (λ i. unfit source.now «module» (fits purpose) (assigned_by i))
+        (items_in source.now «module») }
 {
     let mut first = None;
     for item in items_of(source, module) {
@@ -134,7 +137,8 @@ fn unfit_assigned(source: &Source, module: Module, names: &Names, purpose: Purpo
 /// The first name in a module's events that is of no use for a purpose.
 fn unfit_term(source: &Source, module: Module, names: &Names, purpose: Purpose) -> Option<u32>
     requires { names.now ≡ scope_in source.now «module» }
-    ensures { result ≡ earliest (λ t. unfit source.now «module» (fits purpose) (Some t.name)) (terms_in source.now «module») }
+    ensures { result ≡ earliest (λ t. unfit source.now «module» (fits purpose) (Some t.name))
+        (terms_in source.now «module») }
 {
     let mut first = None;
     for term in terms_of(source, module) {

@@ -46,11 +46,14 @@ fn add_module(
     modules: &mut Names,
     scopes: &mut Vec<Names>,
 ) -> Result<(), ElabError>
-    ensures names { OnOk result (modules.new ≡ modules.old ++ word_at source.now declared.name ∷ []) }
-    ensures scopes { OnOk result (scopes.new.items ≡ scopes.old.items ++ scope_in source.now declared ∷ []) }
+    ensures names { OnOk result (modules.new ≡ modules.old
+        ++ word_at source.now declared.name ∷ []) }
+    ensures scopes { OnOk result (scopes.new.items ≡ scopes.old.items
+        ++ scope_in source.now declared ∷ []) }
     ensures new { OnOk result (is_among modules.old (word_at source.now declared.name) ≡ false) }
     ensures once { OnOk result (twice source.now [] (items_in source.now declared) ≡ None) }
-    ensures twice { IfErr result (λ e. (ms : List Module) → Explains (twice_in source.now modules.old (declared ∷ ms)) e) }
+    ensures twice { IfErr result (λ e. (ms : List Module)
+        → Explains (twice_in source.now modules.old (declared ∷ ms)) e) }
 {
     let name = String::from_str(alloc, source.word(declared.name))?;
     if !modules.add(name)? {

@@ -149,7 +149,8 @@ fn operand_at(operands: &[Operand], place: u32) -> Option<Operand>
 pub fn operand_before(operands: &[Operand], end: usize, place: u32) -> Option<Operand>
     ensures below { OnSome result (place < end) }
     ensures found { IfSome result (λ o. Some o ≡ slice_get operands.now place) }
-    ensures term { MatchOption result (term_below operands.now end place ≡ blank) (λ o. term_below operands.now end place ≡ term_made operands.now place o) }
+    ensures term { MatchOption result (term_below operands.now end place ≡ blank)
+        (λ o. term_below operands.now end place ≡ term_made operands.now place o) }
 {
     if place as usize >= end {
         return None;

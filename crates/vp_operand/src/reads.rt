@@ -14,7 +14,8 @@ fn add_below(
     place: u32,
     slots: &mut Vec<Slot>,
 ) -> Result<(), AllocError>
-    ensures { OnOk result (slots.new.items ≡ slots.old.items ++ map slot_at (reads (term_below operands.now end place))) }
+    ensures { OnOk result (slots.new.items ≡ slots.old.items
+        ++ map slot_at (reads (term_below operands.now end place))) }
 {
     match operand_before(operands, end, place) {
         Some(operand) => add_of(operands, place as usize, operand, slots),
@@ -31,7 +32,9 @@ fn add_both(
     right: u32,
     slots: &mut Vec<Slot>,
 ) -> Result<(), AllocError>
-    ensures { OnOk result (slots.new.items ≡ slots.old.items ++ map slot_at (reads (term_below operands.now end left) ++ reads (term_below operands.now end right))) }
+    ensures { OnOk result (slots.new.items ≡ slots.old.items
+        ++ map slot_at (reads (term_below operands.now end left)
+        ++ reads (term_below operands.now end right))) }
 {
     add_below(operands, end, left, slots)?;
     add_below(operands, end, right, slots)
@@ -45,7 +48,8 @@ fn add_of(
     operand: Operand,
     slots: &mut Vec<Slot>,
 ) -> Result<(), AllocError>
-    ensures { OnOk result (slots.new.items ≡ slots.old.items ++ map slot_at (reads (term_made operands.now place operand))) }
+    ensures { OnOk result (slots.new.items ≡ slots.old.items
+        ++ map slot_at (reads (term_made operands.now place operand))) }
 {
     match operand {
         Operand::Constant { .. } => Ok(()),

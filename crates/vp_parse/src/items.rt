@@ -74,8 +74,10 @@ fn optional<'a>(
     symbols: &'a [Symbol],
 ) -> Result<(Option<u32>, &'a [Symbol]), Stop>
     requires { weight arena.old symbols.now < 2 ^ 32 }
-    ensures read { Gives (λ found. (found.0, lists_in arena.new, found.1.now)) result (optional_into limit (lists_in arena.old) symbols.now) }
-    ensures lighter { IfOk result (λ found. weight arena.new found.1.now ≤ weight arena.old symbols.now) }
+    ensures read { Gives (λ found. (found.0, lists_in arena.new, found.1.now)) result
+        (optional_into limit (lists_in arena.old) symbols.now) }
+    ensures lighter { IfOk result (λ found. weight arena.new found.1.now
+        ≤ weight arena.old symbols.now) }
     ensures no_longer { IfOk result (λ found. length found.1.now ≤ length symbols.now) }
 {
     if is_end(symbols) {
@@ -89,8 +91,10 @@ fn optional<'a>(
 #[tactic(auto, unfolding(crate::specs::Placing::ordered_into))]
 fn ordered<'a>(arena: &mut Arena, limit: u32, symbols: &'a [Symbol]) -> Result<&'a [Symbol], Stop>
     requires { weight arena.old symbols.now + 1 < 2 ^ 32 }
-    ensures read { Gives (λ rest. (lists_in arena.new, rest.now)) result (ordered_into limit (lists_in arena.old) symbols.now) }
-    ensures lighter { IfOk result (λ rest. weight arena.new rest.now ≤ weight arena.old symbols.now + 1) }
+    ensures read { Gives (λ rest. (lists_in arena.new, rest.now)) result
+        (ordered_into limit (lists_in arena.old) symbols.now) }
+    ensures lighter { IfOk result (λ rest. weight arena.new rest.now
+        ≤ weight arena.old symbols.now + 1) }
     ensures no_longer { IfOk result (λ rest. length rest.now ≤ length symbols.now) }
 {
     let place = first_place(symbols);
@@ -107,8 +111,10 @@ fn ordered<'a>(arena: &mut Arena, limit: u32, symbols: &'a [Symbol]) -> Result<&
 #[tactic(auto, unfolding(crate::specs::Placing::named_into))]
 fn named<'a>(arena: &mut Arena, limit: u32, symbols: &'a [Symbol]) -> Result<&'a [Symbol], Stop>
     requires { weight arena.old symbols.now + 1 < 2 ^ 32 }
-    ensures read { Gives (λ rest. (lists_in arena.new, rest.now)) result (named_into limit (lists_in arena.old) symbols.now) }
-    ensures lighter { IfOk result (λ rest. weight arena.new rest.now ≤ weight arena.old symbols.now + 1) }
+    ensures read { Gives (λ rest. (lists_in arena.new, rest.now)) result
+        (named_into limit (lists_in arena.old) symbols.now) }
+    ensures lighter { IfOk result (λ rest. weight arena.new rest.now
+        ≤ weight arena.old symbols.now + 1) }
     ensures no_longer { IfOk result (λ rest. length rest.now ≤ length symbols.now) }
 {
     let rest = skip(SymbolKind::Punctuator(Punctuator::Period), symbols)?;
@@ -134,8 +140,10 @@ fn connection<'a>(
     symbols: &'a [Symbol],
 ) -> Result<&'a [Symbol], Stop>
     requires { weight arena.old symbols.now + 1 < 2 ^ 32 }
-    ensures read { Gives (λ rest. (lists_in arena.new, rest.now)) result (connection_into limit by_name (lists_in arena.old) symbols.now) }
-    ensures lighter { IfOk result (λ rest. weight arena.new rest.now ≤ weight arena.old symbols.now + 1) }
+    ensures read { Gives (λ rest. (lists_in arena.new, rest.now)) result
+        (connection_into limit by_name (lists_in arena.old) symbols.now) }
+    ensures lighter { IfOk result (λ rest. weight arena.new rest.now
+        ≤ weight arena.old symbols.now + 1) }
     ensures no_longer { IfOk result (λ rest. length rest.now ≤ length symbols.now) }
 {
     if by_name {
@@ -153,8 +161,11 @@ fn further_connections<'a>(
     symbols: &'a [Symbol],
 ) -> Result<&'a [Symbol], Stop>
     requires { weight arena.old symbols.now < 2 ^ 32 }
-    ensures read { Gives (λ rest. (lists_in arena.new, rest.now)) result (further_into (connection_into limit by_name) (length symbols.now) (lists_in arena.old) symbols.now) }
-    ensures lighter { IfOk result (λ rest. weight arena.new rest.now ≤ weight arena.old symbols.now) }
+    ensures read { Gives (λ rest. (lists_in arena.new, rest.now)) result
+        (further_into (connection_into limit by_name) (length symbols.now) (lists_in arena.old)
+        symbols.now) }
+    ensures lighter { IfOk result (λ rest. weight arena.new rest.now
+        ≤ weight arena.old symbols.now) }
     ensures no_longer { IfOk result (λ rest. length rest.now ≤ length symbols.now) }
 {
     let mut rest = symbols;
@@ -173,8 +184,10 @@ fn connections<'a>(
     symbols: &'a [Symbol],
 ) -> Result<&'a [Symbol], Stop>
     requires { weight arena.old symbols.now + 1 < 2 ^ 32 }
-    ensures read { Gives (λ rest. (lists_in arena.new, rest.now)) result (connections_into limit (lists_in arena.old) symbols.now) }
-    ensures lighter { IfOk result (λ rest. weight arena.new rest.now ≤ weight arena.old symbols.now + 1) }
+    ensures read { Gives (λ rest. (lists_in arena.new, rest.now)) result
+        (connections_into limit (lists_in arena.old) symbols.now) }
+    ensures lighter { IfOk result (λ rest. weight arena.new rest.now
+        ≤ weight arena.old symbols.now + 1) }
     ensures no_longer { IfOk result (λ rest. length rest.now ≤ length symbols.now) }
 {
     if is_next(
@@ -198,8 +211,10 @@ fn valued<'a>(
     symbols: &'a [Symbol],
 ) -> Result<(u32, &'a [Symbol]), Stop>
     requires { weight arena.old symbols.now < 2 ^ 32 }
-    ensures read { Gives (λ found. (found.0, lists_in arena.new, found.1.now)) result (valued_into (value_into limit) (lists_in arena.old) symbols.now) }
-    ensures lighter { IfOk result (λ found. weight arena.new found.1.now + 1 < weight arena.old symbols.now) }
+    ensures read { Gives (λ found. (found.0, lists_in arena.new, found.1.now)) result
+        (valued_into (value_into limit) (lists_in arena.old) symbols.now) }
+    ensures lighter { IfOk result (λ found. weight arena.new found.1.now + 1
+        < weight arena.old symbols.now) }
     ensures shorter { IfOk result (λ found. length found.1.now < length symbols.now) }
 {
     let rest = skip(SymbolKind::Punctuator(Punctuator::Equals), symbols)?;
@@ -210,8 +225,10 @@ fn valued<'a>(
 #[tactic(auto, unfolding(crate::specs::Placing::valued_into))]
 fn sized<'a>(arena: &mut Arena, symbols: &'a [Symbol]) -> Result<(u32, &'a [Symbol]), Stop>
     requires { weight arena.old symbols.now < 2 ^ 32 }
-    ensures read { Gives (λ found. (found.0, lists_in arena.new, found.1.now)) result (valued_into sized_into (lists_in arena.old) symbols.now) }
-    ensures lighter { IfOk result (λ found. weight arena.new found.1.now + 1 < weight arena.old symbols.now) }
+    ensures read { Gives (λ found. (found.0, lists_in arena.new, found.1.now)) result
+        (valued_into sized_into (lists_in arena.old) symbols.now) }
+    ensures lighter { IfOk result (λ found. weight arena.new found.1.now + 1
+        < weight arena.old symbols.now) }
     ensures shorter { IfOk result (λ found. length found.1.now < length symbols.now) }
 {
     let rest = skip(SymbolKind::Punctuator(Punctuator::Equals), symbols)?;
@@ -229,8 +246,10 @@ fn net<'a>(
     symbols: &'a [Symbol],
 ) -> Result<&'a [Symbol], Stop>
     requires { weight arena.old symbols.now + 2 < 2 ^ 32 }
-    ensures read { Gives (λ rest. (lists_in arena.new, rest.now)) result (net_into limit range name (lists_in arena.old) symbols.now) }
-    ensures lighter { IfOk result (λ rest. weight arena.new rest.now ≤ weight arena.old symbols.now + 1) }
+    ensures read { Gives (λ rest. (lists_in arena.new, rest.now)) result
+        (net_into limit range name (lists_in arena.old) symbols.now) }
+    ensures lighter { IfOk result (λ rest. weight arena.new rest.now
+        ≤ weight arena.old symbols.now + 1) }
     ensures no_longer { IfOk result (λ rest. length rest.now ≤ length symbols.now) }
 {
     if !is_next(SymbolKind::Punctuator(Punctuator::Equals), symbols) {
@@ -254,8 +273,10 @@ fn instance<'a>(
     symbols: &'a [Symbol],
 ) -> Result<&'a [Symbol], Stop>
     requires { weight arena.old symbols.now < 2 ^ 32 }
-    ensures read { Gives (λ rest. (lists_in arena.new, rest.now)) result (instance_into limit definition name (lists_in arena.old) symbols.now) }
-    ensures lighter { IfOk result (λ rest. weight arena.new rest.now ≤ weight arena.old symbols.now) }
+    ensures read { Gives (λ rest. (lists_in arena.new, rest.now)) result
+        (instance_into limit definition name (lists_in arena.old) symbols.now) }
+    ensures lighter { IfOk result (λ rest. weight arena.new rest.now
+        ≤ weight arena.old symbols.now) }
     ensures shorter { IfOk result (λ rest. length rest.now < length symbols.now) }
 {
     let first = arena.connections.len() as u32;
@@ -282,8 +303,10 @@ fn declarator_behind<'a>(
     symbols: &'a [Symbol],
 ) -> Result<&'a [Symbol], Stop>
     requires { weight arena.old symbols.now + 2 < 2 ^ 32 }
-    ensures read { Gives (λ rest. (lists_in arena.new, rest.now)) result (declarator_by_into limit declaration name (lists_in arena.old) symbols.now) }
-    ensures lighter { IfOk result (λ rest. weight arena.new rest.now ≤ weight arena.old symbols.now + 1) }
+    ensures read { Gives (λ rest. (lists_in arena.new, rest.now)) result
+        (declarator_by_into limit declaration name (lists_in arena.old) symbols.now) }
+    ensures lighter { IfOk result (λ rest. weight arena.new rest.now
+        ≤ weight arena.old symbols.now + 1) }
     ensures no_longer { IfOk result (λ rest. length rest.now ≤ length symbols.now) }
 {
     match declaration {
@@ -309,7 +332,8 @@ fn declarator_behind<'a>(
 
 /// The place of the name with which a declarator begins, of an assignment that of its target, and what follows.
 fn declared(declaration: Declaration, symbols: &[Symbol]) -> Result<(u32, &[Symbol]), Stop>
-    ensures read { Gives (λ found. (found.0, found.1.now)) result (terminal symbol.Name symbols.now) }
+    ensures read { Gives (λ found. (found.0, found.1.now)) result
+        (terminal symbol.Name symbols.now) }
     ensures shorter { IfOk result (λ found. length found.1.now + 1 ≡ length symbols.now) }
 {
     match declaration {
@@ -327,8 +351,10 @@ fn declarator<'a>(
     symbols: &'a [Symbol],
 ) -> Result<&'a [Symbol], Stop>
     requires { weight arena.old symbols.now < 2 ^ 32 }
-    ensures read { Gives (λ rest. (lists_in arena.new, rest.now)) result (declarator_into limit declaration (lists_in arena.old) symbols.now) }
-    ensures lighter { IfOk result (λ rest. weight arena.new rest.now < weight arena.old symbols.now) }
+    ensures read { Gives (λ rest. (lists_in arena.new, rest.now)) result
+        (declarator_into limit declaration (lists_in arena.old) symbols.now) }
+    ensures lighter { IfOk result (λ rest. weight arena.new rest.now
+        < weight arena.old symbols.now) }
     ensures shorter { IfOk result (λ rest. length rest.now < length symbols.now) }
 {
     let (name, rest) = declared(declaration, symbols)?;
@@ -343,8 +369,11 @@ fn further_declarators<'a>(
     symbols: &'a [Symbol],
 ) -> Result<&'a [Symbol], Stop>
     requires { weight arena.old symbols.now < 2 ^ 32 }
-    ensures read { Gives (λ rest. (lists_in arena.new, rest.now)) result (further_into (declarator_into limit declaration) (length symbols.now) (lists_in arena.old) symbols.now) }
-    ensures lighter { IfOk result (λ rest. weight arena.new rest.now ≤ weight arena.old symbols.now) }
+    ensures read { Gives (λ rest. (lists_in arena.new, rest.now)) result
+        (further_into (declarator_into limit declaration) (length symbols.now) (lists_in arena.old)
+        symbols.now) }
+    ensures lighter { IfOk result (λ rest. weight arena.new rest.now
+        ≤ weight arena.old symbols.now) }
     ensures no_longer { IfOk result (λ rest. length rest.now ≤ length symbols.now) }
 {
     let mut rest = symbols;
@@ -358,7 +387,8 @@ fn further_declarators<'a>(
 /// What follows a declaration's semicolon. A value of a reg is left out.
 #[tactic(auto, unfolding(vp_parse_expr::specs::Stopping::behind))]
 fn declaration_end(declaration: Declaration, symbols: &[Symbol]) -> Result<&[Symbol], Stop>
-    ensures read { Gives (λ rest. rest.now) result (behind (symbol.Punctuator punctuator.Semicolon) symbols.now) }
+    ensures read { Gives (λ rest. rest.now) result
+        (behind (symbol.Punctuator punctuator.Semicolon) symbols.now) }
     ensures shorter { IfOk result (λ rest. length rest.now + 1 ≡ length symbols.now) }
 {
     match (declaration, symbols) {
@@ -385,8 +415,10 @@ fn declarators<'a>(
     symbols: &'a [Symbol],
 ) -> Result<&'a [Symbol], Stop>
     requires { weight arena.old symbols.now < 2 ^ 32 }
-    ensures read { Gives (λ rest. (lists_in arena.new, rest.now)) result (declarators_into limit declaration (lists_in arena.old) symbols.now) }
-    ensures lighter { IfOk result (λ rest. weight arena.new rest.now < weight arena.old symbols.now) }
+    ensures read { Gives (λ rest. (lists_in arena.new, rest.now)) result
+        (declarators_into limit declaration (lists_in arena.old) symbols.now) }
+    ensures lighter { IfOk result (λ rest. weight arena.new rest.now
+        < weight arena.old symbols.now) }
     ensures shorter { IfOk result (λ rest. length rest.now < length symbols.now) }
 {
     let rest = declarator(arena, limit, declaration, symbols)?;
@@ -405,8 +437,11 @@ fn initial<'a>(
     symbols: &'a [Symbol],
 ) -> Result<&'a [Symbol], Stop>
     requires { weight arena.old symbols.now < 2 ^ 32 }
-    ensures read { Gives (λ rest. (lists_in arena.new, rest.now)) result (procedure_into (stmt_into limit limit) (item_of.Initial keyword) (lists_in arena.old) symbols.now) }
-    ensures lighter { IfOk result (λ rest. weight arena.new rest.now ≤ weight arena.old symbols.now) }
+    ensures read { Gives (λ rest. (lists_in arena.new, rest.now)) result
+        (procedure_into (stmt_into limit limit) (item_of.Initial keyword) (lists_in arena.old)
+        symbols.now) }
+    ensures lighter { IfOk result (λ rest. weight arena.new rest.now
+        ≤ weight arena.old symbols.now) }
     ensures shorter { IfOk result (λ rest. length rest.now < length symbols.now) }
 {
     let (body, rest) = statement(&mut arena.parts, limit, limit, symbols)?;
@@ -423,8 +458,11 @@ fn always<'a>(
     symbols: &'a [Symbol],
 ) -> Result<&'a [Symbol], Stop>
     requires { weight arena.old symbols.now < 2 ^ 32 }
-    ensures read { Gives (λ rest. (lists_in arena.new, rest.now)) result (procedure_into (stmt_into limit limit) (item_of.Always keyword) (lists_in arena.old) symbols.now) }
-    ensures lighter { IfOk result (λ rest. weight arena.new rest.now ≤ weight arena.old symbols.now) }
+    ensures read { Gives (λ rest. (lists_in arena.new, rest.now)) result
+        (procedure_into (stmt_into limit limit) (item_of.Always keyword) (lists_in arena.old)
+        symbols.now) }
+    ensures lighter { IfOk result (λ rest. weight arena.new rest.now
+        ≤ weight arena.old symbols.now) }
     ensures shorter { IfOk result (λ rest. length rest.now < length symbols.now) }
 {
     let (body, rest) = statement(&mut arena.parts, limit, limit, symbols)?;
@@ -436,8 +474,10 @@ fn always<'a>(
 #[tactic(auto, unfolding(crate::specs::Placing::item_into, crate::specs::Placing::item_by_into))]
 fn item<'a>(arena: &mut Arena, limit: u32, symbols: &'a [Symbol]) -> Result<&'a [Symbol], Stop>
     requires { weight arena.old symbols.now < 2 ^ 32 }
-    ensures read { Gives (λ rest. (lists_in arena.new, rest.now)) result (item_into limit (stmt_into limit limit) (lists_in arena.old) symbols.now) }
-    ensures lighter { IfOk result (λ rest. weight arena.new rest.now < weight arena.old symbols.now) }
+    ensures read { Gives (λ rest. (lists_in arena.new, rest.now)) result
+        (item_into limit (stmt_into limit limit) (lists_in arena.old) symbols.now) }
+    ensures lighter { IfOk result (λ rest. weight arena.new rest.now
+        < weight arena.old symbols.now) }
     ensures shorter { IfOk result (λ rest. length rest.now < length symbols.now) }
 {
     let [first, rest @ ..] = symbols else {
@@ -468,8 +508,11 @@ fn item<'a>(arena: &mut Arena, limit: u32, symbols: &'a [Symbol]) -> Result<&'a 
 /// The items of a module, up to its `endmodule`.
 pub fn items<'a>(arena: &mut Arena, limit: u32, symbols: &'a [Symbol]) -> Result<&'a [Symbol], Stop>
     requires { weight arena.old symbols.now < 2 ^ 32 }
-    ensures read { Gives (λ rest. (lists_in arena.new, rest.now)) result (items_into limit (stmt_into limit limit) (length symbols.now) (lists_in arena.old) symbols.now) }
-    ensures lighter { IfOk result (λ rest. weight arena.new rest.now ≤ weight arena.old symbols.now) }
+    ensures read { Gives (λ rest. (lists_in arena.new, rest.now)) result
+        (items_into limit (stmt_into limit limit) (length symbols.now) (lists_in arena.old)
+        symbols.now) }
+    ensures lighter { IfOk result (λ rest. weight arena.new rest.now
+        ≤ weight arena.old symbols.now) }
     ensures no_longer { IfOk result (λ rest. length rest.now ≤ length symbols.now) }
 {
     let mut rest = symbols;

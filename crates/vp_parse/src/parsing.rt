@@ -38,8 +38,10 @@ fn module<'a>(
     symbols: &'a [Symbol],
 ) -> Result<(Module, &'a [Symbol]), Stop>
     requires { weight arena.old symbols.now < 2 ^ 32 }
-    ensures read { Gives (λ found. (found.0, lists_in arena.new, found.1.now)) result (module_into limit (lists_in arena.old) symbols.now) }
-    ensures lighter { IfOk result (λ found. weight arena.new found.1.now < weight arena.old symbols.now) }
+    ensures read { Gives (λ found. (found.0, lists_in arena.new, found.1.now)) result
+        (module_into limit (lists_in arena.old) symbols.now) }
+    ensures lighter { IfOk result (λ found. weight arena.new found.1.now
+        < weight arena.old symbols.now) }
     ensures shorter { IfOk result (λ found. length found.1.now < length symbols.now) }
 {
     let before = arena.ends();
@@ -71,7 +73,8 @@ fn modules(
     symbols: &[Symbol],
 ) -> Result<Vec<Module>, Stop>
     requires { weight arena.old symbols.now < 2 ^ 32 }
-    ensures { Gives (λ found. (found.items, lists_in arena.new)) result (modules_into limit (length symbols.now) [] (lists_in arena.old) symbols.now) }
+    ensures { Gives (λ found. (found.items, lists_in arena.new)) result
+        (modules_into limit (length symbols.now) [] (lists_in arena.old) symbols.now) }
 {
     let mut modules = Vec::new(alloc);
     let mut rest = symbols;
@@ -117,7 +120,8 @@ fn line_of(symbols: &[Symbol], tokens: &[Token], left: usize) -> u32
 
 /// The error of a stop, with its line.
 fn error_of(stop: Stop, symbols: &[Symbol], tokens: &[Token]) -> ParseError
-    ensures { (read : Result Derivation Reason) → Fails stop read → Tells tokens.now symbols.now result read }
+    ensures { (read : Result Derivation Reason) → Fails stop read
+        → Tells tokens.now symbols.now result read }
 {
     match stop {
         Stop::Syntax(left) => ParseError::Syntax {
@@ -165,7 +169,9 @@ fn source_with(
 pub fn parse(alloc: Global, text: &str, tokens: &[Token]) -> Result<Source, ParseError>
     requires { length tokens.now ≤ TEXT_LIMIT }
     // What is found lies in the source as a derivation of the symbols says.
-    ensures found { IfOk result (λ source. (d : Derivation) × IsDerivation d (symbols_of text.now tokens.now) × IsSourceOf text.now tokens.now d source) }
+    ensures found { IfOk result (λ source. (d : Derivation)
+        × IsDerivation d (symbols_of text.now tokens.now)
+        × IsSourceOf text.now tokens.now d source) }
     // Its modules hold all expressions, statements, terms of events and choices of cases that are found.
     ensures whole { IfOk result (λ source. AreWhole source) }
     // Each item of what is found stands in its module: its statement, its value or its connections stand where the module's item says.
@@ -174,7 +180,8 @@ pub fn parse(alloc: Global, text: &str, tokens: &[Token]) -> Result<Source, Pars
     // What is refused has no derivation, unless memory ran out.
     ensures none { IfErr result (λ e. IsUnderivable (symbols_of text.now tokens.now) e) }
     // The fault is the one at which reading stops.
-    ensures fault { IfErr result (λ e. Tells tokens.now (symbols_of text.now tokens.now) e (read (symbols_of text.now tokens.now))) }
+    ensures fault { IfErr result (λ e. Tells tokens.now (symbols_of text.now tokens.now) e
+        (read (symbols_of text.now tokens.now))) }
 {
     let symbols = symbols(alloc, text, tokens)?;
     let mut arena = Arena::new(alloc);

@@ -75,7 +75,8 @@ fn direction(symbols: &[Symbol]) -> Result<(Direction, &[Symbol]), Stop>
 /// The direction and the range of a port.
 #[tactic(auto, unfolding(crate::specs::Placing::port_type_into))]
 fn port_type(symbols: &[Symbol]) -> Result<(PortType, &[Symbol]), Stop>
-    ensures read { Gives (λ found. (type_shown found.0, found.1.now)) result (port_type_into symbols.now) }
+    ensures read { Gives (λ found. (type_shown found.0, found.1.now)) result
+        (port_type_into symbols.now) }
     ensures shorter { IfOk result (λ found. length found.1.now < length symbols.now) }
 {
     let (direction, rest) = direction(symbols)?;
@@ -86,7 +87,8 @@ fn port_type(symbols: &[Symbol]) -> Result<(PortType, &[Symbol]), Stop>
 /// The direction and the range of a port behind another: those of that one, where a name is next.
 #[tactic(auto, unfolding(crate::specs::Placing::next_type_into))]
 fn next_type(before: PortType, symbols: &[Symbol]) -> Result<(PortType, &[Symbol]), Stop>
-    ensures read { Gives (λ found. (type_shown found.0, found.1.now)) result (next_type_into (type_shown before) symbols.now) }
+    ensures read { Gives (λ found. (type_shown found.0, found.1.now)) result
+        (next_type_into (type_shown before) symbols.now) }
     ensures no_longer { IfOk result (λ found. length found.1.now ≤ length symbols.now) }
 {
     if is_next(SymbolKind::Name, symbols) {
@@ -100,8 +102,10 @@ fn next_type(before: PortType, symbols: &[Symbol]) -> Result<(PortType, &[Symbol
 #[tactic(auto, unfolding(crate::specs::Placing::port_into))]
 fn port<'a>(arena: &mut Arena, of: PortType, symbols: &'a [Symbol]) -> Result<&'a [Symbol], Stop>
     requires { weight arena.old symbols.now < 2 ^ 32 }
-    ensures read { Gives (λ rest. (lists_in arena.new, rest.now)) result (port_into (type_shown of) (lists_in arena.old) symbols.now) }
-    ensures lighter { IfOk result (λ rest. weight arena.new rest.now < weight arena.old symbols.now) }
+    ensures read { Gives (λ rest. (lists_in arena.new, rest.now)) result
+        (port_into (type_shown of) (lists_in arena.old) symbols.now) }
+    ensures lighter { IfOk result (λ rest. weight arena.new rest.now
+        < weight arena.old symbols.now) }
     ensures shorter { IfOk result (λ rest. length rest.now < length symbols.now) }
 {
     let (name, rest) = name(symbols)?;
@@ -121,8 +125,10 @@ fn further_ports<'a>(
     symbols: &'a [Symbol],
 ) -> Result<&'a [Symbol], Stop>
     requires { weight arena.old symbols.now < 2 ^ 32 }
-    ensures read { Gives (λ rest. (lists_in arena.new, rest.now)) result (ports_into (type_shown first) (length symbols.now) (lists_in arena.old) symbols.now) }
-    ensures lighter { IfOk result (λ rest. weight arena.new rest.now ≤ weight arena.old symbols.now) }
+    ensures read { Gives (λ rest. (lists_in arena.new, rest.now)) result
+        (ports_into (type_shown first) (length symbols.now) (lists_in arena.old) symbols.now) }
+    ensures lighter { IfOk result (λ rest. weight arena.new rest.now
+        ≤ weight arena.old symbols.now) }
     ensures no_longer { IfOk result (λ rest. length rest.now ≤ length symbols.now) }
 {
     let mut before = first;
@@ -140,8 +146,10 @@ fn further_ports<'a>(
 #[tactic(auto, unfolding(crate::specs::Placing::listed_into))]
 fn listed<'a>(arena: &mut Arena, symbols: &'a [Symbol]) -> Result<&'a [Symbol], Stop>
     requires { weight arena.old symbols.now < 2 ^ 32 }
-    ensures read { Gives (λ rest. (lists_in arena.new, rest.now)) result (listed_into (lists_in arena.old) symbols.now) }
-    ensures lighter { IfOk result (λ rest. weight arena.new rest.now ≤ weight arena.old symbols.now) }
+    ensures read { Gives (λ rest. (lists_in arena.new, rest.now)) result
+        (listed_into (lists_in arena.old) symbols.now) }
+    ensures lighter { IfOk result (λ rest. weight arena.new rest.now
+        ≤ weight arena.old symbols.now) }
     ensures no_longer { IfOk result (λ rest. length rest.now ≤ length symbols.now) }
 {
     if is_next(
@@ -159,8 +167,10 @@ fn listed<'a>(arena: &mut Arena, symbols: &'a [Symbol]) -> Result<&'a [Symbol], 
 #[tactic(auto, unfolding(crate::specs::Placing::parentheses_into))]
 fn parentheses<'a>(arena: &mut Arena, symbols: &'a [Symbol]) -> Result<&'a [Symbol], Stop>
     requires { weight arena.old symbols.now < 2 ^ 32 }
-    ensures read { Gives (λ rest. (lists_in arena.new, rest.now)) result (parentheses_into (lists_in arena.old) symbols.now) }
-    ensures lighter { IfOk result (λ rest. weight arena.new rest.now ≤ weight arena.old symbols.now) }
+    ensures read { Gives (λ rest. (lists_in arena.new, rest.now)) result
+        (parentheses_into (lists_in arena.old) symbols.now) }
+    ensures lighter { IfOk result (λ rest. weight arena.new rest.now
+        ≤ weight arena.old symbols.now) }
     ensures no_longer { IfOk result (λ rest. length rest.now ≤ length symbols.now) }
 {
     let rest = skip(SymbolKind::Punctuator(Punctuator::LeftParenthesis), symbols)?;
@@ -172,8 +182,10 @@ fn parentheses<'a>(arena: &mut Arena, symbols: &'a [Symbol]) -> Result<&'a [Symb
 #[tactic(auto, unfolding(crate::specs::Placing::header_into))]
 pub fn header<'a>(arena: &mut Arena, symbols: &'a [Symbol]) -> Result<&'a [Symbol], Stop>
     requires { weight arena.old symbols.now < 2 ^ 32 }
-    ensures read { Gives (λ rest. (lists_in arena.new, rest.now)) result (header_into (lists_in arena.old) symbols.now) }
-    ensures lighter { IfOk result (λ rest. weight arena.new rest.now ≤ weight arena.old symbols.now) }
+    ensures read { Gives (λ rest. (lists_in arena.new, rest.now)) result
+        (header_into (lists_in arena.old) symbols.now) }
+    ensures lighter { IfOk result (λ rest. weight arena.new rest.now
+        ≤ weight arena.old symbols.now) }
     ensures no_longer { IfOk result (λ rest. length rest.now ≤ length symbols.now) }
 {
     if is_next(SymbolKind::Punctuator(Punctuator::LeftParenthesis), symbols) {

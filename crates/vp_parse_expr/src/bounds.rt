@@ -16,7 +16,8 @@ pub const SIZE_LIMIT: u32 = 65_535;
 /// A number that is at most so great, and what follows.
 #[tactic(auto, using(crate::proofs::Told::told_stop), unfolding(crate::specs::Placing::bound_into, crate::specs::Placing::bound_by_into))]
 pub fn bound(greatest: u32, symbols: &[Symbol]) -> Result<(u32, &[Symbol]), Stop>
-    ensures read { Gives (λ found. (found.0, found.1.now)) result (bound_into greatest symbols.now) }
+    ensures read { Gives (λ found. (found.0, found.1.now)) result
+        (bound_into greatest symbols.now) }
     ensures least { IfOk result (λ found. found.0 ≤ greatest) }
     ensures told { IfErr result (λ stop. stop ≢ NoMemory) }
     ensures shorter { IfOk result (λ found. length found.1.now + 1 ≡ length symbols.now) }
@@ -53,7 +54,8 @@ pub fn bounds(symbols: &[Symbol]) -> Result<(Range, &[Symbol]), Stop>
 /// A range in brackets, and what follows. Left out are one that ascends, and bounds above 65,535 (4.3.1).
 pub fn range(symbols: &[Symbol]) -> Result<(Range, &[Symbol]), Stop>
     ensures read { Gives (λ found. (found.0, found.1.now)) result (range_into symbols.now) }
-    ensures found { IfOk result (λ found. (r : RangeRead) × IsRangeOf symbols.now (found.0, found.1.now) r) }
+    ensures found { IfOk result (λ found. (r : RangeRead)
+        × IsRangeOf symbols.now (found.0, found.1.now) r) }
     ensures none { IfErr result (λ _. NoRange symbols.now) }
     ensures told { IfErr result (λ stop. stop ≢ NoMemory) }
     ensures shorter { IfOk result (λ found. length found.1.now < length symbols.now) }

@@ -46,7 +46,12 @@ fn add_node<'a>(
     rest: &'a [Symbol],
 ) -> Result<Found<'a>, Stop>
     requires { vec_len expressions.old < 2 ^ 32 }
-    ensures read { Gives (λ found. (found.place, found.depth, expressions.new.items, found.rest.now)) result (Ok (made node depth expressions.old.items rest.now)) }
+    ensures read { Gives (λ found. (
+      found.place,
+      found.depth,
+      expressions.new.items,
+      found.rest.now,
+    )) result (Ok (made node depth expressions.old.items rest.now)) }
     ensures len { IfOk result (λ found. vec_len expressions.new ≡ vec_len expressions.old + 1) }
     ensures rest { IfOk result (λ found. found.rest.now ≡ rest.now) }
     ensures depth { IfOk result (λ found. found.depth ≡ depth) }
@@ -66,8 +71,16 @@ fn sized<'a>(
     symbols: &'a [Symbol],
 ) -> Result<Found<'a>, Stop>
     requires { vec_len expressions.old + length symbols.now + 1 < 2 ^ 32 }
-    ensures read { Gives (λ found. (found.place, found.depth, expressions.new.items, found.rest.now)) result (sized_into size place expressions.old.items symbols.now) }
-    ensures fits { IfOk result (λ found. (vec_len expressions.new + length found.rest.now ≤ vec_len expressions.old + length symbols.now + 1) × (length found.rest.now ≤ length symbols.now) × (found.depth ≤ 1)) }
+    ensures read { Gives (λ found. (
+      found.place,
+      found.depth,
+      expressions.new.items,
+      found.rest.now,
+    )) result (sized_into size place expressions.old.items symbols.now) }
+    ensures fits { IfOk result (λ found.
+        (vec_len expressions.new + length found.rest.now
+        ≤ vec_len expressions.old + length symbols.now + 1)
+        × (length found.rest.now ≤ length symbols.now) × (found.depth ≤ 1)) }
 {
     match symbols {
         [digits, rest @ ..] if is_size_of(size, digits.kind) => {
@@ -92,8 +105,16 @@ fn number<'a>(
     symbols: &'a [Symbol],
 ) -> Result<Found<'a>, Stop>
     requires { vec_len expressions.old + length symbols.now + 1 < 2 ^ 32 }
-    ensures read { Gives (λ found. (found.place, found.depth, expressions.new.items, found.rest.now)) result (number_into value place expressions.old.items symbols.now) }
-    ensures fits { IfOk result (λ found. (vec_len expressions.new + length found.rest.now ≤ vec_len expressions.old + length symbols.now + 1) × (length found.rest.now ≤ length symbols.now) × (found.depth ≤ 1)) }
+    ensures read { Gives (λ found. (
+      found.place,
+      found.depth,
+      expressions.new.items,
+      found.rest.now,
+    )) result (number_into value place expressions.old.items symbols.now) }
+    ensures fits { IfOk result (λ found.
+        (vec_len expressions.new + length found.rest.now
+        ≤ vec_len expressions.old + length symbols.now + 1)
+        × (length found.rest.now ≤ length symbols.now) × (found.depth ≤ 1)) }
 {
     if is_base_next(symbols) {
         return sized(expressions, value, place, symbols);
@@ -111,7 +132,8 @@ fn literal_at<'a>(
     symbols: &'a [Symbol],
 ) -> Result<Found<'a>, Stop>
     requires { vec_len expressions.old + length symbols.now < 2 ^ 32 }
-    ensures read { Gives (λ found. (found.place, found.depth, expressions.new.items, found.rest.now))
+    ensures read { Gives
+        (λ found. (found.place, found.depth, expressions.new.items, found.rest.now))
         result (literal_into expressions.old.items symbols.now) }
     ensures lighter { IfOk result (λ found. vec_len expressions.new + length found.rest.now
         ≤ vec_len expressions.old + length symbols.now) }
@@ -135,7 +157,8 @@ pub fn literal<'a>(
     symbols: &'a [Symbol],
 ) -> Result<Found<'a>, Stop>
     requires { vec_len expressions.old + length symbols.now < 2 ^ 32 }
-    ensures read { Gives (λ found. (found.place, found.depth, expressions.new.items, found.rest.now))
+    ensures read { Gives
+        (λ found. (found.place, found.depth, expressions.new.items, found.rest.now))
         result (literal_into expressions.old.items symbols.now) }
     ensures found { IfOk result (λ found. (e : Expr) × IsLiteralOf expressions.old.items symbols.now
         (found.place, found.depth, expressions.new.items, found.rest.now) e) }
@@ -158,8 +181,16 @@ fn bit<'a>(
     symbols: &'a [Symbol],
 ) -> Result<Selected<'a>, Stop>
     requires room { vec_len expressions.old + length symbols.now < 2 ^ 32 }
-    ensures read { Gives (λ found. (found.selection, found.depth, expressions.new.items, found.rest.now)) result (bit_into (expr_into depth 0) expressions.old.items symbols.now) }
-    ensures fits { IfOk result (λ found. (vec_len expressions.new + length found.rest.now ≤ vec_len expressions.old + length symbols.now) × (length found.rest.now < length symbols.now) × (found.depth ≤ depth)) }
+    ensures read { Gives (λ found. (
+      found.selection,
+      found.depth,
+      expressions.new.items,
+      found.rest.now,
+    )) result (bit_into (expr_into depth 0) expressions.old.items symbols.now) }
+    ensures fits { IfOk result (λ found.
+        (vec_len expressions.new + length found.rest.now
+        ≤ vec_len expressions.old + length symbols.now)
+        × (length found.rest.now < length symbols.now) × (found.depth ≤ depth)) }
 {
     let rest = skip(SymbolKind::Punctuator(Punctuator::LeftBracket), symbols)?;
     let index = match expression_at(expressions, depth, 0, rest) {
@@ -183,8 +214,16 @@ fn select<'a>(
     symbols: &'a [Symbol],
 ) -> Result<Selected<'a>, Stop>
     requires room { vec_len expressions.old + length symbols.now < 2 ^ 32 }
-    ensures read { Gives (λ found. (found.selection, found.depth, expressions.new.items, found.rest.now)) result (selection_into depth expressions.old.items symbols.now) }
-    ensures fits { IfOk result (λ found. (vec_len expressions.new + length found.rest.now ≤ vec_len expressions.old + length symbols.now) × (length found.rest.now ≤ length symbols.now) × (found.depth ≤ depth)) }
+    ensures read { Gives (λ found. (
+      found.selection,
+      found.depth,
+      expressions.new.items,
+      found.rest.now,
+    )) result (selection_into depth expressions.old.items symbols.now) }
+    ensures fits { IfOk result (λ found.
+        (vec_len expressions.new + length found.rest.now
+        ≤ vec_len expressions.old + length symbols.now)
+        × (length found.rest.now ≤ length symbols.now) × (found.depth ≤ depth)) }
 {
     if !is_next(SymbolKind::Punctuator(Punctuator::LeftBracket), symbols) {
         return Ok(Selected {
@@ -217,8 +256,17 @@ fn named<'a>(
 ) -> Result<Found<'a>, Stop>
     requires room { vec_len expressions.old + length symbols.now + 1 < 2 ^ 32 }
     requires limit { depth + 1 < 2 ^ 32 }
-    ensures read { Gives (λ found. (found.place, found.depth, expressions.new.items, found.rest.now)) result (name_into (expr_into depth) name expressions.old.items symbols.now) }
-    ensures fits { IfOk result (λ found. (vec_len expressions.new + length found.rest.now ≤ vec_len expressions.old + length symbols.now + 1) × (length found.rest.now ≤ length symbols.now) × (found.depth ≤ depth + 1)) }
+    ensures read { Gives (λ found. (
+      found.place,
+      found.depth,
+      expressions.new.items,
+      found.rest.now,
+    )) result (name_into (expr_into depth) name expressions.old.items
+        symbols.now) }
+    ensures fits { IfOk result (λ found.
+        (vec_len expressions.new + length found.rest.now
+        ≤ vec_len expressions.old + length symbols.now + 1)
+        × (length found.rest.now ≤ length symbols.now) × (found.depth ≤ depth + 1)) }
 {
     let found = select(expressions, depth, symbols)?;
     let node = Expression::Name {
@@ -238,8 +286,16 @@ fn group<'a>(
 ) -> Result<Found<'a>, Stop>
     requires room { vec_len expressions.old + length symbols.now < 2 ^ 32 }
     requires limit { depth + 1 < 2 ^ 32 }
-    ensures read { Gives (λ found. (found.place, found.depth, expressions.new.items, found.rest.now)) result (group_into (expr_into depth) expressions.old.items symbols.now) }
-    ensures fits { IfOk result (λ found. (vec_len expressions.new + length found.rest.now ≤ vec_len expressions.old + length symbols.now) × (length found.rest.now ≤ length symbols.now) × (found.depth ≤ depth + 1)) }
+    ensures read { Gives (λ found. (
+      found.place,
+      found.depth,
+      expressions.new.items,
+      found.rest.now,
+    )) result (group_into (expr_into depth) expressions.old.items symbols.now) }
+    ensures fits { IfOk result (λ found.
+        (vec_len expressions.new + length found.rest.now
+        ≤ vec_len expressions.old + length symbols.now)
+        × (length found.rest.now ≤ length symbols.now) × (found.depth ≤ depth + 1)) }
 {
     let value = expression_at(expressions, depth, 0, symbols)?;
     let rest = skip(
@@ -265,8 +321,17 @@ fn unary<'a>(
 ) -> Result<Found<'a>, Stop>
     requires room { vec_len expressions.old + length symbols.now + 1 < 2 ^ 32 }
     requires limit { depth + 1 < 2 ^ 32 }
-    ensures read { Gives (λ found. (found.place, found.depth, expressions.new.items, found.rest.now)) result (unary_into (expr_into depth) (Some operator) place expressions.old.items symbols.now) }
-    ensures fits { IfOk result (λ found. (vec_len expressions.new + length found.rest.now ≤ vec_len expressions.old + length symbols.now + 1) × (length found.rest.now ≤ length symbols.now) × (found.depth ≤ depth + 1)) }
+    ensures read { Gives (λ found. (
+      found.place,
+      found.depth,
+      expressions.new.items,
+      found.rest.now,
+    )) result (unary_into (expr_into depth) (Some operator) place
+        expressions.old.items symbols.now) }
+    ensures fits { IfOk result (λ found.
+        (vec_len expressions.new + length found.rest.now
+        ≤ vec_len expressions.old + length symbols.now + 1)
+        × (length found.rest.now ≤ length symbols.now) × (found.depth ≤ depth + 1)) }
 {
     let operand = expression_at(expressions, depth, UNARY_LEVEL, symbols)?;
     let node = Expression::Unary {
@@ -286,8 +351,16 @@ fn part<'a>(
     symbols: &'a [Symbol],
 ) -> Result<Found<'a>, Stop>
     requires room { vec_len expressions.old + length symbols.now < 2 ^ 32 }
-    ensures read { Gives (λ found. (found.place, found.depth, expressions.new.items, found.rest.now)) result (part_into (expr_into depth) expressions.old.items symbols.now) }
-    ensures fits { IfOk result (λ found. (vec_len expressions.new + length found.rest.now ≤ vec_len expressions.old + length symbols.now) × (length found.rest.now < length symbols.now) × (found.depth ≤ depth)) }
+    ensures read { Gives (λ found. (
+      found.place,
+      found.depth,
+      expressions.new.items,
+      found.rest.now,
+    )) result (part_into (expr_into depth) expressions.old.items symbols.now) }
+    ensures fits { IfOk result (λ found.
+        (vec_len expressions.new + length found.rest.now
+        ≤ vec_len expressions.old + length symbols.now)
+        × (length found.rest.now < length symbols.now) × (found.depth ≤ depth)) }
 {
     let part = expression_at(expressions, depth, 0, symbols)?;
     if is_bare(symbols, part.rest) {
@@ -306,8 +379,17 @@ fn first_part<'a>(
     symbols: &'a [Symbol],
 ) -> Result<Found<'a>, Stop>
     requires room { vec_len expressions.old + length symbols.now + 1 < 2 ^ 32 }
-    ensures read { Gives (λ found. (found.place, found.depth, expressions.new.items, found.rest.now)) result (first_part_into (expr_into depth) brace expressions.old.items symbols.now) }
-    ensures fits { IfOk result (λ found. (vec_len expressions.new + length found.rest.now ≤ vec_len expressions.old + length symbols.now + 1) × (length found.rest.now < length symbols.now) × (found.depth ≤ depth)) }
+    ensures read { Gives (λ found. (
+      found.place,
+      found.depth,
+      expressions.new.items,
+      found.rest.now,
+    )) result (first_part_into (expr_into depth) brace expressions.old.items
+        symbols.now) }
+    ensures fits { IfOk result (λ found.
+        (vec_len expressions.new + length found.rest.now
+        ≤ vec_len expressions.old + length symbols.now + 1)
+        × (length found.rest.now < length symbols.now) × (found.depth ≤ depth)) }
 {
     let first = part(expressions, depth, symbols)?;
     let node = Expression::Concatenation {
@@ -327,8 +409,18 @@ fn further_part<'a>(
     list: Found<'a>,
 ) -> Result<Found<'a>, Stop>
     requires room { vec_len expressions.old + length list.rest.now < 2 ^ 32 }
-    ensures read { Gives (λ found. (found.place, found.depth, expressions.new.items, found.rest.now)) result (further_part_into (expr_into depth) brace list.entry.place list.entry.depth expressions.old.items list.entry.rest.now) }
-    ensures fits { IfOk result (λ found. (vec_len expressions.new + length found.rest.now ≤ vec_len expressions.old + length list.entry.rest.now) × (length found.rest.now < length list.entry.rest.now) × (found.depth ≤ max list.entry.depth depth)) }
+    ensures read { Gives (λ found. (
+      found.place,
+      found.depth,
+      expressions.new.items,
+      found.rest.now,
+    )) result (further_part_into (expr_into depth) brace list.entry.place
+        list.entry.depth expressions.old.items list.entry.rest.now) }
+    ensures fits { IfOk result (λ found.
+        (vec_len expressions.new + length found.rest.now
+        ≤ vec_len expressions.old + length list.entry.rest.now)
+        × (length found.rest.now < length list.entry.rest.now)
+        × (found.depth ≤ max list.entry.depth depth)) }
 {
     let rest = skip(SymbolKind::Punctuator(Punctuator::Comma), list.rest)?;
     let further = part(expressions, depth, rest)?;
@@ -351,8 +443,17 @@ fn parts<'a>(
     symbols: &'a [Symbol],
 ) -> Result<Found<'a>, Stop>
     requires room { vec_len expressions.old + length symbols.now + 1 < 2 ^ 32 }
-    ensures read { Gives (λ found. (found.place, found.depth, expressions.new.items, found.rest.now)) result (parts_into (expr_into depth) brace expressions.old.items symbols.now) }
-    ensures fits { IfOk result (λ found. (vec_len expressions.new + length found.rest.now ≤ vec_len expressions.old + length symbols.now + 1) × (length found.rest.now < length symbols.now) × (found.depth ≤ depth)) }
+    ensures read { Gives (λ found. (
+      found.place,
+      found.depth,
+      expressions.new.items,
+      found.rest.now,
+    )) result (parts_into (expr_into depth) brace expressions.old.items
+        symbols.now) }
+    ensures fits { IfOk result (λ found.
+        (vec_len expressions.new + length found.rest.now
+        ≤ vec_len expressions.old + length symbols.now + 1)
+        × (length found.rest.now < length symbols.now) × (found.depth ≤ depth)) }
 {
     let first = first_part(expressions, depth, brace, symbols)?;
     further_parts(expressions, depth, brace, first)
@@ -368,8 +469,17 @@ fn further_parts<'a>(
 ) -> Result<Found<'a>, Stop>
     requires room { vec_len expressions.old + length first.rest.now < 2 ^ 32 }
     requires within { first.depth ≤ depth }
-    ensures read { Gives (λ found. (found.place, found.depth, expressions.new.items, found.rest.now)) result (further_parts_into (expr_into depth) (length first.entry.rest.now) brace first.entry.place first.entry.depth expressions.old.items first.entry.rest.now) }
-    ensures fits { IfOk result (λ found. (vec_len expressions.new + length found.rest.now ≤ vec_len expressions.old + length first.entry.rest.now) × (length found.rest.now ≤ length first.entry.rest.now) × (found.depth ≤ depth)) }
+    ensures read { Gives (λ found. (
+      found.place,
+      found.depth,
+      expressions.new.items,
+      found.rest.now,
+    )) result (further_parts_into (expr_into depth) (length first.entry.rest.now)
+        brace first.entry.place first.entry.depth expressions.old.items first.entry.rest.now) }
+    ensures fits { IfOk result (λ found.
+        (vec_len expressions.new + length found.rest.now
+        ≤ vec_len expressions.old + length first.entry.rest.now)
+        × (length found.rest.now ≤ length first.entry.rest.now) × (found.depth ≤ depth)) }
 {
     let mut list = first;
     while is_next(SymbolKind::Punctuator(Punctuator::Comma), list.rest) {
@@ -389,8 +499,17 @@ fn concatenation<'a>(
 ) -> Result<Found<'a>, Stop>
     requires room { vec_len expressions.old + length symbols.now + 1 < 2 ^ 32 }
     requires limit { depth + 1 < 2 ^ 32 }
-    ensures read { Gives (λ found. (found.place, found.depth, expressions.new.items, found.rest.now)) result (concatenation_into (expr_into depth) brace expressions.old.items symbols.now) }
-    ensures fits { IfOk result (λ found. (vec_len expressions.new + length found.rest.now ≤ vec_len expressions.old + length symbols.now) × (length found.rest.now ≤ length symbols.now) × (found.depth ≤ depth + 1)) }
+    ensures read { Gives (λ found. (
+      found.place,
+      found.depth,
+      expressions.new.items,
+      found.rest.now,
+    )) result (concatenation_into (expr_into depth) brace expressions.old.items
+        symbols.now) }
+    ensures fits { IfOk result (λ found.
+        (vec_len expressions.new + length found.rest.now
+        ≤ vec_len expressions.old + length symbols.now)
+        × (length found.rest.now ≤ length symbols.now) × (found.depth ≤ depth + 1)) }
 {
     let parts = parts(expressions, depth, brace, symbols)?;
     let rest = skip(SymbolKind::Punctuator(Punctuator::RightBrace), parts.rest)?;
@@ -412,8 +531,17 @@ fn replication<'a>(
 ) -> Result<Found<'a>, Stop>
     requires room { vec_len expressions.old + length symbols.now + 1 < 2 ^ 32 }
     requires limit { depth + 1 < 2 ^ 32 }
-    ensures read { Gives (λ found. (found.place, found.depth, expressions.new.items, found.rest.now)) result (replication_into (expr_into depth) brace expressions.old.items symbols.now) }
-    ensures fits { IfOk result (λ found. (vec_len expressions.new + length found.rest.now ≤ vec_len expressions.old + length symbols.now) × (length found.rest.now ≤ length symbols.now) × (found.depth ≤ depth + 1)) }
+    ensures read { Gives (λ found. (
+      found.place,
+      found.depth,
+      expressions.new.items,
+      found.rest.now,
+    )) result (replication_into (expr_into depth) brace expressions.old.items
+        symbols.now) }
+    ensures fits { IfOk result (λ found.
+        (vec_len expressions.new + length found.rest.now
+        ≤ vec_len expressions.old + length symbols.now)
+        × (length found.rest.now ≤ length symbols.now) × (found.depth ≤ depth + 1)) }
 {
     let (count, rest) = bound(NUMBER_LIMIT - 1, symbols)?;
     let (inner, rest) = terminal(SymbolKind::Punctuator(Punctuator::LeftBrace), rest)?;
@@ -438,8 +566,17 @@ fn braces<'a>(
 ) -> Result<Found<'a>, Stop>
     requires room { vec_len expressions.old + length symbols.now + 1 < 2 ^ 32 }
     requires limit { depth + 1 < 2 ^ 32 }
-    ensures read { Gives (λ found. (found.place, found.depth, expressions.new.items, found.rest.now)) result (braces_into (expr_into depth) brace expressions.old.items symbols.now) }
-    ensures fits { IfOk result (λ found. (vec_len expressions.new + length found.rest.now ≤ vec_len expressions.old + length symbols.now) × (length found.rest.now ≤ length symbols.now) × (found.depth ≤ depth + 1)) }
+    ensures read { Gives (λ found. (
+      found.place,
+      found.depth,
+      expressions.new.items,
+      found.rest.now,
+    )) result (braces_into (expr_into depth) brace expressions.old.items
+        symbols.now) }
+    ensures fits { IfOk result (λ found.
+        (vec_len expressions.new + length found.rest.now
+        ≤ vec_len expressions.old + length symbols.now)
+        × (length found.rest.now ≤ length symbols.now) × (found.depth ≤ depth + 1)) }
 {
     if is_number_before(SymbolKind::Punctuator(Punctuator::LeftBrace), symbols) {
         replication(expressions, depth, brace, symbols)
@@ -456,7 +593,12 @@ fn based<'a>(
     symbols: &'a [Symbol],
 ) -> Result<Found<'a>, Stop>
     requires { vec_len expressions.old < 2 ^ 32 }
-    ensures read { Gives (λ found. (found.place, found.depth, expressions.new.items, found.rest.now)) result (based_into digits expressions.old.items symbols.now) }
+    ensures read { Gives (λ found. (
+      found.place,
+      found.depth,
+      expressions.new.items,
+      found.rest.now,
+    )) result (based_into digits expressions.old.items symbols.now) }
     ensures len { IfOk result (λ found. vec_len expressions.new ≡ vec_len expressions.old + 1) }
     ensures rest { IfOk result (λ found. found.rest.now ≡ symbols.now) }
     ensures depth { IfOk result (λ found. found.depth ≤ 1) }
@@ -474,8 +616,16 @@ fn operand<'a>(
 ) -> Result<Found<'a>, Stop>
     requires room { vec_len expressions.old + length symbols.now < 2 ^ 32 }
     requires limit { depth + 1 < 2 ^ 32 }
-    ensures read { Gives (λ found. (found.place, found.depth, expressions.new.items, found.rest.now)) result (operand_into (expr_into depth) expressions.old.items symbols.now) }
-    ensures fits { IfOk result (λ found. (vec_len expressions.new + length found.rest.now ≤ vec_len expressions.old + length symbols.now) × (length found.rest.now < length symbols.now) × (found.depth ≤ depth + 1)) }
+    ensures read { Gives (λ found. (
+      found.place,
+      found.depth,
+      expressions.new.items,
+      found.rest.now,
+    )) result (operand_into (expr_into depth) expressions.old.items symbols.now) }
+    ensures fits { IfOk result (λ found.
+        (vec_len expressions.new + length found.rest.now
+        ≤ vec_len expressions.old + length symbols.now)
+        × (length found.rest.now < length symbols.now) × (found.depth ≤ depth + 1)) }
 {
     let [first, rest @ ..] = symbols else {
         return Err(unexpected(symbols));
@@ -509,8 +659,17 @@ fn binary<'a>(
 ) -> Result<Found<'a>, Stop>
     requires room { vec_len expressions.old + length left.rest.now < 2 ^ 32 }
     requires limit { depth + 1 < 2 ^ 32 }
-    ensures read { Gives (λ found. (found.place, found.depth, expressions.new.items, found.rest.now)) result (binary_into (expr_into depth) depth operator left.entry.place left.entry.depth expressions.old.items left.entry.rest.now) }
-    ensures fits { IfOk result (λ found. (vec_len expressions.new + length found.rest.now ≤ vec_len expressions.old + length left.entry.rest.now) × (length found.rest.now < length left.entry.rest.now) × (found.depth ≤ depth + 1)) }
+    ensures read { Gives (λ found. (
+      found.place,
+      found.depth,
+      expressions.new.items,
+      found.rest.now,
+    )) result (binary_into (expr_into depth) depth operator left.entry.place
+        left.entry.depth expressions.old.items left.entry.rest.now) }
+    ensures fits { IfOk result (λ found.
+        (vec_len expressions.new + length found.rest.now
+        ≤ vec_len expressions.old + length left.entry.rest.now)
+        × (length found.rest.now < length left.entry.rest.now) × (found.depth ≤ depth + 1)) }
 {
     let [sign, rest @ ..] = left.rest else {
         return Err(unexpected(left.rest));
@@ -540,8 +699,17 @@ fn more<'a>(
     requires room { vec_len expressions.old + length first.rest.now < 2 ^ 32 }
     requires limit { depth + 1 < 2 ^ 32 }
     requires within { first.depth ≤ depth + 1 }
-    ensures read { Gives (λ found. (found.place, found.depth, expressions.new.items, found.rest.now)) result (more_into (expr_into depth) depth (length first.entry.rest.now) least first.entry.place first.entry.depth expressions.old.items first.entry.rest.now) }
-    ensures fits { IfOk result (λ found. (vec_len expressions.new + length found.rest.now ≤ vec_len expressions.old + length first.entry.rest.now) × (length found.rest.now ≤ length first.entry.rest.now) × (found.depth ≤ depth + 1)) }
+    ensures read { Gives (λ found. (
+      found.place,
+      found.depth,
+      expressions.new.items,
+      found.rest.now,
+    )) result (more_into (expr_into depth) depth (length first.entry.rest.now)
+        least first.entry.place first.entry.depth expressions.old.items first.entry.rest.now) }
+    ensures fits { IfOk result (λ found.
+        (vec_len expressions.new + length found.rest.now
+        ≤ vec_len expressions.old + length first.entry.rest.now)
+        × (length found.rest.now ≤ length first.entry.rest.now) × (found.depth ≤ depth + 1)) }
 {
     let mut left = first;
     while let Some(operator) = binding(least, left.rest) {
@@ -560,8 +728,17 @@ fn conditional<'a>(
 ) -> Result<Found<'a>, Stop>
     requires room { vec_len expressions.old + length condition.rest.now < 2 ^ 32 }
     requires limit { depth + 1 < 2 ^ 32 }
-    ensures read { Gives (λ found. (found.place, found.depth, expressions.new.items, found.rest.now)) result (conditional_into (expr_into depth) depth condition.entry.place condition.entry.depth expressions.old.items condition.entry.rest.now) }
-    ensures fits { IfOk result (λ found. (vec_len expressions.new + length found.rest.now ≤ vec_len expressions.old + length condition.entry.rest.now) × (length found.rest.now < length condition.entry.rest.now) × (found.depth ≤ depth + 1)) }
+    ensures read { Gives (λ found. (
+      found.place,
+      found.depth,
+      expressions.new.items,
+      found.rest.now,
+    )) result (conditional_into (expr_into depth) depth condition.entry.place
+        condition.entry.depth expressions.old.items condition.entry.rest.now) }
+    ensures fits { IfOk result (λ found.
+        (vec_len expressions.new + length found.rest.now
+        ≤ vec_len expressions.old + length condition.entry.rest.now)
+        × (length found.rest.now < length condition.entry.rest.now) × (found.depth ≤ depth + 1)) }
 {
     if condition.depth > depth {
         return Err(Stop::TooDeep(condition.rest.len()));
@@ -593,8 +770,17 @@ fn chain<'a>(
 ) -> Result<Found<'a>, Stop>
     requires room { vec_len expressions.old + length symbols.now < 2 ^ 32 }
     requires limit { depth + 1 < 2 ^ 32 }
-    ensures read { Gives (λ found. (found.place, found.depth, expressions.new.items, found.rest.now)) result (chain_into (expr_into depth) depth least expressions.old.items symbols.now) }
-    ensures fits { IfOk result (λ found. (vec_len expressions.new + length found.rest.now ≤ vec_len expressions.old + length symbols.now) × (length found.rest.now < length symbols.now) × (found.depth ≤ depth + 1)) }
+    ensures read { Gives (λ found. (
+      found.place,
+      found.depth,
+      expressions.new.items,
+      found.rest.now,
+    )) result (chain_into (expr_into depth) depth least expressions.old.items
+        symbols.now) }
+    ensures fits { IfOk result (λ found.
+        (vec_len expressions.new + length found.rest.now
+        ≤ vec_len expressions.old + length symbols.now)
+        × (length found.rest.now < length symbols.now) × (found.depth ≤ depth + 1)) }
 {
     let first = operand(expressions, depth, symbols)?;
     let left = more(expressions, depth, least, first)?;
@@ -614,8 +800,16 @@ fn expression_at<'a>(
     symbols: &'a [Symbol],
 ) -> Result<Found<'a>, Stop>
     requires room { vec_len expressions.old + length symbols.now < 2 ^ 32 }
-    ensures read { Gives (λ found. (found.place, found.depth, expressions.new.items, found.rest.now)) result (expr_into depth least expressions.old.items symbols.now) }
-    ensures fits { IfOk result (λ found. (vec_len expressions.new + length found.rest.now ≤ vec_len expressions.old + length symbols.now) × (length found.rest.now < length symbols.now) × (found.depth ≤ depth)) }
+    ensures read { Gives (λ found. (
+      found.place,
+      found.depth,
+      expressions.new.items,
+      found.rest.now,
+    )) result (expr_into depth least expressions.old.items symbols.now) }
+    ensures fits { IfOk result (λ found.
+        (vec_len expressions.new + length found.rest.now
+        ≤ vec_len expressions.old + length symbols.now)
+        × (length found.rest.now < length symbols.now) × (found.depth ≤ depth)) }
 {
     if depth == 0 {
         return Err(Stop::TooDeep(symbols.len() + 1));
@@ -634,8 +828,15 @@ pub fn expression<'a>(
     symbols: &'a [Symbol],
 ) -> Result<Found<'a>, Stop>
     requires room { vec_len expressions.old + length symbols.now < 2 ^ 32 }
-    ensures read { Gives (λ found. (found.place, found.depth, expressions.new.items, found.rest.now)) result (expr_into depth 0 expressions.old.items symbols.now) }
-    ensures found { IfOk result (λ found. (e : Expr) × IsExpressionOf depth expressions.old.items symbols.now (found.place, found.depth, expressions.new.items, found.rest.now) e) }
+    ensures read { Gives (λ found. (
+      found.place,
+      found.depth,
+      expressions.new.items,
+      found.rest.now,
+    )) result (expr_into depth 0 expressions.old.items symbols.now) }
+    ensures found { IfOk result (λ found. (e : Expr)
+        × IsExpressionOf depth expressions.old.items symbols.now
+        (found.place, found.depth, expressions.new.items, found.rest.now) e) }
     ensures none { IfErr result (λ stop. (stop ≡ NoMemory) ⊎ NoExpression depth symbols.now) }
     ensures lighter { IfOk result (λ found. vec_len expressions.new + length found.rest.now
         ≤ vec_len expressions.old + length symbols.now) }
@@ -653,8 +854,15 @@ pub fn selection<'a>(
     symbols: &'a [Symbol],
 ) -> Result<Selected<'a>, Stop>
     requires room { vec_len expressions.old + length symbols.now < 2 ^ 32 }
-    ensures read { Gives (λ found. (found.selection, found.depth, expressions.new.items, found.rest.now)) result (selection_into depth expressions.old.items symbols.now) }
-    ensures found { IfOk result (λ found. (s : SelectionRead) × IsSelectionOf depth expressions.old.items symbols.now (found.selection, found.depth, expressions.new.items, found.rest.now) s) }
+    ensures read { Gives (λ found. (
+      found.selection,
+      found.depth,
+      expressions.new.items,
+      found.rest.now,
+    )) result (selection_into depth expressions.old.items symbols.now) }
+    ensures found { IfOk result (λ found. (s : SelectionRead)
+        × IsSelectionOf depth expressions.old.items symbols.now
+        (found.selection, found.depth, expressions.new.items, found.rest.now) s) }
     ensures none { IfErr result (λ stop. (stop ≡ NoMemory) ⊎ NoSelection depth symbols.now) }
     ensures lighter { IfOk result (λ found. vec_len expressions.new + length found.rest.now
         ≤ vec_len expressions.old + length symbols.now) }

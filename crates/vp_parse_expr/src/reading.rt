@@ -113,7 +113,8 @@ pub fn name(symbols: &[Symbol]) -> Result<(u32, &[Symbol]), Stop>
 /// The place of the symbol that is expected, and what follows.
 #[tactic(auto, using(crate::proofs::Told::told_stop), unfolding(crate::specs::Stopping::terminal))]
 pub fn terminal(expected: SymbolKind, symbols: &[Symbol]) -> Result<(u32, &[Symbol]), Stop>
-    ensures read { Gives (λ found. (found.0, found.1.now)) result (terminal_at expected symbols.now) }
+    ensures read { Gives (λ found. (found.0, found.1.now)) result
+        (terminal_at expected symbols.now) }
     ensures told { IfErr result (λ stop. stop ≢ NoMemory) }
     ensures shorter { IfOk result (λ found. length found.1.now + 1 ≡ length symbols.now) }
 {

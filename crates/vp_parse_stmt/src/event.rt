@@ -12,7 +12,8 @@ use vp_source::{Edge, EventTerm, Span, Symbol, SymbolKind};
 /// A term behind an edge, which is of this kind, and what follows.
 #[tactic(auto, unfolding(crate::specs::Placing::edged_into))]
 fn edged(edge: Edge, kind: SymbolKind, symbols: &[Symbol]) -> Result<(EventTerm, &[Symbol]), Stop>
-    ensures read { Gives (λ found. (found.0, found.1.now)) result (edged_into edge kind symbols.now) }
+    ensures read { Gives (λ found. (found.0, found.1.now)) result
+        (edged_into edge kind symbols.now) }
     ensures shorter { IfOk result (λ found. length found.1.now < length symbols.now) }
 {
     let rest = skip(kind, symbols)?;
@@ -69,8 +70,10 @@ fn separator(symbols: &[Symbol]) -> Result<&[Symbol], Stop>
 /// One more term behind the others, from what stands before it on; and what follows.
 #[tactic(auto, unfolding(crate::specs::Placing::joined_into))]
 fn joined<'a>(terms: &mut Vec<EventTerm>, symbols: &'a [Symbol]) -> Result<&'a [Symbol], Stop>
-    ensures read { Gives (λ rest. (terms.new.items, rest.now)) result (joined_into terms.old.items symbols.now) }
-    ensures lighter { IfOk result (λ rest. vec_len terms.new + length rest.now ≤ vec_len terms.old + length symbols.now) }
+    ensures read { Gives (λ rest. (terms.new.items, rest.now)) result
+        (joined_into terms.old.items symbols.now) }
+    ensures lighter { IfOk result (λ rest. vec_len terms.new + length rest.now
+        ≤ vec_len terms.old + length symbols.now) }
     ensures shorter { IfOk result (λ rest. length rest.now < length symbols.now) }
 {
     let rest = separator(symbols)?;
@@ -84,8 +87,10 @@ fn further_terms<'a>(
     terms: &mut Vec<EventTerm>,
     symbols: &'a [Symbol],
 ) -> Result<&'a [Symbol], Stop>
-    ensures read { Gives (λ rest. (terms.new.items, rest.now)) result (further_terms_into (length symbols.now) terms.old.items symbols.now) }
-    ensures lighter { IfOk result (λ rest. vec_len terms.new + length rest.now ≤ vec_len terms.old + length symbols.now) }
+    ensures read { Gives (λ rest. (terms.new.items, rest.now)) result
+        (further_terms_into (length symbols.now) terms.old.items symbols.now) }
+    ensures lighter { IfOk result (λ rest. vec_len terms.new + length rest.now
+        ≤ vec_len terms.old + length symbols.now) }
     ensures no_longer { IfOk result (λ rest. length rest.now ≤ length symbols.now) }
 {
     let mut rest = symbols;
@@ -98,8 +103,10 @@ fn further_terms<'a>(
 /// The terms of an event behind others, and what follows.
 #[tactic(auto, unfolding(crate::specs::Placing::terms_into))]
 fn terms<'a>(terms: &mut Vec<EventTerm>, symbols: &'a [Symbol]) -> Result<&'a [Symbol], Stop>
-    ensures read { Gives (λ rest. (terms.new.items, rest.now)) result (terms_into terms.old.items symbols.now) }
-    ensures lighter { IfOk result (λ rest. vec_len terms.new + length rest.now ≤ vec_len terms.old + length symbols.now) }
+    ensures read { Gives (λ rest. (terms.new.items, rest.now)) result
+        (terms_into terms.old.items symbols.now) }
+    ensures lighter { IfOk result (λ rest. vec_len terms.new + length rest.now
+        ≤ vec_len terms.old + length symbols.now) }
     ensures shorter { IfOk result (λ rest. length rest.now < length symbols.now) }
 {
     let (first, rest) = term(symbols)?;
@@ -114,8 +121,10 @@ fn terms_event<'a>(
     symbols: &'a [Symbol],
 ) -> Result<(Option<Span>, &'a [Symbol]), Stop>
     requires { vec_len terms.old + length symbols.now < 2 ^ 32 }
-    ensures read { Gives (λ found. (found.0, terms.new.items, found.1.now)) result (terms_event_into terms.old.items symbols.now) }
-    ensures lighter { IfOk result (λ found. vec_len terms.new + length found.1.now ≤ vec_len terms.old + length symbols.now) }
+    ensures read { Gives (λ found. (found.0, terms.new.items, found.1.now)) result
+        (terms_event_into terms.old.items symbols.now) }
+    ensures lighter { IfOk result (λ found. vec_len terms.new + length found.1.now
+        ≤ vec_len terms.old + length symbols.now) }
     ensures shorter { IfOk result (λ found. length found.1.now < length symbols.now) }
 {
     let first = terms.len() as u32;
@@ -131,7 +140,8 @@ fn star_event<'a>(
     terms: &mut Vec<EventTerm>,
     symbols: &'a [Symbol],
 ) -> Result<(Option<Span>, &'a [Symbol]), Stop>
-    ensures read { Gives (λ found. (found.0, terms.new.items, found.1.now)) result (star_event_into terms.old.items symbols.now) }
+    ensures read { Gives (λ found. (found.0, terms.new.items, found.1.now)) result
+        (star_event_into terms.old.items symbols.now) }
     ensures same { vec_len terms.new ≡ vec_len terms.old }
     ensures shorter { IfOk result (λ found. length found.1.now < length symbols.now) }
 {
@@ -148,7 +158,8 @@ fn change<'a>(
     symbols: &'a [Symbol],
 ) -> Result<(Option<Span>, &'a [Symbol]), Stop>
     requires { vec_len terms.old + 1 < 2 ^ 32 }
-    ensures read { Gives (λ found. (found.0, terms.new.items, found.1.now)) result (event_by_into Name name terms.old.items symbols.now) }
+    ensures read { Gives (λ found. (found.0, terms.new.items, found.1.now)) result
+        (event_by_into Name name terms.old.items symbols.now) }
     ensures len { IfOk result (λ found. vec_len terms.new ≡ vec_len terms.old + 1) }
     ensures rest { IfOk result (λ found. found.1.now ≡ symbols.now) }
 {
@@ -166,8 +177,10 @@ pub fn event<'a>(
     symbols: &'a [Symbol],
 ) -> Result<(Option<Span>, &'a [Symbol]), Stop>
     requires { vec_len terms.old + length symbols.now < 2 ^ 32 }
-    ensures read { Gives (λ found. (found.0, terms.new.items, found.1.now)) result (event_into terms.old.items symbols.now) }
-    ensures lighter { IfOk result (λ found. vec_len terms.new + length found.1.now ≤ vec_len terms.old + length symbols.now) }
+    ensures read { Gives (λ found. (found.0, terms.new.items, found.1.now)) result
+        (event_into terms.old.items symbols.now) }
+    ensures lighter { IfOk result (λ found. vec_len terms.new + length found.1.now
+        ≤ vec_len terms.old + length symbols.now) }
     ensures shorter { IfOk result (λ found. length found.1.now < length symbols.now) }
 {
     let [first, rest @ ..] = symbols else {

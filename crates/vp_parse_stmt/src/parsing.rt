@@ -30,8 +30,10 @@ fn blocking<'a>(
     symbols: &'a [Symbol],
 ) -> Result<(u32, &'a [Symbol]), Stop>
     requires { weight arena.old symbols.now < 2 ^ 32 }
-    ensures read { Gives (λ found. (found.0, lists_in arena.new, found.1.now)) result (blocking_into limit target selection (lists_in arena.old) symbols.now) }
-    ensures lighter { IfOk result (λ found. weight arena.new found.1.now < weight arena.old symbols.now) }
+    ensures read { Gives (λ found. (found.0, lists_in arena.new, found.1.now)) result
+        (blocking_into limit target selection (lists_in arena.old) symbols.now) }
+    ensures lighter { IfOk result (λ found. weight arena.new found.1.now
+        < weight arena.old symbols.now) }
     ensures shorter { IfOk result (λ found. length found.1.now < length symbols.now) }
 {
     let rest = skip(SymbolKind::Punctuator(Punctuator::Equals), symbols)?;
@@ -54,8 +56,10 @@ fn assign<'a>(
     symbols: &'a [Symbol],
 ) -> Result<(u32, &'a [Symbol]), Stop>
     requires { weight arena.old symbols.now < 2 ^ 32 }
-    ensures read { Gives (λ found. (found.0, lists_in arena.new, found.1.now)) result (assign_into limit target selection (lists_in arena.old) symbols.now) }
-    ensures lighter { IfOk result (λ found. weight arena.new found.1.now < weight arena.old symbols.now) }
+    ensures read { Gives (λ found. (found.0, lists_in arena.new, found.1.now)) result
+        (assign_into limit target selection (lists_in arena.old) symbols.now) }
+    ensures lighter { IfOk result (λ found. weight arena.new found.1.now
+        < weight arena.old symbols.now) }
     ensures shorter { IfOk result (λ found. length found.1.now < length symbols.now) }
 {
     let (assign, rest) = blocking(arena, limit, target, selection, symbols)?;
@@ -73,8 +77,10 @@ fn nonblocking<'a>(
     symbols: &'a [Symbol],
 ) -> Result<(u32, &'a [Symbol]), Stop>
     requires { weight arena.old symbols.now < 2 ^ 32 }
-    ensures read { Gives (λ found. (found.0, lists_in arena.new, found.1.now)) result (nonblocking_into limit target selection (lists_in arena.old) symbols.now) }
-    ensures lighter { IfOk result (λ found. weight arena.new found.1.now < weight arena.old symbols.now) }
+    ensures read { Gives (λ found. (found.0, lists_in arena.new, found.1.now)) result
+        (nonblocking_into limit target selection (lists_in arena.old) symbols.now) }
+    ensures lighter { IfOk result (λ found. weight arena.new found.1.now
+        < weight arena.old symbols.now) }
     ensures shorter { IfOk result (λ found. length found.1.now < length symbols.now) }
 {
     let rest = skip(SymbolKind::Punctuator(Punctuator::LessOrEqual), symbols)?;
@@ -99,8 +105,10 @@ fn assignment<'a>(
     symbols: &'a [Symbol],
 ) -> Result<(u32, &'a [Symbol]), Stop>
     requires { weight arena.old symbols.now < 2 ^ 32 }
-    ensures read { Gives (λ found. (found.0, lists_in arena.new, found.1.now)) result (assignment_into limit target (lists_in arena.old) symbols.now) }
-    ensures lighter { IfOk result (λ found. weight arena.new found.1.now < weight arena.old symbols.now) }
+    ensures read { Gives (λ found. (found.0, lists_in arena.new, found.1.now)) result
+        (assignment_into limit target (lists_in arena.old) symbols.now) }
+    ensures lighter { IfOk result (λ found. weight arena.new found.1.now
+        < weight arena.old symbols.now) }
     ensures shorter { IfOk result (λ found. length found.1.now < length symbols.now) }
 {
     let selected = selection(&mut arena.expressions, limit.saturating_sub(1), symbols)?;
@@ -133,8 +141,10 @@ fn list<'a>(
     symbols: &'a [Symbol],
 ) -> Result<(u32, &'a [Symbol]), Stop>
     requires { weight arena.old symbols.now + 1 < 2 ^ 32 }
-    ensures read { Gives (λ found. (found.0, lists_in arena.new, found.1.now)) result (stmts_into (stmt_into limit depth) (lists_in arena.old) symbols.now) }
-    ensures lighter { IfOk result (λ found. weight arena.new found.1.now ≤ weight arena.old symbols.now + 1) }
+    ensures read { Gives (λ found. (found.0, lists_in arena.new, found.1.now)) result
+        (stmts_into (stmt_into limit depth) (lists_in arena.old) symbols.now) }
+    ensures lighter { IfOk result (λ found. weight arena.new found.1.now
+        ≤ weight arena.old symbols.now + 1) }
     ensures no_longer { IfOk result (λ found. length found.1.now ≤ length symbols.now) }
 {
     let mut so_far = add_statement(&mut arena.statements, Statement::Empty)?;
@@ -158,8 +168,10 @@ fn block<'a>(
     symbols: &'a [Symbol],
 ) -> Result<(u32, &'a [Symbol]), Stop>
     requires { weight arena.old symbols.now + 1 < 2 ^ 32 }
-    ensures read { Gives (λ found. (found.0, lists_in arena.new, found.1.now)) result (block_into (stmt_into limit depth) (lists_in arena.old) symbols.now) }
-    ensures lighter { IfOk result (λ found. weight arena.new found.1.now < weight arena.old symbols.now) }
+    ensures read { Gives (λ found. (found.0, lists_in arena.new, found.1.now)) result
+        (block_into (stmt_into limit depth) (lists_in arena.old) symbols.now) }
+    ensures lighter { IfOk result (λ found. weight arena.new found.1.now
+        < weight arena.old symbols.now) }
     ensures shorter { IfOk result (λ found. length found.1.now < length symbols.now) }
 {
     let (body, rest) = list(arena, limit, depth, symbols)?;
@@ -177,8 +189,10 @@ fn delayed<'a>(
     symbols: &'a [Symbol],
 ) -> Result<(u32, &'a [Symbol]), Stop>
     requires { weight arena.old symbols.now < 2 ^ 32 }
-    ensures read { Gives (λ found. (found.0, lists_in arena.new, found.1.now)) result (delayed_into (stmt_into limit depth) (lists_in arena.old) symbols.now) }
-    ensures lighter { IfOk result (λ found. weight arena.new found.1.now < weight arena.old symbols.now) }
+    ensures read { Gives (λ found. (found.0, lists_in arena.new, found.1.now)) result
+        (delayed_into (stmt_into limit depth) (lists_in arena.old) symbols.now) }
+    ensures lighter { IfOk result (λ found. weight arena.new found.1.now
+        < weight arena.old symbols.now) }
     ensures shorter { IfOk result (λ found. length found.1.now < length symbols.now) }
 {
     let (amount, rest) = delay(symbols)?;
@@ -207,8 +221,10 @@ fn at_event<'a>(
     symbols: &'a [Symbol],
 ) -> Result<(u32, &'a [Symbol]), Stop>
     requires { weight arena.old symbols.now < 2 ^ 32 }
-    ensures read { Gives (λ found. (found.0, lists_in arena.new, found.1.now)) result (awaited_into (stmt_into limit depth) (lists_in arena.old) symbols.now) }
-    ensures lighter { IfOk result (λ found. weight arena.new found.1.now < weight arena.old symbols.now) }
+    ensures read { Gives (λ found. (found.0, lists_in arena.new, found.1.now)) result
+        (awaited_into (stmt_into limit depth) (lists_in arena.old) symbols.now) }
+    ensures lighter { IfOk result (λ found. weight arena.new found.1.now
+        < weight arena.old symbols.now) }
     ensures shorter { IfOk result (λ found. length found.1.now < length symbols.now) }
 {
     let (terms, rest) = event(&mut arena.terms, symbols)?;
@@ -227,8 +243,10 @@ fn condition<'a>(
     symbols: &'a [Symbol],
 ) -> Result<(u32, &'a [Symbol]), Stop>
     requires { weight arena.old symbols.now < 2 ^ 32 }
-    ensures read { Gives (λ found. (found.0, lists_in arena.new, found.1.now)) result (condition_into limit (lists_in arena.old) symbols.now) }
-    ensures lighter { IfOk result (λ found. weight arena.new found.1.now + 1 < weight arena.old symbols.now) }
+    ensures read { Gives (λ found. (found.0, lists_in arena.new, found.1.now)) result
+        (condition_into limit (lists_in arena.old) symbols.now) }
+    ensures lighter { IfOk result (λ found. weight arena.new found.1.now + 1
+        < weight arena.old symbols.now) }
     ensures shorter { IfOk result (λ found. length found.1.now < length symbols.now) }
 {
     let rest = skip(SymbolKind::Punctuator(Punctuator::LeftParenthesis), symbols)?;
@@ -247,8 +265,10 @@ fn guarded<'a>(
     symbols: &'a [Symbol],
 ) -> Result<(u32, u32, &'a [Symbol]), Stop>
     requires { weight arena.old symbols.now < 2 ^ 32 }
-    ensures read { Gives (λ found. (found.0, found.1, lists_in arena.new, found.2.now)) result (guarded_into limit (stmt_into limit depth) (lists_in arena.old) symbols.now) }
-    ensures lighter { IfOk result (λ found. weight arena.new found.2.now + 1 < weight arena.old symbols.now) }
+    ensures read { Gives (λ found. (found.0, found.1, lists_in arena.new, found.2.now)) result
+        (guarded_into limit (stmt_into limit depth) (lists_in arena.old) symbols.now) }
+    ensures lighter { IfOk result (λ found. weight arena.new found.2.now + 1
+        < weight arena.old symbols.now) }
     ensures shorter { IfOk result (λ found. length found.2.now < length symbols.now) }
 {
     let (condition, rest) = condition(arena, limit, symbols)?;
@@ -266,8 +286,10 @@ fn wait<'a>(
     symbols: &'a [Symbol],
 ) -> Result<(u32, &'a [Symbol]), Stop>
     requires { weight arena.old symbols.now < 2 ^ 32 }
-    ensures read { Gives (λ found. (found.0, lists_in arena.new, found.1.now)) result (wait_into limit (stmt_into limit depth) (lists_in arena.old) symbols.now) }
-    ensures lighter { IfOk result (λ found. weight arena.new found.1.now < weight arena.old symbols.now) }
+    ensures read { Gives (λ found. (found.0, lists_in arena.new, found.1.now)) result
+        (wait_into limit (stmt_into limit depth) (lists_in arena.old) symbols.now) }
+    ensures lighter { IfOk result (λ found. weight arena.new found.1.now
+        < weight arena.old symbols.now) }
     ensures shorter { IfOk result (λ found. length found.1.now < length symbols.now) }
 {
     let (condition, body, rest) = guarded(arena, limit, depth, symbols)?;
@@ -285,8 +307,10 @@ fn while_true<'a>(
     symbols: &'a [Symbol],
 ) -> Result<(u32, &'a [Symbol]), Stop>
     requires { weight arena.old symbols.now < 2 ^ 32 }
-    ensures read { Gives (λ found. (found.0, lists_in arena.new, found.1.now)) result (while_into limit (stmt_into limit depth) (lists_in arena.old) symbols.now) }
-    ensures lighter { IfOk result (λ found. weight arena.new found.1.now < weight arena.old symbols.now) }
+    ensures read { Gives (λ found. (found.0, lists_in arena.new, found.1.now)) result
+        (while_into limit (stmt_into limit depth) (lists_in arena.old) symbols.now) }
+    ensures lighter { IfOk result (λ found. weight arena.new found.1.now
+        < weight arena.old symbols.now) }
     ensures shorter { IfOk result (λ found. length found.1.now < length symbols.now) }
 {
     let (condition, body, rest) = guarded(arena, limit, depth, symbols)?;
@@ -308,8 +332,10 @@ fn forever<'a>(
     symbols: &'a [Symbol],
 ) -> Result<(u32, &'a [Symbol]), Stop>
     requires { weight arena.old symbols.now < 2 ^ 32 }
-    ensures read { Gives (λ found. (found.0, lists_in arena.new, found.1.now)) result (forever_into (stmt_into limit depth) (lists_in arena.old) symbols.now) }
-    ensures lighter { IfOk result (λ found. weight arena.new found.1.now ≤ weight arena.old symbols.now) }
+    ensures read { Gives (λ found. (found.0, lists_in arena.new, found.1.now)) result
+        (forever_into (stmt_into limit depth) (lists_in arena.old) symbols.now) }
+    ensures lighter { IfOk result (λ found. weight arena.new found.1.now
+        ≤ weight arena.old symbols.now) }
     ensures shorter { IfOk result (λ found. length found.1.now < length symbols.now) }
 {
     let (body, rest) = statement_at(arena, limit, depth, symbols)?;
@@ -357,8 +383,10 @@ fn named_blocking<'a>(
     symbols: &'a [Symbol],
 ) -> Result<(u32, &'a [Symbol]), Stop>
     requires { weight arena.old symbols.now < 2 ^ 32 }
-    ensures read { Gives (λ found. (found.0, lists_in arena.new, found.1.now)) result (named_blocking_into limit (lists_in arena.old) symbols.now) }
-    ensures lighter { IfOk result (λ found. weight arena.new found.1.now < weight arena.old symbols.now) }
+    ensures read { Gives (λ found. (found.0, lists_in arena.new, found.1.now)) result
+        (named_blocking_into limit (lists_in arena.old) symbols.now) }
+    ensures lighter { IfOk result (λ found. weight arena.new found.1.now
+        < weight arena.old symbols.now) }
     ensures shorter { IfOk result (λ found. length found.1.now < length symbols.now) }
 {
     let (target, rest) = target(symbols)?;
@@ -374,8 +402,10 @@ fn heading<'a>(
     symbols: &'a [Symbol],
 ) -> Result<(u32, u32, u32, &'a [Symbol]), Stop>
     requires { weight arena.old symbols.now < 2 ^ 32 }
-    ensures read { Gives (λ found. (found.0, found.1, found.2, lists_in arena.new, found.3.now)) result (heading_into limit (lists_in arena.old) symbols.now) }
-    ensures lighter { IfOk result (λ found. weight arena.new found.3.now + 1 < weight arena.old symbols.now) }
+    ensures read { Gives (λ found. (found.0, found.1, found.2, lists_in arena.new, found.3.now))
+        result (heading_into limit (lists_in arena.old) symbols.now) }
+    ensures lighter { IfOk result (λ found. weight arena.new found.3.now + 1
+        < weight arena.old symbols.now) }
     ensures shorter { IfOk result (λ found. length found.3.now < length symbols.now) }
 {
     let rest = skip(SymbolKind::Punctuator(Punctuator::LeftParenthesis), symbols)?;
@@ -398,8 +428,10 @@ fn for_loop<'a>(
     symbols: &'a [Symbol],
 ) -> Result<(u32, &'a [Symbol]), Stop>
     requires { weight arena.old symbols.now < 2 ^ 32 }
-    ensures read { Gives (λ found. (found.0, lists_in arena.new, found.1.now)) result (for_into limit (stmt_into limit depth) (lists_in arena.old) symbols.now) }
-    ensures lighter { IfOk result (λ found. weight arena.new found.1.now < weight arena.old symbols.now) }
+    ensures read { Gives (λ found. (found.0, lists_in arena.new, found.1.now)) result
+        (for_into limit (stmt_into limit depth) (lists_in arena.old) symbols.now) }
+    ensures lighter { IfOk result (λ found. weight arena.new found.1.now
+        < weight arena.old symbols.now) }
     ensures shorter { IfOk result (λ found. length found.1.now < length symbols.now) }
 {
     let (start, condition, step, rest) = heading(arena, limit, symbols)?;
@@ -426,8 +458,10 @@ fn second<'a>(
     symbols: &'a [Symbol],
 ) -> Result<(u32, &'a [Symbol]), Stop>
     requires { weight arena.old symbols.now < 2 ^ 32 }
-    ensures read { Gives (λ found. (found.0, lists_in arena.new, found.1.now)) result (second_into (stmt_into limit depth) condition first (lists_in arena.old) symbols.now) }
-    ensures lighter { IfOk result (λ found. weight arena.new found.1.now ≤ weight arena.old symbols.now) }
+    ensures read { Gives (λ found. (found.0, lists_in arena.new, found.1.now)) result
+        (second_into (stmt_into limit depth) condition first (lists_in arena.old) symbols.now) }
+    ensures lighter { IfOk result (λ found. weight arena.new found.1.now
+        ≤ weight arena.old symbols.now) }
     ensures no_longer { IfOk result (λ found. length found.1.now ≤ length symbols.now) }
 {
     let rest = skip(SymbolKind::Keyword(Keyword::Else), symbols)?;
@@ -452,8 +486,10 @@ fn otherwise<'a>(
     symbols: &'a [Symbol],
 ) -> Result<(u32, &'a [Symbol]), Stop>
     requires { weight arena.old symbols.now < 2 ^ 32 }
-    ensures read { Gives (λ found. (found.0, lists_in arena.new, found.1.now)) result (else_into (stmt_into limit depth) condition first (lists_in arena.old) symbols.now) }
-    ensures lighter { IfOk result (λ found. weight arena.new found.1.now ≤ weight arena.old symbols.now + 1) }
+    ensures read { Gives (λ found. (found.0, lists_in arena.new, found.1.now)) result
+        (else_into (stmt_into limit depth) condition first (lists_in arena.old) symbols.now) }
+    ensures lighter { IfOk result (λ found. weight arena.new found.1.now
+        ≤ weight arena.old symbols.now + 1) }
     ensures no_longer { IfOk result (λ found. length found.1.now ≤ length symbols.now) }
 {
     if is_next(SymbolKind::Keyword(Keyword::Else), symbols) {
@@ -477,8 +513,10 @@ fn conditional<'a>(
     symbols: &'a [Symbol],
 ) -> Result<(u32, &'a [Symbol]), Stop>
     requires { weight arena.old symbols.now < 2 ^ 32 }
-    ensures read { Gives (λ found. (found.0, lists_in arena.new, found.1.now)) result (if_into limit (stmt_into limit depth) (lists_in arena.old) symbols.now) }
-    ensures lighter { IfOk result (λ found. weight arena.new found.1.now < weight arena.old symbols.now) }
+    ensures read { Gives (λ found. (found.0, lists_in arena.new, found.1.now)) result
+        (if_into limit (stmt_into limit depth) (lists_in arena.old) symbols.now) }
+    ensures lighter { IfOk result (λ found. weight arena.new found.1.now
+        < weight arena.old symbols.now) }
     ensures shorter { IfOk result (λ found. length found.1.now < length symbols.now) }
 {
     let (condition, first, rest) = guarded(arena, limit, depth, symbols)?;
@@ -503,8 +541,10 @@ fn behind_argument(symbols: &[Symbol]) -> Result<&[Symbol], Stop>
 #[tactic(auto, unfolding(crate::specs::Placing::finish_into))]
 fn finish<'a>(arena: &mut Arena, symbols: &'a [Symbol]) -> Result<(u32, &'a [Symbol]), Stop>
     requires { weight arena.old symbols.now < 2 ^ 32 }
-    ensures read { Gives (λ found. (found.0, lists_in arena.new, found.1.now)) result (finish_into (lists_in arena.old) symbols.now) }
-    ensures lighter { IfOk result (λ found. weight arena.new found.1.now < weight arena.old symbols.now) }
+    ensures read { Gives (λ found. (found.0, lists_in arena.new, found.1.now)) result
+        (finish_into (lists_in arena.old) symbols.now) }
+    ensures lighter { IfOk result (λ found. weight arena.new found.1.now
+        < weight arena.old symbols.now) }
     ensures shorter { IfOk result (λ found. length found.1.now < length symbols.now) }
 {
     let rest = behind_argument(symbols)?;
@@ -526,8 +566,11 @@ fn labels_item<'a>(
     symbols: &'a [Symbol],
 ) -> Result<&'a [Symbol], Stop>
     requires { weight arena.old symbols.now + vec_len choices.old < 2 ^ 32 }
-    ensures read { Gives (λ rest. (choices.new.items, lists_in arena.new, rest.now)) result (labels_item_into limit (stmt_into limit depth) choices.old.items (lists_in arena.old) symbols.now) }
-    ensures lighter { IfOk result (λ rest. weight arena.new rest.now + vec_len choices.new < weight arena.old symbols.now + vec_len choices.old) }
+    ensures read { Gives (λ rest. (choices.new.items, lists_in arena.new, rest.now)) result
+        (labels_item_into limit (stmt_into limit depth) choices.old.items (lists_in arena.old)
+        symbols.now) }
+    ensures lighter { IfOk result (λ rest. weight arena.new rest.now + vec_len choices.new
+        < weight arena.old symbols.now + vec_len choices.old) }
     ensures shorter { IfOk result (λ rest. length rest.now < length symbols.now) }
 {
     let (labels, rest) = labels(arena, limit, symbols)?;
@@ -561,8 +604,11 @@ fn default_item<'a>(
     symbols: &'a [Symbol],
 ) -> Result<&'a [Symbol], Stop>
     requires { weight arena.old symbols.now + vec_len choices.old < 2 ^ 32 }
-    ensures read { Gives (λ rest. (choices.new.items, lists_in arena.new, rest.now)) result (default_item_into (stmt_into limit depth) choices.old.items (lists_in arena.old) symbols.now) }
-    ensures lighter { IfOk result (λ rest. weight arena.new rest.now + vec_len choices.new < weight arena.old symbols.now + vec_len choices.old) }
+    ensures read { Gives (λ rest. (choices.new.items, lists_in arena.new, rest.now)) result
+        (default_item_into (stmt_into limit depth) choices.old.items (lists_in arena.old)
+        symbols.now) }
+    ensures lighter { IfOk result (λ rest. weight arena.new rest.now + vec_len choices.new
+        < weight arena.old symbols.now + vec_len choices.old) }
     ensures shorter { IfOk result (λ rest. length rest.now < length symbols.now) }
 {
     let rest = skip(SymbolKind::Keyword(Keyword::Default), symbols)?;
@@ -591,8 +637,11 @@ fn item<'a>(
     symbols: &'a [Symbol],
 ) -> Result<&'a [Symbol], Stop>
     requires { weight arena.old symbols.now + vec_len choices.old < 2 ^ 32 }
-    ensures read { Gives (λ rest. (choices.new.items, lists_in arena.new, rest.now)) result (item_into limit (stmt_into limit depth) may_default choices.old.items (lists_in arena.old) symbols.now) }
-    ensures lighter { IfOk result (λ rest. weight arena.new rest.now + vec_len choices.new < weight arena.old symbols.now + vec_len choices.old) }
+    ensures read { Gives (λ rest. (choices.new.items, lists_in arena.new, rest.now)) result
+        (item_into limit (stmt_into limit depth) may_default choices.old.items (lists_in arena.old)
+        symbols.now) }
+    ensures lighter { IfOk result (λ rest. weight arena.new rest.now + vec_len choices.new
+        < weight arena.old symbols.now + vec_len choices.old) }
     ensures shorter { IfOk result (λ rest. length rest.now < length symbols.now) }
 {
     if !is_default(symbols) {
@@ -632,8 +681,11 @@ fn further_items<'a>(
     symbols: &'a [Symbol],
 ) -> Result<&'a [Symbol], Stop>
     requires { weight arena.old symbols.now + vec_len choices.old < 2 ^ 32 }
-    ensures read { Gives (λ rest. (choices.new.items, lists_in arena.new, rest.now)) result (further_items_into limit (stmt_into limit depth) (length symbols.now) may_default choices.old.items (lists_in arena.old) symbols.now) }
-    ensures lighter { IfOk result (λ rest. weight arena.new rest.now + vec_len choices.new ≤ weight arena.old symbols.now + vec_len choices.old) }
+    ensures read { Gives (λ rest. (choices.new.items, lists_in arena.new, rest.now)) result
+        (further_items_into limit (stmt_into limit depth) (length symbols.now) may_default
+        choices.old.items (lists_in arena.old) symbols.now) }
+    ensures lighter { IfOk result (λ rest. weight arena.new rest.now + vec_len choices.new
+        ≤ weight arena.old symbols.now + vec_len choices.old) }
     ensures no_longer { IfOk result (λ rest. length rest.now ≤ length symbols.now) }
 {
     let mut may = may_default;
@@ -656,8 +708,10 @@ fn items<'a>(
     symbols: &'a [Symbol],
 ) -> Result<(Vec<Choice>, &'a [Symbol]), Stop>
     requires { weight arena.old symbols.now < 2 ^ 32 }
-    ensures read { Gives (λ found. (found.0.items, lists_in arena.new, found.1.now)) result (items_into limit (stmt_into limit depth) (lists_in arena.old) symbols.now) }
-    ensures lighter { IfOk result (λ found. weight arena.new found.1.now + vec_len found.0 ≤ weight arena.old symbols.now) }
+    ensures read { Gives (λ found. (found.0.items, lists_in arena.new, found.1.now)) result
+        (items_into limit (stmt_into limit depth) (lists_in arena.old) symbols.now) }
+    ensures lighter { IfOk result (λ found. weight arena.new found.1.now + vec_len found.0
+        ≤ weight arena.old symbols.now) }
     ensures shorter { IfOk result (λ found. length found.1.now < length symbols.now) }
 {
     let mut choices = Vec::new(*arena.choices.allocator());
@@ -678,8 +732,10 @@ fn case<'a>(
     symbols: &'a [Symbol],
 ) -> Result<(u32, &'a [Symbol]), Stop>
     requires { weight arena.old symbols.now < 2 ^ 32 }
-    ensures read { Gives (λ found. (found.0, lists_in arena.new, found.1.now)) result (case_into limit (stmt_into limit depth) is_wild (lists_in arena.old) symbols.now) }
-    ensures lighter { IfOk result (λ found. weight arena.new found.1.now < weight arena.old symbols.now) }
+    ensures read { Gives (λ found. (found.0, lists_in arena.new, found.1.now)) result
+        (case_into limit (stmt_into limit depth) is_wild (lists_in arena.old) symbols.now) }
+    ensures lighter { IfOk result (λ found. weight arena.new found.1.now
+        < weight arena.old symbols.now) }
     ensures shorter { IfOk result (λ found. length found.1.now < length symbols.now) }
 {
     let (selector, rest) = condition(arena, limit, symbols)?;
@@ -704,8 +760,10 @@ fn form<'a>(
     symbols: &'a [Symbol],
 ) -> Result<(u32, &'a [Symbol]), Stop>
     requires { weight arena.old symbols.now < 2 ^ 32 }
-    ensures read { Gives (λ found. (found.0, lists_in arena.new, found.1.now)) result (form_into limit (stmt_into limit depth) (lists_in arena.old) symbols.now) }
-    ensures lighter { IfOk result (λ found. weight arena.new found.1.now < weight arena.old symbols.now) }
+    ensures read { Gives (λ found. (found.0, lists_in arena.new, found.1.now)) result
+        (form_into limit (stmt_into limit depth) (lists_in arena.old) symbols.now) }
+    ensures lighter { IfOk result (λ found. weight arena.new found.1.now
+        < weight arena.old symbols.now) }
     ensures shorter { IfOk result (λ found. length found.1.now < length symbols.now) }
 {
     let [first, rest @ ..] = symbols else {
@@ -742,7 +800,8 @@ fn statement_at<'a>(
     requires { weight arena.old symbols.now < 2 ^ 32 }
     ensures read { Gives (λ found. (found.0, lists_in arena.new, found.1.now))
         result (stmt_into limit depth (lists_in arena.old) symbols.now) }
-    ensures lighter { IfOk result (λ found. weight arena.new found.1.now < weight arena.old symbols.now) }
+    ensures lighter { IfOk result (λ found. weight arena.new found.1.now
+        < weight arena.old symbols.now) }
     ensures shorter { IfOk result (λ found. length found.1.now < length symbols.now) }
 {
     if depth == 0 {
@@ -763,10 +822,11 @@ pub fn statement<'a>(
     requires { weight arena.old symbols.now < 2 ^ 32 }
     ensures read { Gives (λ found. (found.0, lists_in arena.new, found.1.now))
         result (stmt_into limit depth (lists_in arena.old) symbols.now) }
-    ensures found { IfOk result (λ found. (s : Stmt) × IsStatementOf limit depth (lists_in arena.old) symbols.now
-        (found.0, lists_in arena.new, found.1.now) s) }
+    ensures found { IfOk result (λ found. (s : Stmt)
+        × IsStatementOf limit depth (lists_in arena.old) symbols.now (found.0, lists_in arena.new, found.1.now) s) }
     ensures none { IfErr result (λ stop. (stop ≡ NoMemory) ⊎ NoStatement limit depth symbols.now) }
-    ensures lighter { IfOk result (λ found. weight arena.new found.1.now < weight arena.old symbols.now) }
+    ensures lighter { IfOk result (λ found. weight arena.new found.1.now
+        < weight arena.old symbols.now) }
     ensures shorter { IfOk result (λ found. length found.1.now < length symbols.now) }
 {
     statement_at(arena, limit, depth, symbols)

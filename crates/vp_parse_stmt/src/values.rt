@@ -24,11 +24,13 @@ pub fn value<'a>(
     symbols: &'a [Symbol],
 ) -> Result<(u32, &'a [Symbol]), Stop>
     requires { weight arena.old symbols.now < 2 ^ 32 }
-    ensures read { Gives (λ found. (found.0, lists_in arena.new, found.1.now)) result (value_into limit (lists_in arena.old) symbols.now) }
-    ensures found { IfOk result (λ found. (e : Expr) × IsValueOf limit (lists_in arena.old) symbols.now
-        (found.0, lists_in arena.new, found.1.now) e) }
+    ensures read { Gives (λ found. (found.0, lists_in arena.new, found.1.now)) result
+        (value_into limit (lists_in arena.old) symbols.now) }
+    ensures found { IfOk result (λ found. (e : Expr)
+        × IsValueOf limit (lists_in arena.old) symbols.now (found.0, lists_in arena.new, found.1.now) e) }
     ensures none { IfErr result (λ stop. (stop ≡ NoMemory) ⊎ NoExpression limit symbols.now) }
-    ensures lighter { IfOk result (λ found. weight arena.new found.1.now < weight arena.old symbols.now) }
+    ensures lighter { IfOk result (λ found. weight arena.new found.1.now
+        < weight arena.old symbols.now) }
     ensures shorter { IfOk result (λ found. length found.1.now < length symbols.now) }
 {
     let found = expression(&mut arena.expressions, limit, symbols)?;
@@ -44,9 +46,12 @@ fn further_label<'a>(
     symbols: &'a [Symbol],
 ) -> Result<&'a [Symbol], Stop>
     requires { weight arena.old symbols.now < 2 ^ 32 }
-    ensures read { Gives (λ rest. (labels.new.items, lists_in arena.new, rest.now)) result (further_label_into limit labels.old.items (lists_in arena.old) symbols.now) }
-    ensures lighter { IfOk result (λ rest. weight arena.new rest.now + vec_len labels.new ≤ weight arena.old symbols.now + vec_len labels.old) }
-    ensures no_heavier { IfOk result (λ rest. weight arena.new rest.now ≤ weight arena.old symbols.now) }
+    ensures read { Gives (λ rest. (labels.new.items, lists_in arena.new, rest.now)) result
+        (further_label_into limit labels.old.items (lists_in arena.old) symbols.now) }
+    ensures lighter { IfOk result (λ rest. weight arena.new rest.now + vec_len labels.new
+        ≤ weight arena.old symbols.now + vec_len labels.old) }
+    ensures no_heavier { IfOk result
+        (λ rest. weight arena.new rest.now ≤ weight arena.old symbols.now) }
     ensures shorter { IfOk result (λ rest. length rest.now < length symbols.now) }
 {
     let rest = skip(SymbolKind::Punctuator(Punctuator::Comma), symbols)?;
@@ -63,8 +68,11 @@ fn further_labels<'a>(
     symbols: &'a [Symbol],
 ) -> Result<&'a [Symbol], Stop>
     requires { weight arena.old symbols.now < 2 ^ 32 }
-    ensures read { Gives (λ rest. (labels.new.items, lists_in arena.new, rest.now)) result (further_labels_into limit (length symbols.now) labels.old.items (lists_in arena.old) symbols.now) }
-    ensures lighter { IfOk result (λ rest. weight arena.new rest.now + vec_len labels.new ≤ weight arena.old symbols.now + vec_len labels.old) }
+    ensures read { Gives (λ rest. (labels.new.items, lists_in arena.new, rest.now)) result
+        (further_labels_into limit (length symbols.now) labels.old.items (lists_in arena.old)
+        symbols.now) }
+    ensures lighter { IfOk result (λ rest. weight arena.new rest.now + vec_len labels.new
+        ≤ weight arena.old symbols.now + vec_len labels.old) }
     ensures no_longer { IfOk result (λ rest. length rest.now ≤ length symbols.now) }
 {
     let mut rest = symbols;
@@ -82,8 +90,10 @@ pub fn labels<'a>(
     symbols: &'a [Symbol],
 ) -> Result<(Vec<u32>, &'a [Symbol]), Stop>
     requires { weight arena.old symbols.now < 2 ^ 32 }
-    ensures read { Gives (λ found. (found.0.items, lists_in arena.new, found.1.now)) result (labels_into limit (lists_in arena.old) symbols.now) }
-    ensures lighter { IfOk result (λ found. weight arena.new found.1.now + vec_len found.0 ≤ weight arena.old symbols.now) }
+    ensures read { Gives (λ found. (found.0.items, lists_in arena.new, found.1.now)) result
+        (labels_into limit (lists_in arena.old) symbols.now) }
+    ensures lighter { IfOk result (λ found. weight arena.new found.1.now + vec_len found.0
+        ≤ weight arena.old symbols.now) }
     ensures shorter { IfOk result (λ found. length found.1.now < length symbols.now) }
 {
     let (first, rest) = value(arena, limit, symbols)?;
@@ -99,7 +109,8 @@ pub fn add_choices_of(
     labels: &[u32],
     body: u32,
 ) -> Result<(), AllocError>
-    ensures added { OnOk result (choices.new.items ≡ choices.old.items ++ choices_of labels.now body) }
+    ensures added { OnOk result (choices.new.items ≡ choices.old.items
+        ++ choices_of labels.now body) }
     ensures len { OnOk result (vec_len choices.new ≡ vec_len choices.old + length labels.now) }
 {
     for label in labels {

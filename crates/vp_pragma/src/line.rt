@@ -86,7 +86,8 @@ fn is_string(token: Token) -> bool
 /// The first token, and what follows it.
 pub fn split(rest: Rest<'_>) -> Option<(Token, Rest<'_>)>
     requires { HasPlaces rest }
-    ensures parts { MatchOption result (placed rest.entry ≡ []) (λ s. placed rest.entry ≡ (rest.entry.at, s.0) ∷ placed s.1) }
+    ensures parts { MatchOption result (placed rest.entry ≡ [])
+        (λ s. placed rest.entry ≡ (rest.entry.at, s.0) ∷ placed s.1) }
     ensures places { IfSome result (λ s. HasPlaces s.1) }
 {
     match rest.tokens {
@@ -104,7 +105,8 @@ pub fn split(rest: Rest<'_>) -> Option<(Token, Rest<'_>)>
 /// What follows a number: behind a base part, if one is first.
 fn behind_base(rest: Rest<'_>) -> Rest<'_>
     requires { HasPlaces rest }
-    ensures parts { placed result ≡ (if begins_with is_base (placed rest.entry) then rest_of (placed rest.entry) else placed rest.entry) }
+    ensures parts { placed result ≡ (if begins_with is_base (placed rest.entry)
+        then rest_of (placed rest.entry) else placed rest.entry) }
     ensures places { HasPlaces result }
 {
     match split(rest) {
@@ -128,7 +130,8 @@ fn behind_equals(rest: Rest<'_>) -> Option<Rest<'_>>
 /// The word at the front of a line's tokens, and what follows it.
 fn word_at(rest: Rest<'_>) -> Option<(Token, Rest<'_>)>
     requires { HasPlaces rest }
-    ensures parts { option_map (λ w. (w.0, placed w.1)) result ≡ token_if is_word (placed rest.entry) }
+    ensures parts { option_map (λ w. (w.0, placed w.1)) result
+        ≡ token_if is_word (placed rest.entry) }
     ensures places { IfSome result (λ w. HasPlaces w.1) }
 {
     match split(rest) {
@@ -140,7 +143,8 @@ fn word_at(rest: Rest<'_>) -> Option<(Token, Rest<'_>)>
 /// The string at the front of a line's tokens, and what follows it.
 fn string_at(rest: Rest<'_>) -> Option<(Token, Rest<'_>)>
     requires { HasPlaces rest }
-    ensures parts { option_map (λ s. (s.0, placed s.1)) result ≡ token_if is_string (placed rest.entry) }
+    ensures parts { option_map (λ s. (s.0, placed s.1)) result
+        ≡ token_if is_string (placed rest.entry) }
     ensures places { IfSome result (λ s. HasPlaces s.1) }
 {
     match split(rest) {
@@ -152,7 +156,8 @@ fn string_at(rest: Rest<'_>) -> Option<(Token, Rest<'_>)>
 /// A keyword with a string at the front of a line's tokens, and what follows it.
 fn keyword_text(rest: Rest<'_>) -> Option<(Token, Token, Rest<'_>)>
     requires { HasPlaces rest }
-    ensures parts { option_map (λ k. (k.0, k.1, placed k.2)) result ≡ keyword_text (placed rest.entry) }
+    ensures parts { option_map (λ k. (k.0, k.1, placed k.2)) result
+        ≡ keyword_text (placed rest.entry) }
     ensures places { IfSome result (λ k. HasPlaces k.2) }
 {
     let (word, rest) = word_at(rest)?;
@@ -272,7 +277,8 @@ fn line_end(tokens: &[Token], line: u32, from: usize) -> usize
 pub fn run_of(tokens: &[Token], line: u32, from: usize) -> Rest<'_>
     requires place { from ≤ length tokens.now }
     requires few { length tokens.now ≤ TEXT_LIMIT }
-    ensures parts { placed result ≡ enumerate_from from (take_while (is_on line) (drop from tokens.now)) }
+    ensures parts { placed result ≡ enumerate_from from
+        (take_while (is_on line) (drop from tokens.now)) }
     ensures places { HasPlaces result }
 {
     let end = line_end(tokens, line, from);

@@ -95,7 +95,9 @@ fn begin(
     requires line { IsLine line }
     requires room { HasRoom reading.old }
     ensures room { OnOk result (HasRoom reading.new) }
-    ensures begun { let after = after_one line.entry reading.old (Deed.Begins place) in MatchResult result (λ _. after ≡ Ok (progress_of line.entry.text.now reading.new)) (λ e. Explains after e) }
+    ensures begun { let after = after_one line.entry reading.old (Deed.Begins place)
+        in MatchResult result (λ _. after ≡ Ok (progress_of line.entry.text.now reading.new))
+        (λ e. Explains after e) }
 {
     let number = line.directive.line;
     if reading.open.is_some() {
@@ -122,7 +124,9 @@ fn end(reading: &mut Reading, line: Line<'_>, place: u32) -> Result<(), PragmaEr
     requires line { IsLine line }
     requires room { HasRoom reading.old }
     ensures room { OnOk result (HasRoom reading.new) }
-    ensures ended { let after = after_one line.entry reading.old (Deed.Ends place) in MatchResult result (λ _. after ≡ Ok (progress_of line.entry.text.now reading.new)) (λ e. Explains after e) }
+    ensures ended { let after = after_one line.entry reading.old (Deed.Ends place)
+        in MatchResult result (λ _. after ≡ Ok (progress_of line.entry.text.now reading.new))
+        (λ e. Explains after e) }
 {
     let number = line.directive.line;
     let Some(open) = reading.open.take() else {
@@ -149,7 +153,9 @@ fn open_view(
     requires line { IsLine line }
     requires room { HasRoom reading.old }
     ensures room { OnOk result (HasRoom reading.new) }
-    ensures opened { let after = after_one line.entry reading.old (Deed.Views view) in MatchResult result (λ _. after ≡ Ok (progress_of line.entry.text.now reading.new)) (λ e. Explains after e) }
+    ensures opened { let after = after_one line.entry reading.old (Deed.Views view)
+        in MatchResult result (λ _. after ≡ Ok (progress_of line.entry.text.now reading.new))
+        (λ e. Explains after e) }
 {
     let number = line.directive.line;
     if reading.open.is_none() {
@@ -175,7 +181,9 @@ fn apply(
     requires line { IsLine line }
     requires room { HasRoom reading.old }
     ensures room { OnOk result (HasRoom reading.new) }
-    ensures done { let after = after_one line.entry reading.old deed in MatchResult result (λ _. after ≡ Ok (progress_of line.entry.text.now reading.new)) (λ e. Explains after e) }
+    ensures done { let after = after_one line.entry reading.old deed
+        in MatchResult result (λ _. after ≡ Ok (progress_of line.entry.text.now reading.new))
+        (λ e. Explains after e) }
 {
     match deed {
         Deed::Begins(place) => begin(alloc, reading, line, place),
@@ -209,8 +217,11 @@ fn apply_any(
     requires line { IsLine line }
     requires room { HasRoom reading.old }
     ensures room { OnOk result (HasRoom reading.new) }
-    ensures done { OnOk result ((ds : List Deed) → after_all line.entry reading.old (before_deeds deed ds) ≡ after_all line.entry reading.new ds) }
-    ensures fault { IfErr result (λ e. (ds : List Deed) → Explains (after_all line.entry reading.old (before_deeds deed ds)) e) }
+    ensures done { OnOk result ((ds : List Deed)
+        → after_all line.entry reading.old (before_deeds deed ds)
+        ≡ after_all line.entry reading.new ds) }
+    ensures fault { IfErr result (λ e. (ds : List Deed)
+        → Explains (after_all line.entry reading.old (before_deeds deed ds)) e) }
 {
     match deed {
         Some(deed) => apply(alloc, reading, line, deed),
@@ -231,9 +242,17 @@ fn apply_first<'a>(
     requires room { HasRoom reading.old }
     ensures room { OnOk result (HasRoom reading.new) }
     ensures places { IfOk result (λ next. IfSome next HasPlaces) }
-    ensures last { IfOk result (λ next. IfNone next ((n : ℕ) → after_all line.entry reading.old (deeds_from pragma line.entry.text.now (suc n) (placed rest.entry)) ≡ Ok (progress_of line.entry.text.now reading.new))) }
-    ensures more { IfOk result (λ next. IfSome next (λ r. (n : ℕ) → after_all line.entry reading.old (deeds_from pragma line.entry.text.now (suc n) (placed rest.entry)) ≡ after_all line.entry reading.new (deeds_from pragma line.entry.text.now n (placed r)))) }
-    ensures fault { IfErr result (λ e. (n : ℕ) → Explains (after_all line.entry reading.old (deeds_from pragma line.entry.text.now (suc n) (placed rest.entry))) e) }
+    ensures last { IfOk result (λ next. IfNone next
+        ((n : ℕ) → after_all line.entry reading.old
+        (deeds_from pragma line.entry.text.now (suc n) (placed rest.entry))
+        ≡ Ok (progress_of line.entry.text.now reading.new))) }
+    ensures more { IfOk result (λ next. IfSome next
+        (λ r. (n : ℕ) → after_all line.entry reading.old
+        (deeds_from pragma line.entry.text.now (suc n) (placed rest.entry))
+        ≡ after_all line.entry reading.new (deeds_from pragma line.entry.text.now n (placed r)))) }
+    ensures fault { IfErr result (λ e. (n : ℕ)
+        → Explains (after_all line.entry reading.old
+        (deeds_from pragma line.entry.text.now (suc n) (placed rest.entry))) e) }
 {
     let number = line.directive.line;
     let Some((expression, behind)) = expression_at(rest) else {
@@ -261,7 +280,10 @@ fn apply_all(
     requires places { HasPlaces rest }
     requires room { HasRoom reading.old }
     ensures room { OnOk result (HasRoom reading.new) }
-    ensures done { let after = after_all line.entry reading.old (all_deeds pragma line.entry.text.now (placed rest.entry)) in MatchResult result (λ _. after ≡ Ok (progress_of line.entry.text.now reading.new)) (λ e. Explains after e) }
+    ensures done { let after = after_all line.entry reading.old
+        (all_deeds pragma line.entry.text.now (placed rest.entry))
+        in MatchResult result (λ _. after ≡ Ok (progress_of line.entry.text.now reading.new))
+        (λ e. Explains after e) }
 {
     let count = rest.tokens.len();
     if count == 0 {
@@ -292,7 +314,10 @@ fn read_named(
     requires places { HasPlaces rest }
     requires room { HasRoom reading.old }
     ensures room { OnOk result (HasRoom reading.new) }
-    ensures done { let after = after_all line.entry reading.old (named_deeds line.entry.text.now name.now (placed rest.entry)) in MatchResult result (λ _. after ≡ Ok (progress_of line.entry.text.now reading.new)) (λ e. Explains after e) }
+    ensures done { let after = after_all line.entry reading.old
+        (named_deeds line.entry.text.now name.now (placed rest.entry))
+        in MatchResult result (λ _. after ≡ Ok (progress_of line.entry.text.now reading.new))
+        (λ e. Explains after e) }
 {
     match name {
         "protect" => apply_all(alloc, reading, line, Pragma::Protect, rest),
@@ -309,7 +334,12 @@ fn read_line(alloc: Global, reading: &mut Reading, line: Line<'_>) -> Result<(),
     requires few { length line.tokens.now ≤ TEXT_LIMIT }
     requires room { HasRoom reading.old }
     ensures room { OnOk result (HasRoom reading.new) }
-    ensures done { let after = after_all line.entry reading.old (line_deeds line.entry.text.now (on_line line.entry.place line.entry.directive (drop (line.entry.place + 1) line.entry.tokens.now))) in MatchResult result (λ _. after ≡ Ok (progress_of line.entry.text.now reading.new)) (λ e. Explains after e) }
+    ensures done { let after = after_all line.entry reading.old
+        (line_deeds line.entry.text.now
+        (on_line line.entry.place line.entry.directive
+        (drop (line.entry.place + 1) line.entry.tokens.now)))
+        in MatchResult result (λ _. after ≡ Ok (progress_of line.entry.text.now reading.new))
+        (λ e. Explains after e) }
 {
     let number = line.directive.line;
     match split(run_of(line.tokens, number, line.place + 1)) {
@@ -334,7 +364,12 @@ fn read_directive(alloc: Global, reading: &mut Reading, line: Line<'_>) -> Resul
     requires few { length line.tokens.now ≤ TEXT_LIMIT }
     requires room { HasRoom reading.old }
     ensures room { OnOk result (HasRoom reading.new) }
-    ensures done { let after = after_all line.entry reading.old (directive_deeds line.entry.text.now line.entry.directive (on_line line.entry.place line.entry.directive (drop (line.entry.place + 1) line.entry.tokens.now))) in MatchResult result (λ _. after ≡ Ok (progress_of line.entry.text.now reading.new)) (λ e. Explains after e) }
+    ensures done { let after = after_all line.entry reading.old
+        (directive_deeds line.entry.text.now line.entry.directive
+        (on_line line.entry.place line.entry.directive
+        (drop (line.entry.place + 1) line.entry.tokens.now)))
+        in MatchResult result (λ _. after ≡ Ok (progress_of line.entry.text.now reading.new))
+        (λ e. Explains after e) }
 {
     if is_pragma(line.text, line.directive) {
         read_line(alloc, reading, line)
@@ -411,7 +446,10 @@ fn read_token(
     requires line { (d : Token) → behind.line ≡ pragma_line (slice_index_or tokens.now place d) }
     requires room { HasRoom reading.old }
     ensures room { OnOk result (HasRoom reading.new) }
-    ensures done { let after = after_left text.now tokens.now reading.old before place in MatchResult result (λ _. after ≡ after_left text.now tokens.now reading.new behind.line (place + 1)) (λ e. Explains after e) }
+    ensures done { let after = after_left text.now tokens.now reading.old before place
+        in MatchResult result (λ _. after
+        ≡ after_left text.now tokens.now reading.new behind.line (place + 1))
+        (λ e. Explains after e) }
 {
     let directive = tokens[place];
     if !begins_line(before, directive) {
@@ -432,7 +470,10 @@ fn read_token(
 fn read(alloc: Global, text: &str, tokens: &[Token]) -> Result<Reading, PragmaError>
     requires { length tokens.now ≤ TEXT_LIMIT }
     ensures room { IfOk result HasRoom }
-    ensures done { let after = after_deeds text.now tokens.now (Ok at_start) (deeds_of_text text.now tokens.now) in MatchResult result (λ reading. after ≡ Ok (progress_of text.now reading)) (λ e. Explains after e) }
+    ensures done { let after = after_deeds text.now tokens.now (Ok at_start)
+        (deeds_of_text text.now tokens.now)
+        in MatchResult result (λ reading. after ≡ Ok (progress_of text.now reading))
+        (λ e. Explains after e) }
 {
     let mut reading = Reading {
         closed: Vec::new(alloc),
@@ -464,7 +505,8 @@ fn read(alloc: Global, text: &str, tokens: &[Token]) -> Result<Reading, PragmaEr
 /// The envelopes of a reading at the end of its text.
 fn ended(reading: Reading) -> Result<Envelopes, PragmaError>
     requires { HasRoom reading }
-    ensures { (text : List ℕ) → let after = envelopes_behind (Ok (progress_of text reading)) in MatchResult result (λ envelopes. after ≡ Ok envelopes) (λ e. Explains after e) }
+    ensures { (text : List ℕ) → let after = envelopes_behind (Ok (progress_of text reading))
+        in MatchResult result (λ envelopes. after ≡ Ok envelopes) (λ e. Explains after e) }
 {
     let Reading {
         closed,

@@ -68,7 +68,8 @@ impl Surroundings {
     /// Counts a keyword that opens or closes a block, a case or a module.
     fn count_word(&mut self, word: Keyword)
         requires { CountsUpTo TEXT_LIMIT self.old }
-        ensures { self.new ≡ with_boundary self.old.at_boundary (around_behind self.old (token.Keyword word)) }
+        ensures { self.new ≡ with_boundary self.old.at_boundary
+            (around_behind self.old (token.Keyword word)) }
     {
         match word {
             Keyword::Begin => self.blocks += 1,
@@ -87,7 +88,8 @@ impl Surroundings {
     /// Counts a punctuator that opens or closes a parenthesis, a bracket or a brace.
     fn count_mark(&mut self, mark: Punctuator)
         requires { CountsUpTo TEXT_LIMIT self.old }
-        ensures { self.new ≡ with_boundary self.old.at_boundary (around_behind self.old (token.Punctuator mark)) }
+        ensures { self.new ≡ with_boundary self.old.at_boundary
+            (around_behind self.old (token.Punctuator mark)) }
     {
         match mark {
             Punctuator::LeftParenthesis => self.parentheses += 1,

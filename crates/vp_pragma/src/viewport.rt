@@ -111,7 +111,8 @@ fn is_name(text: &str) -> bool
 
 /// The item of one name.
 fn one_name(item: &str) -> Option<(Option<&str>, &str)>
-    ensures { option_map (λ n. (option_map (λ m. m.now) n.0, n.1.now)) result ≡ item_named (item.entry.now ∷ []) }
+    ensures { option_map (λ n. (option_map (λ m. m.now) n.0, n.1.now)) result
+        ≡ item_named (item.entry.now ∷ []) }
 {
     if is_name(item) {
         Some((None, item))
@@ -135,7 +136,8 @@ fn two_names<'a>(module: &'a str, item: &'a str) -> Option<(Option<&'a str>, &'a
 /// The item that an object's text names, perhaps by its module.
 #[tactic(auto, using(crate::proofs::Names::three_names))]
 fn names_of(object: &str) -> Option<(Option<&str>, &str)>
-    ensures { option_map (λ n. (option_map (λ m. m.now) n.0, n.1.now)) result ≡ item_named (parts 46 object.entry.now) }
+    ensures { option_map (λ n. (option_map (λ m. m.now) n.0, n.1.now)) result
+        ≡ item_named (parts 46 object.entry.now) }
 {
     let (first, behind) = first_part(object, '.');
     let Some(behind) = behind else {
@@ -150,7 +152,8 @@ fn names_of(object: &str) -> Option<(Option<&str>, &str)>
 
 /// A copy of a name, if there is one.
 fn copied(alloc: Global, name: Option<&str>) -> Result<Option<Text>, AllocError>
-    ensures { MatchResult result (λ copy. copy ≡ option_map (λ n. n.now) name.entry) (λ _. Unit {0}) }
+    ensures { MatchResult result (λ copy. copy ≡ option_map (λ n. n.now) name.entry)
+        (λ _. Unit {0}) }
 {
     match name {
         Some(name) => Ok(Some(Text::copy(alloc, name)?)),

@@ -64,7 +64,10 @@ impl NamedPorts {
     fn add(&mut self, alloc: Global, name: &str, index: usize) -> Result<(), AllocError>
         requires { length self.old.names ≡ length self.old.firsts.items }
         ensures each { OnOk result (length self.new.names ≡ length self.new.firsts.items) }
-        ensures first { OnOk result ((n : List ℕ) → first_index self.new.names self.new.firsts.items n ≡ by_first (first_index self.old.names self.old.firsts.items n) (bytes_eq n name.now) index) }
+        ensures first { OnOk result ((n : List ℕ)
+            → first_index self.new.names self.new.firsts.items n
+            ≡ by_first (first_index self.old.names self.old.firsts.items n) (bytes_eq n name.now)
+            index) }
     {
         if self.names.add(String::from_str(alloc, name)?)? {
             self.firsts.push(index)?;
@@ -91,7 +94,9 @@ fn add_port(
 ) -> Result<(), AllocError>
     requires { length named.old.names ≡ length named.old.firsts.items }
     ensures each { OnOk result (length named.new.names ≡ length named.new.firsts.items) }
-    ensures first { OnOk result ((n : List ℕ) → first_index named.new.names named.new.firsts.items n ≡ by_first (first_index named.old.names named.old.firsts.items n) (names_port source.now n connection) index) }
+    ensures first { OnOk result ((n : List ℕ) → first_index named.new.names named.new.firsts.items n
+        ≡ by_first (first_index named.old.names named.old.firsts.items n)
+        (names_port source.now n connection) index) }
 {
     match connection.port {
         Some(port) => named.add(alloc, source.word(port), index),
@@ -105,7 +110,8 @@ fn named_ports(
     source: &Source,
     connections: &[Connection],
 ) -> Result<NamedPorts, AllocError>
-    ensures { IfOk result (λ named. AreNamed source.now connections.now named.names named.firsts.items) }
+    ensures { IfOk result (λ named. AreNamed source.now connections.now named.names
+        named.firsts.items) }
 {
     let mut named = NamedPorts::new(alloc);
     for (index, connection) in connections.iter().enumerate() {
@@ -163,7 +169,8 @@ fn through_port(
     connection: Connection,
     value: u32,
 ) -> Option<Process>
-    ensures { result ≡ through_port design.now.source design.now.tree.nodes placed.instance.0 port.0 item connection value }
+    ensures { result ≡ through_port design.now.source design.now.tree.nodes placed.instance.0 port.0
+        item connection value }
 {
     let instance = placed.instance;
     if is_input(item) {
@@ -184,7 +191,8 @@ fn port_process(
     item: Item,
     connection: Connection,
 ) -> Option<Process>
-    ensures { result ≡ port_process design.now.source design.now.tree.nodes placed.instance.0 placed.object.0 item connection }
+    ensures { result ≡ port_process design.now.source design.now.tree.nodes placed.instance.0
+        placed.object.0 item connection }
 {
     let value = connection.value?;
     let name = design.source().word(place_of(item));
@@ -202,7 +210,8 @@ fn process_at_port(
     item: Item,
 ) -> Option<Process>
     requires { AreNamed design.now.source connections.now named.now.names named.now.firsts.items }
-    ensures { result ≡ process_at_port design.now.source design.now.tree.nodes placed.instance.0 placed.object.0 connections.now index item }
+    ensures { result ≡ process_at_port design.now.source design.now.tree.nodes placed.instance.0
+        placed.object.0 connections.now index item }
 {
     let source = design.source();
     let name = source.word(place_of(item));
@@ -229,7 +238,9 @@ fn add_port_processes(
     module: Module,
     processes: &mut Vec<Process>,
 ) -> Result<(), AllocError>
-    ensures { OnOk result (processes.new.items ≡ processes.old.items ++ port_processes design.now.source design.now.tree.nodes placed.instance.0 placed.object.0 connections.now 0 (ports_in design.now.source «module»)) }
+    ensures { OnOk result (processes.new.items ≡ processes.old.items
+        ++ port_processes design.now.source design.now.tree.nodes placed.instance.0 placed.object.0
+        connections.now 0 (ports_in design.now.source «module»)) }
 {
     let named = named_ports(alloc, design.source(), connections)?;
     let ports = ports_of(design.source(), module);
@@ -242,7 +253,8 @@ fn add_port_processes(
 
 /// The process of a continuous assignment.
 fn assignment_process(design: &Design, placed: Placed, target: u32, value: u32) -> Option<Process>
-    ensures { result ≡ assignment_process design.now.source design.now.tree.nodes placed.instance.0 placed.object.0 target value }
+    ensures { result ≡ assignment_process design.now.source design.now.tree.nodes placed.instance.0
+        placed.object.0 target value }
 {
     let Placed { object, instance } = placed;
     let net = design.find(Some(instance), design.source().word(target))?;
@@ -264,7 +276,9 @@ fn add_item_processes(
     processes: &mut Vec<Process>,
 ) -> Result<(), AllocError>
     requires { «module» ≡ definition_of design.now.source item }
-    ensures { OnOk result (processes.new.items ≡ processes.old.items ++ item_processes design.now.source design.now.tree.nodes placed.instance.0 placed.object.0 item) }
+    ensures { OnOk result (processes.new.items ≡ processes.old.items
+        ++ item_processes design.now.source design.now.tree.nodes placed.instance.0 placed.object.0
+        item) }
 {
     let Placed { object, instance } = placed;
     match item {
@@ -301,7 +315,8 @@ fn add_processes(
     object: ObjectId,
     processes: &mut Vec<Process>,
 ) -> Result<(), AllocError>
-    ensures { OnOk result (processes.new.items ≡ processes.old.items ++ processes_at design.now.source design.now.tree.nodes object.0) }
+    ensures { OnOk result (processes.new.items ≡ processes.old.items
+        ++ processes_at design.now.source design.now.tree.nodes object.0) }
 {
     let Some(item) = design.item(object) else {
         return Ok(());

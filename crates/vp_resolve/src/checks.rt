@@ -398,7 +398,8 @@ fn first_bad_target(
     scope: Option<ObjectId>,
     statements: &[Statement],
 ) -> Option<u32>
-    ensures { result ≡ earliest (bad_target design.now (option_map (λ o. o.0) scope)) statements.now }
+    ensures { result ≡ earliest (bad_target design.now (option_map (λ o. o.0) scope))
+        statements.now }
 {
     let mut first = None;
     for statement in statements {

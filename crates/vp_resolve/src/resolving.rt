@@ -18,14 +18,16 @@ use vp_source::{BinaryOperator, Expression, Module, Range, Selection, UnaryOpera
 /// The object in which the names of the module of a number are looked up: its first, since a name has the same slot in each
 /// instance of a module. None where the module has no object.
 pub fn scope_of(design: &Design, number: usize) -> Option<ObjectId>
-    ensures { option_map (λ o. o.0) result ≡ option_and_then (scope_of design.now) (slice_get design.now.source.modules number) }
+    ensures { option_map (λ o. o.0) result
+        ≡ option_and_then (scope_of design.now) (slice_get design.now.source.modules number) }
 {
     design.first_instance(number)
 }
 
 /// The object of the name at a place, by the object of the module in which it stands.
 pub fn object_named(design: &Design, scope: Option<ObjectId>, place: u32) -> Option<ObjectId>
-    ensures { option_map (λ o. o.0) result ≡ object_named design.now (option_map (λ o. o.0) scope) place }
+    ensures { option_map (λ o. o.0) result
+        ≡ object_named design.now (option_map (λ o. o.0) scope) place }
 {
     let scope = scope?;
     design.find(Some(scope), design.source().word(place))
@@ -88,7 +90,8 @@ fn selected_operand(
     object: ObjectId,
     selection: Selection,
 ) -> Operand
-    ensures { result ≡ selected_operand design.now (option_map (λ o. o.0) scope) object.0 selection }
+    ensures { result ≡ selected_operand design.now (option_map (λ o. o.0) scope) object.0
+        selection }
 {
     let slot = slot_in(scope, object);
     match selection {
@@ -119,7 +122,8 @@ fn named_operand(
     name: u32,
     selection: Selection,
 ) -> Operand
-    ensures { let scope = option_map (λ o. o.0) scope in result ≡ named_operand design.now scope (object_named design.now scope name) selection }
+    ensures { let scope = option_map (λ o. o.0) scope in result
+        ≡ named_operand design.now scope (object_named design.now scope name) selection }
 {
     match object_named(design, scope, name) {
         Some(object) => selected_operand(design, scope, object, selection),
@@ -220,7 +224,8 @@ fn add_operands(
     operands: &mut Vec<Operand>,
 ) -> Result<(), AllocError>
     requires { option_map (λ o. o.0) scope ≡ scope_of design.now «module» }
-    ensures { OnOk result (operands.new.items ≡ operands.old.items ++ operands_in design.now «module») }
+    ensures { OnOk result (operands.new.items ≡ operands.old.items
+        ++ operands_in design.now «module») }
 {
     for expression in expressions_of(design.source(), module) {
         operands.push(operand_of(design, scope, *expression))?;

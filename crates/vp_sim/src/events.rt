@@ -17,7 +17,8 @@ use vp_waking::{Change, Waiting, change_of, net_at, process_at};
 impl Machine {
     /// The event that a step takes, the k-th of the eligible ones; else the refusal (804, 801, 802).
     pub fn event(&self, k: usize) -> Result<Event, SimError>
-        ensures ok { IfOk result (λ event. step self.now.state k ≡ happened (tables_of self.now.state.design) (begun self.now.state) k (Some event)) }
+        ensures ok { IfOk result (λ event. step self.now.state k
+            ≡ happened (tables_of self.now.state.design) (begun self.now.state) k (Some event)) }
         ensures refused { IfErr result (λ e. step self.now.state k ≡ Refuses e) }
     {
         if self.finished {
@@ -34,16 +35,20 @@ impl Machine {
 
     /// What giving an object a value changes.
     pub fn change_to(&self, object: ObjectId, value: Bits) -> Option<Change>
-        ensures change { result ≡ change_of object.0 (slice_get self.now.state.values object.0) value }
-        ensures fits { IfSome result (λ c. length (slice_index_or self.now.state.values c.object.0 c.value) ≡ length c.value) }
+        ensures change { result ≡ change_of object.0 (slice_get self.now.state.values object.0)
+            value }
+        ensures fits { IfSome result (λ c. length
+            (slice_index_or self.now.state.values c.object.0 c.value) ≡ length c.value) }
     {
         change_of(object, self.values.find(object), value)
     }
 
     /// What an update of the net of a process changes.
     pub fn change_by_net(&self, process: usize, value: Bits) -> Option<Change>
-        ensures change { result ≡ updated_by self.now.state.values (net_at (tables_of self.now.state.design).processes process) value }
-        ensures fits { IfSome result (λ c. length (slice_index_or self.now.state.values c.object.0 c.value) ≡ length c.value) }
+        ensures change { result ≡ updated_by self.now.state.values
+            (net_at (tables_of self.now.state.design).processes process) value }
+        ensures fits { IfSome result (λ c. length
+            (slice_index_or self.now.state.values c.object.0 c.value) ≡ length c.value) }
     {
         let net = net_at(self.checked(), process)?;
         self.change_to(net, value)
@@ -68,7 +73,8 @@ impl Machine {
         value: Bits,
     ) -> Result<(), SimError>
         requires { process < length (tables_of self.old.state.design).processes }
-        ensures ok { OnOk result (self.new.state ≡ driven (begun self.old.state) k process net value) }
+        ensures ok { OnOk result (self.new.state
+            ≡ driven (begun self.old.state) k process net value) }
         ensures refused { IsOkUnless result NoMemory }
         ensures unchanged { OnErr result (self.new.state ≡ self.old.state) }
     {
@@ -99,8 +105,12 @@ impl Machine {
         repeats: bool,
         body: u32,
     ) -> Result<Option<Change>, SimError>
-        ensures ok { IfOk result (λ change. turn (tables_of self.old.state.design) (begun self.old.state) k process instance repeats body (slice_index_or self.old.state.remaining process []) ≡ Goes self.new.state change) }
-        ensures refused { IfErr result (λ e. Explains (turn (tables_of self.old.state.design) (begun self.old.state) k process instance repeats body (slice_index_or self.old.state.remaining process [])) e) }
+        ensures ok { IfOk result (λ change. turn (tables_of self.old.state.design)
+            (begun self.old.state) k process instance repeats body
+            (slice_index_or self.old.state.remaining process []) ≡ Goes self.new.state change) }
+        ensures refused { IfErr result (λ e. Explains
+            (turn (tables_of self.old.state.design) (begun self.old.state) k process instance
+            repeats body (slice_index_or self.old.state.remaining process [])) e) }
         ensures unchanged { OnErr result (self.new.state ≡ self.old.state) }
     {
         let Some(next) = self.next_of(process) else {
@@ -124,8 +134,11 @@ impl Machine {
         kind: Process,
     ) -> Result<Option<Change>, SimError>
         requires { process < length (tables_of self.old.state.design).processes }
-        ensures ok { IfOk result (λ change. evaluated (tables_of self.old.state.design) (begun self.old.state) k process (Some kind) ≡ Goes self.new.state change) }
-        ensures refused { IfErr result (λ e. Explains (evaluated (tables_of self.old.state.design) (begun self.old.state) k process (Some kind)) e) }
+        ensures ok { IfOk result (λ change. evaluated (tables_of self.old.state.design)
+            (begun self.old.state) k process (Some kind) ≡ Goes self.new.state change) }
+        ensures refused { IfErr result (λ e. Explains
+            (evaluated (tables_of self.old.state.design) (begun self.old.state) k process
+            (Some kind)) e) }
         ensures unchanged { OnErr result (self.new.state ≡ self.old.state) }
     {
         match kind {
@@ -155,8 +168,13 @@ impl Machine {
 
     /// The evaluation of a process, the k-th of the eligible events, and what it changed; else the refusal (805, 806).
     pub fn evaluate(&mut self, k: usize, process: usize) -> Result<Option<Change>, SimError>
-        ensures ok { IfOk result (λ change. evaluated (tables_of self.old.state.design) (begun self.old.state) k process (slice_get (tables_of self.old.state.design).processes process) ≡ Goes self.new.state change) }
-        ensures refused { IfErr result (λ e. Explains (evaluated (tables_of self.old.state.design) (begun self.old.state) k process (slice_get (tables_of self.old.state.design).processes process)) e) }
+        ensures ok { IfOk result (λ change. evaluated (tables_of self.old.state.design)
+            (begun self.old.state) k process
+            (slice_get (tables_of self.old.state.design).processes process)
+            ≡ Goes self.new.state change) }
+        ensures refused { IfErr result (λ e. Explains
+            (evaluated (tables_of self.old.state.design) (begun self.old.state) k process
+            (slice_get (tables_of self.old.state.design).processes process)) e) }
         ensures unchanged { OnErr result (self.new.state ≡ self.old.state) }
     {
         match process_at(self.checked(), process) {
@@ -170,8 +188,12 @@ impl Machine {
 
     /// The evaluation of a procedure in an instance is legal, whichever of the eligible events it is; else the refusal (805).
     fn check_turn(&self, process: usize, instance: ObjectId) -> Result<(), SimError>
-        ensures ok { OnOk result ((k : ℕ) → (repeats : Bool) → (body : ℕ) → IsStep (turn (tables_of self.now.state.design) (begun self.now.state) k process instance repeats body (slice_index_or self.now.state.remaining process []))) }
-        ensures refused { IfErr result (λ e. (k : ℕ) → (repeats : Bool) → (body : ℕ) → turn (tables_of self.now.state.design) (begun self.now.state) k process instance repeats body (slice_index_or self.now.state.remaining process []) ≡ Refuses e) }
+        ensures ok { OnOk result ((k : ℕ) → (repeats : Bool) → (body : ℕ)
+            → IsStep (turn (tables_of self.now.state.design) (begun self.now.state) k process
+            instance repeats body (slice_index_or self.now.state.remaining process []))) }
+        ensures refused { IfErr result (λ e. (k : ℕ) → (repeats : Bool) → (body : ℕ)
+            → turn (tables_of self.now.state.design) (begun self.now.state) k process instance
+            repeats body (slice_index_or self.now.state.remaining process []) ≡ Refuses e) }
     {
         let Some(next) = self.next_of(process) else {
             return Ok(());
@@ -185,8 +207,12 @@ impl Machine {
 
     /// The evaluation of a process is legal, whichever of the eligible events it is; else the refusal (805).
     pub fn check_evaluation(&self, process: usize) -> Result<(), SimError>
-        ensures ok { OnOk result ((k : ℕ) → IsStep (evaluated (tables_of self.now.state.design) (begun self.now.state) k process (slice_get (tables_of self.now.state.design).processes process))) }
-        ensures refused { IfErr result (λ e. (k : ℕ) → evaluated (tables_of self.now.state.design) (begun self.now.state) k process (slice_get (tables_of self.now.state.design).processes process) ≡ Refuses e) }
+        ensures ok { OnOk result ((k : ℕ)
+            → IsStep (evaluated (tables_of self.now.state.design) (begun self.now.state) k process
+            (slice_get (tables_of self.now.state.design).processes process))) }
+        ensures refused { IfErr result (λ e. (k : ℕ)
+            → evaluated (tables_of self.now.state.design) (begun self.now.state) k process
+            (slice_get (tables_of self.now.state.design).processes process) ≡ Refuses e) }
     {
         match process_at(self.checked(), process) {
             Some(Process::Procedure { instance, .. }) => self.check_turn(process, instance),

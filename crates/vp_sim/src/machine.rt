@@ -84,7 +84,8 @@ impl Machine {
 
     /// A process can begin to wait so; or want of memory (806).
     pub fn listen(&mut self, process: usize, waiting: Waiting) -> Result<(), SimError>
-        ensures heard { OnOk result (IsHeard self.new.lists (awaited_by (tables_of self.old.state.design) waiting process) process) }
+        ensures heard { OnOk result (IsHeard self.new.lists
+            (awaited_by (tables_of self.old.state.design) waiting process) process) }
         ensures state { self.new.state ≡ self.old.state }
         ensures refused { IsOkUnless result NoMemory }
     {
@@ -94,8 +95,10 @@ impl Machine {
 
     /// A process begins to wait so.
     pub fn wait(&mut self, process: usize, waiting: Waiting)
-        requires { IsHeard self.old.lists (awaited_by (tables_of self.old.state.design) waiting process) process }
-        ensures state { self.new.state ≡ record self.old.state { waiting = slice_set self.old.state.waiting process waiting } }
+        requires { IsHeard self.old.lists
+            (awaited_by (tables_of self.old.state.design) waiting process) process }
+        ensures state { self.new.state ≡ record self.old.state
+            { waiting = slice_set self.old.state.waiting process waiting } }
         ensures spare { self.new.spare ≡ self.old.spare }
         ensures lists { self.new.lists ≡ self.old.lists }
     {
@@ -122,9 +125,11 @@ impl Machine {
 
     /// An object has its new value, and what waits for the change is woken.
     fn wake(&mut self, change: &Change)
-        requires fits { length (slice_index_or self.old.state.values change.now.object.0 change.now.value) ≡ length change.now.value }
+        requires fits { length (slice_index_or self.old.state.values change.now.object.0
+            change.now.value) ≡ length change.now.value }
         requires room { count_of self.old.lists (Some change.now) ≤ self.old.spare }
-        ensures { self.new.state ≡ changed (tables_of self.old.state.design) self.old.state (Some change.now) }
+        ensures { self.new.state ≡ changed (tables_of self.old.state.design) self.old.state
+            (Some change.now) }
     {
         let old = self.values.get(change.object);
         self.values.set(change.object, change.value);
@@ -139,9 +144,12 @@ impl Machine {
 
     /// A change happens, if there is one.
     pub fn change(&mut self, change: &Option<Change>)
-        requires fits { IfSome change.now (λ c. length (slice_index_or self.old.state.values c.object.0 c.value) ≡ length c.value) }
+        requires fits { IfSome change.now
+            (λ c. length (slice_index_or self.old.state.values c.object.0 c.value)
+            ≡ length c.value) }
         requires room { count_of self.old.lists change.now ≤ self.old.spare }
-        ensures { self.new.state ≡ changed (tables_of self.old.state.design) self.old.state change.now }
+        ensures { self.new.state ≡ changed (tables_of self.old.state.design) self.old.state
+            change.now }
     {
         if let Some(change) = change {
             self.wake(change);
@@ -150,8 +158,12 @@ impl Machine {
 
     /// An update that makes this change, if it makes one, is the k-th of the eligible events; or want of memory (806).
     pub fn update(&mut self, k: usize, change: &Option<Change>) -> Result<(), SimError>
-        requires fits { IfSome change.now (λ c. length (slice_index_or self.old.state.values c.object.0 c.value) ≡ length c.value) }
-        ensures ok { OnOk result (self.new.state ≡ changed (tables_of self.old.state.design) (over (begun self.old.state) k) change.now) }
+        requires fits { IfSome change.now
+            (λ c. length (slice_index_or self.old.state.values c.object.0 c.value)
+            ≡ length c.value) }
+        ensures ok { OnOk result (self.new.state
+            ≡ changed (tables_of self.old.state.design) (over (begun self.old.state) k)
+            change.now) }
         ensures refused { IsOkUnless result NoMemory }
         ensures unchanged { OnErr result (self.new.state ≡ self.old.state) }
     {

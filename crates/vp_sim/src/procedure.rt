@@ -91,7 +91,8 @@ fn push_rest(
     rest: &mut Vec<u32>,
 ) -> Result<(), AllocError>
     requires { 1 ≤ length stack.now }
-    ensures { OnOk result (take (length stack.now - 1) stack.now ++ rest.new.items ≡ rest_of tables.now repeats body stack.now effect.now) }
+    ensures { OnOk result (take (length stack.now - 1) stack.now ++ rest.new.items
+        ≡ rest_of tables.now repeats body stack.now effect.now) }
 {
     rest.clear();
     push_left_behind(tables.actions.as_slice(), stack[stack.len() - 1], rest)?;
@@ -113,7 +114,9 @@ fn leave(
     effect: &Effect,
 ) -> Result<(), AllocError>
     requires { 1 ≤ length (slice_index_or stacks.old process []) }
-    ensures ok { OnOk result (stacks.new ≡ slice_set stacks.old process (rest_of tables.now repeats body (slice_index_or stacks.old process []) effect.now)) }
+    ensures ok { OnOk result (stacks.new
+        ≡ slice_set stacks.old process (rest_of tables.now repeats body
+        (slice_index_or stacks.old process []) effect.now)) }
     ensures err { OnErr result (stacks.new ≡ stacks.old) }
 {
     push_rest(tables, stacks.of(process), repeats, body, effect, scratch)?;
@@ -135,7 +138,8 @@ impl Machine {
     /// What setting bits of an object from a place on changes.
     pub fn set_change(&self, object: usize, place: Option<u32>, value: Bits) -> Option<Change>
         ensures change { result ≡ set_change self.now.state.values object place value }
-        ensures fits { IfSome result (λ c. length (slice_index_or self.now.state.values c.object.0 c.value) ≡ length c.value) }
+        ensures fits { IfSome result (λ c. length
+            (slice_index_or self.now.state.values c.object.0 c.value) ≡ length c.value) }
     {
         let object = self.object(object)?;
         let old = self.values.find(object)?;
@@ -145,7 +149,8 @@ impl Machine {
     /// What the event of a procedure changes at once.
     pub fn change_by(&self, effect: &Effect) -> Option<Change>
         ensures change { result ≡ change_by self.now.state.values effect.now }
-        ensures fits { IfSome result (λ c. length (slice_index_or self.now.state.values c.object.0 c.value) ≡ length c.value) }
+        ensures fits { IfSome result (λ c. length
+            (slice_index_or self.now.state.values c.object.0 c.value) ≡ length c.value) }
     {
         match effect {
             Effect::Assigns {
@@ -164,14 +169,18 @@ impl Machine {
 
     /// The next statement of a process; none where nothing remains of it.
     pub fn next_of(&self, process: usize) -> Option<u32>
-        ensures { MatchOption result (slice_index_or self.now.state.remaining process [] ≡ []) (λ next. (next ≡ next_of (slice_index_or self.now.state.remaining process [])) × (1 ≤ length (slice_index_or self.now.state.remaining process []))) }
+        ensures { MatchOption result (slice_index_or self.now.state.remaining process [] ≡ [])
+            (λ next. (next ≡ next_of (slice_index_or self.now.state.remaining process []))
+            × (1 ≤ length (slice_index_or self.now.state.remaining process []))) }
     {
         self.stacks.of(process).last().copied()
     }
 
     /// What the first event of a statement of a procedure in an instance does.
     pub fn effect(&self, instance: ObjectId, statement: u32) -> Effect
-        ensures { let actions = (tables_of self.now.state.design).actions in result ≡ effect_at self.now.state.design instance (drop instance.0 self.now.state.values) (first_event actions (length actions) statement) }
+        ensures { let actions = (tables_of self.now.state.design).actions in result
+            ≡ effect_at self.now.state.design instance (drop instance.0 self.now.state.values)
+            (first_event actions (length actions) statement) }
     {
         let actions = self.checked().tables().actions.as_slice();
         effect_of(
@@ -198,7 +207,12 @@ impl Machine {
         effect: &Effect,
     ) -> Result<(), SimError>
         requires { 1 ≤ length (slice_index_or self.old.state.remaining process []) }
-        ensures ok { OnOk result (self.new.state ≡ record self.old.state { remaining = slice_set self.old.state.remaining process (rest_of (tables_of self.old.state.design) repeats body (slice_index_or self.old.state.remaining process []) effect.now) }) }
+        ensures ok { OnOk result (self.new.state
+            ≡ record self.old.state {
+              remaining = slice_set self.old.state.remaining process
+                  (rest_of (tables_of self.old.state.design) repeats body
+                  (slice_index_or self.old.state.remaining process []) effect.now);
+            }) }
         ensures refused { IsOkUnless result NoMemory }
         ensures unchanged { OnErr result (self.new.state ≡ self.old.state) }
         ensures spare { self.new.spare ≡ self.old.spare }
@@ -219,7 +233,10 @@ impl Machine {
 
     /// The event of a procedure, the k-th of the eligible ones, is over, if it is by what remains of the procedure.
     fn end(&mut self, k: usize, process: usize, effect: &Effect)
-        ensures state { self.new.state ≡ record self.old.state { queue = taken_if (is_over effect.now (slice_index_or self.old.state.remaining process [])) self.old.state.queue k } }
+        ensures state { self.new.state ≡ record self.old.state {
+          queue = taken_if (is_over effect.now
+              (slice_index_or self.old.state.remaining process [])) self.old.state.queue k;
+        } }
         ensures spare { self.new.spare ≡ self.old.spare }
         ensures lists { self.new.lists ≡ self.old.lists }
     {
@@ -270,7 +287,8 @@ impl Machine {
         change: &Option<Change>,
         effect: &Effect,
     ) -> Result<(), SimError>
-        ensures ready { OnOk result (IsReady (tables_of self.new.state.design) self.new.lists self.new.spare process change.now effect.now) }
+        ensures ready { OnOk result (IsReady (tables_of self.new.state.design) self.new.lists
+            self.new.spare process change.now effect.now) }
         ensures state { self.new.state ≡ self.old.state }
         ensures refused { IsOkUnless result NoMemory }
     {
@@ -284,11 +302,15 @@ impl Machine {
 
     /// What the event of a procedure does, which makes this change.
     fn do_effect(&mut self, process: usize, change: &Option<Change>, effect: Effect)
-        requires ready { IsReady (tables_of self.old.state.design) self.old.lists self.old.spare process change.now effect }
+        requires ready { IsReady (tables_of self.old.state.design) self.old.lists self.old.spare
+            process change.now effect }
         requires on_time { is_late self.old.state.time (delay_of effect) ≡ false }
-        requires fits { IfSome change.now (λ c. length (slice_index_or self.old.state.values c.object.0 c.value) ≡ length c.value) }
+        requires fits { IfSome change.now
+            (λ c. length (slice_index_or self.old.state.values c.object.0 c.value)
+            ≡ length c.value) }
         requires of { change.now ≡ change_by self.old.state.values effect }
-        ensures { self.new.state ≡ done (tables_of self.old.state.design) self.old.state process effect }
+        ensures { self.new.state ≡ done (tables_of self.old.state.design) self.old.state process
+            effect }
     {
         match effect {
             Effect::Assigns { .. } => self.change(change),
@@ -325,9 +347,15 @@ impl Machine {
     ) -> Result<(), SimError>
         requires some { 1 ≤ length (slice_index_or self.old.state.remaining process []) }
         requires on_time { is_late self.old.state.time (delay_of effect) ≡ false }
-        requires fits { IfSome change.now (λ c. length (slice_index_or self.old.state.values c.object.0 c.value) ≡ length c.value) }
+        requires fits { IfSome change.now
+            (λ c. length (slice_index_or self.old.state.values c.object.0 c.value)
+            ≡ length c.value) }
         requires of { change.now ≡ change_by self.old.state.values effect }
-        ensures ok { let tables = tables_of self.old.state.design in OnOk result (self.new.state ≡ done tables (left (begun self.old.state) k process (rest_of tables repeats body (slice_index_or self.old.state.remaining process []) effect) effect) process effect) }
+        ensures ok { let tables = tables_of self.old.state.design
+            in OnOk result (self.new.state ≡ done tables
+            (left (begun self.old.state) k process
+            (rest_of tables repeats body (slice_index_or self.old.state.remaining process [])
+            effect) effect) process effect) }
         ensures refused { IsOkUnless result NoMemory }
         ensures unchanged { OnErr result (self.new.state ≡ self.old.state) }
     {

@@ -32,7 +32,8 @@ fn whole_of(alloc: Global, process: Process) -> Result<Vec<u32>, AllocError>
 
 /// Puts other places in place of the last of a stack.
 fn replace_last(stack: &mut Vec<u32>, places: &[u32]) -> Result<(), AllocError>
-    ensures ok { OnOk result (stack.new.items ≡ take (length stack.old.items - 1) stack.old.items ++ places.now) }
+    ensures ok { OnOk result (stack.new.items ≡ take (length stack.old.items - 1) stack.old.items
+        ++ places.now) }
     ensures err { OnErr result (stack.new.items ≡ stack.old.items) }
 {
     stack.reserve(places.len())?;
@@ -78,7 +79,9 @@ impl Stacks {
 
     /// Puts other places in place of the next one of a process.
     pub fn replace_next(&mut self, process: usize, places: &[u32]) -> Result<(), AllocError>
-        ensures ok { OnOk result (self.new ≡ slice_set self.old process (take (length (slice_index_or self.old process []) - 1) (slice_index_or self.old process []) ++ places.now)) }
+        ensures ok { OnOk result (self.new
+            ≡ slice_set self.old process (take (length (slice_index_or self.old process []) - 1)
+            (slice_index_or self.old process []) ++ places.now)) }
         ensures err { OnErr result (self.new ≡ self.old) }
     {
         if process < self.stacks.len() {

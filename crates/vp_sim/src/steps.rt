@@ -21,7 +21,8 @@ use vp_waking::{Change, Listeners, Waiting, process_at};
 
 /// The event queue at the start: so many processes are evaluated, in order.
 fn first_queue(alloc: Global, processes: usize) -> Result<Strata, StrataError>
-    ensures queue { IfOk result (λ q. q.queue ≡ with_active no_events (map Evaluation (below processes))) }
+    ensures queue { IfOk result (λ q. q.queue
+        ≡ with_active no_events (map Evaluation (below processes))) }
     ensures processes { IfOk result (λ q. q.processes ≡ processes) }
 {
     let mut queue = Strata::new(alloc, processes)?;
@@ -183,7 +184,8 @@ impl Machine {
 
     /// The time to which an advance goes on; else its refusal (804, 803, 801).
     fn time_ahead(&self) -> Result<u64, SimError>
-        ensures ok { IfOk result (λ time. advance self.now.state ≡ advanced_to self.now.state (Some time)) }
+        ensures ok { IfOk result (λ time. advance self.now.state
+            ≡ advanced_to self.now.state (Some time)) }
         ensures refused { IfErr result (λ e. advance self.now.state ≡ Refuses e) }
     {
         if self.finished {
@@ -225,7 +227,8 @@ impl Machine {
 
     /// Gives an object a value at once, and tells what changed; else the refusal (804, 806).
     pub fn put(&mut self, object: ObjectId, value: Bits) -> Result<Option<Change>, SimError>
-        ensures ok { IfOk result (λ change. put self.old.state object.0 value ≡ Goes self.new.state change) }
+        ensures ok { IfOk result (λ change. put self.old.state object.0 value
+            ≡ Goes self.new.state change) }
         ensures refused { IfErr result (λ e. Explains (put self.old.state object.0 value) e) }
         ensures unchanged { OnErr result (self.new.state ≡ self.old.state) }
     {

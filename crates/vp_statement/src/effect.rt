@@ -114,7 +114,8 @@ fn is_taken(
     selected: Bits,
     choice: Choice,
 ) -> bool
-    ensures { result ≡ is_taken (tables_of checked.now) (drop instance.0 values.now) is_wild selected choice }
+    ensures { result ≡ is_taken (tables_of checked.now) (drop instance.0 values.now) is_wild
+        selected choice }
 {
     let Some(label) = choice.label else {
         return false;
@@ -138,7 +139,8 @@ fn chosen(
     selected: Bits,
     choices: &[Choice],
 ) -> Option<u32>
-    ensures { result ≡ chosen (tables_of checked.now) (drop instance.0 values.now) is_wild selected choices.now }
+    ensures { result ≡ chosen (tables_of checked.now) (drop instance.0 values.now) is_wild selected
+        choices.now }
 {
     for choice in choices {
         if is_taken(checked, values, instance, is_wild, selected, *choice) {
@@ -167,7 +169,8 @@ fn assigned(
     target: Target,
     value: ExprId,
 ) -> Effect
-    ensures { result ≡ assigned (tables_of checked.now) instance (drop instance.0 values.now) target value }
+    ensures { result ≡ assigned (tables_of checked.now) instance (drop instance.0 values.now) target
+        value }
 {
     Effect::Assigns {
         object: object_at(instance, target.slot()),
@@ -185,7 +188,8 @@ fn deferred(
     value: ExprId,
     delay: u32,
 ) -> Effect
-    ensures { result ≡ deferred (tables_of checked.now) instance (drop instance.0 values.now) target value delay }
+    ensures { result ≡ deferred (tables_of checked.now) instance (drop instance.0 values.now) target
+        value delay }
 {
     Effect::Defers {
         object: object_at(instance, target.slot()),

@@ -68,7 +68,8 @@ pub fn push_left_behind(
     place: u32,
     stack: &mut Vec<u32>,
 ) -> Result<(), AllocError>
-    ensures { OnOk result (stack.new.items ≡ stack.old.items ++ left_behind actions.now (length actions.now) place) }
+    ensures { OnOk result (stack.new.items ≡ stack.old.items
+        ++ left_behind actions.now (length actions.now) place) }
 {
     let mut here = place;
     'begin: for _turn in 0..actions.len() {

@@ -203,7 +203,8 @@ impl ActiveRegion {
     /// An update of the net of a process, at a place, is the oldest: there is no other, or none among the older events.
     fn is_first_update(&self, process: usize, place: usize) -> bool
         requires within { place < length self.now.events }
-        requires here { IfSome (slice_get self.now.events place) (λ event. drives process event ≡ true) }
+        requires here { IfSome (slice_get self.now.events place)
+            (λ event. drives process event ≡ true) }
         ensures { result ≡ not (list_any (drives process) (take place self.now.events)) }
     {
         counted(&self.updates, process) == 1 || !has_update(&self.events, process, place)
@@ -212,7 +213,8 @@ impl ActiveRegion {
     /// The event at a place is eligible.
     fn is_eligible_at(&self, place: usize) -> bool
         requires { place < length self.now.events }
-        ensures { IfSome (slice_get self.now.events place) (λ event. result ≡ is_eligible (take place self.now.events) event) }
+        ensures { IfSome (slice_get self.now.events place)
+            (λ event. result ≡ is_eligible (take place self.now.events) event) }
     {
         match self.events[place] {
             Event::Evaluation { .. } => true,

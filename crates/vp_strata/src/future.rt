@@ -56,7 +56,8 @@ impl FutureRegion {
 
     /// How many events come no later than a time.
     fn count_by(&self, time: u64) -> usize
-        ensures parted { IsPartitionPoint (λ e. is_by time e ≡ true) (λ e. is_by time e ≡ false) self.now.events result }
+        ensures parted { IsPartitionPoint (λ e. is_by time e ≡ true) (λ e. is_by time e ≡ false)
+            self.now.events result }
         ensures within { result ≤ length self.now.events }
     {
         self.events.partition_point(|e| e.time <= time)
@@ -65,7 +66,8 @@ impl FutureRegion {
     /// One more event, at its time.
     pub fn schedule(&mut self, time: u64, event: Delayed)
         requires { 1 ≤ self.old.room }
-        ensures events { self.new.events ≡ scheduled (record { time = time; event = event }) self.old.events }
+        ensures events { self.new.events
+            ≡ scheduled (record { time = time; event = event }) self.old.events }
         ensures room { self.old.room ≤ self.new.room + 1 }
     {
         let place = self.count_by(time);
@@ -87,8 +89,11 @@ impl FutureRegion {
 
     /// How many events come at the time of the first.
     pub fn count_first(&self) -> usize
-        ensures first { IfSome (first_time self.now.events) (λ time. take result self.now.events ≡ filter (is_at time) self.now.events) }
-        ensures last { IfSome (first_time self.now.events) (λ time. drop result self.now.events ≡ filter (λ e. not (is_at time e)) self.now.events) }
+        ensures first { IfSome (first_time self.now.events)
+            (λ time. take result self.now.events ≡ filter (is_at time) self.now.events) }
+        ensures last { IfSome (first_time self.now.events)
+            (λ time. drop result self.now.events
+            ≡ filter (λ e. not (is_at time e)) self.now.events) }
         ensures none { IfNone (first_time self.now.events) (result ≡ 0) }
         ensures within { result ≤ length self.now.events }
     {

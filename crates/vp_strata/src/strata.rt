@@ -115,7 +115,8 @@ impl Strata {
 
     /// The evaluation of a process becomes active. An `Err` is want of memory (701), and changes no event.
     pub fn push_active(&mut self, process: usize) -> Result<(), StrataError>
-        ensures queue { OnOk result (self.new.queue ≡ with_active self.old.queue (self.old.queue.active ++ Evaluation process ∷ [])) }
+        ensures queue { OnOk result (self.new.queue
+            ≡ with_active self.old.queue (self.old.queue.active ++ Evaluation process ∷ [])) }
         ensures unchanged { OnErr result (self.new.queue ≡ self.old.queue) }
         ensures spare { self.old.spare ≤ self.new.spare + 1 }
         ensures sure { 1 ≤ self.old.spare → IsOk result }
@@ -131,7 +132,8 @@ impl Strata {
     /// An update of the net that a process drives becomes active. An `Err` is want of memory (701), and changes no event.
     pub fn push_net_update(&mut self, process: usize, value: Bits) -> Result<(), StrataError>
         requires { process < self.old.processes }
-        ensures queue { OnOk result (self.new.queue ≡ with_active self.old.queue (self.old.queue.active ++ NetUpdate process value ∷ [])) }
+        ensures queue { OnOk result (self.new.queue
+            ≡ with_active self.old.queue (self.old.queue.active ++ NetUpdate process value ∷ [])) }
         ensures unchanged { OnErr result (self.new.queue ≡ self.old.queue) }
         ensures spare { self.old.spare ≤ self.new.spare + 1 }
         ensures sure { 1 ≤ self.old.spare → IsOk result }
@@ -146,7 +148,8 @@ impl Strata {
 
     /// One more process is inactive: it goes on behind the active events (9.7.1). An `Err` is want of memory (701), and changes no event.
     pub fn push_inactive(&mut self, process: usize) -> Result<(), StrataError>
-        ensures queue { OnOk result (self.new.queue ≡ with_inactive self.old.queue (self.old.queue.inactive ++ process ∷ [])) }
+        ensures queue { OnOk result (self.new.queue
+            ≡ with_inactive self.old.queue (self.old.queue.inactive ++ process ∷ [])) }
         ensures unchanged { OnErr result (self.new.queue ≡ self.old.queue) }
         ensures spare { self.old.spare ≤ self.new.spare + 1 }
         ensures sure { 1 ≤ self.old.spare → IsOk result }
@@ -161,7 +164,8 @@ impl Strata {
 
     /// One more update of a nonblocking assignment, at the current time (9.2.2). An `Err` is want of memory (701), and changes no event.
     pub fn push_nba(&mut self, update: NonblockingUpdate) -> Result<(), StrataError>
-        ensures queue { OnOk result (self.new.queue ≡ with_nonblocking self.old.queue (self.old.queue.nonblocking ++ update ∷ [])) }
+        ensures queue { OnOk result (self.new.queue
+            ≡ with_nonblocking self.old.queue (self.old.queue.nonblocking ++ update ∷ [])) }
         ensures unchanged { OnErr result (self.new.queue ≡ self.old.queue) }
         ensures spare { self.old.spare ≤ self.new.spare + 1 }
         ensures sure { 1 ≤ self.old.spare → IsOk result }
@@ -179,7 +183,9 @@ impl Strata {
     pub fn push_future(&mut self, time: u64, event: Delayed) -> Result<(), StrataError>
         ensures late { TIME_LIMIT ≤ time → result ≡ Err TimeLimit }
         ensures memory { time < TIME_LIMIT → IfErr result (λ e. e ≡ NoMemory) }
-        ensures queue { OnOk result (self.new.queue ≡ with_future self.old.queue (scheduled (record { time = time; event = event }) self.old.queue.future)) }
+        ensures queue { OnOk result (self.new.queue
+            ≡ with_future self.old.queue (scheduled (record { time = time; event = event })
+            self.old.queue.future)) }
         ensures unchanged { OnErr result (self.new.queue ≡ self.old.queue) }
         ensures spare { self.old.spare ≤ self.new.spare + 1 }
         ensures sure { 1 ≤ self.old.spare → time < TIME_LIMIT → IsOk result }

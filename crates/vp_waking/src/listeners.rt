@@ -43,7 +43,8 @@ impl Model for Listeners {
 
 /// Puts empty lists behind others, until there is one for an object.
 fn grow(alloc: Global, lists: &mut Vec<Vec<usize>>, object: usize) -> Result<(), AllocError>
-    ensures same { (k : ℕ) → listeners_of (map (λ v. v.items) lists.new.items) k ≡ listeners_of (map (λ v. v.items) lists.old.items) k }
+    ensures same { (k : ℕ) → listeners_of (map (λ v. v.items) lists.new.items) k
+        ≡ listeners_of (map (λ v. v.items) lists.old.items) k }
     ensures within { OnOk result (object < length lists.new.items) }
 {
     if object < lists.len() {
@@ -90,8 +91,11 @@ fn add_listener(
     process: usize,
 ) -> Result<(), AllocError>
     requires { AllPairs (λ x y. x < y) (listeners_of (map (λ v. v.items) lists.old.items) object) }
-    ensures ok { OnOk result ((k : ℕ) → listeners_of (map (λ v. v.items) lists.new.items) k ≡ with_number_at (listeners_of (map (λ v. v.items) lists.old.items) k) process (object == k)) }
-    ensures err { OnErr result ((k : ℕ) → listeners_of (map (λ v. v.items) lists.new.items) k ≡ listeners_of (map (λ v. v.items) lists.old.items) k) }
+    ensures ok { OnOk result ((k : ℕ) → listeners_of (map (λ v. v.items) lists.new.items) k
+        ≡ with_number_at (listeners_of (map (λ v. v.items) lists.old.items) k) process
+        (object == k)) }
+    ensures err { OnErr result ((k : ℕ) → listeners_of (map (λ v. v.items) lists.new.items) k
+        ≡ listeners_of (map (λ v. v.items) lists.old.items) k) }
 {
     grow(alloc, lists, object)?;
     add_number(&mut lists[object], process)
@@ -135,7 +139,8 @@ impl Listeners {
     /// The listeners of an object, to which each of them may listen.
     pub fn of(&self, object: usize) -> &[usize]
         ensures listeners { result.now ≡ listeners_of self.now.lists object }
-        ensures fit { AreListeners (tables_of self.now.design) object (listeners_of self.now.lists object) }
+        ensures fit { AreListeners (tables_of self.now.design) object
+            (listeners_of self.now.lists object) }
     {
         match self.lists.get(object) {
             Some(list) => list,
@@ -163,7 +168,8 @@ impl Listeners {
         requires { (object : ℕ) → may_listen (tables_of self.old.design) object process ≡ true }
         ensures design { self.new.design ≡ self.old.design }
         ensures kept { AreKept self.old.lists self.new.lists }
-        ensures heard { OnOk result (IsHeard self.new.lists (map (located instance) (awaited_of (tables_of self.old.design) place)) process) }
+        ensures heard { OnOk result (IsHeard self.new.lists
+            (map (located instance) (awaited_of (tables_of self.old.design) place)) process) }
     {
         for k in 0..self.checked.awaited(place).len() {
             let slot = self.checked.awaited(place)[k].slot;
@@ -179,10 +185,12 @@ impl Listeners {
         instance: ObjectId,
         slots: &[Slot],
     ) -> Result<(), AllocError>
-        requires { All (λ slot. may_listen (tables_of self.old.design) (object_at instance slot.0) process ≡ true) slots.now }
+        requires { All (λ slot. may_listen (tables_of self.old.design) (object_at instance slot.0)
+            process ≡ true) slots.now }
         ensures design { self.new.design ≡ self.old.design }
         ensures kept { AreKept self.old.lists self.new.lists }
-        ensures heard { OnOk result (IsHeard self.new.lists (map (λ slot. any_of instance slot.0) slots.now) process) }
+        ensures heard { OnOk result (IsHeard self.new.lists
+            (map (λ slot. any_of instance slot.0) slots.now) process) }
     {
         for slot in slots {
             self.add(instance.0 as usize + slot.0 as usize, process)?;
@@ -197,10 +205,13 @@ impl Listeners {
         instance: ObjectId,
         value: ExprId,
     ) -> Result<(), AllocError>
-        requires { All (λ slot. may_listen (tables_of self.old.design) (object_at instance slot) process ≡ true) (reads (term_at (tables_of self.old.design).operands value.place)) }
+        requires { All (λ slot. may_listen (tables_of self.old.design) (object_at instance slot)
+            process ≡ true) (reads (term_at (tables_of self.old.design).operands value.place)) }
         ensures design { self.new.design ≡ self.old.design }
         ensures kept { AreKept self.old.lists self.new.lists }
-        ensures heard { OnOk result (IsHeard self.new.lists (map (any_of instance) (reads (term_at (tables_of self.old.design).operands value.place))) process) }
+        ensures heard { OnOk result (IsHeard self.new.lists
+            (map (any_of instance) (reads (term_at (tables_of self.old.design).operands
+            value.place))) process) }
     {
         let mut slots = Vec::new(self.alloc);
         add_reads(&self.checked, value.place(), &mut slots)?;
@@ -212,7 +223,8 @@ impl Listeners {
         requires { slice_get (tables_of self.old.design).processes process ≡ Some kind }
         ensures design { self.new.design ≡ self.old.design }
         ensures kept { AreKept self.old.lists self.new.lists }
-        ensures heard { OnOk result (IsHeard self.new.lists (statement_terms (tables_of self.old.design) place kind) process) }
+        ensures heard { OnOk result (IsHeard self.new.lists
+            (statement_terms (tables_of self.old.design) place kind) process) }
     {
         match kind {
             Process::Procedure { instance, .. } => self.add_statement(process, instance, place),
@@ -225,7 +237,8 @@ impl Listeners {
         requires { slice_get (tables_of self.old.design).processes process ≡ Some kind }
         ensures design { self.new.design ≡ self.old.design }
         ensures kept { AreKept self.old.lists self.new.lists }
-        ensures heard { OnOk result (IsHeard self.new.lists (operand_terms (tables_of self.old.design) kind) process) }
+        ensures heard { OnOk result (IsHeard self.new.lists
+            (operand_terms (tables_of self.old.design) kind) process) }
     {
         match kind {
             Process::Procedure { .. } => Ok(()),
@@ -248,7 +261,8 @@ impl Listeners {
         requires { slice_get (tables_of self.old.design).processes process ≡ Some kind }
         ensures design { self.new.design ≡ self.old.design }
         ensures kept { AreKept self.old.lists self.new.lists }
-        ensures heard { OnOk result (IsHeard self.new.lists (terms_of (tables_of self.old.design) waiting kind) process) }
+        ensures heard { OnOk result (IsHeard self.new.lists
+            (terms_of (tables_of self.old.design) waiting kind) process) }
     {
         match waiting {
             Waiting::Nothing => Ok(()),
@@ -259,7 +273,8 @@ impl Listeners {
 
     /// A process is known to stand among the listeners of the objects that it awaits when it waits so.
     fn set_known(&mut self, process: usize, waiting: Waiting)
-        requires { IsHeard self.old.lists (awaited_by (tables_of self.old.design) waiting process) process }
+        requires { IsHeard self.old.lists (awaited_by (tables_of self.old.design) waiting process)
+            process }
         ensures { self.new ≡ self.old }
     {
         set_wait(&mut self.known, process, waiting);
@@ -267,7 +282,8 @@ impl Listeners {
 
     /// A process is known to wait so.
     fn knows(&self, process: usize, waiting: Waiting) -> bool
-        ensures { result ≡ true → IsHeard self.now.lists (awaited_by (tables_of self.now.design) waiting process) process }
+        ensures { result ≡ true → IsHeard self.now.lists
+            (awaited_by (tables_of self.now.design) waiting process) process }
     {
         wait_of(&self.known, process).is_same(waiting)
     }
@@ -276,7 +292,8 @@ impl Listeners {
     pub fn listen(&mut self, process: usize, waiting: Waiting) -> Result<(), AllocError>
         ensures design { self.new.design ≡ self.old.design }
         ensures kept { AreKept self.old.lists self.new.lists }
-        ensures heard { OnOk result (IsHeard self.new.lists (awaited_by (tables_of self.old.design) waiting process) process) }
+        ensures heard { OnOk result (IsHeard self.new.lists
+            (awaited_by (tables_of self.old.design) waiting process) process) }
     {
         if self.knows(process, waiting) {
             return Ok(());

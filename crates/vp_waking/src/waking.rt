@@ -85,7 +85,8 @@ fn is_awaited(instance: ObjectId, old: Bits, change: &Change, terms: &[Awaited])
 
 /// A change wakes a process of this kind that waits at the statement at a place.
 fn statement_wakes(checked: &Checked, old: Bits, change: &Change, kind: Process, place: u32) -> bool
-    ensures { result ≡ list_any (is_of old change.now) (statement_terms (tables_of checked.now) place kind) }
+    ensures { result ≡ list_any (is_of old change.now)
+        (statement_terms (tables_of checked.now) place kind) }
 {
     match kind {
         Process::Procedure { instance, .. } => {
@@ -131,8 +132,12 @@ fn wake_one(
 )
     requires listens { may_listen (tables_of checked.now) change.now.object.0 process ≡ true }
     requires room { 1 ≤ queue.old.spare }
-    ensures waiting { waiting.new.items ≡ roused waiting.old.items (woken_alone (tables_of checked.now) old change.now waiting.old.items process) }
-    ensures queue { queue.new.queue ≡ with_evaluations queue.old.queue (woken_alone (tables_of checked.now) old change.now waiting.old.items process) }
+    ensures waiting { waiting.new.items
+        ≡ roused waiting.old.items (woken_alone (tables_of checked.now) old change.now
+        waiting.old.items process) }
+    ensures queue { queue.new.queue
+        ≡ with_evaluations queue.old.queue
+        (woken_alone (tables_of checked.now) old change.now waiting.old.items process) }
     ensures spare { queue.old.spare ≤ queue.new.spare + 1 }
     ensures processes { queue.new.processes ≡ queue.old.processes }
 {
@@ -150,11 +155,17 @@ pub fn wake(
     old: Bits,
     change: &Change,
 )
-    requires room { length (listeners_of listeners.now.lists change.now.object.0) ≤ queue.old.spare }
-    requires heard { AreHeard (tables_of listeners.now.design) listeners.now.lists waiting.old.items }
+    requires room { length (listeners_of listeners.now.lists change.now.object.0)
+        ≤ queue.old.spare }
+    requires heard { AreHeard (tables_of listeners.now.design) listeners.now.lists
+        waiting.old.items }
     requires whole { length waiting.old.items ≡ length (tables_of listeners.now.design).processes }
-    ensures waiting { waiting.new.items ≡ roused waiting.old.items (woken_by (tables_of listeners.now.design) old change.now waiting.old.items) }
-    ensures queue { queue.new.queue ≡ with_evaluations queue.old.queue (woken_by (tables_of listeners.now.design) old change.now waiting.old.items) }
+    ensures waiting { waiting.new.items
+        ≡ roused waiting.old.items (woken_by (tables_of listeners.now.design) old change.now
+        waiting.old.items) }
+    ensures queue { queue.new.queue
+        ≡ with_evaluations queue.old.queue
+        (woken_by (tables_of listeners.now.design) old change.now waiting.old.items) }
     ensures processes { queue.new.processes ≡ queue.old.processes }
 {
     for process in listeners.of(change.object.0 as usize) {
