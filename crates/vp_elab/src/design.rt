@@ -3,6 +3,7 @@ ghost use Rattle.std.specs.Option.{option_map_or};
 ghost use Rattle.std.specs.Str.{bytes_eq};
 ghost use Rattle.vp_names.specs.Items.{items_in};
 ghost use Rattle.vp_names.specs.Tables.{module_names};
+ghost use Rattle.vp_pragma.specs.Envelopes.{object_of};
 ghost use Rattle.vp_pragma.specs.Reading.{viewport_of};
 ghost use Rattle.vp_pragma.specs.Rights.{nothing};
 ghost use Rattle.vp_source.specs.Whole.{AreWhole};
@@ -19,7 +20,7 @@ use crate::scope::Scope;
 use crate::sight::{Sight, is_on};
 use std::alloc::{AllocError, Global};
 use std::marker::Model;
-use vp_list::Sequence;
+use vp_list::{Sequence, SharedText};
 use vp_names::{Names, Tables, items_of};
 use vp_pragma::{Envelopes, Viewport};
 use vp_source::{Item, Module, Source};
@@ -204,6 +205,13 @@ impl Design {
         self.envelopes.author(envelope)
     }
 
+    /// The same author for one holder more; or an error where they can't be counted.
+    pub fn shared_author(&self, envelope: u8) -> Result<SharedText, AllocError>
+        ensures { IfOk result (λ author. author ≡ author_in self.now.tree.authors envelope) }
+    {
+        self.envelopes.shared_author(envelope)
+    }
+
     /// Its objects, in preorder.
     pub fn objects(&self) -> &[Object]
         ensures nodes { AreObjects self.now.tree.nodes result.now }
@@ -350,6 +358,15 @@ impl Design {
         ensures { map viewport_of result.now ≡ self.now.tree.viewports }
     {
         self.envelopes.viewports()
+    }
+
+    /// The object that the viewport of a number, from 0, names, for one holder more; None where no viewport is; or an error where
+    /// the holders can't be counted.
+    pub fn viewport_object(&self, number: usize) -> Result<Option<SharedText>, AllocError>
+        ensures { IfOk result
+            (λ object. object ≡ option_map object_of (slice_get self.now.tree.viewports number)) }
+    {
+        self.envelopes.viewport_object(number)
     }
 
     /// The name of the module in which an object is declared; none of a top module.

@@ -6,6 +6,7 @@ use Rattle.vp_pragma.specs.Rights.{RightSet, nothing, everything, with_right}
 use Rattle.vp_elab.specs.declared.object.Kind.{Kind}
 use Rattle.vp_elab.specs.declared.object.Kind.TheVariants.{Module, Net, Reg, Always, Initial}
 use Rattle.vp_elab.specs.Tree.{Step, Node, Tree}
+use Rattle.vp_policy.specs.declared.denial.Barrier.TheVariants as barrier
 use Rattle.vp_policy.specs.declared.denial.By.TheVariants as by
 use Rattle.vp_policy.specs.declared.denial.Look.{Look}
 use Rattle.vp_policy.specs.declared.denial.Look.TheVariants as look
@@ -177,7 +178,7 @@ watch_denied :
 watch_denied = refl
 
 -- who may not run the design is denied by his open set
-run_denied : run_denial without_run ≡ Some (by.Grant, 0, codes "run")
+run_denied : run_denial without_run ≡ Some (barrier.Grant, 0, codes "run")
 run_denied = refl
 
 run_allowed : run_denial ann ≡ None

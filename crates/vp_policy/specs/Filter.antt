@@ -8,7 +8,10 @@ use Rattle.vp_pragma.specs.Envelopes.{Viewport, object_of}
 use Rattle.vp_elab.specs.Tree.{Step, Node, Tree, author_in, envelopes_in, find_named, first_viewport, path_of, scope_names, viewed}
 use Rattle.vp_policy.specs.declared.denial.By.{By}
 use Rattle.vp_policy.specs.declared.denial.By.TheVariants as by
+use Rattle.vp_policy.specs.declared.denial.Barrier.{Barrier}
+use Rattle.vp_policy.specs.declared.denial.Barrier.TheVariants as barrier
 use Rattle.vp_policy.specs.declared.denial.Denial.{Denial}
+use Rattle.vp_policy.specs.declared.denial.DenialWords.{DenialWords}
 use Rattle.vp_policy.specs.declared.denial.Look.{Look}
 use Rattle.vp_policy.specs.declared.denial.Look.TheVariants as look
 use Rattle.vp_policy.specs.Users.{Member, granted, has_entry}
@@ -76,17 +79,30 @@ viewport_object viewports (by.Viewport n) = option_map object_of (slice_get view
 viewport_object viewports by.Envelope = None
 viewport_object viewports by.Grant = None
 
--- what a denial is told with: the author of its envelope, and the object of its viewport, if one keeps the user out (profile)
-abbrev pub told_of : Tree → Denial → List ℕ × Option (List ℕ)
-told_of tree d = (author_in tree.authors d.envelope, viewport_object tree.viewports d.by)
+-- what keeps a user out, in words: a viewport's number is none of them, since it counts viewports that he can't see (profile)
+abbrev pub barrier_of : By → Barrier
+barrier_of (by.Viewport n) = barrier.Viewport
+barrier_of by.Envelope = barrier.Envelope
+barrier_of by.Grant = barrier.Grant
+
+-- a denial in the words that its user is told: with the author of its envelope, and the object of the viewport that keeps him
+-- out, if one does (profile)
+abbrev pub words_of : Tree → Denial → DenialWords
+words_of tree d = record {
+  by = barrier_of d.by;
+  envelope = d.envelope;
+  right = d.right;
+  author = author_in tree.authors d.envelope;
+  object = viewport_object tree.viewports d.by;
+}
 
 -- what keeps a user from running the design, the number of the envelope, and the word of the right: his grant for the open text
 -- (profile)
-abbrev pub run_denied : By × ℕ × List ℕ
-run_denied = (by.Grant, 0, codes "run")
+abbrev pub run_denied : Barrier × ℕ × List ℕ
+run_denied = (barrier.Grant, 0, codes "run")
 
 -- why a user may not run the design; none if his run flag is set (profile)
-abbrev pub run_denial : Member → Option (By × ℕ × List ℕ)
+abbrev pub run_denial : Member → Option (Barrier × ℕ × List ℕ)
 run_denial u = if u.run then None else Some run_denied
 
 -- ---- names

@@ -9,7 +9,7 @@ mod policy;
 mod reading;
 mod view;
 
-pub use denial::{By, Denial, Look};
+pub use denial::{Barrier, By, Denial, DenialWords, Look};
 pub use fault::PolicyError;
 pub use grant::Grant;
 pub use policy::{Policy, User, UserId};

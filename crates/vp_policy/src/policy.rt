@@ -58,7 +58,7 @@ fn same_bytes(a: &[u8], b: &[u8]) -> bool
 
 impl Policy {
     /// The policy of users by their names.
-    pub fn new(users: IndexMap<String, User>) -> Policy
+    pub(crate) fn new(users: IndexMap<String, User>) -> Policy
         ensures { result ≡ map member_of users.entries }
     {
         Policy { users }

@@ -14,7 +14,7 @@ use std::alloc::{AllocError, Global};
 use std::marker::Model;
 use vp_bits::Bits;
 use vp_elab::{Design, Kind, Object, ObjectId};
-use vp_list::{Sequence, Text};
+use vp_list::{Sequence, SharedText, Text};
 use vp_operand::fitted;
 use vp_pragma::{Right, Rights};
 use vp_resolve::constant_at;
@@ -56,7 +56,7 @@ pub struct SeenObject {
 /// An envelope as a user sees it.
 #[derive(Drop)]
 pub struct SeenEnvelope {
-    pub author: Text,
+    pub author: SharedText,
     /// He has a grant for it, be it empty.
     pub granted: bool,
 }
@@ -126,7 +126,8 @@ fn viewports_on(
     object: ObjectId,
 ) -> Result<Sequence<SeenViewport>, PolicyError>
     ensures viewports { IfOk result (λ viewports. map viewport_shown viewports
-        ≡ map seen_viewport (filter (λ v. matches_at design.now.tree v object.0) design.now.tree.viewports)) }
+        ≡ map seen_viewport (filter (λ v. matches_at design.now.tree v object.0)
+        design.now.tree.viewports)) }
     ensures err { IsOkUnless result PolicyError.NoMemory }
 {
     let mut viewports = Vec::new(alloc);
@@ -186,7 +187,8 @@ impl Policy {
         ensures node { let user : Member = member_at self.now user.0 in
             let before : List Node = take id.0 design.now.tree.nodes in
             IfOk result (λ o. IfSome (slice_get design.now.tree.nodes id.0)
-            (λ node. node_behind (seen_nodes design.now user before) o ≡ seen_node design.now user node)) }
+            (λ node. node_behind (seen_nodes design.now user before) o
+            ≡ seen_node design.now user node)) }
         ensures err { IsOkUnless result PolicyError.NoMemory }
     {
         let Some(object) = design.object(id) else {
@@ -250,7 +252,7 @@ impl Policy {
         for before in 0..design.envelope_count() {
             let number = before + 1;
             envelopes.push(SeenEnvelope {
-                author: Text::copy(alloc, design.author(number))?,
+                author: design.shared_author(number)?,
                 granted: self.has_entry(user, number),
             })?;
         }

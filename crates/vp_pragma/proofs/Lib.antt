@@ -10,3 +10,4 @@ pub mod Scans
 pub mod Scanned
 pub mod Said
 pub mod Lines
+pub mod Objects

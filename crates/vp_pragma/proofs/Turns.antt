@@ -34,21 +34,21 @@ first_left :
     (text : List ℕ) (tokens : List Token) (r : Reading) (before : Option ℕ) (place : ℕ) (t d : Token) (starts : Bool)
     → place < length tokens → t ≡ get_or tokens place d → begins_line before t ≡ starts
     → after_left text tokens r before place
-    ≡ after_deeds text tokens (after_deeds text tokens (Ok (progress_of text r)) (told place t (cond starts (directive_deeds text t (on_line place t (drop (place + 1) tokens))) [])))
+    ≡ after_deeds text tokens (after_deeds text tokens (Ok (progress_of r)) (told place t (cond starts (directive_deeds text t (on_line place t (drop (place + 1) tokens))) [])))
     (others text tokens place t)
 first_left text tokens r before place t d starts lt is begins =
     let one : suc place ≡ place + 1 = omega arith in
     let split : drop place tokens ≡ t ∷ drop (place + 1) tokens =
     drop-cons tokens place d lt ∙ ap (λ (x : Token). x ∷ drop (suc place) tokens) (sym is) ∙ ap (λ (n : ℕ). t ∷ drop n tokens) one in
-    ap (λ (ts : List Token). after_deeds text tokens (Ok (progress_of text r)) (deeds_behind text before place ts)) split
-    ∙ ap (λ (b : Bool). after_deeds text tokens (Ok (progress_of text r)) (told place t (cond b (directive_deeds text t (on_line place t (drop (place + 1) tokens))) []) ++ others text tokens place t)) begins
-    ∙ after_append text tokens (Ok (progress_of text r)) (told place t (cond starts (directive_deeds text t (on_line place t (drop (place + 1) tokens))) [])) (others text tokens place t)
+    ap (λ (ts : List Token). after_deeds text tokens (Ok (progress_of r)) (deeds_behind text before place ts)) split
+    ∙ ap (λ (b : Bool). after_deeds text tokens (Ok (progress_of r)) (told place t (cond b (directive_deeds text t (on_line place t (drop (place + 1) tokens))) []) ++ others text tokens place t)) begins
+    ∙ after_append text tokens (Ok (progress_of r)) (told place t (cond starts (directive_deeds text t (on_line place t (drop (place + 1) tokens))) [])) (others text tokens place t)
 
 -- a line that is read
 pub line_read :
     (text : List ℕ) (tokens : List Token) (r next : Reading) (before line : Option ℕ) (place : ℕ) (t d : Token)
     → place < length tokens → t ≡ get_or tokens place d → begins_line before t ≡ true → line ≡ pragma_line t
-    → after_deeds text tokens (Ok (progress_of text r)) (told place t (directive_deeds text t (on_line place t (drop (place + 1) tokens)))) ≡ Ok (progress_of text next)
+    → after_deeds text tokens (Ok (progress_of r)) (told place t (directive_deeds text t (on_line place t (drop (place + 1) tokens)))) ≡ Ok (progress_of next)
     → after_left text tokens r before place ≡ after_left text tokens next line (place + 1)
 line_read text tokens r next before line place t d lt is begins line_is done =
     first_left text tokens r before place t d true lt is begins
@@ -59,9 +59,9 @@ line_read text tokens r next before line place t d lt is begins line_is done =
 pub line_refused :
     (text : List ℕ) (tokens : List Token) (r : Reading) (before : Option ℕ) (place : ℕ) (t d : Token) (e : PragmaError)
     → place < length tokens → t ≡ get_or tokens place d → begins_line before t ≡ true
-    → Explains (after_deeds text tokens (Ok (progress_of text r)) (told place t (directive_deeds text t (on_line place t (drop (place + 1) tokens))))) e
+    → Explains (after_deeds text tokens (Ok (progress_of r)) (told place t (directive_deeds text t (on_line place t (drop (place + 1) tokens))))) e
     → Explains (after_left text tokens r before place) e
 line_refused text tokens r before place t d e lt is begins refused =
     subst (λ (q : Result Progress PragmaError). Explains q e) (sym (first_left text tokens r before place t d true lt is begins))
     (explains_through (λ (q : Result Progress PragmaError). after_deeds text tokens q (others text tokens place t))
-    (after_deeds text tokens (Ok (progress_of text r)) (told place t (directive_deeds text t (on_line place t (drop (place + 1) tokens))))) e (λ x. refl) refused)
+    (after_deeds text tokens (Ok (progress_of r)) (told place t (directive_deeds text t (on_line place t (drop (place + 1) tokens))))) e (λ x. refl) refused)

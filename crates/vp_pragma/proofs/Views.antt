@@ -24,8 +24,8 @@ pub in_envelope : (text : List ℕ) (r : Progress) (line : ℕ) (found : Option 
 in_envelope text r line found view None h k = absurd (false≢true k)
 in_envelope text r line found view (Some b) h k = ap (λ (v : Option ViewportStrings). view_at text r line v (Some (begun_of b))) h
 
-pub one_more : (text : List ℕ) (line envelope : ℕ) (reading : Reading) (v : declared.Viewport) (items : List declared.Viewport) (view : ViewportStrings) → ((r : Progress) → length r.ended + 1 ≡ envelope → viewed text r line view ≡ Ok (record r { viewports = r.viewports ++ viewport_of v ∷ [] })) → length reading.closed.items + 1 ≡ envelope → items ≡ reading.viewports.items ++ v ∷ [] → viewed text (progress_of text reading) line view ≡ Ok (record (progress_of text reading) { viewports = map viewport_of items })
+pub one_more : (text : List ℕ) (line envelope : ℕ) (reading : Reading) (v : declared.Viewport) (items : List declared.Viewport) (view : ViewportStrings) → ((r : Progress) → length r.ended + 1 ≡ envelope → viewed text r line view ≡ Ok (record r { viewports = r.viewports ++ viewport_of v ∷ [] })) → length reading.closed.items + 1 ≡ envelope → items ≡ reading.viewports.items ++ v ∷ [] → viewed text (progress_of reading) line view ≡ Ok (record (progress_of reading) { viewports = map viewport_of items })
 one_more text line envelope reading v items view h e is =
-    h (progress_of text reading) e
-    ∙ ap (λ (vs : List Viewport). Ok (record (progress_of text reading) { viewports = vs }))
+    h (progress_of reading) e
+    ∙ ap (λ (vs : List Viewport). Ok (record (progress_of reading) { viewports = vs }))
     (sym (ap (map viewport_of) is ∙ map-append viewport_of reading.viewports.items (v ∷ [])))

@@ -1,10 +1,8 @@
 -- What is kept while the pragmas of a text are read.
-use Rattle.std.specs.Prelude.{◌≡◌, ℕ, ◌+◌, ◌≤◌, if◌then◌else◌, List, [], length, map, Option, Some, None, option_map, is_some, Result, Ok, drop, IfSome}
+use Rattle.std.specs.Prelude.{◌≡◌, ℕ, ◌+◌, ◌≤◌, if◌then◌else◌, List, length, map, Option, option_map, is_some, Result, Ok, drop, IfSome}
 use Rattle.std.specs.List.{enumerate_from}
 use Rattle.vp_lex.specs.declared.token.TheConstants.{TEXT_LIMIT}
 use Rattle.vp_lex.specs.declared.token.Token.{Token}
-use Rattle.vp_lex.specs.Strings.{string_value}
-use Rattle.vp_lex.specs.Texts.{text_of}
 use Rattle.vp_pragma.specs.declared.deed.Deed.{Deed}
 use Rattle.vp_pragma.specs.declared.fault.PragmaError.{PragmaError}
 use Rattle.vp_pragma.specs.declared.line.Rest.{Rest}
@@ -17,7 +15,7 @@ use Rattle.vp_pragma.specs.LineReading.{deeds_behind}
 use Rattle.vp_pragma.specs.Signs.{Placed}
 use Rattle.vp_pragma.specs.declared.viewport.Viewport as declared
 use Rattle.vp_pragma.specs.declared.envelope.Envelope.{Envelope}
-use Rattle.vp_pragma.specs.Envelopes.{Protection, Viewport}
+use Rattle.vp_pragma.specs.Envelopes.{Protection, Viewport, object_of}
 use Rattle.vp_pragma.specs.Rights.{set_of}
 use Rattle.vp_pragma.specs.EnvelopesOf.{Begun, Progress, after_deed, after_deeds}
 
@@ -30,11 +28,6 @@ abbrev pub HasPlaces : Rest → Type 0
 HasPlaces rest = rest.at + length rest.tokens.now ≤ TEXT_LIMIT
 
 -- ---- what has been read
-
--- the author that a string names, if there is one
-abbrev pub author_in : List ℕ → Option Token → List ℕ
-author_in text None = []
-author_in text (Some string) = string_value (text_of text string)
 
 -- the envelope that has begun
 abbrev pub begun_of : Open → Begun
@@ -54,12 +47,16 @@ viewport_of v = record {
 abbrev pub protection_of : List Envelope → List declared.Viewport → Protection
 protection_of envelopes viewports = record { envelopes = envelopes; viewports = map viewport_of viewports }
 
+-- the objects that viewports name, as they are written
+abbrev pub objects_of : List declared.Viewport → List (List ℕ)
+objects_of viewports = map (λ v. object_of (viewport_of v)) viewports
+
 -- what a reading of a text has come to
-abbrev pub progress_of : List ℕ → Reading → Progress
-progress_of text reading = record {
+abbrev pub progress_of : Reading → Progress
+progress_of reading = record {
   ended = reading.closed.items;
   begun = option_map begun_of reading.open;
-  author = author_in text reading.author;
+  author = reading.author;
   viewports = map viewport_of reading.viewports.items;
 }
 
@@ -80,12 +77,12 @@ directive_of line = (line.place, line.directive)
 -- what a deed on a line makes of a reading
 abbrev pub after_one : Line → Reading → Deed → Result Progress PragmaError
 after_one line reading deed =
-    after_deed line.text.now line.tokens.now (progress_of line.text.now reading) (directive_of line) deed
+    after_deed line.text.now line.tokens.now (progress_of reading) (directive_of line) deed
 
 -- what deeds on a line make of a reading
 abbrev pub after_all : Line → Reading → List Deed → Result Progress PragmaError
 after_all line reading deeds =
-    after_deeds line.text.now line.tokens.now (Ok (progress_of line.text.now reading)) (map (λ deed. (directive_of line, deed)) deeds)
+    after_deeds line.text.now line.tokens.now (Ok (progress_of reading)) (map (λ deed. (directive_of line, deed)) deeds)
 
 -- ---- a text
 
@@ -98,4 +95,4 @@ IsBefore tokens place before =
 -- what the tokens from a place on make of a reading, where the token before them stands on this pragma's line or on none
 abbrev pub after_left : List ℕ → List Token → Reading → Option ℕ → ℕ → Result Progress PragmaError
 after_left text tokens reading before place =
-    after_deeds text tokens (Ok (progress_of text reading)) (deeds_behind text before place (drop place tokens))
+    after_deeds text tokens (Ok (progress_of reading)) (deeds_behind text before place (drop place tokens))

@@ -1,12 +1,14 @@
-ghost use Rattle.std.specs.Prelude.{◌≡◌, ℕ, suc, ◌<◌, ◌≤◌, ◌+◌, ◌==◌, ◌&&◌, not, drop, length, List, slice_index_or, string_bytes, IfErr, IfNone, IfOk, IfSome, MatchResult, OnOk};
+ghost use Rattle.std.specs.Prelude.{◌≡◌, ℕ, suc, ◌<◌, ◌≤◌, ◌+◌, ◌==◌, ◌&&◌, not, drop, length, List, slice_index_or, IfErr, IfNone, IfOk, IfSome, MatchResult, OnOk};
 ghost use Rattle.vp_lex.specs.declared.token.TheConstants.{TEXT_LIMIT};
 ghost use Rattle.vp_lex.specs.declared.token.Token.{Token};
+ghost use Rattle.vp_lex.specs.Strings.{string_value};
+ghost use Rattle.vp_lex.specs.Texts.{text_of};
 ghost use Rattle.vp_pragma.specs.declared.deed.Deed.{Deed};
 ghost use Rattle.vp_pragma.specs.EnvelopesOf.{AreEnvelopes, IsFaultOf, after_deeds, at_start, envelopes_behind, same_module};
 ghost use Rattle.vp_pragma.specs.Pragmas.{before_deeds, begins_line, is_pragma, on_line, pragma_line};
 ghost use Rattle.vp_pragma.specs.LineReading.{deeds_from, deeds_of_text, directive_deeds, line_deeds, named_deeds, all_deeds};
 ghost use Rattle.vp_pragma.specs.Faults.{Explains};
-ghost use Rattle.vp_pragma.specs.Reading.{HasPlaces, HasRoom, IsBefore, IsLine, after_all, after_left, after_one, author_in, placed, progress_of};
+ghost use Rattle.vp_pragma.specs.Reading.{HasPlaces, HasRoom, IsBefore, IsLine, after_all, after_left, after_one, placed, progress_of};
 ghost use Rattle.vp_pragma.specs.Surroundings.{is_before_else, is_free_around};
 
 use crate::deed::{Deed, Pragma, ViewportStrings, deed_of};
@@ -17,7 +19,7 @@ use crate::surroundings::{Surroundings, is_before_else};
 use crate::viewport::{Viewport, read_view};
 use std::alloc::{AllocError, Global};
 use vp_lex::{Token, string_value};
-use vp_list::Text;
+use vp_list::{SharedText, Text};
 
 /// The greatest number of envelopes.
 pub const ENVELOPE_LIMIT: usize = 255;
@@ -28,7 +30,7 @@ pub struct Open {
     begin: u32,
     line: u32,
     module: Option<u32>,
-    author: Text,
+    author: SharedText,
 }
 
 /// What has been read of a text's pragmas.
@@ -36,8 +38,8 @@ pub struct Open {
 pub struct Reading {
     closed: Vec<Envelope>,
     open: Option<Open>,
-    /// The string that names the author in force.
-    author: Option<Token>,
+    /// The author in force; empty where there is none.
+    author: SharedText,
     viewports: Vec<Viewport>,
 }
 
@@ -64,14 +66,12 @@ pub struct Before {
     before_else: bool,
 }
 
-/// The author in force.
-fn author_in(alloc: Global, text: &str, author: Option<Token>) -> Result<String, AllocError>
-    ensures ok { IfOk result (λ value. string_bytes value ≡ author_in text.now author) }
+/// The author that a string names. Takes memory.
+fn author_of(alloc: Global, text: &str, string: Token) -> Result<SharedText, AllocError>
+    ensures { IfOk result (λ author. author ≡ string_value (text_of text.now string)) }
 {
-    match author {
-        Some(string) => string_value(alloc, string.text(text)),
-        None => Ok(String::new(alloc)),
-    }
+    let name = string_value(alloc, string.text(text))?;
+    SharedText::new(alloc, Text::from_string(name))
 }
 
 /// Two places stand in one module, or both outside of all modules.
@@ -96,7 +96,7 @@ fn begin(
     requires room { HasRoom reading.old }
     ensures room { OnOk result (HasRoom reading.new) }
     ensures begun { let after = after_one line.entry reading.old (Deed.Begins place)
-        in MatchResult result (λ _. after ≡ Ok (progress_of line.entry.text.now reading.new))
+        in MatchResult result (λ _. after ≡ Ok (progress_of reading.new))
         (λ e. Explains after e) }
 {
     let number = line.directive.line;
@@ -109,7 +109,7 @@ fn begin(
     if reading.closed.len() >= ENVELOPE_LIMIT {
         return Err(PragmaError::TooMany { line: number });
     }
-    let author = Text::from_string(author_in(alloc, line.text, reading.author)?);
+    let author = reading.author.try_clone()?;
     reading.open = Some(Open {
         begin: place,
         line: number,
@@ -125,7 +125,7 @@ fn end(reading: &mut Reading, line: Line<'_>, place: u32) -> Result<(), PragmaEr
     requires room { HasRoom reading.old }
     ensures room { OnOk result (HasRoom reading.new) }
     ensures ended { let after = after_one line.entry reading.old (Deed.Ends place)
-        in MatchResult result (λ _. after ≡ Ok (progress_of line.entry.text.now reading.new))
+        in MatchResult result (λ _. after ≡ Ok (progress_of reading.new))
         (λ e. Explains after e) }
 {
     let number = line.directive.line;
@@ -154,7 +154,7 @@ fn open_view(
     requires room { HasRoom reading.old }
     ensures room { OnOk result (HasRoom reading.new) }
     ensures opened { let after = after_one line.entry reading.old (Deed.Views view)
-        in MatchResult result (λ _. after ≡ Ok (progress_of line.entry.text.now reading.new))
+        in MatchResult result (λ _. after ≡ Ok (progress_of reading.new))
         (λ e. Explains after e) }
 {
     let number = line.directive.line;
@@ -182,18 +182,18 @@ fn apply(
     requires room { HasRoom reading.old }
     ensures room { OnOk result (HasRoom reading.new) }
     ensures done { let after = after_one line.entry reading.old deed
-        in MatchResult result (λ _. after ≡ Ok (progress_of line.entry.text.now reading.new))
+        in MatchResult result (λ _. after ≡ Ok (progress_of reading.new))
         (λ e. Explains after e) }
 {
     match deed {
         Deed::Begins(place) => begin(alloc, reading, line, place),
         Deed::Ends(place) => end(reading, line, place),
         Deed::Names(string) => {
-            reading.author = Some(string);
+            reading.author = author_of(alloc, line.text, string)?;
             Ok(())
         }
         Deed::Forgets => {
-            reading.author = None;
+            reading.author = SharedText::empty();
             Ok(())
         }
         Deed::Views(view) => open_view(alloc, reading, line, view),
@@ -245,7 +245,7 @@ fn apply_first<'a>(
     ensures last { IfOk result (λ next. IfNone next
         ((n : ℕ) → after_all line.entry reading.old
         (deeds_from pragma line.entry.text.now (suc n) (placed rest.entry))
-        ≡ Ok (progress_of line.entry.text.now reading.new))) }
+        ≡ Ok (progress_of reading.new))) }
     ensures more { IfOk result (λ next. IfSome next
         (λ r. (n : ℕ) → after_all line.entry reading.old
         (deeds_from pragma line.entry.text.now (suc n) (placed rest.entry))
@@ -282,7 +282,7 @@ fn apply_all(
     ensures room { OnOk result (HasRoom reading.new) }
     ensures done { let after = after_all line.entry reading.old
         (all_deeds pragma line.entry.text.now (placed rest.entry))
-        in MatchResult result (λ _. after ≡ Ok (progress_of line.entry.text.now reading.new))
+        in MatchResult result (λ _. after ≡ Ok (progress_of reading.new))
         (λ e. Explains after e) }
 {
     let count = rest.tokens.len();
@@ -316,7 +316,7 @@ fn read_named(
     ensures room { OnOk result (HasRoom reading.new) }
     ensures done { let after = after_all line.entry reading.old
         (named_deeds line.entry.text.now name.now (placed rest.entry))
-        in MatchResult result (λ _. after ≡ Ok (progress_of line.entry.text.now reading.new))
+        in MatchResult result (λ _. after ≡ Ok (progress_of reading.new))
         (λ e. Explains after e) }
 {
     match name {
@@ -338,7 +338,7 @@ fn read_line(alloc: Global, reading: &mut Reading, line: Line<'_>) -> Result<(),
         (line_deeds line.entry.text.now
         (on_line line.entry.place line.entry.directive
         (drop (line.entry.place + 1) line.entry.tokens.now)))
-        in MatchResult result (λ _. after ≡ Ok (progress_of line.entry.text.now reading.new))
+        in MatchResult result (λ _. after ≡ Ok (progress_of reading.new))
         (λ e. Explains after e) }
 {
     let number = line.directive.line;
@@ -368,7 +368,7 @@ fn read_directive(alloc: Global, reading: &mut Reading, line: Line<'_>) -> Resul
         (directive_deeds line.entry.text.now line.entry.directive
         (on_line line.entry.place line.entry.directive
         (drop (line.entry.place + 1) line.entry.tokens.now)))
-        in MatchResult result (λ _. after ≡ Ok (progress_of line.entry.text.now reading.new))
+        in MatchResult result (λ _. after ≡ Ok (progress_of reading.new))
         (λ e. Explains after e) }
 {
     if is_pragma(line.text, line.directive) {
@@ -472,13 +472,13 @@ fn read(alloc: Global, text: &str, tokens: &[Token]) -> Result<Reading, PragmaEr
     ensures room { IfOk result HasRoom }
     ensures done { let after = after_deeds text.now tokens.now (Ok at_start)
         (deeds_of_text text.now tokens.now)
-        in MatchResult result (λ reading. after ≡ Ok (progress_of text.now reading))
+        in MatchResult result (λ reading. after ≡ Ok (progress_of reading))
         (λ e. Explains after e) }
 {
     let mut reading = Reading {
         closed: Vec::new(alloc),
         open: None,
-        author: None,
+        author: SharedText::empty(),
         viewports: Vec::new(alloc),
     };
     let mut before = Before {
@@ -503,9 +503,9 @@ fn read(alloc: Global, text: &str, tokens: &[Token]) -> Result<Reading, PragmaEr
 }
 
 /// The envelopes of a reading at the end of its text.
-fn ended(reading: Reading) -> Result<Envelopes, PragmaError>
+fn ended(alloc: Global, reading: Reading) -> Result<Envelopes, PragmaError>
     requires { HasRoom reading }
-    ensures { (text : List ℕ) → let after = envelopes_behind (Ok (progress_of text reading))
+    ensures { let after = envelopes_behind (Ok (progress_of reading))
         in MatchResult result (λ envelopes. after ≡ Ok envelopes) (λ e. Explains after e) }
 {
     let Reading {
@@ -516,7 +516,7 @@ fn ended(reading: Reading) -> Result<Envelopes, PragmaError>
     } = reading;
     match open {
         Some(open) => Err(PragmaError::OpenEnvelope { line: open.line }),
-        None => Ok(Envelopes::new(closed, viewports)),
+        None => Ok(Envelopes::new(alloc, closed, viewports)?),
     }
 }
 
@@ -527,5 +527,5 @@ pub fn envelopes(alloc: Global, text: &str, tokens: &[Token]) -> Result<Envelope
     ensures ok { IfOk result (λ envelopes. AreEnvelopes text.now tokens.now (Ok envelopes)) }
     ensures fault { IfErr result (λ error. IsFaultOf text.now tokens.now error) }
 {
-    ended(read(alloc, text, tokens)?)
+    ended(alloc, read(alloc, text, tokens)?)
 }

@@ -105,7 +105,7 @@ pub record IsOpened (text policy : List ℕ) (script : Script) : Type 0 where
   pub fits : length policy ≤ text_limit
   pub users : List Member
   pub are_users : file_of (length design.tree.authors) policy ≡ Ok users
-  pub fresh : script ≡ opened (record { design = design; users = users; limits = greatest })
+  pub fresh : script ≡ opened (record { design = design; policy = users; limits = greatest })
 
 -- a script over an input has read it to the end, so many lines, and each was told what the script answers it
 pub record IsAnswered (starved : Bool) (script : Script) (unread still_unread held holds : Option (List ℕ)) (lines : ℕ) : Type 0 where

@@ -59,20 +59,20 @@ woken tables s (Some change) = woken_by tables (value_in s.values change.object.
 
 -- a state behind a change, if there is one: the object has its value, and the processes that it wakes wait no more and are evaluated
 -- (clause 11.3)
-abbrev pub changed : Tables → State → Option Change → State
-changed tables s change = record s {
+abbrev pub with_change : Tables → State → Option Change → State
+with_change tables s change = record s {
   values = values_behind s.values change;
   waiting = roused s.waiting (woken tables s change);
   queue = with_evaluations s.queue (woken tables s change);
 }
 
 -- a state without the k-th of the eligible events, which is over
-abbrev pub over : State → (k : ℕ) → State
-over s k = record s { queue = taken s.queue k }
+abbrev pub without_event : State → (k : ℕ) → State
+without_event s k = record s { queue = taken s.queue k }
 
 -- an update that makes this change, if it makes one (clause 11.3)
 abbrev pub updated : Tables → State → (k : ℕ) → Option Change → Outcome
-updated tables s k change = Goes (changed tables (over s k) change) change
+updated tables s k change = Goes (with_change tables (without_event s k) change) change
 
 -- ---- the event of a procedure
 
@@ -106,8 +106,8 @@ taken_if true q k = taken q k
 taken_if false q k = q
 
 -- a state behind the event of a process, the k-th, of which this remains
-abbrev pub left : State → (k : ℕ) → (process : ℕ) → (rest : List ℕ) → Effect → State
-left s k process rest e = record s {
+abbrev pub with_remaining : State → (k : ℕ) → (process : ℕ) → (rest : List ℕ) → Effect → State
+with_remaining s k process rest e = record s {
   remaining = slice_set s.remaining process rest;
   queue = taken_if (is_over e rest) s.queue k;
 }
@@ -133,15 +133,15 @@ deferred s delay update =
     else delayed s delay (later.Nonblocking update)
 
 -- a state behind what the event of a procedure does
-abbrev pub done : Tables → State → (process : ℕ) → Effect → State
-done tables s process effect.Nothing = s
-done tables s process (effect.Assigns object place value) = changed tables s (set_change s.values object place value)
-done tables s process (effect.Defers object place value delay) =
+abbrev pub with_effect : Tables → State → (process : ℕ) → Effect → State
+with_effect tables s process effect.Nothing = s
+with_effect tables s process (effect.Assigns object place value) = with_change tables s (set_change s.values object place value)
+with_effect tables s process (effect.Defers object place value delay) =
     deferred s delay (record { process = process; object = object; place = place; value = value })
-done tables s process (effect.Pauses amount next) = paused s process amount
-done tables s process (effect.Awaits place next) = record s { waiting = slice_set s.waiting process (wait.Statement place) }
-done tables s process (effect.Proceeds third second next) = s
-done tables s process effect.Finishes = record s { finished = true }
+with_effect tables s process (effect.Pauses amount next) = paused s process amount
+with_effect tables s process (effect.Awaits place next) = record s { waiting = slice_set s.waiting process (wait.Statement place) }
+with_effect tables s process (effect.Proceeds third second next) = s
+with_effect tables s process effect.Finishes = record s { finished = true }
 
 -- what the event of a procedure changes at once: a blocking assignment its target (clause 9.2.1)
 abbrev pub change_by : List (List Bit) → Effect → Option Change
@@ -176,7 +176,7 @@ abbrev pub performed : Tables → State → (k : ℕ) → (process : ℕ) → (r
 performed tables s k process rest e =
     if is_late s.time (delay_of e)
     then Refuses TimeLimit
-    else Goes (done tables (left s k process rest e) process e) (change_by s.values e)
+    else Goes (with_effect tables (with_remaining s k process rest e) process e) (change_by s.values e)
 
 -- what the next event of a procedure does, of which this remains
 abbrev pub next_effect : Tables → State → (instance : ObjectId) → (remaining : List ℕ) → Effect
@@ -185,7 +185,7 @@ next_effect tables s instance remaining =
 
 -- the evaluation of a procedure: one event's worth of what remains of it (profile)
 abbrev pub turn : Tables → State → (k : ℕ) → (process : ℕ) → (instance : ObjectId) → (repeats : Bool) → (body : ℕ) → (remaining : List ℕ) → Outcome
-turn tables s k process instance repeats body [] = Goes (over s k) None
+turn tables s k process instance repeats body [] = Goes (without_event s k) None
 turn tables s k process instance repeats body (r ∷ rs) =
     performed tables s k process
     (rest_of tables repeats body (r ∷ rs) (next_effect tables s instance (r ∷ rs)))
@@ -206,7 +206,7 @@ driven s k process net value =
 
 -- the evaluation of a process, if there is one: of a continuous one, its value now (clauses 6.1, 11.3 and 12.3.9.2)
 abbrev pub evaluated : Tables → State → (k : ℕ) → (process : ℕ) → Option Process → Outcome
-evaluated tables s k process None = Goes (over s k) None
+evaluated tables s k process None = Goes (without_event s k) None
 evaluated tables s k process (Some (Procedure object instance repeats body)) =
     turn tables s k process instance repeats body (slice_index_or s.remaining process [])
 evaluated tables s k process (Some (Assignment object net instance value)) =
@@ -223,15 +223,15 @@ happened tables s k (Some (NetUpdate process value)) = updated tables s k (updat
 happened tables s k (Some (Nonblocking u)) = updated tables s k (set_change s.values u.object u.place u.value)
 
 -- a state behind the activation that a step begins with (clause 11.4)
-abbrev pub begun : State → State
-begun s = record s { queue = activated s.queue }
+abbrev pub with_activation : State → State
+with_activation s = record s { queue = activated s.queue }
 
 -- a step by the tables of the design takes one of the eligible events, unless $finish was executed (clauses 11.3 and 11.4)
 abbrev pub step_by : Tables → State → (k : ℕ) → Outcome
 step_by tables s k =
     if s.finished
     then Refuses Finished
-    else if is_done s.queue then Refuses Idle else happened tables (begun s) k (peeked s.queue k)
+    else if is_done s.queue then Refuses Idle else happened tables (with_activation s) k (peeked s.queue k)
 
 -- a step
 abbrev pub step : State → ℕ → Outcome
@@ -255,7 +255,7 @@ abbrev pub put_by : Tables → State → (object : ℕ) → (value : List Bit) �
 put_by tables s object value =
     if s.finished
     then Refuses Finished
-    else Goes (changed tables s (change_of object (slice_get s.values object) value)) (change_of object (slice_get s.values object) value)
+    else Goes (with_change tables s (change_of object (slice_get s.values object) value)) (change_of object (slice_get s.values object) value)
 
 -- an object is given a value from outside
 abbrev pub put : State → (object : ℕ) → (value : List Bit) → Outcome

@@ -4,7 +4,7 @@ ghost use Rattle.vp_strata.specs.declared.event.Event.TheVariants.{NetUpdate};
 ghost use Rattle.vp_strata.specs.Queues.{with_active};
 ghost use Rattle.vp_sim.specs.declared.fault.SimError.TheVariants.{NoMemory};
 ghost use Rattle.vp_waking.specs.Changes.{change_of, net_at, updated_by};
-ghost use Rattle.vp_sim.specs.States.{Explains, Goes, IsStep, Refuses, advance, begun, driven, evaluated, happened, over, step, turn, with_event};
+ghost use Rattle.vp_sim.specs.States.{Explains, Goes, IsStep, Refuses, advance, with_activation, driven, evaluated, happened, without_event, step, turn, with_event};
 
 use crate::fault::SimError;
 use crate::machine::Machine;
@@ -18,7 +18,8 @@ impl Machine {
     /// The event that a step takes, the k-th of the eligible ones; else the refusal (804, 801, 802).
     pub fn event(&self, k: usize) -> Result<Event, SimError>
         ensures ok { IfOk result (λ event. step self.now.state k
-            ≡ happened (tables_of self.now.state.design) (begun self.now.state) k (Some event)) }
+            ≡ happened (tables_of self.now.state.design) (with_activation self.now.state) k
+            (Some event)) }
         ensures refused { IfErr result (λ e. step self.now.state k ≡ Refuses e) }
     {
         if self.finished {
@@ -74,7 +75,7 @@ impl Machine {
     ) -> Result<(), SimError>
         requires { process < length (tables_of self.old.state.design).processes }
         ensures ok { OnOk result (self.new.state
-            ≡ driven (begun self.old.state) k process net value) }
+            ≡ driven (with_activation self.old.state) k process net value) }
         ensures refused { IsOkUnless result NoMemory }
         ensures unchanged { OnErr result (self.new.state ≡ self.old.state) }
     {
@@ -90,7 +91,7 @@ impl Machine {
 
     /// The k-th of the eligible events does nothing, and is over.
     fn pass(&mut self, k: usize)
-        ensures { self.new.state ≡ over (begun self.old.state) k }
+        ensures { self.new.state ≡ without_event (with_activation self.old.state) k }
     {
         self.activate();
         self.take(k);
@@ -106,11 +107,11 @@ impl Machine {
         body: u32,
     ) -> Result<Option<Change>, SimError>
         ensures ok { IfOk result (λ change. turn (tables_of self.old.state.design)
-            (begun self.old.state) k process instance repeats body
+            (with_activation self.old.state) k process instance repeats body
             (slice_index_or self.old.state.remaining process []) ≡ Goes self.new.state change) }
         ensures refused { IfErr result (λ e. Explains
-            (turn (tables_of self.old.state.design) (begun self.old.state) k process instance
-            repeats body (slice_index_or self.old.state.remaining process [])) e) }
+            (turn (tables_of self.old.state.design) (with_activation self.old.state) k process
+            instance repeats body (slice_index_or self.old.state.remaining process [])) e) }
         ensures unchanged { OnErr result (self.new.state ≡ self.old.state) }
     {
         let Some(next) = self.next_of(process) else {
@@ -135,9 +136,9 @@ impl Machine {
     ) -> Result<Option<Change>, SimError>
         requires { process < length (tables_of self.old.state.design).processes }
         ensures ok { IfOk result (λ change. evaluated (tables_of self.old.state.design)
-            (begun self.old.state) k process (Some kind) ≡ Goes self.new.state change) }
+            (with_activation self.old.state) k process (Some kind) ≡ Goes self.new.state change) }
         ensures refused { IfErr result (λ e. Explains
-            (evaluated (tables_of self.old.state.design) (begun self.old.state) k process
+            (evaluated (tables_of self.old.state.design) (with_activation self.old.state) k process
             (Some kind)) e) }
         ensures unchanged { OnErr result (self.new.state ≡ self.old.state) }
     {
@@ -169,11 +170,11 @@ impl Machine {
     /// The evaluation of a process, the k-th of the eligible events, and what it changed; else the refusal (805, 806).
     pub fn evaluate(&mut self, k: usize, process: usize) -> Result<Option<Change>, SimError>
         ensures ok { IfOk result (λ change. evaluated (tables_of self.old.state.design)
-            (begun self.old.state) k process
+            (with_activation self.old.state) k process
             (slice_get (tables_of self.old.state.design).processes process)
             ≡ Goes self.new.state change) }
         ensures refused { IfErr result (λ e. Explains
-            (evaluated (tables_of self.old.state.design) (begun self.old.state) k process
+            (evaluated (tables_of self.old.state.design) (with_activation self.old.state) k process
             (slice_get (tables_of self.old.state.design).processes process)) e) }
         ensures unchanged { OnErr result (self.new.state ≡ self.old.state) }
     {
@@ -189,11 +190,11 @@ impl Machine {
     /// The evaluation of a procedure in an instance is legal, whichever of the eligible events it is; else the refusal (805).
     fn check_turn(&self, process: usize, instance: ObjectId) -> Result<(), SimError>
         ensures ok { OnOk result ((k : ℕ) → (repeats : Bool) → (body : ℕ)
-            → IsStep (turn (tables_of self.now.state.design) (begun self.now.state) k process
-            instance repeats body (slice_index_or self.now.state.remaining process []))) }
+            → IsStep (turn (tables_of self.now.state.design) (with_activation self.now.state) k
+            process instance repeats body (slice_index_or self.now.state.remaining process []))) }
         ensures refused { IfErr result (λ e. (k : ℕ) → (repeats : Bool) → (body : ℕ)
-            → turn (tables_of self.now.state.design) (begun self.now.state) k process instance
-            repeats body (slice_index_or self.now.state.remaining process []) ≡ Refuses e) }
+            → turn (tables_of self.now.state.design) (with_activation self.now.state) k process
+            instance repeats body (slice_index_or self.now.state.remaining process []) ≡ Refuses e) }
     {
         let Some(next) = self.next_of(process) else {
             return Ok(());
@@ -208,10 +209,10 @@ impl Machine {
     /// The evaluation of a process is legal, whichever of the eligible events it is; else the refusal (805).
     pub fn check_evaluation(&self, process: usize) -> Result<(), SimError>
         ensures ok { OnOk result ((k : ℕ)
-            → IsStep (evaluated (tables_of self.now.state.design) (begun self.now.state) k process
-            (slice_get (tables_of self.now.state.design).processes process))) }
+            → IsStep (evaluated (tables_of self.now.state.design) (with_activation self.now.state) k
+            process (slice_get (tables_of self.now.state.design).processes process))) }
         ensures refused { IfErr result (λ e. (k : ℕ)
-            → evaluated (tables_of self.now.state.design) (begun self.now.state) k process
+            → evaluated (tables_of self.now.state.design) (with_activation self.now.state) k process
             (slice_get (tables_of self.now.state.design).processes process) ≡ Refuses e) }
     {
         match process_at(self.checked(), process) {

@@ -5,7 +5,7 @@ ghost use Rattle.vp_strata.specs.declared.event.Event.TheVariants.{NetUpdate};
 ghost use Rattle.vp_strata.specs.Queues.{activated, advanced, taken, with_active};
 ghost use Rattle.vp_sim.specs.declared.fault.SimError.TheVariants.{NoMemory};
 ghost use Rattle.vp_waking.specs.Listening.{IsHeard, count_of};
-ghost use Rattle.vp_sim.specs.States.{begun, changed, over, start};
+ghost use Rattle.vp_sim.specs.States.{with_activation, with_change, without_event, start};
 ghost use Rattle.vp_waking.specs.Waking.{awaited_by};
 
 use crate::fault::SimError;
@@ -107,7 +107,7 @@ impl Machine {
 
     /// The activation that a step begins with.
     pub fn activate(&mut self)
-        ensures state { self.new.state ≡ begun self.old.state }
+        ensures state { self.new.state ≡ with_activation self.old.state }
         ensures spare { self.new.spare ≡ self.old.spare }
         ensures lists { self.new.lists ≡ self.old.lists }
     {
@@ -116,7 +116,7 @@ impl Machine {
 
     /// The k-th of the eligible events is over.
     pub fn take(&mut self, k: usize)
-        ensures state { self.new.state ≡ over self.old.state k }
+        ensures state { self.new.state ≡ without_event self.old.state k }
         ensures spare { self.new.spare ≡ self.old.spare }
         ensures lists { self.new.lists ≡ self.old.lists }
     {
@@ -128,7 +128,7 @@ impl Machine {
         requires fits { length (slice_index_or self.old.state.values change.now.object.0
             change.now.value) ≡ length change.now.value }
         requires room { count_of self.old.lists (Some change.now) ≤ self.old.spare }
-        ensures { self.new.state ≡ changed (tables_of self.old.state.design) self.old.state
+        ensures { self.new.state ≡ with_change (tables_of self.old.state.design) self.old.state
             (Some change.now) }
     {
         let old = self.values.get(change.object);
@@ -148,7 +148,7 @@ impl Machine {
             (λ c. length (slice_index_or self.old.state.values c.object.0 c.value)
             ≡ length c.value) }
         requires room { count_of self.old.lists change.now ≤ self.old.spare }
-        ensures { self.new.state ≡ changed (tables_of self.old.state.design) self.old.state
+        ensures { self.new.state ≡ with_change (tables_of self.old.state.design) self.old.state
             change.now }
     {
         if let Some(change) = change {
@@ -162,7 +162,8 @@ impl Machine {
             (λ c. length (slice_index_or self.old.state.values c.object.0 c.value)
             ≡ length c.value) }
         ensures ok { OnOk result (self.new.state
-            ≡ changed (tables_of self.old.state.design) (over (begun self.old.state) k)
+            ≡ with_change (tables_of self.old.state.design)
+            (without_event (with_activation self.old.state) k)
             change.now) }
         ensures refused { IsOkUnless result NoMemory }
         ensures unchanged { OnErr result (self.new.state ≡ self.old.state) }

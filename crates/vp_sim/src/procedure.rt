@@ -4,7 +4,7 @@ ghost use Rattle.vp_statement.specs.Effects.{effect_at};
 ghost use Rattle.vp_statement.specs.Walking.{behind_event, first_event, left_behind, next_of};
 ghost use Rattle.vp_sim.specs.declared.fault.SimError.TheVariants.{NoMemory};
 ghost use Rattle.vp_waking.specs.Changes.{change_of, set_change, set_change_of};
-ghost use Rattle.vp_sim.specs.States.{Explains, Goes, IsReady, begun, change_by, deferred, delay_of, delayed, done, follows, is_late, is_over, left, paused, rest_of, taken_if, turn};
+ghost use Rattle.vp_sim.specs.States.{Explains, Goes, IsReady, with_activation, change_by, deferred, delay_of, delayed, with_effect, follows, is_late, is_over, with_remaining, paused, rest_of, taken_if, turn};
 
 use crate::fault::SimError;
 use crate::machine::Machine;
@@ -309,7 +309,7 @@ impl Machine {
             (λ c. length (slice_index_or self.old.state.values c.object.0 c.value)
             ≡ length c.value) }
         requires of { change.now ≡ change_by self.old.state.values effect }
-        ensures { self.new.state ≡ done (tables_of self.old.state.design) self.old.state process
+        ensures { self.new.state ≡ with_effect (tables_of self.old.state.design) self.old.state process
             effect }
     {
         match effect {
@@ -352,8 +352,8 @@ impl Machine {
             ≡ length c.value) }
         requires of { change.now ≡ change_by self.old.state.values effect }
         ensures ok { let tables = tables_of self.old.state.design
-            in OnOk result (self.new.state ≡ done tables
-            (left (begun self.old.state) k process
+            in OnOk result (self.new.state ≡ with_effect tables
+            (with_remaining (with_activation self.old.state) k process
             (rest_of tables repeats body (slice_index_or self.old.state.remaining process [])
             effect) effect) process effect) }
         ensures refused { IsOkUnless result NoMemory }

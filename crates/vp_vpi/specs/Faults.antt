@@ -6,7 +6,7 @@ use Rattle.vp_vpi.specs.declared.fault.VpiError.TheVariants.{BadHandle, Denied, 
 -- the number of a refusal (profile)
 abbrev pub code_of : VpiError → ℕ
 code_of BadHandle = 1101
-code_of (Denied denial) = 1109
+code_of (Denied words) = 1109
 code_of WrongKind = 1102
 code_of TooManyHandles = 1105
 code_of NoSuchName = 1106

@@ -2,15 +2,15 @@ ghost use Rattle.std.specs.Prelude.{◌≡◌};
 ghost use Rattle.vp_vpi.specs.declared.fault.VpiError.TheVariants.{NoMemory};
 
 use std::alloc::{AllocError, AllocFailed};
-use vp_policy::Denial;
+use vp_policy::DenialWords;
 
 /// Why a session's call is refused. The refusals are tested in the order in which they stand here.
-#[derive(Clone, Copy, Debug, PartialEq, Eq)]
+#[derive(Drop)]
 pub enum VpiError {
     /// A number that is no handle of the session (1101).
     BadHandle,
     /// The user lacks the right that the call needs (1109).
-    Denied(Denial),
+    Denied(DenialWords),
     /// The object is of a kind that the call does not take (1102).
     WrongKind,
     /// 65,536 handles at once, or no number that was not used before (1105).

@@ -1,8 +1,6 @@
-ghost use Rattle.std.specs.Prelude.{◌≡◌, suc, [], option_map, Ok, Err, IfErr, IfOk, IsOkAnd, OnErr};
-ghost use Rattle.vp_list.specs.Texts.{parts};
+ghost use Rattle.std.specs.Prelude.{◌≡◌, suc, None, option_map, Ok, IfErr, IfOk, IsOkAnd, OnErr};
 ghost use Rattle.vp_policy.specs.Users.{member_at};
-ghost use Rattle.vp_policy.specs.Filter.{look_of};
-ghost use Rattle.vp_vpi.specs.Observers.{Explains, handle_of, no_handles, object_of, observer_of, value_of, with_handle};
+ghost use Rattle.vp_vpi.specs.Observers.{Explains, handle_of, lookup_of, no_handles, object_of, observer_of, value_of, with_handle};
 
 use crate::fault::VpiError;
 use indexmap::IndexMap;
@@ -10,9 +8,9 @@ use std::alloc::Global;
 use std::marker::Model;
 use vp_bits::Bits;
 use vp_elab::{Design, ObjectId};
-use vp_expr::Values;
 use vp_policy::{Look, Policy, UserId};
 use vp_pragma::Right;
+use vp_sim::Sim;
 
 /// How many handles a session has at most at once.
 pub const HANDLE_LIMIT: usize = 65_536;
@@ -63,26 +61,26 @@ impl Session {
     /// A refusal leaves the session as it was.
     pub fn handle_by_name(
         &mut self,
-        design: &Design,
         policy: &Policy,
+        sim: &Sim,
         name: &str,
     ) -> Result<u32, VpiError>
         ensures handle { IfOk result (λ handle. handle ≡ suc self.old.handles.newest) }
         ensures made { IfOk result
             (λ handle. IsOkAnd (handle_of self.old.handles
-            (look_of design.now.tree (member_at policy.now self.old.user) [] (parts 46 name.now)))
+            ((observer_of sim.now (member_at policy.now self.old.user)).named None name.now))
             (λ o. self.new ≡ record {
               user = self.old.user;
               handles = with_handle o self.old.handles;
             })) }
         ensures refused { IfErr result
             (λ e. Explains (handle_of self.old.handles
-            (look_of design.now.tree (member_at policy.now self.old.user) []
-            (parts 46 name.now))) e) }
+            ((observer_of sim.now (member_at policy.now self.old.user)).named None name.now)) e) }
         ensures unchanged { OnErr result (self.new ≡ self.old) }
     {
+        let design = sim.design();
         let found = policy.look(design, self.user, None, name);
-        let object = self.room_for(found)?;
+        let object = self.room_for(design, found)?;
         let handle = self.newest + 1;
         self.handles.insert(handle, object)?;
         self.newest = handle;
@@ -90,12 +88,14 @@ impl Session {
     }
 
     /// The object of a look-up, for which there is room for a handle.
-    fn room_for(&self, found: Look) -> Result<ObjectId, VpiError>
-        ensures ok { IfOk result (λ o. handle_of self.now.handles found ≡ Ok o.0) }
-        ensures refused { IfErr result (λ e. handle_of self.now.handles found ≡ Err e) }
+    fn room_for(&self, design: &Design, found: Look) -> Result<ObjectId, VpiError>
+        ensures ok { IfOk result
+            (λ o. handle_of self.now.handles (lookup_of design.now.tree found) ≡ Ok o.0) }
+        ensures refused { IfErr result
+            (λ e. Explains (handle_of self.now.handles (lookup_of design.now.tree found)) e) }
     {
         match found {
-            Look::Denied(denial) => Err(VpiError::Denied(denial)),
+            Look::Denied(denial) => Err(VpiError::Denied(denial.words(design)?)),
             _ if self.handles.len() >= HANDLE_LIMIT || self.newest == u32::MAX => {
                 Err(VpiError::TooManyHandles)
             }
@@ -112,29 +112,22 @@ impl Session {
     }
 
     /// The value of a handle's object. Refused where the number is no handle (1101), the user lacks the right
-    /// to read (1109), or the object is no net, reg or parameter (1102).
-    pub fn get_value(
-        &self,
-        design: &Design,
-        policy: &Policy,
-        values: &Values,
-        handle: u32,
-    ) -> Result<Bits, VpiError>
+    /// to read (1109), or the object is no net, reg or parameter (1102), or for want of memory (1107).
+    pub fn get_value(&self, policy: &Policy, sim: &Sim, handle: u32) -> Result<Bits, VpiError>
         ensures ok { IfOk result
-            (λ value. value_of (observer_of design.now.tree
-            (member_at policy.now self.now.user) values.now)
+            (λ value. value_of (observer_of sim.now (member_at policy.now self.now.user))
             (object_of self.now.handles.made handle) ≡ Ok value) }
         ensures refused { IfErr result
-            (λ e. value_of (observer_of design.now.tree
-            (member_at policy.now self.now.user) values.now)
-            (object_of self.now.handles.made handle) ≡ Err e) }
+            (λ e. Explains (value_of (observer_of sim.now (member_at policy.now self.now.user))
+            (object_of self.now.handles.made handle)) e) }
     {
+        let design = sim.design();
         let object = self.object(handle).ok_or(VpiError::BadHandle)?;
         if let Some(denial) = policy.lacking(design, self.user, object, Right::Read) {
-            return Err(VpiError::Denied(denial));
+            return Err(VpiError::Denied(denial.words(design)?));
         }
         match design.object(object) {
-            Some(found) if found.kind.has_value() => Ok(values.get(object)),
+            Some(found) if found.kind.has_value() => Ok(sim.value(object)),
             _ => Err(VpiError::WrongKind),
         }
     }

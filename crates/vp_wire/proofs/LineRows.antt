@@ -6,7 +6,7 @@ use Rattle.std.specs.Str.{is_utf8, chars}
 use Rattle.serde_json.proofs.OnLiterals.{serde_json_on_literals}
 use Rattle.vp_bits.specs.declared.bit.Bit.TheVariants.{Zero, One, Unknown, HighImpedance}
 use Rattle.vp_pragma.specs.declared.rights.Right.TheVariants as right
-use Rattle.vp_policy.specs.declared.denial.By.TheVariants as by
+use Rattle.vp_policy.specs.declared.denial.Barrier.TheVariants as by
 use Rattle.vp_world.specs.declared.event.Request.TheVariants as request
 use Rattle.vp_world.specs.declared.reply.Refusal.TheVariants as refusal
 use Rattle.vp_world.specs.declared.reply.Reply.TheVariants as reply
@@ -25,13 +25,13 @@ unfolding serde_json_on_literals
 value = refl
 
 denied :
-    line_of (reply.Denied (record { by = by.Envelope; envelope = 1; right = right.List }) (codes "acme") None)
+    line_of (reply.Denied (record { by = by.Envelope; envelope = 1; right = right.List; author = codes "acme"; object = None }))
     ≡ codes "{\"denied\":{\"author\":\"acme\",\"by\":\"envelope\",\"no\":1,\"right\":\"list\"}}\n"
 unfolding serde_json_on_literals digits
 denied = refl
 
 denied_by_viewport :
-    line_of (reply.Denied (record { by = by.Viewport 0; envelope = 1; right = right.Put }) (codes "acme") (Some (codes "ip.s")))
+    line_of (reply.Denied (record { by = by.Viewport; envelope = 1; right = right.Put; author = codes "acme"; object = Some (codes "ip.s") }))
     ≡ codes "{\"denied\":{\"author\":\"acme\",\"by\":\"viewport\",\"no\":1,\"object\":\"ip.s\",\"right\":\"put\"}}\n"
 unfolding serde_json_on_literals digits
 denied_by_viewport = refl

@@ -9,9 +9,9 @@ use Rattle.vp_json.specs.Keys.{has_keys}
 use Rattle.vp_bits.specs.declared.bit.Bit.{Bit}
 use Rattle.vp_bits.specs.Digits.{digit_of}
 use Rattle.vp_pragma.specs.Rights.{name_of}
-use Rattle.vp_policy.specs.declared.denial.By.{By}
-use Rattle.vp_policy.specs.declared.denial.By.TheVariants as by
-use Rattle.vp_policy.specs.declared.denial.Denial.{Denial}
+use Rattle.vp_policy.specs.declared.denial.Barrier.{Barrier}
+use Rattle.vp_policy.specs.declared.denial.Barrier.TheVariants as by
+use Rattle.vp_policy.specs.declared.denial.DenialWords.{DenialWords}
 use Rattle.vp_policy.specs.Filter.{run_denied}
 use Rattle.vp_world.specs.declared.event.Request.{Request}
 use Rattle.vp_world.specs.declared.event.Request.TheVariants as request
@@ -23,8 +23,8 @@ use Rattle.vp_world.specs.Refusals.{text_of}
 -- ---- replies
 
 -- what keeps a user out, in a line (profile)
-abbrev pub by_text : By → List ℕ
-by_text (by.Viewport v) = codes "viewport"
+abbrev pub by_text : Barrier → List ℕ
+by_text by.Viewport = codes "viewport"
 by_text by.Envelope = codes "envelope"
 by_text by.Grant = codes "grant"
 
@@ -46,10 +46,11 @@ denial_members author by envelope name right =
     (member (codes "no") (number (unsigned envelope))
     (with_object name (member (codes "right") (string right) no_members))))
 
--- a denial as JSON, with the author of its envelope and the object of the viewport that keeps the user out (profile)
-abbrev pub denial_data : Denial → List ℕ → Option (List ℕ) → Data
-denial_data denial author name =
-    only (codes "denied") (object (denial_members author (by_text denial.by) denial.envelope name (name_of denial.right)))
+-- a denial as JSON (profile)
+abbrev pub denial_data : DenialWords → Data
+denial_data words =
+    only (codes "denied")
+    (object (denial_members words.author (by_text words.by) words.envelope words.object (name_of words.right)))
 
 -- the denial of a run, as the filter has it; the open text has no author (profile)
 abbrev pub run_denial_data : Data
@@ -82,7 +83,7 @@ data_of (reply.Opened session) = done_data
 data_of reply.Done = done_data
 data_of (reply.Handle handle) = handle_data handle
 data_of (reply.Value bits) = vector_data bits
-data_of (reply.Denied denial author name) = denial_data denial author name
+data_of (reply.Denied words) = denial_data words
 data_of reply.RunDenied = run_denial_data
 data_of (reply.Time time finished) = time_data time finished
 data_of (reply.Error refusal) = error_data refusal

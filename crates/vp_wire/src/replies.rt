@@ -1,5 +1,5 @@
 // Replies (docs/FORMATS.md, "Lines").
-ghost use Rattle.std.specs.Prelude.{◌≡◌, None, Some, IfOk, IsOkUnless, OnOk};
+ghost use Rattle.std.specs.Prelude.{◌≡◌, None, IfOk, IsOkUnless, OnOk};
 ghost use Rattle.serde_json.specs.Data.{put as with_member, string};
 ghost use Rattle.serde_json.specs.View.{members_view, view};
 ghost use Rattle.vp_wire.specs.Lines.{by_text, data_of, denial_data, denial_members, done_data, error_data, handle_data, line_of, only, run_denial_data, time_data, vector_data};
@@ -8,7 +8,7 @@ use crate::fault::WireError;
 use serde_json::{Map, Value, put};
 use std::alloc::{AllocError, Global};
 use vp_bits::Bits;
-use vp_policy::{By, Denial};
+use vp_policy::{Barrier, DenialWords};
 use vp_world::{Refusal, Reply};
 
 /// An object of one member.
@@ -45,13 +45,13 @@ fn vector_value(alloc: Global, bits: Bits) -> Result<Value, AllocError>
 }
 
 /// What keeps a user out, in a line.
-fn by_text(by: By) -> &'static str
+fn by_text(by: Barrier) -> &'static str
     ensures { result.now ≡ by_text by }
 {
     match by {
-        By::Viewport(_) => "viewport",
-        By::Envelope => "envelope",
-        By::Grant => "grant",
+        Barrier::Viewport => "viewport",
+        Barrier::Envelope => "envelope",
+        Barrier::Grant => "grant",
     }
 }
 
@@ -87,27 +87,17 @@ fn denial_members(
     Ok(members)
 }
 
-/// A denial, with the author of its envelope.
-fn denied(alloc: Global, denial: Denial, author: &str) -> Result<Value, AllocError>
-    ensures { IfOk result (λ v. view v ≡ denial_data denial author.now None) }
+/// A denial, in its words.
+fn denied(alloc: Global, words: &DenialWords) -> Result<Value, AllocError>
+    ensures { IfOk result (λ v. view v ≡ denial_data words.now) }
 {
-    let by = by_text(denial.by);
-    let members = denial_members(alloc, author, by, denial.envelope, denial.right.name())?;
-    only(alloc, "denied", Value::Object(members))
-}
-
-/// A denial by a viewport, with the author of its envelope and the viewport's object.
-fn denied_by_viewport(
-    alloc: Global,
-    denial: Denial,
-    author: &str,
-    object: &str,
-) -> Result<Value, AllocError>
-    ensures { IfOk result (λ v. view v ≡ denial_data denial author.now (Some object.now)) }
-{
-    let by = by_text(denial.by);
-    let mut members = denial_members(alloc, author, by, denial.envelope, denial.right.name())?;
-    put_text(alloc, &mut members, "object", object)?;
+    let by = by_text(words.by);
+    let right = words.right.name();
+    let mut members = denial_members(alloc, words.author.as_str(), by, words.envelope, right)?;
+    let Some(object) = &words.object else {
+        return only(alloc, "denied", Value::Object(members));
+    };
+    put_text(alloc, &mut members, "object", object.as_str())?;
     only(alloc, "denied", Value::Object(members))
 }
 
@@ -144,16 +134,7 @@ fn value_of(alloc: Global, reply: &Reply) -> Result<Value, AllocError>
         Reply::Opened(_) | Reply::Done => done_value(alloc),
         Reply::Handle(handle) => handle_value(alloc, *handle),
         Reply::Value(bits) => vector_value(alloc, *bits),
-        Reply::Denied {
-            denial,
-            author,
-            object: None,
-        } => denied(alloc, *denial, author.as_str()),
-        Reply::Denied {
-            denial,
-            author,
-            object: Some(object),
-        } => denied_by_viewport(alloc, *denial, author.as_str(), object.as_str()),
+        Reply::Denied(words) => denied(alloc, words),
         Reply::RunDenied => run_denied(alloc),
         Reply::Time { time, finished } => time_value(alloc, *time, *finished),
         Reply::Error(refusal) => error_value(alloc, *refusal),

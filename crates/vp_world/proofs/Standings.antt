@@ -15,19 +15,20 @@ use Rattle.vp_world.specs.Worlds.{SessionState, Standing, State, start}
 use Rattle.vp_world.proofs.Lists.{map-remove, replicate_is}
 
 -- a state with this simulation
-abbrev state_with : sim.State → List SessionState → List ℕ → State
-state_with run sessions opens = record { run = run; sessions = sessions; opens = opens; goal = None }
+abbrev state_with : sim.State → List Member → List SessionState → List ℕ → State
+state_with run policy sessions opens = record { run = run; policy = policy; sessions = sessions; opens = opens; goal = None }
 
 -- a world of new fields stands at the start
 pub fresh_shown :
-    (design : Elaborated) (run : sim.State) (users : List Member) (limits : Limits) (sessions : List OpenSession) (opens : List ℕ)
-    → run ≡ sim.start design → sessions ≡ [] → opens ≡ replicate {A = ℕ} (length users) 0
-    → state_with run (map session_shown sessions) opens ≡ start (record { design = run.design; users = users; limits = limits })
-fresh_shown design run users limits sessions opens at_start none zeros =
-    ap (λ s. state_with run (map session_shown s) opens) none
-    ∙ ap (λ (o : List ℕ). state_with run [] o) (zeros ∙ replicate_is users)
-    ∙ ap (λ (r : sim.State). state_with r [] (map (λ u. 0) users)) at_start
-    ∙ ap (λ (d : Elaborated). start (record { design = d; users = users; limits = limits })) (ap (λ (r : sim.State). r.design) (sym at_start))
+    (design : Elaborated) (run : sim.State) (first policy : List Member) (limits : Limits) (sessions : List OpenSession) (opens : List ℕ)
+    → run ≡ sim.start design → policy ≡ first → sessions ≡ [] → opens ≡ replicate {A = ℕ} (length first) 0
+    → state_with run policy (map session_shown sessions) opens ≡ start (record { design = run.design; policy = first; limits = limits })
+fresh_shown design run first policy limits sessions opens at_start same none zeros =
+    ap (λ s. state_with run policy (map session_shown s) opens) none
+    ∙ ap (λ (p : List Member). state_with run p [] opens) same
+    ∙ ap (λ (o : List ℕ). state_with run first [] o) (zeros ∙ replicate_is first)
+    ∙ ap (λ (r : sim.State). state_with r first [] (map (λ u. 0) first)) at_start
+    ∙ ap (λ (d : Elaborated). start (record { design = d; policy = first; limits = limits })) (ap (λ (r : sim.State). r.design) (sym at_start))
 
 -- a world with other sessions and counts
 abbrev pub with_sessions : Standing → List SessionState → List ℕ → Standing
@@ -35,26 +36,26 @@ with_sessions w sessions opens = record { opening = w.opening; state = record w.
 
 -- a session is taken out
 pub closed_shown :
-    (run : sim.State) (users : List Member) (limits : Limits) (sessions left : List OpenSession) (opens : List ℕ) (goal : Option ℕ) (place : ℕ) (w : Standing)
-    → shown run users limits sessions opens goal ≡ w → left ≡ remove sessions place
-    → shown run users limits left opens goal
+    (run : sim.State) (first policy : List Member) (limits : Limits) (sessions left : List OpenSession) (opens : List ℕ) (goal : Option ℕ) (place : ℕ) (w : Standing)
+    → shown run first policy limits sessions opens goal ≡ w → left ≡ remove sessions place
+    → shown run first policy limits left opens goal
     ≡ record { opening = w.opening; state = record w.state { sessions = remove w.state.sessions place } }
-closed_shown run users limits sessions left opens goal place w is taken =
-    ap (λ s. shown run users limits s opens goal) taken
-    ∙ ap (λ s. with_sessions (shown run users limits sessions opens goal) s opens) (map-remove session_shown sessions place)
+closed_shown run first policy limits sessions left opens goal place w is taken =
+    ap (λ s. shown run first policy limits s opens goal) taken
+    ∙ ap (λ s. with_sessions (shown run first policy limits sessions opens goal) s opens) (map-remove session_shown sessions place)
     ∙ ap (λ (v : Standing). with_sessions v (remove v.state.sessions place) v.state.opens) is
 
 -- a session is opened
 pub opened_shown :
-    (run : sim.State) (users : List Member) (limits : Limits) (sessions more : List OpenSession) (opens counts : List ℕ) (goal : Option ℕ) (session : OpenSession) (user : ℕ) (w : Standing)
-    → shown run users limits sessions opens goal ≡ w
+    (run : sim.State) (first policy : List Member) (limits : Limits) (sessions more : List OpenSession) (opens counts : List ℕ) (goal : Option ℕ) (session : OpenSession) (user : ℕ) (w : Standing)
+    → shown run first policy limits sessions opens goal ≡ w
     → session_shown session ≡ record { id = next_session w.state user; seat = record { user = user; handles = no_handles } }
     → more ≡ sessions ++ session ∷ []
     → counts ≡ slice_set opens user (slice_index w.state.opens user + 1)
-    → shown run users limits more counts goal ≡ record { opening = w.opening; state = opened_by w.state user }
-opened_shown run users limits sessions more opens counts goal session user w is new added counted =
-    ap (λ s. shown run users limits s counts goal) added
-    ∙ ap (λ c. shown run users limits (sessions ++ session ∷ []) c goal) counted
-    ∙ ap (λ s. with_sessions (shown run users limits sessions opens goal) s (slice_set opens user (slice_index w.state.opens user + 1)))
+    → shown run first policy limits more counts goal ≡ record { opening = w.opening; state = opened_by w.state user }
+opened_shown run first policy limits sessions more opens counts goal session user w is new added counted =
+    ap (λ s. shown run first policy limits s counts goal) added
+    ∙ ap (λ c. shown run first policy limits (sessions ++ session ∷ []) c goal) counted
+    ∙ ap (λ s. with_sessions (shown run first policy limits sessions opens goal) s (slice_set opens user (slice_index w.state.opens user + 1)))
     (map-append session_shown sessions (session ∷ []) ∙ ap (λ (s : SessionState). map session_shown sessions ++ s ∷ []) new)
     ∙ ap (λ (v : Standing). with_sessions v (v.state.sessions ++ record { id = next_session w.state user; seat = record { user = user; handles = no_handles } } ∷ []) (slice_set v.state.opens user (slice_index w.state.opens user + 1))) is

@@ -20,7 +20,7 @@ use Rattle.vp_elab.specs.Tree.{Node, Tree}
 use Rattle.vp_operand.specs.Arena.{sizes_in}
 use Rattle.vp_expr.specs.Tables.{tables_of}
 use Rattle.vp_statement.specs.Effects.{effect_at}
-use Rattle.vp_policy.specs.declared.denial.By.TheVariants as by
+use Rattle.vp_policy.specs.declared.denial.Barrier.TheVariants as by
 use Rattle.vp_policy.specs.Users.{Member}
 use Rattle.vp_world.specs.declared.event.SessionId.{SessionId}
 use Rattle.vp_world.specs.declared.event.Request.TheVariants as request
@@ -112,7 +112,7 @@ ann = record {
 abbrev opening : Opening
 opening = record {
   design = record { source = source; tree = tree };
-  users = ann ∷ [];
+  policy = ann ∷ [];
   limits = record { log = 7; book = 65536; sessions = 1 };
 }
 
@@ -129,7 +129,7 @@ abbrev reads : ℕ → Event
 reads handle = event.Ask first (request.Value handle)
 
 abbrev hidden : Reply
-hidden = reply.Denied (record { by = by.Envelope; envelope = 1; right = right.List }) (codes "acme") None
+hidden = reply.Denied (record { by = by.Envelope; envelope = 1; right = right.List; author = codes "acme"; object = None })
 
 abbrev runs : Event
 runs = event.Ask first (request.Run 0)

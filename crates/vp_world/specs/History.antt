@@ -2,10 +2,11 @@
 use Rattle.std.specs.Prelude.{◌≡◌, ℕ, ◌+◌, ◌||◌, nat_le, nat_lt, max, Bool, true, false, if◌then◌else◌, List, [], ◌∷◌, ◌++◌, length, fold, slice_get, slice_index, slice_set, Option, Some, None, option_and_then}
 use Rattle.std.specs.List.{remove}
 use Rattle.std.specs.Option.{option_map_or}
-use Rattle.vp_policy.specs.Users.{Member, login_of, member_at}
+use Rattle.vp_bits.specs.declared.bit.Bit.{Bit}
+use Rattle.vp_policy.specs.Users.{login_of, member_at}
 use Rattle.vp_waking.specs.declared.change.Change.{Change}
 use Rattle.vp_sim.specs.States as sim
-use Rattle.vp_vpi.specs.Observers.{Seat, no_handles, observer_of, with_handle}
+use Rattle.vp_vpi.specs.Observers.{Seat, no_handles, observer_of}
 use Rattle.vp_world.specs.declared.entry.Entry.{Entry}
 use Rattle.vp_world.specs.declared.event.SessionId.{SessionId}
 use Rattle.vp_world.specs.declared.event.Request.{Request}
@@ -18,7 +19,7 @@ use Rattle.vp_world.specs.declared.reply.Reply.{Reply}
 use Rattle.vp_world.specs.declared.reply.Reply.TheVariants as reply
 use Rattle.vp_world.specs.Events.{IsWellFormed}
 use Rattle.vp_world.specs.Worlds.{Logged, Opening, SessionState, Standing, State, index_of, start}
-use Rattle.vp_world.specs.Answers.{Outlook, goal_by, made_by, reply_to}
+use Rattle.vp_world.specs.Answers.{Response, respond}
 
 -- ---- refusals
 
@@ -66,7 +67,7 @@ refusal_of_step full beyond outcome =
 -- the first refusal of an event that holds, in a state, behind a log that is full or not; none where the event is accepted.
 -- Want of memory is no part of it (profile)
 abbrev pub refusal_of : Opening → Bool → State → Event → Option WorldError
-refusal_of opening full s (event.Open name token) = refusal_of_open opening full s (login_of opening.users name token)
+refusal_of opening full s (event.Open name token) = refusal_of_open opening full s (login_of s.policy name token)
 refusal_of opening full s (event.Ask id request) = refusal_of_session full (index_of s.sessions id)
 refusal_of opening full s (event.Close id) = refusal_of_session full (index_of s.sessions id)
 refusal_of opening full s (event.Step k) = refusal_of_step full (is_beyond s.goal s.run.time) (sim.step s.run k)
@@ -84,31 +85,24 @@ Explains None e = e ≡ error.NoMemory
 abbrev pub next_session : State → ℕ → SessionId
 next_session s u = record { user = record { 0 = u }; opens = slice_index s.opens u + 1 }
 
--- what a session can look up
-abbrev pub outlook_of : Opening → State → Seat → Outlook
-outlook_of opening s seat =
-    let user : Member = member_at opening.users seat.user in
-    record {
-      eyes = observer_of opening.design.tree user s.run.values;
-      may_run = user.run;
-      time = s.run.time;
-      finished = s.run.finished;
-    }
+-- what comes of a request of a session: its user looks into the simulation, and the policy in force says what he sees
+abbrev pub response_of : State → Seat → Request → Response
+response_of s seat r = respond (observer_of s.run (member_at s.policy seat.user)) seat r
 
 -- the open session of a name
 abbrev pub session_of : List SessionState → SessionId → Option SessionState
 session_of sessions id = option_and_then (slice_get sessions) (index_of sessions id)
 
 -- the reply to a request of an open session
-abbrev pub asked : Opening → State → Option SessionState → Request → Reply
-asked opening s None r = reply.Error refusal.NotOpen
-asked opening s (Some session) r = reply_to (outlook_of opening s session.seat) session.seat.handles r
+abbrev pub asked : State → Option SessionState → Request → Reply
+asked s None r = reply.Error refusal.NotOpen
+asked s (Some session) r = (response_of s session.seat r).reply
 
 -- the reply to an event that is accepted
 abbrev pub answer : Opening → State → Event → Reply
 answer opening s (event.Open name token) =
-    option_map_or (λ u. reply.Opened (next_session s u)) (login_of opening.users name token) (reply.Error refusal.BadToken)
-answer opening s (event.Ask id request) = asked opening s (session_of s.sessions id) request
+    option_map_or (λ u. reply.Opened (next_session s u)) (login_of s.policy name token) (reply.Error refusal.BadToken)
+answer opening s (event.Ask id request) = asked s (session_of s.sessions id) request
 answer opening s (event.Close id) = reply.Done
 answer opening s (event.Step k) = reply.Done
 answer opening s event.Advance = reply.Done
@@ -118,10 +112,20 @@ abbrev pub change_of : sim.Outcome → Option Change
 change_of (sim.Goes run change) = change
 change_of (sim.Refuses e) = None
 
+-- what a put does to a simulation; nothing where there is none
+abbrev pub outcome_of_put : sim.State → Option (ℕ × List Bit) → sim.Outcome
+outcome_of_put run None = sim.Goes run None
+outcome_of_put run (Some p) = sim.put run p.0 p.1
+
+-- what a request of an open session changes
+abbrev pub changed_by : State → Option SessionState → Request → Option Change
+changed_by s None r = None
+changed_by s (Some session) r = change_of (outcome_of_put s.run (response_of s session.seat r).put)
+
 -- what an event that is accepted changes
 abbrev pub changed : State → Event → Option Change
 changed s (event.Open name token) = None
-changed s (event.Ask id request) = None
+changed s (event.Ask id request) = changed_by s (session_of s.sessions id) request
 changed s (event.Close id) = None
 changed s (event.Step k) = change_of (sim.step s.run k)
 changed s event.Advance = change_of (sim.advance s.run)
@@ -135,14 +139,6 @@ opened_by s u = record s {
   opens = slice_set s.opens u (slice_index s.opens u + 1);
 }
 
--- a session with one handle more
-abbrev pub with_handle_of : ℕ → SessionState → SessionState
-with_handle_of object session = record session { seat = record { user = session.seat.user; handles = with_handle object session.seat.handles } }
-
--- the state with another session in a place
-abbrev pub with_session : State → ℕ → SessionState → State
-with_session s place session = record s { sessions = slice_set s.sessions place session }
-
 -- the later of a goal, if there is one, and a time
 abbrev pub later : Option ℕ → ℕ → ℕ
 later None until = until
@@ -153,18 +149,28 @@ abbrev pub raised : Option ℕ → Option ℕ → Option ℕ
 raised goal None = goal
 raised goal (Some until) = Some (later goal until)
 
--- the state behind a request of the session in a place: with the handle that it makes, and the goal that it sets
-abbrev pub state_asked : Opening → State → ℕ → Option SessionState → Request → State
-state_asked opening s place None r = s
-state_asked opening s place (Some session) r =
-    let look : Outlook = outlook_of opening s session.seat in
-    option_map_or (λ o. with_session s place (with_handle_of o session)) (made_by look session.seat.handles r)
-    (record s { goal = raised s.goal (goal_by look r) })
+-- the state of a simulation behind what it does; a refusal changes nothing
+abbrev pub run_behind : sim.State → sim.Outcome → sim.State
+run_behind run (sim.Goes next change) = next
+run_behind run (sim.Refuses e) = run
+
+-- the state behind what comes of a request of the session in a place
+abbrev pub with_response : State → ℕ → SessionState → Response → State
+with_response s place session given = record s {
+  run = run_behind s.run (outcome_of_put s.run given.put);
+  sessions = slice_set s.sessions place (record session { seat = given.seat });
+  goal = raised s.goal given.goal;
+}
+
+-- the state behind a request of the session in a place
+abbrev pub state_asked : State → ℕ → Option SessionState → Request → State
+state_asked s place None r = s
+state_asked s place (Some session) r = with_response s place session (response_of s session.seat r)
 
 -- the state behind a request of a session, which is open in a place
-abbrev pub asked_at : Opening → State → Option ℕ → Request → State
-asked_at opening s None r = s
-asked_at opening s (Some place) r = state_asked opening s place (slice_get s.sessions place) r
+abbrev pub asked_at : State → Option ℕ → Request → State
+asked_at s None r = s
+asked_at s (Some place) r = state_asked s place (slice_get s.sessions place) r
 
 -- the state without the session in a place
 abbrev pub closed_at : State → Option ℕ → State
@@ -178,8 +184,8 @@ stepped s (sim.Refuses e) = s
 
 -- the state behind an event that is accepted
 abbrev pub after : Opening → State → Event → State
-after opening s (event.Open name token) = option_map_or (opened_by s) (login_of opening.users name token) s
-after opening s (event.Ask id request) = asked_at opening s (index_of s.sessions id) request
+after opening s (event.Open name token) = option_map_or (opened_by s) (login_of s.policy name token) s
+after opening s (event.Ask id request) = asked_at s (index_of s.sessions id) request
 after opening s (event.Close id) = closed_at s (index_of s.sessions id)
 after opening s (event.Step k) = stepped s (sim.step s.run k)
 after opening s event.Advance = stepped s (sim.advance s.run)
@@ -242,7 +248,7 @@ refusal_in w full e = refusal_of w.opening full w.state e
 
 -- the reply to a request of the session in a place
 abbrev pub asked_in : Standing → ℕ → Request → Reply
-asked_in w place r = asked w.opening w.state (slice_get w.state.sessions place) r
+asked_in w place r = asked w.state (slice_get w.state.sessions place) r
 
 -- the refusal of a step, behind a log that is full or not, by its outcome
 abbrev pub due_step : Standing → Bool → sim.Outcome → Option WorldError

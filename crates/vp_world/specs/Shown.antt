@@ -10,9 +10,9 @@ use Rattle.vp_world.specs.Worlds.{SessionState, Standing}
 abbrev pub session_shown : OpenSession → SessionState
 session_shown s = record { id = s.id; seat = s.session }
 
--- how a world of these fields began, and its state
-abbrev pub shown : sim.State → List Member → Limits → List OpenSession → List ℕ → Option ℕ → Standing
-shown run users limits sessions opens goal = record {
-  opening = record { design = run.design; users = users; limits = limits };
-  state = record { run = run; sessions = map session_shown sessions; opens = opens; goal = goal };
+-- how a world of these fields began, and its state: of the two policies, the first opened it and the second is in force
+abbrev pub shown : sim.State → (first policy : List Member) → Limits → List OpenSession → List ℕ → Option ℕ → Standing
+shown run first policy limits sessions opens goal = record {
+  opening = record { design = run.design; policy = first; limits = limits };
+  state = record { run = run; policy = policy; sessions = map session_shown sessions; opens = opens; goal = goal };
 }

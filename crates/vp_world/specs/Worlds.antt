@@ -9,10 +9,10 @@ use Rattle.vp_world.specs.declared.entry.Entry.{Entry}
 use Rattle.vp_world.specs.declared.event.SessionId.{SessionId}
 use Rattle.vp_world.specs.declared.limits.Limits.{Limits}
 
--- how a world begins: a design, its users and its limits
+-- how a world begins: a design, the policy with which it opens, which is a list of users, and its limits
 pub record Opening : Type 0 where
   pub design : Elaborated
-  pub users : List Member
+  pub policy : List Member
   pub limits : Limits
 
 -- an open session: its name; its user and his handles
@@ -20,10 +20,11 @@ pub record SessionState : Type 0 where
   pub id : SessionId
   pub seat : Seat
 
--- the state of a world: the state of its simulation, its open sessions, how often each user has opened one, and the goal, the
--- time until which the simulation may run, if there is one (profile)
+-- the state of a world: the state of its simulation, the policy in force, its open sessions, how often each user has opened one,
+-- and the goal, the time until which the simulation may run, if there is one (profile)
 pub record State : Type 0 where
   pub run : sim.State
+  pub policy : List Member
   pub sessions : List SessionState
   pub opens : List ℕ
   pub goal : Option ℕ
@@ -46,11 +47,12 @@ same_session a b = (a.user.0 == b.user.0) && (a.opens == b.opens)
 abbrev pub index_of : List SessionState → SessionId → Option ℕ
 index_of sessions id = position (λ s. same_session s.id id) sessions
 
--- a state in which nothing has happened
+-- a state in which nothing has happened: the opening policy is in force
 abbrev pub start : Opening → State
 start opening = record {
   run = sim.start opening.design;
+  policy = opening.policy;
   sessions = [];
-  opens = map (λ u. 0) opening.users;
+  opens = map (λ u. 0) opening.policy;
   goal = None;
 }

@@ -42,8 +42,8 @@ pub enum Event {
     Close {
         session: SessionId,
     },
-    /// The simulation takes the k-th of the events that a step can take.
-    Step(usize),
+    /// The simulation takes the k-th of the events that a step can take, from 0.
+    Step(u32),
     /// The simulation goes on to the time of the next event.
     Advance,
 }

@@ -1,6 +1,5 @@
-ghost use Rattle.std.specs.Prelude.{◌≡◌, ◌≢◌, ◌<◌, false, true, length, slice_get, slice_index, slice_set, None, Some, IfErr, IfOk, IsOkUnless, OnErr, OnOk};
+ghost use Rattle.std.specs.Prelude.{◌≡◌, ◌≢◌, ◌<◌, false, true, length, slice_index, slice_set, None, Some, IfErr, IfOk, IsOkUnless, OnErr, OnOk};
 ghost use Rattle.std.specs.Arc.{arc_value};
-ghost use Rattle.vp_policy.specs.Filter.{told_of, viewport_object};
 ghost use Rattle.vp_policy.specs.Users.{login_of};
 ghost use Rattle.vp_sim.specs.States as sim;
 ghost use Rattle.vp_vpi.specs.declared.fault.VpiError.TheVariants as vpi_error;
@@ -22,10 +21,8 @@ use crate::session::{OpenSession, place_of};
 use std::alloc::Global;
 use std::marker::Model;
 use std::sync::Arc;
-use vp_elab::Design;
 use vp_expr::Checked;
-use vp_list::Text;
-use vp_policy::{By, Denial, Policy, UserId};
+use vp_policy::{Policy, UserId};
 use vp_sim::Sim;
 use vp_vpi::{Session, VpiError};
 use vp_waking::Change;
@@ -36,7 +33,10 @@ use vp_waking::Change;
 pub struct Present {
     alloc: Global,
     sim: Sim,
-    policy: Policy,
+    /// The policy with which it opened.
+    first_policy: Arc<Policy>,
+    /// The policy in force.
+    policy: Arc<Policy>,
     limits: Limits,
     /// Those that are open, in the order in which they were opened.
     sessions: Vec<OpenSession>,
@@ -47,12 +47,13 @@ pub struct Present {
 }
 
 impl Model for Present {
+    ghost use Rattle.std.specs.Arc.{arc_value};
     ghost use Rattle.vp_world.specs.Shown.{shown};
     ghost use Rattle.vp_world.specs.Worlds.{Standing};
 
     ghost Value = { Standing };
 
-    ghost view = { λ w. shown w.sim w.policy w.limits w.sessions.items w.opens.items w.goal };
+    ghost view = { λ w. shown w.sim (arc_value w.first_policy) (arc_value w.policy) w.limits w.sessions.items w.opens.items w.goal };
 }
 
 /// What a request is answered: the reply to be told, and the same to be kept.
@@ -63,13 +64,13 @@ pub struct Answer {
 }
 
 /// The reply to a request that a session refused; want of memory is the world's.
-fn session_reply(alloc: Global, design: &Design, error: VpiError) -> Result<Reply, WorldError>
-    ensures reply { IfOk result (λ told. told ≡ refused (told_of design.now.tree) error) }
+fn session_reply(error: VpiError) -> Result<Reply, WorldError>
+    ensures reply { IfOk result (λ told. told ≡ refused error) }
     ensures told { OnOk result (error ≢ vpi_error.NoMemory) }
     ensures refused { IsOkUnless result world_error.NoMemory }
 {
     Ok(match error {
-        VpiError::Denied(denial) => denial_reply(alloc, design, denial)?,
+        VpiError::Denied(words) => Reply::Denied(words),
         VpiError::BadHandle => Reply::Error(Refusal::BadHandle),
         VpiError::WrongKind => Reply::Error(Refusal::WrongKind),
         VpiError::TooManyHandles => Reply::Error(Refusal::TooManyHandles),
@@ -78,46 +79,16 @@ fn session_reply(alloc: Global, design: &Design, error: VpiError) -> Result<Repl
     })
 }
 
-/// The object of the viewport that keeps a user out, if one does.
-fn viewport_object(alloc: Global, design: &Design, by: By) -> Result<Option<Text>, WorldError>
-    ensures object { IfOk result (λ object. object ≡ viewport_object design.now.tree.viewports by) }
-    ensures refused { IsOkUnless result world_error.NoMemory }
-{
-    let By::Viewport(number) = by else {
-        return Ok(None);
-    };
-    match design.viewports().get(number) {
-        Some(viewport) => Ok(Some(viewport.object(alloc)?)),
-        None => Ok(None),
-    }
-}
-
-/// The reply of a denial, which names the envelope's author, and the viewport's object.
-fn denial_reply(alloc: Global, design: &Design, denial: Denial) -> Result<Reply, WorldError>
-    ensures reply { IfOk result
-        (λ told. told ≡ reply.Denied denial (told_of design.now.tree denial).0
-        (told_of design.now.tree denial).1) }
-    ensures refused { IsOkUnless result world_error.NoMemory }
-{
-    let author = design.author(denial.envelope);
-    Ok(Reply::Denied {
-        denial,
-        author: Text::copy(alloc, author)?,
-        object: viewport_object(alloc, design, denial.by)?,
-    })
-}
-
 /// The answer to a request that a session refused; want of memory is the world's.
-fn session_answer(alloc: Global, design: &Design, error: VpiError) -> Result<Answer, WorldError>
-    ensures told { IfOk result (λ a. a.told ≡ refused (told_of design.now.tree) error) }
-    ensures kept { IfOk result (λ a. a.kept ≡ refused (told_of design.now.tree) error) }
+fn session_answer(error: VpiError) -> Result<Answer, WorldError>
+    ensures told { IfOk result (λ a. a.told ≡ refused error) }
+    ensures kept { IfOk result (λ a. a.kept ≡ refused error) }
     ensures reason { OnOk result (error ≢ vpi_error.NoMemory) }
     ensures refused { IsOkUnless result world_error.NoMemory }
 {
-    Ok(Answer {
-        told: session_reply(alloc, design, error)?,
-        kept: session_reply(alloc, design, error)?,
-    })
+    let told = session_reply(error)?;
+    let kept = told.try_clone()?;
+    Ok(Answer { told, kept })
 }
 
 /// The answer that it was done.
@@ -189,7 +160,7 @@ impl Present {
         ensures opening { IfOk result
             (λ world. world.opening ≡ record {
               design = arc_value checked;
-              users = policy;
+              policy = policy;
               limits = limits;
             }) }
         ensures state { IfOk result (λ world. world.state ≡ start world.opening) }
@@ -199,9 +170,12 @@ impl Present {
             return Err(WorldError::NoMemory);
         };
         let opens = vec![in alloc; 0u64; policy.count()]?;
+        let first_policy = Arc::new(alloc, policy)?;
+        let policy = Arc::try_clone(&first_policy)?;
         Ok(Present {
             alloc,
             sim,
+            first_policy,
             policy,
             limits,
             sessions: Vec::new(alloc),
@@ -274,7 +248,7 @@ impl Present {
     /// The user whose name and token an opening gives, where it is not refused; else the refusal (1302, 1301, 1304).
     pub fn admit(&self, name: &str, token: &str, full: bool) -> Result<UserId, WorldError>
         ensures user { IfOk result
-            (λ user. login_of self.now.opening.users name.now token.now ≡ Some user.0) }
+            (λ user. login_of self.now.state.policy name.now token.now ≡ Some user.0) }
         ensures room { IfOk result
             (λ user. is_full self.now.opening self.now.state user.0 ≡ false) }
         ensures accepted { OnOk result
@@ -327,12 +301,12 @@ impl Present {
     }
 
     /// The simulation does not refuse step k; else its refusal (1308).
-    pub fn check_step(&self, k: usize) -> Result<(), WorldError>
+    pub fn check_step(&self, k: u32) -> Result<(), WorldError>
         ensures accepted { OnOk result (refusal_of_outcome (sim.step self.now.state.run k) ≡ None) }
         ensures refused { IfErr result
             (λ e. refusal_of_outcome (sim.step self.now.state.run k) ≡ Some e) }
     {
-        self.sim.check_step(k).map_err(WorldError::Sim)
+        self.sim.check_step(k as usize).map_err(WorldError::Sim)
     }
 
     /// The simulation does not refuse an advance; else its refusal (1308).
@@ -375,7 +349,7 @@ impl Present {
     /// Takes the k-th of the events that a step can take, and tells what it changes; else the simulation's refusal (1308), or want of
     /// memory (1307). A refusal leaves the world as it was.
     #[tactic(auto, using(crate::proofs::Outcomes::step_explained))]
-    pub fn step(&mut self, k: usize) -> Result<Option<Change>, WorldError>
+    pub fn step(&mut self, k: u32) -> Result<Option<Change>, WorldError>
         ensures accepted { OnOk result (refusal_of_outcome (sim.step self.old.state.run k) ≡ None) }
         ensures change { IfOk result
             (λ change. change ≡ change_of (sim.step self.old.state.run k)) }
@@ -386,7 +360,7 @@ impl Present {
             (λ e. Explains (refusal_of_outcome (sim.step self.old.state.run k)) e) }
         ensures unchanged { OnErr result (self.new ≡ self.old) }
     {
-        match self.sim.step(k) {
+        match self.sim.step(k as usize) {
             Ok(change) => Ok(change),
             Err(error) => Err(WorldError::from(error)),
         }
@@ -413,6 +387,7 @@ impl Present {
     }
 
     /// Answers a request of the session in a place; or want of memory (1307), which leaves the world as it was.
+    #[tactic(auto, using(crate::proofs::Naming::value_asked, crate::proofs::Naming::time_asked))]
     pub fn ask(&mut self, place: usize, request: &Request) -> Result<Answer, WorldError>
         requires asked { IsAsked request.now }
         requires within { place < length self.old.state.sessions }
@@ -420,7 +395,7 @@ impl Present {
         ensures kept { IfOk result (λ a. a.kept ≡ asked_in self.old place request.now) }
         ensures after { OnOk result
             (self.new ≡ with_state self.old
-            (asked_at self.old.opening self.old.state (Some place) request.now)) }
+            (asked_at self.old.state (Some place) request.now)) }
         ensures refused { IsOkUnless result world_error.NoMemory }
         ensures unchanged { OnErr result (self.new ≡ self.old) }
     {
@@ -442,18 +417,17 @@ impl Present {
             (λ a. a.kept ≡ asked_in self.old place (request.Handle name.now)) }
         ensures after { OnOk result
             (self.new ≡ with_state self.old
-            (asked_at self.old.opening self.old.state (Some place) (request.Handle name.now))) }
+            (asked_at self.old.state (Some place) (request.Handle name.now))) }
         ensures refused { IsOkUnless result world_error.NoMemory }
         ensures unchanged { OnErr result (self.new ≡ self.old) }
     {
-        let design = self.sim.design();
         let session = &mut self.sessions[place].session;
-        match session.handle_by_name(design, &self.policy, name) {
+        match session.handle_by_name(&self.policy, &self.sim, name) {
             Ok(handle) => Ok(Answer {
                 told: Reply::Handle(handle),
                 kept: Reply::Handle(handle),
             }),
-            Err(error) => session_answer(self.alloc, design, error),
+            Err(error) => session_answer(error),
         }
     }
 
@@ -464,14 +438,13 @@ impl Present {
         ensures kept { IfOk result (λ a. a.kept ≡ asked_in self.now place (request.Value handle)) }
         ensures refused { IsOkUnless result world_error.NoMemory }
     {
-        let design = self.sim.design();
         let session = &self.sessions[place].session;
-        match session.get_value(design, &self.policy, self.sim.values(), handle) {
+        match session.get_value(&self.policy, &self.sim, handle) {
             Ok(value) => Ok(Answer {
                 told: Reply::Value(value),
                 kept: Reply::Value(value),
             }),
-            Err(error) => session_answer(self.alloc, design, error),
+            Err(error) => session_answer(error),
         }
     }
 
@@ -481,7 +454,7 @@ impl Present {
         ensures told { result.told ≡ asked_in self.old place (request.Run until) }
         ensures kept { result.kept ≡ asked_in self.old place (request.Run until) }
         ensures after { self.new
-            ≡ with_state self.old (asked_at self.old.opening self.old.state (Some place)
+            ≡ with_state self.old (asked_at self.old.state (Some place)
             (request.Run until)) }
     {
         let user = self.sessions[place].session.user();

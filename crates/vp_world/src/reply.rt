@@ -1,10 +1,10 @@
-ghost use Rattle.std.specs.Prelude.{◌≡◌};
+ghost use Rattle.std.specs.Prelude.{◌≡◌, IfOk};
 
 use crate::event::SessionId;
 use crate::fault::WorldError;
+use std::alloc::AllocError;
 use vp_bits::Bits;
-use vp_list::Text;
-use vp_policy::Denial;
+use vp_policy::DenialWords;
 
 /// What a line is told where it is refused.
 #[derive(Clone, Copy, Debug, PartialEq, Eq)]
@@ -74,20 +74,33 @@ pub enum Reply {
     Handle(u32),
     /// The value of an object.
     Value(Bits),
-    /// A right is lacking. The author is that of the envelope; the object is that of the viewport, if one keeps the
-    /// user out.
-    Denied {
-        denial: Denial,
-        author: Text,
-        object: Option<Text>,
-    },
+    /// A right is lacking, in the words that the user is told.
+    Denied(DenialWords),
     /// The user may not let the design run.
     RunDenied,
     /// The current time, in time units, and whether `$finish` was executed.
-    Time {
-        time: u64,
-        finished: bool,
-    },
+    Time { time: u64, finished: bool },
     /// Another refusal.
     Error(Refusal),
+}
+
+impl Reply {
+    /// The same reply once more, whose texts are shared; or an error where their holders can't be counted.
+    pub fn try_clone(&self) -> Result<Reply, AllocError>
+        ensures { IfOk result (λ reply. reply ≡ self.now) }
+    {
+        Ok(match self {
+            Reply::Opened(session) => Reply::Opened(*session),
+            Reply::Done => Reply::Done,
+            Reply::Handle(handle) => Reply::Handle(*handle),
+            Reply::Value(bits) => Reply::Value(*bits),
+            Reply::Denied(words) => Reply::Denied(words.try_clone()?),
+            Reply::RunDenied => Reply::RunDenied,
+            Reply::Time { time, finished } => Reply::Time {
+                time: *time,
+                finished: *finished,
+            },
+            Reply::Error(refusal) => Reply::Error(*refusal),
+        })
+    }
 }

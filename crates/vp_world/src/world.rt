@@ -49,7 +49,7 @@ impl World {
             (λ world. world ≡ record {
               opening = record {
                 design = arc_value checked;
-                users = policy;
+                policy = policy;
                 limits = limits;
               };
               log = [];
@@ -100,7 +100,7 @@ impl World {
     }
 
     /// The same of a Step.
-    fn apply_step(&mut self, k: usize) -> Result<Reply, WorldError>
+    fn apply_step(&mut self, k: u32) -> Result<Reply, WorldError>
         ensures accepted { OnOk result (refused_by self.old (event.Step k) ≡ None) }
         ensures reply { IfOk result (λ reply. reply ≡ answered_by self.old (event.Step k)) }
         ensures logged { OnOk result (self.new ≡ with_entry self.old (event.Step k)) }

@@ -9,7 +9,7 @@ use Rattle.vp_strata.specs.declared.event.Event.{Event}
 use Rattle.vp_strata.specs.declared.event.Event.TheVariants.{Evaluation, NetUpdate, Nonblocking}
 use Rattle.vp_strata.specs.Queues.{first_time, is_done, peeked}
 use Rattle.vp_sim.specs.declared.fault.SimError.TheVariants.{NoMemory}
-use Rattle.vp_sim.specs.States.{Outcome, Goes, Refuses, State, advance, advanced_to, begun, delay_of, evaluated, happened, is_late, next_effect, step, turn}
+use Rattle.vp_sim.specs.States.{Outcome, Goes, Refuses, State, advance, advanced_to, with_activation, delay_of, evaluated, happened, is_late, next_effect, step, turn}
 
 -- what a step does, or a refusal that is no want of memory
 abbrev pub IsOwn : Outcome → Type 0
@@ -41,7 +41,7 @@ happened_own tables s k (Some (Nonblocking u)) = tt
 pub step_own : (s : State) (k : ℕ) → IsOwn (step s k)
 step_own s k =
     either s.finished _ _ (λ e. cc)
-    (either (is_done s.queue) _ _ (λ e. cc) (happened_own (tables_of s.design) (begun s) k (peeked s.queue k)))
+    (either (is_done s.queue) _ _ (λ e. cc) (happened_own (tables_of s.design) (with_activation s) k (peeked s.queue k)))
 
 advanced_own : (s : State) (time : Option ℕ) → IsOwn (advanced_to s time)
 advanced_own s None = λ e. cc

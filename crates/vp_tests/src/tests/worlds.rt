@@ -76,7 +76,7 @@ enum Deed {
     /// A run until time 0 is asked in it.
     Run,
     /// The simulation takes the k-th event.
-    Step(usize),
+    Step(u32),
     /// The simulation goes on.
     Advance,
 }

@@ -20,12 +20,12 @@ pub returns-clause-ok : goal.returns-clause-ok
 returns-clause-ok c =
     let text = c.args.text.now in
     let tokens = c.args.tokens.now in
-    MatchResult-weaker c.ended.result (c.ended.ensures text)
+    MatchResult-weaker c.ended.result (c.ended.ensures)
     (λ _ h. subst (AreEnvelopes text tokens) (ap envelopes_behind c.in_ok-read.ensures.done ∙ h) (are_read text tokens)) (λ _ _. tt)
 
 pub returns-clause-fault : goal.returns-clause-fault
 returns-clause-fault c =
     let text = c.args.text.now in
     let tokens = c.args.tokens.now in
-    MatchResult-weaker c.ended.result (c.ended.ensures text) (λ _ _. tt)
+    MatchResult-weaker c.ended.result (c.ended.ensures) (λ _ _. tt)
     (λ e h. (envelopes_read text tokens, are_read text tokens, subst (λ (r : Result Progress PragmaError). Explains (envelopes_behind r) e) (sym c.in_ok-read.ensures.done) h))

@@ -12,7 +12,7 @@ pub returns-in_err-read_view-clause-opened : goal.returns-in_err-read_view-claus
 returns-in_err-read_view-clause-opened c =
     let p = err_from_is_err_and c.from_residual.result c.from_residual.ensures.1 in
     let text = c.args.line.text.now in
-    let r = progress_of text c.args.reading.now in
+    let r = progress_of c.args.reading.now in
     rw (p.1, p.2)
     (subst (λ (q : Result Progress PragmaError). Explains q c.in_err-read_view.field-0.0)
     (sym (in_envelope text r c.args.line.directive.line c.args.view c.in-Some.view c.args.reading.now.«open» c.in-Some.is (c.is_none.ensures ∙ ap not c.if-is_none.false)))
@@ -21,6 +21,6 @@ returns-in_err-read_view-clause-opened c =
 pub returns-clause-opened : goal.returns-clause-opened
 returns-clause-opened c =
     let text = c.args.line.text.now in
-    let r = progress_of text c.args.reading.now in
+    let r = progress_of c.args.reading.now in
     in_envelope text r c.args.line.directive.line c.args.view c.in-Some.view c.args.reading.now.«open» c.in-Some.is (c.is_none.ensures ∙ ap not c.if-is_none.false)
     ∙ one_more text c.args.line.directive.line _ c.args.reading.now c.in_ok-read_view.field-0 _ c.in-Some.view c.in_ok-read_view.ensures (omega (arith, c.args.reading.now.closed.ok.0, c.len.ensures)) c.in_ok-push.ensures.items

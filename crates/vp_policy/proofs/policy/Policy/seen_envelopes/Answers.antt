@@ -9,8 +9,8 @@ pub loop-before-preserved : goal.loop-before-preserved
 loop-before-preserved c =
     let user : Member = member_at c.args.self.now c.args.user.0 in
     let seen = c.loop-before.envelopes.items in
-    let author = c.in_ok-copy.field-0 in
+    let author = c.in_ok-shared_author.field-0 in
     let granted = c.has_entry.result in
     ap (map envelope_shown) (c.in_ok-push.ensures {u = tt}).items ∙ map-append envelope_shown seen (record { author = author; granted = granted } ∷ [])
     ∙ envelopes_more user c.args.design.now.tree.authors c.loop-before.before (map envelope_shown seen) author granted (omega arith) c.loop-before.invariant
-    (c.in_ok-copy.ensures {u = tt} ∙ c.author.ensures) c.has_entry.ensures
+    (c.in_ok-shared_author.ensures {u = tt}) c.has_entry.ensures

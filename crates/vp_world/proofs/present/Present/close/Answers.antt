@@ -1,7 +1,8 @@
+use Rattle.std.specs.Arc.{arc_value}
 use Rattle.vp_world.proofs.Standings.{closed_shown}
 use Rattle.vp_world.proofs.present.Present.close.Goals as goal
 
 pub returns : goal.returns
 returns c =
     let inside = c.self.inside in
-    closed_shown inside.sim inside.policy inside.limits inside.sessions.items c.remove.new.self.items inside.opens.items inside.goal c.args.place c.args.self.now c.self.view_is c.remove.ensures.items
+    closed_shown inside.sim (arc_value inside.first_policy) (arc_value inside.policy) inside.limits inside.sessions.items c.remove.new.self.items inside.opens.items inside.goal c.args.place c.args.self.now c.self.view_is c.remove.ensures.items

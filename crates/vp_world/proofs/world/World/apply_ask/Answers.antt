@@ -1,25 +1,52 @@
-use Rattle.std.proofs.Common.{rules, ◌≡◌, ◌++◌, ◌∷◌, [], None, Some, Option, ℕ, refl, ap, sym, ◌∙◌}
-use Rattle.vp_world.specs.declared.entry.Entry.{Entry}
-use Rattle.vp_world.specs.declared.event.Event.TheVariants as event
-use Rattle.vp_world.specs.History.{asked, asked_at, refusal_behind, state_behind, with_state}
+use Rattle.std.proofs.Common.{rules, ◌≡◌, ◌++◌, List, ◌∷◌, [], None, Some, Option, ℕ, sym, ap, ◌∙◌}
 use Rattle.std.specs.Prelude.{slice_get, option_and_then}
-use Rattle.vp_world.specs.Worlds.{index_of}
-use Rattle.vp_world.proofs.Logs.{entry_is, keeps_more}
+use Rattle.vp_world.specs.declared.entry.Entry.{Entry}
+use Rattle.vp_world.specs.declared.event.Event.{Event}
+use Rattle.vp_world.specs.declared.event.Event.TheVariants as event
+use Rattle.vp_world.specs.History.{after, answer, asked, asked_at, entry_of, refusal_behind, session_of, state_behind, with_state}
+use Rattle.vp_world.specs.Worlds.{Standing, index_of}
+use Rattle.vp_world.proofs.Logs.{entry_is, keeps_more, seen_more}
+use Rattle.vp_world.proofs.Naming.{nothing_put}
 use Rattle.vp_world.proofs.world.World.apply_ask.Goals as goal
+
+module _ (c : goal.After-push_reserved) where
+  abbrev w : Standing
+  w = c.self.inside.present
+
+  abbrev log : List Entry
+  log = c.self.inside.log.items
+
+  abbrev happens : Event
+  happens = event.Ask c.args.session c.args.request
+
+  abbrev entry : Entry
+  entry = record { event = happens; reply = c.in_ok-answer.answer.kept; change = None; time = c.time.result; finished = c.finished.result }
+
+  found : index_of w.state.sessions c.args.session ≡ Some c.in_ok-place.place
+  found = (c.in_ok-place.ensures {u = tt}).place
+
+  behind : c.ask.new.self ≡ with_state w (after w.opening w.state happens)
+  behind =
+      (c.in_ok-answer.ensures {u = tt}).after
+      ∙ ap (λ (o : Option ℕ). with_state w (asked_at w.state o c.args.request)) (sym found)
+
+  kept : c.in_ok-answer.answer.kept ≡ answer w.opening w.state happens
+  kept =
+      (c.in_ok-answer.ensures {u = tt}).kept
+      ∙ ap (λ (o : Option ℕ). asked w.state (option_and_then (slice_get w.state.sessions) o) c.args.request) (sym found)
+
+  added : c.push_reserved.new.self.items ≡ log ++ entry ∷ []
+  added = search rules
+
+  made : entry ≡ entry_of w.opening (state_behind w.opening log) happens
+  made = entry_is w.opening w.state (state_behind w.opening log) entry c.self.invariant.state kept (sym (nothing_put w.state (session_of w.state.sessions c.args.session) c.args.request)) (c.time.ensures ∙ ap (λ (s : Standing). s.state.run.time) behind) (c.finished.ensures ∙ ap (λ (s : Standing). s.state.run.finished) behind)
 
 pub invariant_of-self-2 : goal.invariant_of-self-2
 invariant_of-self-2 c =
-    let w = c.self.inside.present in
-    let log = c.self.inside.log.items in
-    let request = c.args.request in
-    let id = c.args.session in
-    let found : index_of w.state.sessions id ≡ Some c.in_ok-place.place = (c.in_ok-place.ensures {u = tt}).place in
-    let answer = c.in_ok-answer.answer in
-    let asked_there = c.in_ok-answer.ensures {u = tt} in
-    let entry : Entry = record { event = event.Ask id request; reply = answer.kept; change = None; time = c.time.result; finished = c.finished.result } in
-    let added : c.push_reserved.new.self.items ≡ log ++ entry ∷ [] = search rules in
-    let accepted : refusal_behind w.opening log (event.Ask id request) ≡ None = search rules in
-    let after = asked_there.after ∙ ap (λ (o : Option ℕ). with_state w (asked_at w.opening w.state o request)) (sym found) in
-    let kept = asked_there.kept ∙ ap (λ (o : Option ℕ). asked w.opening w.state (option_and_then (slice_get w.state.sessions) o) request) (sym found) in
-    keeps_more w c.ask.new.self log c.push_reserved.new.self.items entry c.self.invariant after added c.requires accepted
-    (entry_is w.opening w.state (state_behind w.opening log) entry c.self.invariant.state kept refl (search rules) (search rules))
+    let accepted : refusal_behind (w c).opening (log c) (happens c) ≡ None = search rules in
+    keeps_more (w c) c.ask.new.self (log c) c.push_reserved.new.self.items (entry c) c.self.invariant (behind c) (added c) c.requires accepted (made c)
+
+pub returns-clause-logged : goal.returns-clause-logged
+returns-clause-logged c =
+    seen_more (w c) c.ask.new.self (log c) c.push_reserved.new.self.items (entry c) c.args.self.now c.self.view_is
+    (behind c ∙ ap (λ (s : Standing). with_state (w c) s.state) (sym (behind c))) (added c) (made c)

@@ -34,7 +34,7 @@ module _ (c : goal.After-push_reserved) where
   abbrev entry : Entry
   entry = record { event = happens; reply = reply.Opened c.in_ok-id.id; change = None; time = c.time.result; finished = c.finished.result }
 
-  found : login_of w.opening.users c.args.user c.args.token ≡ Some c.in_ok-number.number.0
+  found : login_of w.state.policy c.args.user c.args.token ≡ Some c.in_ok-number.number.0
   found = search rules
 
   behind : c.open_for.new.self ≡ with_state w (after w.opening w.state happens)
