@@ -6,10 +6,9 @@ use Rattle.std.specs.Option.{option_map_or}
 use Rattle.std.proofs.Math.Nat.{le-max_right, max-le}
 use Rattle.std.proofs.lemmas.Bool.{and_parts, le-leb}
 use Rattle.vp_elab.specs.declared.object.ObjectId.{ObjectId}
-use Rattle.vp_processes.specs.declared.process.Process as run
-use Rattle.vp_processes.specs.declared.process.Process.TheVariants as going
 use Rattle.vp_elab.specs.Built.{Elaborated}
-use Rattle.vp_processes.specs.Processes as elaborated
+use Rattle.vp_expr.specs.Origins as origin
+use Rattle.vp_expr.specs.Origins.{Origin, origins_of}
 use Rattle.vp_elab.specs.Tree.{Node}
 use Rattle.vp_expr.specs.declared.tables.Process.TheVariants as process
 use Rattle.vp_expr.specs.declared.tables.Tables.{Tables}
@@ -46,20 +45,20 @@ module _ (d : Elaborated) (wide : list_all is_width (widths_of d) ≡ true) (fit
       ap (λ t. is_some (option_map (process.Assignment object net instance) (cond t (Some sized) None)))
       (greater_fits (width_in d net.0) (get_or (sizes_of d) value 1) (width_there d.tree.nodes net.0 wide) (each_fits (sizes_of d) value fit))
 
-  runs : (p : run.Process) → is_some (process_of d (sizes_of d) p) ≡ true
-  runs (going.Procedure object instance repeats body) = refl
-  runs (going.Assignment object instance net value) = assigns object net instance value
-  runs (going.Inward port instance value) = assigns port port instance value
-  runs (going.Outward port net) = refl
+  runs : (p : Origin) → is_some (process_of d (sizes_of d) p) ≡ true
+  runs (origin.Procedure object instance repeats body) = refl
+  runs (origin.Assignment object instance net value) = assigns object net instance value
+  runs (origin.Inward port instance value) = assigns port port instance value
+  runs (origin.Outward port net) = refl
 
-  all_of : (ps : List run.Process) → length (filter_map (process_of d (sizes_of d)) ps) ≡ length ps
+  all_of : (ps : List Origin) → length (filter_map (process_of d (sizes_of d)) ps) ≡ length ps
   all_of [] = refl
   all_of (p ∷ ps) = kept (process_of d (sizes_of d) p) (filter_map (process_of d (sizes_of d)) ps) (runs p) ∙ ap suc (all_of ps)
 
 -- the tables of a checked design have all of its processes
-pub all_run : (d : Elaborated) (t : Tables) → IsChecked d t → length t.processes ≡ length (elaborated.processes_of d)
+pub all_run : (d : Elaborated) (t : Tables) → IsChecked d t → length t.processes ≡ length (origins_of d)
 unfolding tables_of
 all_run d t checked =
     let wide : list_all is_width (widths_of d) ≡ true = sym (ap (λ (s : Tables). list_all is_width s.widths) checked.tables_are) ∙ checked.wide in
     let fit : list_all is_width (sizes_of d) ≡ true = sym (ap (λ (s : Tables). list_all is_width s.sizes) checked.tables_are) ∙ checked.fit in
-    ap (λ (s : Tables). length s.processes) checked.tables_are ∙ all_of d wide fit (elaborated.processes_of d)
+    ap (λ (s : Tables). length s.processes) checked.tables_are ∙ all_of d wide fit (origins_of d)

@@ -5,6 +5,10 @@ mod AwaitRows
 mod DerivedRows
 mod ModuleRows
 mod ProcessRows
+mod OriginRows
+pub mod Connected
+pub mod FirstIndexes
+pub mod PortSteps
 mod StartRows
 pub mod Sized
 pub mod AllRun

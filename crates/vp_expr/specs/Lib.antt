@@ -1,4 +1,5 @@
 pub mod Awaits
+pub mod Origins
 pub mod Tables
 pub mod Start
 pub mod Evaluation

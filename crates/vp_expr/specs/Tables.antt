@@ -13,9 +13,8 @@ use Rattle.vp_source.specs.declared.source.Source.{Source}
 use Rattle.vp_names.specs.Items.{statements_in}
 use Rattle.vp_elab.specs.Built.{Elaborated}
 use Rattle.vp_elab.specs.Elaboration.{range_width}
-use Rattle.vp_processes.specs.Processes as elaborated
-use Rattle.vp_processes.specs.declared.process.Process as run
-use Rattle.vp_processes.specs.declared.process.Process.TheVariants as going
+use Rattle.vp_expr.specs.Origins as origin
+use Rattle.vp_expr.specs.Origins.{Origin, origins_of}
 use Rattle.vp_elab.specs.declared.object.ObjectId.{ObjectId}
 use Rattle.vp_expr.specs.declared.awaited.Awaited.{Awaited}
 use Rattle.vp_expr.specs.declared.tables.Action.{Action}
@@ -147,13 +146,13 @@ abbrev pub assignment_of : Elaborated → (sizes : List ℕ) → (object net ins
 assignment_of design sizes object net instance value =
     option_map (process.Assignment object net instance) (sized_at value (driven_size design sizes net.0 value))
 
--- a process of the design as one that a simulator runs: a connection inwards is a continuous assignment to the port, one outwards
+-- the process that comes of an origin, its value in its context: a connection inwards is a continuous assignment to the port, one outwards
 -- of the port to the net outside (clauses 6.1, 9.9 and 12.3.9.2)
-abbrev pub process_of : Elaborated → (sizes : List ℕ) → run.Process → Option Process
-process_of design sizes (going.Procedure object instance repeats body) = Some (process.Procedure object instance repeats body)
-process_of design sizes (going.Assignment object instance net value) = assignment_of design sizes object net instance value
-process_of design sizes (going.Inward port instance value) = assignment_of design sizes port port instance value
-process_of design sizes (going.Outward port net) = Some (process.Connection port net)
+abbrev pub process_of : Elaborated → (sizes : List ℕ) → Origin → Option Process
+process_of design sizes (origin.Procedure object instance repeats body) = Some (process.Procedure object instance repeats body)
+process_of design sizes (origin.Assignment object instance net value) = assignment_of design sizes object net instance value
+process_of design sizes (origin.Inward port instance value) = assignment_of design sizes port port instance value
+process_of design sizes (origin.Outward port net) = Some (process.Connection port net)
 
 -- the object of a process; of a connection the port
 abbrev pub process_object : Process → ObjectId
@@ -161,9 +160,17 @@ process_object (process.Procedure object instance repeats body) = object
 process_object (process.Assignment object net instance value) = object
 process_object (process.Connection port net) = port
 
+-- the process that comes of an origin, if there is one
+abbrev pub process_from : Elaborated → (sizes : List ℕ) → Option Origin → Option Process
+process_from design sizes o = option_and_then (process_of design sizes) o
+
+-- the processes that come of origins, in order
+abbrev pub processes_from : Elaborated → (sizes : List ℕ) → List Origin → List Process
+processes_from design sizes os = filter_map (process_of design sizes) os
+
 -- the processes of a design, by the sizes of its expressions
 abbrev pub processes_of : Elaborated → (sizes : List ℕ) → List Process
-processes_of design sizes = filter_map (process_of design sizes) (elaborated.processes_of design)
+processes_of design sizes = processes_from design sizes (origins_of design)
 
 -- the tables of a design
 unfoldable pub tables_of : Elaborated → Tables

@@ -1,6 +1,6 @@
 ghost use Rattle.std.specs.Prelude.{◌≡◌, ◌≤◌, ℕ, [], slice_index_or, true, length, map, All, None, IfErr, IfOk, OnOk};
 ghost use Rattle.std.specs.List.{list_all};
-ghost use Rattle.vp_processes.specs.Processes.{processes_of};
+ghost use Rattle.vp_expr.specs.Origins.{origins_of};
 ghost use Rattle.vp_operand.specs.Arena.{is_width};
 ghost use Rattle.vp_source.specs.ExprGrammar.{Expr};
 ghost use Rattle.vp_source.specs.declared.source.Module.{Module};
@@ -60,7 +60,7 @@ impl Checked {
     pub fn tables(&self) -> &Tables
         ensures tables { result.now ≡ tables_of self.now }
         ensures fit { list_all is_width result.now.sizes ≡ true }
-        ensures whole { length result.now.processes ≡ length (processes_of self.now) }
+        ensures whole { length result.now.processes ≡ length (origins_of self.now) }
     {
         &self.tables
     }

@@ -5,6 +5,7 @@ mod actions;
 mod awaited;
 mod checked;
 mod evaluation;
+mod process;
 mod statement_reads;
 mod tables;
 mod values;

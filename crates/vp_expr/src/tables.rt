@@ -1,11 +1,12 @@
 ghost use Rattle.std.specs.Prelude.{◌≡◌, true, false, IfOk, IfSome, MatchOption};
 ghost use Rattle.vp_operand.specs.Arena.{fitting};
-ghost use Rattle.vp_expr.specs.Tables.{IsChecked, assignment_of, process_of, processes_of};
+ghost use Rattle.vp_expr.specs.Tables.{IsChecked, assignment_of};
 ghost use Rattle.vp_resolve.specs.Checks.{refusal_of};
 ghost use Rattle.vp_resolve.specs.Operands.{all_fit, operands_of, widths_of};
 
 use crate::actions::{actions_of, sized_at};
 use crate::awaited::{Awaited, awaits_of};
+use crate::process::processes_of;
 use std::alloc::{AllocError, Global};
 use vp_elab::{Design, ObjectId};
 use vp_list::Sequence;
@@ -167,7 +168,7 @@ pub struct Tables {
 }
 
 /// A continuous assignment of the expression at a place to a net, at the greater of the net's width and its own size.
-fn assignment_of(
+pub fn assignment_of(
     design: &Design,
     sizes: &[u8],
     object: ObjectId,
@@ -185,55 +186,6 @@ fn assignment_of(
         instance,
         value,
     })
-}
-
-/// A process of a design as one that a simulator runs; none where no vector has the size of its value's context.
-fn process_of(design: &Design, sizes: &[u8], process: vp_processes::Process) -> Option<Process>
-    ensures { result ≡ process_of design.now sizes.now process }
-{
-    match process {
-        vp_processes::Process::Procedure {
-            object,
-            instance,
-            repeats,
-            body,
-        } => Some(Process::Procedure {
-            object,
-            instance,
-            repeats,
-            body,
-        }),
-        vp_processes::Process::Assignment {
-            object,
-            instance,
-            net,
-            value,
-        } => assignment_of(design, sizes, object, net, instance, value),
-        vp_processes::Process::Inward {
-            port,
-            instance,
-            value,
-        } => assignment_of(design, sizes, port, port, instance, value),
-        vp_processes::Process::Outward { port, net } => Some(Process::Connection { port, net }),
-    }
-}
-
-/// The processes of a design, by the sizes of its expressions. Takes memory.
-fn processes_of(
-    alloc: Global,
-    design: &Design,
-    sizes: &[u8],
-) -> Result<Sequence<Process>, AllocError>
-    ensures { IfOk result (λ processes. processes ≡ processes_of design.now sizes.now) }
-{
-    let elaborated = vp_processes::processes_of(alloc, design)?;
-    let mut processes = Vec::new(alloc);
-    for process in elaborated.as_slice() {
-        if let Some(process) = process_of(design, sizes, *process) {
-            processes.push(process)?;
-        }
-    }
-    Ok(Sequence::from_vec(processes))
 }
 
 /// The widths of the objects of a design, in bits; none where one is not 1 to 64.

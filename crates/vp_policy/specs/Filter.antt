@@ -11,9 +11,9 @@ use Rattle.vp_policy.specs.declared.denial.By.TheVariants as by
 use Rattle.vp_policy.specs.declared.denial.Barrier.{Barrier}
 use Rattle.vp_policy.specs.declared.denial.Barrier.TheVariants as barrier
 use Rattle.vp_policy.specs.declared.denial.Denial.{Denial}
-use Rattle.vp_policy.specs.declared.denial.DenialWords.{DenialWords}
 use Rattle.vp_policy.specs.declared.denial.Look.{Look}
 use Rattle.vp_policy.specs.declared.denial.Look.TheVariants as look
+use Rattle.vp_policy.specs.Denials.{DenialWords}
 use Rattle.vp_policy.specs.Users.{Member, granted, has_entry}
 
 -- ---- rights

@@ -4,6 +4,7 @@ pub use Rattle.vp_elab.specs.Tree
 pub mod Faults
 pub mod Users
 pub mod Members
+pub mod Denials
 pub mod Filter
 pub mod View
 pub mod SeenObjects

@@ -1,7 +1,10 @@
-ghost use Rattle.std.specs.Prelude.{◌≡◌, IfOk};
+ghost use Rattle.std.specs.Prelude.{◌≡◌, option_map, IfOk};
+ghost use Rattle.vp_policy.specs.Denials.{words_shown};
 ghost use Rattle.vp_policy.specs.Filter.{barrier_of, viewport_object, words_of};
 
-use std::alloc::AllocError;
+use std::alloc::{AllocError, Global};
+use std::marker::Model;
+use std::sync::Arc;
 use vp_elab::{Design, ObjectId};
 use vp_list::SharedText;
 use vp_pragma::Right;
@@ -38,18 +41,30 @@ pub enum Barrier {
     Grant,
 }
 
-/// A denial in the words that its user is told. A viewport is named by its object: its number would count viewports that he
-/// can't see.
+/// The words of a denial.
+#[derive(Drop)]
+pub struct Words {
+    by: Barrier,
+    envelope: u8,
+    right: Right,
+    author: SharedText,
+    object: Option<SharedText>,
+}
+
+/// A denial in the words that its user is told, which several may hold at once. A viewport is named by its object: its number
+/// would count viewports that he can't see. A contract sees the words.
 #[derive(Drop)]
 pub struct DenialWords {
-    pub by: Barrier,
-    /// The number of the envelope; 0 for the open text.
-    pub envelope: u8,
-    pub right: Right,
-    /// The author of the envelope; empty for the open text.
-    pub author: SharedText,
-    /// The object that the viewport names which keeps him out, if one does.
-    pub object: Option<SharedText>,
+    words: Arc<Words>,
+}
+
+impl Model for DenialWords {
+    ghost use Rattle.std.specs.Arc.{arc_value};
+    ghost use Rattle.vp_policy.specs.Denials.{DenialWords, words_shown};
+
+    ghost Value = { DenialWords };
+
+    ghost view = { λ w. words_shown (arc_value w.words) };
 }
 
 impl By {
@@ -76,28 +91,22 @@ fn viewport_object(design: &Design, by: By) -> Result<Option<SharedText>, AllocE
 }
 
 impl Denial {
-    /// The denial in words, whose texts are the design's own; or an error where their holders can't be counted.
-    pub fn words(self, design: &Design) -> Result<DenialWords, AllocError>
+    /// The denial in words, whose texts are the design's own. Takes memory.
+    pub fn words(self, alloc: Global, design: &Design) -> Result<DenialWords, AllocError>
         ensures { IfOk result (λ words. words ≡ words_of design.now.tree self) }
     {
         let envelope = self.envelope;
-        Ok(DenialWords {
+        let words = Words {
             by: self.by.barrier(),
             envelope,
             right: self.right,
             author: design.shared_author(envelope)?,
             object: viewport_object(design, self.by)?,
-        })
-    }
-}
-
-/// The same text for one holder more, if there is one.
-fn shared(text: &Option<SharedText>) -> Result<Option<SharedText>, AllocError>
-    ensures { IfOk result (λ again. again ≡ text.now) }
-{
-    match text {
-        Some(text) => Ok(Some(text.try_clone()?)),
-        None => Ok(None),
+        };
+        match Arc::new(alloc, words) {
+            Ok(words) => Ok(DenialWords { words }),
+            Err(_) => Err(AllocError),
+        }
     }
 }
 
@@ -107,12 +116,53 @@ impl DenialWords {
         ensures { IfOk result (λ words. words ≡ self.now) }
     {
         Ok(DenialWords {
-            by: self.by,
-            envelope: self.envelope,
-            right: self.right,
-            author: self.author.try_clone()?,
-            object: shared(&self.object)?,
+            words: Arc::try_clone(&self.words)?,
         })
+    }
+
+    /// The words.
+    fn held(&self) -> &Words
+        ensures { words_shown result.now ≡ self.now }
+    {
+        &self.words
+    }
+
+    /// What keeps the user out.
+    pub fn by(&self) -> Barrier
+        ensures { result ≡ self.now.by }
+    {
+        self.held().by
+    }
+
+    /// The number of the envelope; 0 for the open text.
+    pub fn envelope(&self) -> u8
+        ensures { result ≡ self.now.envelope }
+    {
+        self.held().envelope
+    }
+
+    /// The right that the user lacks.
+    pub fn right(&self) -> Right
+        ensures { result ≡ self.now.right }
+    {
+        self.held().right
+    }
+
+    /// The author of the envelope; empty for the open text.
+    pub fn author(&self) -> &str
+        ensures { result.now ≡ self.now.author }
+    {
+        self.held().author.as_str()
+    }
+
+    /// The object that the viewport names which keeps the user out, if one does.
+    pub fn object(&self) -> Option<&str>
+        ensures { option_map (λ o. o.now) result ≡ self.now.object }
+    {
+        match &self.held().object {
+            Some(object) => Some(object.as_str()),
+            None => None,
+        }
     }
 }
 

@@ -8,7 +8,7 @@ use Rattle.vp_pragma.specs.declared.rights.Right.{Right}
 use Rattle.vp_pragma.specs.declared.rights.Right.TheVariants as right
 use Rattle.vp_elab.specs.declared.object.Kind.{Kind}
 use Rattle.vp_elab.specs.Tree.{Tree, has_value}
-use Rattle.vp_policy.specs.declared.denial.DenialWords.{DenialWords}
+use Rattle.vp_policy.specs.Denials.{DenialWords}
 use Rattle.vp_policy.specs.declared.denial.Look.{Look}
 use Rattle.vp_policy.specs.declared.denial.Look.TheVariants as look
 use Rattle.vp_policy.specs.Users.{Member}

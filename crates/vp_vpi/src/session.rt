@@ -19,6 +19,7 @@ pub const HANDLE_LIMIT: usize = 65_536;
 /// used again. A contract sees its user and his handles.
 #[derive(Drop)]
 pub struct Session {
+    alloc: Global,
     user: UserId,
     handles: IndexMap<u32, ObjectId>,
     /// The number of the newest handle; 0 before the first.
@@ -43,6 +44,7 @@ impl Session {
         ensures { result ≡ record { user = user.0; handles = no_handles } }
     {
         Session {
+            alloc,
             user,
             handles: IndexMap::new(alloc),
             newest: 0,
@@ -95,7 +97,7 @@ impl Session {
             (λ e. Explains (handle_of self.now.handles (lookup_of design.now.tree found)) e) }
     {
         match found {
-            Look::Denied(denial) => Err(VpiError::Denied(denial.words(design)?)),
+            Look::Denied(denial) => Err(VpiError::Denied(denial.words(self.alloc, design)?)),
             _ if self.handles.len() >= HANDLE_LIMIT || self.newest == u32::MAX => {
                 Err(VpiError::TooManyHandles)
             }
@@ -124,7 +126,7 @@ impl Session {
         let design = sim.design();
         let object = self.object(handle).ok_or(VpiError::BadHandle)?;
         if let Some(denial) = policy.lacking(design, self.user, object, Right::Read) {
-            return Err(VpiError::Denied(denial.words(design)?));
+            return Err(VpiError::Denied(denial.words(self.alloc, design)?));
         }
         match design.object(object) {
             Some(found) if found.kind.has_value() => Ok(sim.value(object)),

@@ -11,7 +11,7 @@ use Rattle.vp_bits.specs.Digits.{digit_of}
 use Rattle.vp_pragma.specs.Rights.{name_of}
 use Rattle.vp_policy.specs.declared.denial.Barrier.{Barrier}
 use Rattle.vp_policy.specs.declared.denial.Barrier.TheVariants as by
-use Rattle.vp_policy.specs.declared.denial.DenialWords.{DenialWords}
+use Rattle.vp_policy.specs.Denials.{DenialWords}
 use Rattle.vp_policy.specs.Filter.{run_denied}
 use Rattle.vp_world.specs.declared.event.Request.{Request}
 use Rattle.vp_world.specs.declared.event.Request.TheVariants as request

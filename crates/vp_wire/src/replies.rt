@@ -91,13 +91,13 @@ fn denial_members(
 fn denied(alloc: Global, words: &DenialWords) -> Result<Value, AllocError>
     ensures { IfOk result (λ v. view v ≡ denial_data words.now) }
 {
-    let by = by_text(words.by);
-    let right = words.right.name();
-    let mut members = denial_members(alloc, words.author.as_str(), by, words.envelope, right)?;
-    let Some(object) = &words.object else {
+    let by = by_text(words.by());
+    let right = words.right().name();
+    let mut members = denial_members(alloc, words.author(), by, words.envelope(), right)?;
+    let Some(object) = words.object() else {
         return only(alloc, "denied", Value::Object(members));
     };
-    put_text(alloc, &mut members, "object", object.as_str())?;
+    put_text(alloc, &mut members, "object", object)?;
     only(alloc, "denied", Value::Object(members))
 }
 

@@ -4,7 +4,7 @@ use Rattle.std.specs.Prelude.{IfErr, fold}
 use Rattle.vp_waking.specs.declared.change.Change.{Change}
 use Rattle.vp_world.specs.declared.fault.WorldError.{WorldError}
 use Rattle.vp_world.specs.declared.reply.Reply.{Reply}
-use Rattle.vp_world.specs.declared.entry.Entry.{Entry}
+use Rattle.vp_world.specs.Entries.{Entry}
 use Rattle.vp_world.specs.Events.{IsWellFormed}
 use Rattle.vp_world.specs.History.{Explains, IsLegal, Keeps, after, answer, changed, entry_of, refusal_behind, state_behind, with_entry}
 use Rattle.vp_world.specs.Worlds.{Logged, Opening, Standing, State, start}

@@ -7,7 +7,7 @@ use Rattle.vp_policy.specs.Users.{login_of, member_at}
 use Rattle.vp_waking.specs.declared.change.Change.{Change}
 use Rattle.vp_sim.specs.States as sim
 use Rattle.vp_vpi.specs.Observers.{Seat, no_handles, observer_of}
-use Rattle.vp_world.specs.declared.entry.Entry.{Entry}
+use Rattle.vp_world.specs.Entries.{Entry}
 use Rattle.vp_world.specs.declared.event.SessionId.{SessionId}
 use Rattle.vp_world.specs.declared.event.Request.{Request}
 use Rattle.vp_world.specs.declared.event.Event.{Event}

@@ -5,6 +5,7 @@ pub use Rattle.vp_vpi.specs.Observers
 pub mod Events
 pub mod Faults
 pub mod Refusals
+pub mod Entries
 pub mod Worlds
 pub mod Answers
 pub mod History

@@ -10,7 +10,7 @@ mod reply;
 mod session;
 mod world;
 
-pub use entry::Entry;
+pub use entry::{Asked, Entry, Happening, Login};
 pub use event::{Event, Request, SessionId};
 pub use fault::WorldError;
 pub use limits::Limits;

@@ -10,7 +10,7 @@ ghost use Rattle.vp_world.specs.declared.reply.Reply.TheVariants as reply;
 ghost use Rattle.vp_world.specs.Answers.{refused};
 ghost use Rattle.vp_world.specs.Events.{IsAsked};
 ghost use Rattle.vp_world.specs.History.{Explains, asked_at, asked_in, change_of, closed_at, is_beyond, is_full, is_next_beyond, later, next_session, opened_by, refusal_in, refusal_of_log, refusal_of_outcome, refusal_of_session, refusal_of_step, due_advance, due_step, stepped, with_state};
-ghost use Rattle.vp_world.specs.Done.{done};
+ghost use Rattle.vp_world.specs.Done.{done_answer};
 ghost use Rattle.vp_world.specs.Worlds.{index_of, start};
 
 use crate::event::{Request, SessionId};
@@ -92,8 +92,8 @@ fn session_answer(error: VpiError) -> Result<Answer, WorldError>
 }
 
 /// The answer that it was done.
-fn done() -> Answer
-    ensures { result ≡ done }
+fn done_answer() -> Answer
+    ensures { result ≡ done_answer }
 {
     Answer {
         told: Reply::Done,
@@ -465,7 +465,7 @@ impl Present {
             };
         }
         self.goal = Some(later(self.goal, until));
-        done()
+        done_answer()
     }
 
     /// The current time.

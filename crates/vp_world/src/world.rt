@@ -5,7 +5,7 @@ ghost use Rattle.vp_world.specs.declared.fault.WorldError.TheVariants.{NoMemory}
 ghost use Rattle.vp_world.specs.Events.{IsAsked, IsWellFormed};
 ghost use Rattle.vp_world.specs.History.{Explains, IsLegal, answered_by, is_log_full, refused_by, with_entry};
 
-use crate::entry::Entry;
+use crate::entry::{Asked, Entry, Happening, Login};
 use crate::event::{Event, Request, SessionId};
 use crate::fault::WorldError;
 use crate::limits::Limits;
@@ -22,6 +22,7 @@ use vp_policy::Policy;
 /// began and its log, of which its state is a function.
 #[derive(Drop)]
 pub struct World {
+    alloc: Global,
     present: Present,
     log: Vec<Entry>,
 }
@@ -58,6 +59,7 @@ impl World {
     {
         let present = Present::new(alloc, checked, policy, limits)?;
         Ok(World {
+            alloc,
             present,
             log: Vec::new(alloc),
         })
@@ -116,9 +118,7 @@ impl World {
         }
         let change = self.present.step(k)?;
         self.log.push_reserved(Entry {
-            event: Event::Step(k),
-            reply: Reply::Done,
-            change,
+            happening: Happening::Step { k, change },
             time: self.present.time(),
             finished: self.present.finished(),
         });
@@ -141,9 +141,7 @@ impl World {
         }
         self.present.advance()?;
         self.log.push_reserved(Entry {
-            event: Event::Advance,
-            reply: Reply::Done,
-            change: None,
+            happening: Happening::Advance,
             time: self.present.time(),
             finished: self.present.finished(),
         });
@@ -163,15 +161,14 @@ impl World {
         let full = self.is_full();
         let number = self.present.admit(user.as_str(), token.as_str(), full)?;
         self.log.reserve(1)?;
-        let id = self.present.open_for(number)?;
+        let login = Arc::new(self.alloc, Login { user, token })?;
+        let session = self.present.open_for(number)?;
         self.log.push_reserved(Entry {
-            event: Event::Open { user, token },
-            reply: Reply::Opened(id),
-            change: None,
+            happening: Happening::Open { login, session },
             time: self.present.time(),
             finished: self.present.finished(),
         });
-        Ok(Reply::Opened(id))
+        Ok(Reply::Opened(session))
     }
 
     /// The same of an Ask.
@@ -188,11 +185,13 @@ impl World {
         let full = self.is_full();
         let place = self.present.place(session, full)?;
         self.log.reserve(1)?;
-        let answer = self.present.ask(place, &request)?;
+        let asked = Arc::new(self.alloc, Asked { session, request })?;
+        let answer = self.present.ask(place, &asked.request)?;
         let entry = Entry {
-            event: Event::Ask { session, request },
-            reply: answer.kept,
-            change: None,
+            happening: Happening::Ask {
+                asked,
+                reply: answer.kept,
+            },
             time: self.present.time(),
             finished: self.present.finished(),
         };
@@ -214,9 +213,7 @@ impl World {
         self.log.reserve(1)?;
         self.present.close(place);
         self.log.push_reserved(Entry {
-            event: Event::Close { session },
-            reply: Reply::Done,
-            change: None,
+            happening: Happening::Close { session },
             time: self.present.time(),
             finished: self.present.finished(),
         });

@@ -22,7 +22,7 @@ returns-clause-told c =
     let session = c.index.result.now in
     let within = within_shown inside.sim (arc_value inside.first_policy) (arc_value inside.policy) inside.limits inside.sessions.items inside.opens.items inside.goal c.args.place c.args.self.now c.self.view_is c.requires in
     let flag : true ≡ (member_at (arc_value inside.policy) session.session.user).run = search rules in
-    ap (λ (a : Answer). a.told) c.done.ensures
+    ap (λ (a : Answer). a.told) c.done_answer.ensures
     ∙ run_told inside.sim (arc_value inside.first_policy) (arc_value inside.policy) inside.limits inside.sessions.items inside.opens.items inside.goal c.args.place session c.args.until true c.args.self.now c.self.view_is within c.index.ensures flag
 
 pub returns-clause-kept : goal.returns-clause-kept
@@ -31,7 +31,7 @@ returns-clause-kept c =
     let session = c.index.result.now in
     let within = within_shown inside.sim (arc_value inside.first_policy) (arc_value inside.policy) inside.limits inside.sessions.items inside.opens.items inside.goal c.args.place c.args.self.now c.self.view_is c.requires in
     let flag : true ≡ (member_at (arc_value inside.policy) session.session.user).run = search rules in
-    ap (λ (a : Answer). a.kept) c.done.ensures
+    ap (λ (a : Answer). a.kept) c.done_answer.ensures
     ∙ run_told inside.sim (arc_value inside.first_policy) (arc_value inside.policy) inside.limits inside.sessions.items inside.opens.items inside.goal c.args.place session c.args.until true c.args.self.now c.self.view_is within c.index.ensures flag
 
 pub returns-clause-after : goal.returns-clause-after

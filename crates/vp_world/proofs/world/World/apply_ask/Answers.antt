@@ -1,9 +1,11 @@
 use Rattle.std.proofs.Common.{rules, ◌≡◌, ◌++◌, List, ◌∷◌, [], None, Some, Option, ℕ, sym, ap, ◌∙◌}
 use Rattle.std.specs.Prelude.{slice_get, option_and_then}
-use Rattle.vp_world.specs.declared.entry.Entry.{Entry}
+use Rattle.vp_world.specs.declared.entry.Asked.{Asked}
+use Rattle.vp_world.specs.declared.event.Request.{Request}
+use Rattle.vp_world.specs.Entries.{Entry}
 use Rattle.vp_world.specs.declared.event.Event.{Event}
 use Rattle.vp_world.specs.declared.event.Event.TheVariants as event
-use Rattle.vp_world.specs.History.{after, answer, asked, asked_at, entry_of, refusal_behind, session_of, state_behind, with_state}
+use Rattle.vp_world.specs.History.{after, answer, asked, asked_at, asked_in, entry_of, refusal_behind, session_of, state_behind, with_state}
 use Rattle.vp_world.specs.Worlds.{Standing, index_of}
 use Rattle.vp_world.proofs.Logs.{entry_is, keeps_more, seen_more}
 use Rattle.vp_world.proofs.Naming.{nothing_put}
@@ -25,14 +27,19 @@ module _ (c : goal.After-push_reserved) where
   found : index_of w.state.sessions c.args.session ≡ Some c.in_ok-place.place
   found = (c.in_ok-place.ensures {u = tt}).place
 
+  same : c.deref.result.now.request ≡ c.args.request
+  same = ap (λ (a : Asked). a.request) (c.deref.ensures ∙ (c.in_ok-asked.ensures {u = tt}).ok)
+
   behind : c.ask.new.self ≡ with_state w (after w.opening w.state happens)
   behind =
       (c.in_ok-answer.ensures {u = tt}).after
+      ∙ ap (λ (r : Request). with_state w (asked_at w.state (Some c.in_ok-place.place) r)) same
       ∙ ap (λ (o : Option ℕ). with_state w (asked_at w.state o c.args.request)) (sym found)
 
   kept : c.in_ok-answer.answer.kept ≡ answer w.opening w.state happens
   kept =
       (c.in_ok-answer.ensures {u = tt}).kept
+      ∙ ap (λ (r : Request). asked_in w c.in_ok-place.place r) same
       ∙ ap (λ (o : Option ℕ). asked w.state (option_and_then (slice_get w.state.sessions) o) c.args.request) (sym found)
 
   added : c.push_reserved.new.self.items ≡ log ++ entry ∷ []

@@ -1,7 +1,7 @@
 use Rattle.std.proofs.Common.{rules, ◌≡◌, ◌++◌, List, ◌∷◌, [], None, Some, Err, Option, ℕ, refl, ap, sym, ◌∙◌}
 use Rattle.std.specs.Option.{option_map_or}
 use Rattle.vp_policy.specs.Users.{login_of}
-use Rattle.vp_world.specs.declared.entry.Entry.{Entry}
+use Rattle.vp_world.specs.Entries.{Entry}
 use Rattle.vp_world.specs.declared.event.Event.{Event}
 use Rattle.vp_world.specs.declared.event.Event.TheVariants as event
 use Rattle.vp_world.specs.declared.event.SessionId.{SessionId}
@@ -32,19 +32,19 @@ module _ (c : goal.After-push_reserved) where
   happens = event.Open c.args.user c.args.token
 
   abbrev entry : Entry
-  entry = record { event = happens; reply = reply.Opened c.in_ok-id.id; change = None; time = c.time.result; finished = c.finished.result }
+  entry = record { event = happens; reply = reply.Opened c.in_ok-session.session; change = None; time = c.time.result; finished = c.finished.result }
 
   found : login_of w.state.policy c.args.user c.args.token ≡ Some c.in_ok-number.number.0
   found = search rules
 
   behind : c.open_for.new.self ≡ with_state w (after w.opening w.state happens)
   behind =
-      (c.in_ok-id.ensures {u = tt}).after
+      (c.in_ok-session.ensures {u = tt}).after
       ∙ ap (λ (o : Option ℕ). with_state w (option_map_or (opened_by w.state) o w.state)) (sym found)
 
-  told : reply.Opened c.in_ok-id.id ≡ answer w.opening w.state happens
+  told : reply.Opened c.in_ok-session.session ≡ answer w.opening w.state happens
   told =
-      ap (λ (id : SessionId). reply.Opened id) (c.in_ok-id.ensures {u = tt}).id
+      ap (λ (id : SessionId). reply.Opened id) (c.in_ok-session.ensures {u = tt}).id
       ∙ ap (λ (o : Option ℕ). option_map_or (λ u. reply.Opened (next_session w.state u)) o (reply.Error refusal.BadToken)) (sym found)
 
   added : c.push_reserved.new.self.items ≡ log ++ entry ∷ []

@@ -1,9 +1,9 @@
 use Rattle.std.proofs.Common.{◌≡◌, ℕ, length, take, get_or, position, None, Option, sym, ap, ◌∙◌, arith}
 use Rattle.std.proofs.lemmas.List.{length-take-le, take_all}
 use Rattle.vp_source.specs.declared.source.Connection.{Connection}
-use Rattle.vp_processes.specs.Processes.{by_first, names_port}
-use Rattle.vp_processes.proofs.FirstIndexes.{position_next}
-use Rattle.vp_processes.proofs.process.named_ports.Goals as goal
+use Rattle.vp_expr.specs.Origins.{by_first, names_port}
+use Rattle.vp_expr.proofs.FirstIndexes.{position_next}
+use Rattle.vp_expr.proofs.process.named_ports.Goals as goal
 
 -- a connection, for a place behind the end
 abbrev blank : Connection

@@ -8,7 +8,7 @@ use Rattle.std.proofs.lemmas.Bool.{eq-eqb, eqb-true, ltb-false}
 use Rattle.vp_source.specs.Places.{word_at}
 use Rattle.vp_source.specs.declared.source.Connection.{Connection}
 use Rattle.vp_source.specs.declared.source.Source.{Source}
-use Rattle.vp_processes.specs.Processes.{connected, names_port, place_of_port}
+use Rattle.vp_expr.specs.Origins.{connected, names_port, place_of_port}
 
 -- there is no name
 abbrev is_blank : Option ℕ → Bool

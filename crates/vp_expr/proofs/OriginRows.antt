@@ -20,10 +20,9 @@ use Rattle.vp_source.specs.declared.source.Source.{Source}
 use Rattle.vp_source.specs.declared.source.Module.{Module}
 use Rattle.vp_source.specs.declared.source.Item.{Item}
 use Rattle.vp_source.specs.declared.source.Item.TheVariants as item
-use Rattle.vp_processes.specs.declared.process.Process.TheVariants as process
 use Rattle.vp_elab.specs.Built.{Elaborated, design_of}
 use Rattle.vp_elab.specs.Elaboration.{further_limit}
-use Rattle.vp_processes.specs.Processes.{object_of, processes_of}
+use Rattle.vp_expr.specs.Origins.{Assignment, Inward, Outward, Procedure, object_of, origins_of}
 
 abbrev tokens_in : Result (List Token) LexError → List Token
 tokens_in (Ok tokens) = tokens
@@ -95,14 +94,14 @@ procedure_first =
 
 -- of each instance the connections inwards and outwards, before its assignment; then the procedure
 processes_of_inverters :
-    processes_of (inverters (connection 42 (Some 40) (Some 3) ∷ connection 48 (Some 46) (Some 4) ∷ connection 57 (Some 55) (Some 5) ∷ connection 63 (Some 61) (Some 6) ∷ []))
-    ≡ process.Inward (object_of 6) (object_of 0) 3
-    ∷ process.Outward (object_of 7) (object_of 2)
-    ∷ process.Assignment (object_of 8) (object_of 5) (object_of 7) 1
-    ∷ process.Inward (object_of 10) (object_of 0) 5
-    ∷ process.Outward (object_of 11) (object_of 3)
-    ∷ process.Assignment (object_of 12) (object_of 9) (object_of 11) 1
-    ∷ process.Procedure (object_of 13) (object_of 0) false 0
+    origins_of (inverters (connection 42 (Some 40) (Some 3) ∷ connection 48 (Some 46) (Some 4) ∷ connection 57 (Some 55) (Some 5) ∷ connection 63 (Some 61) (Some 6) ∷ []))
+    ≡ Inward (object_of 6) (object_of 0) 3
+    ∷ Outward (object_of 7) (object_of 2)
+    ∷ Assignment (object_of 8) (object_of 5) (object_of 7) 1
+    ∷ Inward (object_of 10) (object_of 0) 5
+    ∷ Outward (object_of 11) (object_of 3)
+    ∷ Assignment (object_of 12) (object_of 9) (object_of 11) 1
+    ∷ Procedure (object_of 13) (object_of 0) false 0
     ∷ []
 unfolding digits is_utf8 chars encode_utf8 further_limit
 processes_of_inverters = refl
@@ -110,31 +109,31 @@ processes_of_inverters = refl
 -- the connections of the first by their positions, with the output left open; those of the second by names, in the other order, which
 -- does not matter
 processes_of_other_connections :
-    processes_of (inverters (connection 42 None (Some 3) ∷ connection 48 None None ∷ connection 63 (Some 61) (Some 6) ∷ connection 57 (Some 55) (Some 5) ∷ []))
-    ≡ process.Inward (object_of 6) (object_of 0) 3
-    ∷ process.Assignment (object_of 8) (object_of 5) (object_of 7) 1
-    ∷ process.Inward (object_of 10) (object_of 0) 5
-    ∷ process.Outward (object_of 11) (object_of 3)
-    ∷ process.Assignment (object_of 12) (object_of 9) (object_of 11) 1
-    ∷ process.Procedure (object_of 13) (object_of 0) false 0
+    origins_of (inverters (connection 42 None (Some 3) ∷ connection 48 None None ∷ connection 63 (Some 61) (Some 6) ∷ connection 57 (Some 55) (Some 5) ∷ []))
+    ≡ Inward (object_of 6) (object_of 0) 3
+    ∷ Assignment (object_of 8) (object_of 5) (object_of 7) 1
+    ∷ Inward (object_of 10) (object_of 0) 5
+    ∷ Outward (object_of 11) (object_of 3)
+    ∷ Assignment (object_of 12) (object_of 9) (object_of 11) 1
+    ∷ Procedure (object_of 13) (object_of 0) false 0
     ∷ []
 unfolding digits is_utf8 chars encode_utf8 further_limit
 processes_of_other_connections = refl
 
 -- the port of the outer instance gets a reg outside; the net of the outer instance gets the port of the inner one
 processes_of_nested :
-    processes_of nested
-    ≡ process.Inward (object_of 3) (object_of 0) 1
-    ∷ process.Outward (object_of 6) (object_of 4)
+    origins_of nested
+    ≡ Inward (object_of 3) (object_of 0) 1
+    ∷ Outward (object_of 6) (object_of 4)
     ∷ []
 unfolding digits is_utf8 chars encode_utf8 further_limit
 processes_of_nested = refl
 
 -- in the order of the text
 processes_of_procedure_first :
-    processes_of procedure_first
-    ≡ process.Procedure (object_of 2) (object_of 0) false 0
-    ∷ process.Inward (object_of 4) (object_of 0) 1
+    origins_of procedure_first
+    ≡ Procedure (object_of 2) (object_of 0) false 0
+    ∷ Inward (object_of 4) (object_of 0) 1
     ∷ []
 unfolding digits is_utf8 chars encode_utf8 further_limit
 processes_of_procedure_first = refl
@@ -151,9 +150,9 @@ procedures =
 
 -- only the always begins again
 processes_of_procedures :
-    processes_of procedures
-    ≡ process.Procedure (object_of 2) (object_of 0) false 0
-    ∷ process.Procedure (object_of 3) (object_of 0) true 2
+    origins_of procedures
+    ≡ Procedure (object_of 2) (object_of 0) false 0
+    ∷ Procedure (object_of 3) (object_of 0) true 2
     ∷ []
 unfolding digits is_utf8 chars encode_utf8 further_limit
 processes_of_procedures = refl

@@ -1,45 +1,15 @@
 ghost use Rattle.std.specs.Prelude.{◌≡◌, ℕ, List, [], ◌++◌, length, slice_get, IfOk, OnOk};
 ghost use Rattle.std.specs.Str.{bytes_eq};
 ghost use Rattle.vp_names.specs.Items.{definition_of, ports_in};
-ghost use Rattle.vp_processes.specs.Processes.{AreNamed, assignment_process, by_first, connected, first_index, item_processes, listed, names_port, place_of_port, port_process, port_processes, process_at_port, processes_at, processes_of, through_port};
+ghost use Rattle.vp_expr.specs.Origins.{AreNamed, assignment_origin, by_first, connected, first_index, item_origins, listed, names_port, origin_at_port, origins_at, place_of_port, port_origin, port_origins, through_port};
+ghost use Rattle.vp_expr.specs.Tables.{process_from, processes_from, processes_of};
 
+use crate::tables::{Process, assignment_of};
 use std::alloc::{AllocError, Global};
 use vp_elab::{Design, ObjectId};
 use vp_list::Sequence;
 use vp_names::{Names, connections_of, is_input, place_of, ports_of};
 use vp_source::{Connection, Item, Module, Source};
-
-/// What a simulator runs (clause 11.1).
-#[derive(Clone, Copy, Debug, PartialEq, Eq)]
-pub enum Process {
-    /// A procedure (clause 9.9): its object, the instance in which it stands, and the place of its statement.
-    Procedure {
-        object: ObjectId,
-        instance: ObjectId,
-        /// It is an `always`, which begins again when it is over (clause 9.9.2).
-        repeats: bool,
-        body: u32,
-    },
-    /// A continuous assignment (clause 6.1): its object, the instance in which it stands, the net that it drives, and the
-    /// place of its value.
-    Assignment {
-        object: ObjectId,
-        instance: ObjectId,
-        net: ObjectId,
-        value: u32,
-    },
-    /// A connection inwards: the port, the instance in which the value stands, and the place of the value.
-    Inward {
-        port: ObjectId,
-        instance: ObjectId,
-        value: u32,
-    },
-    /// A connection outwards: the port, and the net outside that gets its value.
-    Outward {
-        port: ObjectId,
-        net: ObjectId,
-    },
-}
 
 /// The ports that connections name (clause 12.3.6): each name once, with the index of the first connection that has it.
 #[derive(Drop)]
@@ -163,46 +133,47 @@ struct Placed {
 /// The process of a connection to a port of an instance, by the port's object.
 fn through_port(
     design: &Design,
+    sizes: &[u8],
     placed: Placed,
     port: ObjectId,
     item: Item,
     connection: Connection,
     value: u32,
 ) -> Option<Process>
-    ensures { result ≡ through_port design.now.source design.now.tree.nodes placed.instance.0 port.0
-        item connection value }
+    ensures { result ≡ process_from design.now sizes.now
+        (through_port design.now.source design.now.tree.nodes placed.instance.0 port.0 item
+        connection value) }
 {
     let instance = placed.instance;
     if is_input(item) {
-        return Some(Process::Inward {
-            port,
-            instance,
-            value,
-        });
+        return assignment_of(design, sizes, port, port, instance, value);
     }
     let net = design.find(Some(instance), design.source().word(connection.place))?;
-    Some(Process::Outward { port, net })
+    Some(Process::Connection { port, net })
 }
 
 /// The process of a connection to a port of an instance; a blank connection gives none.
 fn port_process(
     design: &Design,
+    sizes: &[u8],
     placed: Placed,
     item: Item,
     connection: Connection,
 ) -> Option<Process>
-    ensures { result ≡ port_process design.now.source design.now.tree.nodes placed.instance.0
-        placed.object.0 item connection }
+    ensures { result ≡ process_from design.now sizes.now
+        (port_origin design.now.source design.now.tree.nodes placed.instance.0 placed.object.0 item
+        connection) }
 {
     let value = connection.value?;
     let name = design.source().word(place_of(item));
     let port = design.find(Some(placed.object), name)?;
-    through_port(design, placed, port, item, connection, value)
+    through_port(design, sizes, placed, port, item, connection, value)
 }
 
 /// The process of a port of an instance, by its index, and by the instance's connections with the ports that they name.
 fn process_at_port(
     design: &Design,
+    sizes: &[u8],
     placed: Placed,
     connections: &[Connection],
     named: &NamedPorts,
@@ -210,13 +181,14 @@ fn process_at_port(
     item: Item,
 ) -> Option<Process>
     requires { AreNamed design.now.source connections.now named.now.names named.now.firsts.items }
-    ensures { result ≡ process_at_port design.now.source design.now.tree.nodes placed.instance.0
-        placed.object.0 connections.now index item }
+    ensures { result ≡ process_from design.now sizes.now
+        (origin_at_port design.now.source design.now.tree.nodes placed.instance.0 placed.object.0
+        connections.now index item) }
 {
     let source = design.source();
     let name = source.word(place_of(item));
     let connection = connected(source, connections, named, index, name)?;
-    port_process(design, placed, item, connection)
+    port_process(design, sizes, placed, item, connection)
 }
 
 /// A process, or none, at the end. Takes memory.
@@ -233,43 +205,49 @@ fn add_process(process: Option<Process>, processes: &mut Vec<Process>) -> Result
 fn add_port_processes(
     alloc: Global,
     design: &Design,
+    sizes: &[u8],
     placed: Placed,
     connections: &[Connection],
     module: Module,
     processes: &mut Vec<Process>,
 ) -> Result<(), AllocError>
     ensures { OnOk result (processes.new.items ≡ processes.old.items
-        ++ port_processes design.now.source design.now.tree.nodes placed.instance.0 placed.object.0
-        connections.now 0 (ports_in design.now.source «module»)) }
+        ++ processes_from design.now sizes.now
+        (port_origins design.now.source design.now.tree.nodes placed.instance.0 placed.object.0
+        connections.now 0 (ports_in design.now.source «module»))) }
 {
     let named = named_ports(alloc, design.source(), connections)?;
     let ports = ports_of(design.source(), module);
     for (index, port) in ports.iter().enumerate() {
-        let process = process_at_port(design, placed, connections, &named, index, *port);
+        let process = process_at_port(design, sizes, placed, connections, &named, index, *port);
         add_process(process, processes)?;
     }
     Ok(())
 }
 
 /// The process of a continuous assignment.
-fn assignment_process(design: &Design, placed: Placed, target: u32, value: u32) -> Option<Process>
-    ensures { result ≡ assignment_process design.now.source design.now.tree.nodes placed.instance.0
-        placed.object.0 target value }
+fn assignment_process(
+    design: &Design,
+    sizes: &[u8],
+    placed: Placed,
+    target: u32,
+    value: u32,
+) -> Option<Process>
+    ensures { result ≡ process_from design.now sizes.now
+        (assignment_origin design.now.source design.now.tree.nodes placed.instance.0
+        placed.object.0 target value) }
 {
     let Placed { object, instance } = placed;
     let net = design.find(Some(instance), design.source().word(target))?;
-    Some(Process::Assignment {
-        object,
-        instance,
-        net,
-        value,
-    })
+    assignment_of(design, sizes, object, net, instance, value)
 }
 
 /// The processes that an object gives, which is this item and instantiates this module or none, at the end. Takes memory.
+#[tactic(auto, using(crate::proofs::PortSteps::from_listed))]
 fn add_item_processes(
     alloc: Global,
     design: &Design,
+    sizes: &[u8],
     placed: Placed,
     item: Item,
     module: Option<Module>,
@@ -277,8 +255,9 @@ fn add_item_processes(
 ) -> Result<(), AllocError>
     requires { «module» ≡ definition_of design.now.source item }
     ensures { OnOk result (processes.new.items ≡ processes.old.items
-        ++ item_processes design.now.source design.now.tree.nodes placed.instance.0 placed.object.0
-        item) }
+        ++ processes_from design.now sizes.now
+        (item_origins design.now.source design.now.tree.nodes placed.instance.0 placed.object.0
+        item)) }
 {
     let Placed { object, instance } = placed;
     match item {
@@ -295,12 +274,15 @@ fn add_item_processes(
             body,
         })?,
         Item::Assignment { target, value } => {
-            add_process(assignment_process(design, placed, target, value), processes)?;
+            add_process(
+                assignment_process(design, sizes, placed, target, value),
+                processes,
+            )?;
         }
         Item::Instance { .. } => {
             if let Some(module) = module {
                 let connections = connections_of(design.source(), item);
-                add_port_processes(alloc, design, placed, connections, module, processes)?;
+                add_port_processes(alloc, design, sizes, placed, connections, module, processes)?;
             }
         }
         _ => (),
@@ -312,11 +294,13 @@ fn add_item_processes(
 fn add_processes(
     alloc: Global,
     design: &Design,
+    sizes: &[u8],
     object: ObjectId,
     processes: &mut Vec<Process>,
 ) -> Result<(), AllocError>
     ensures { OnOk result (processes.new.items ≡ processes.old.items
-        ++ processes_at design.now.source design.now.tree.nodes object.0) }
+        ++ processes_from design.now sizes.now
+        (origins_at design.now.source design.now.tree.nodes object.0)) }
 {
     let Some(item) = design.item(object) else {
         return Ok(());
@@ -328,6 +312,7 @@ fn add_processes(
     add_item_processes(
         alloc,
         design,
+        sizes,
         placed,
         item,
         design.instantiated(object),
@@ -336,13 +321,18 @@ fn add_processes(
 }
 
 /// What a simulator runs of a design, in order: of its objects in preorder the procedures, the continuous assignments, and
-/// the connections of instances, before what stands below these. Takes memory.
-pub fn processes_of(alloc: Global, design: &Design) -> Result<Sequence<Process>, AllocError>
-    ensures { IfOk result (λ processes. processes ≡ processes_of design.now) }
+/// the connections of instances, before what stands below these; each value at the size of its context, by the sizes of the
+/// expressions. One of which no vector has that size is left out. Takes memory.
+pub fn processes_of(
+    alloc: Global,
+    design: &Design,
+    sizes: &[u8],
+) -> Result<Sequence<Process>, AllocError>
+    ensures { IfOk result (λ processes. processes ≡ processes_of design.now sizes.now) }
 {
     let mut processes = Vec::new(alloc);
     for id in 0..design.count() {
-        add_processes(alloc, design, ObjectId(id), &mut processes)?;
+        add_processes(alloc, design, sizes, ObjectId(id), &mut processes)?;
     }
     Ok(Sequence::from_vec(processes))
 }

@@ -1,6 +1,6 @@
 use Rattle.std.proofs.Common.{◌≡◌, length, take}
-use Rattle.vp_processes.specs.Processes.{AreNamed}
-use Rattle.vp_processes.proofs.process.named_ports.Given as goal
+use Rattle.vp_expr.specs.Origins.{AreNamed}
+use Rattle.vp_expr.proofs.process.named_ports.Given as goal
 
 -- they are the ports that the connections so far name
 abbrev pub invariant-loop-index : goal.invariant-loop-index

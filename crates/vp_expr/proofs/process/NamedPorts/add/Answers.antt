@@ -1,9 +1,9 @@
 use Rattle.std.proofs.Common.{◌≡◌, ℕ, Bool, true, false, cond, List, [], ◌∷◌, ◌++◌, sym, ap, refl, ◌∙◌}
 use Rattle.std.specs.Prelude.{not, string_bytes}
 use Rattle.vp_names.specs.Items.{is_among}
-use Rattle.vp_processes.specs.Processes.{first_index}
-use Rattle.vp_processes.proofs.FirstIndexes.{added_new, added_old}
-use Rattle.vp_processes.proofs.process.NamedPorts.add.Goals as goal
+use Rattle.vp_expr.specs.Origins.{first_index}
+use Rattle.vp_expr.proofs.FirstIndexes.{added_new, added_old}
+use Rattle.vp_expr.proofs.process.NamedPorts.add.Goals as goal
 
 pub returns-in_ok-push-clause-first : goal.returns-in_ok-push-clause-first
 returns-in_ok-push-clause-first c =

@@ -1,9 +1,9 @@
 use Rattle.std.proofs.Common.{◌≡◌, ℕ, length, min, slice_get, Option, ap, ◌∙◌}
 use Rattle.std.specs.Prelude.{unwrap_or}
 use Rattle.std.specs.List.{position}
-use Rattle.vp_processes.specs.Processes.{names_port}
-use Rattle.vp_processes.proofs.Connected.{connected_is}
-use Rattle.vp_processes.proofs.process.connected.Goals as goal
+use Rattle.vp_expr.specs.Origins.{names_port}
+use Rattle.vp_expr.proofs.Connected.{connected_is}
+use Rattle.vp_expr.proofs.process.connected.Goals as goal
 
 pub returns : goal.returns
 returns c =

@@ -1,4 +1,0 @@
-pub mod Connected
-pub mod FirstIndexes
-pub mod Processes
-pub mod ProcessRows

@@ -1,9 +1,0 @@
-use Rattle.std.proofs.Common.{◌≡◌}
-use Rattle.std.specs.List.{flat_map}
-use Rattle.vp_processes.specs.Processes.{processes_at}
-use Rattle.vp_elab.specs.Tree.{below}
-use Rattle.vp_processes.proofs.process.processes_of.Given as goal
-
--- the processes of the objects so far
-abbrev pub invariant-loop-id : goal.invariant-loop-id
-invariant-loop-id l = l.processes.items ≡ flat_map (processes_at l.design.source l.design.tree.nodes) (below l.id)

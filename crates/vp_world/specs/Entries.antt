@@ -1,0 +1,54 @@
+-- An entry of the log.
+use Rattle.std.specs.Prelude.{ℕ, Bool, Option, None}
+use Rattle.std.specs.Arc.{arc_value}
+use Rattle.vp_waking.specs.declared.change.Change.{Change}
+use Rattle.vp_world.specs.declared.entry.Happening.{Happening}
+use Rattle.vp_world.specs.declared.entry.Happening.TheVariants as happening
+use Rattle.vp_world.specs.declared.event.Event.{Event}
+use Rattle.vp_world.specs.declared.event.Event.TheVariants as event
+use Rattle.vp_world.specs.declared.reply.Reply.{Reply}
+use Rattle.vp_world.specs.declared.reply.Reply.TheVariants as reply
+
+-- an entry of the log: an event, its reply, what it changed, and the time and whether $finish was executed after it
+pub record Entry : Type 0 where
+  pub event : Event
+  pub reply : Reply
+  pub change : Option Change
+  pub time : ℕ
+  pub finished : Bool
+
+-- ---- what is seen of the fields of an entry
+
+-- the event of what happened
+abbrev pub event_in : Happening → Event
+event_in (happening.Open login session) = event.Open (arc_value login).user (arc_value login).token
+event_in (happening.Ask asked reply) = event.Ask (arc_value asked).session (arc_value asked).request
+event_in (happening.Close session) = event.Close session
+event_in (happening.Step k change) = event.Step k
+event_in happening.Advance = event.Advance
+
+-- its reply
+abbrev pub reply_in : Happening → Reply
+reply_in (happening.Open login session) = reply.Opened session
+reply_in (happening.Ask asked reply) = reply
+reply_in (happening.Close session) = reply.Done
+reply_in (happening.Step k change) = reply.Done
+reply_in happening.Advance = reply.Done
+
+-- what it changed
+abbrev pub change_in : Happening → Option Change
+change_in (happening.Open login session) = None
+change_in (happening.Ask asked reply) = None
+change_in (happening.Close session) = None
+change_in (happening.Step k change) = change
+change_in happening.Advance = None
+
+-- an entry of what happened
+abbrev pub entry_shown : Happening → (time : ℕ) → (finished : Bool) → Entry
+entry_shown h time finished = record {
+  event = event_in h;
+  reply = reply_in h;
+  change = change_in h;
+  time = time;
+  finished = finished;
+}
