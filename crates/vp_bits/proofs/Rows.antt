@@ -1,9 +1,9 @@
 -- The definitions at rows that are worked out by hand. Byte codes: 48 is 0, 49 is 1, 120 is x, 122 is z, 88 is X, 90 is Z.
-use Rattle.std.proofs.Common.{◌≡◌, List, [], ◌∷◌, Some, None, map, reverse, refl}
+use Rattle.std.proofs.Common.{◌≡◌, List, [], ◌∷◌, Some, None, is_some, true, map, reverse, refl}
 use Rattle.vp_bits.specs.declared.bit.Bit.{Bit}
 use Rattle.vp_bits.specs.declared.bit.Bit.TheVariants.{Zero, One, Unknown, HighImpedance}
 use Rattle.vp_bits.specs.Digits.{bit_of, digits_bits, digit_of}
-use Rattle.vp_bits.specs.Vector.{bits_of, aval_of, bval_of, resized}
+use Rattle.vp_bits.specs.Vector.{bits_of, bits_of_words, aval_of, bval_of, resized}
 
 -- 1x0z, the greatest bit first
 pub row-digits_bits : digits_bits (49 ∷ 120 ∷ 48 ∷ 122 ∷ []) ≡ Some (One ∷ Unknown ∷ Zero ∷ HighImpedance ∷ [])
@@ -26,6 +26,21 @@ row-aval_of = refl
 
 pub row-bval_of : bval_of (HighImpedance ∷ Zero ∷ Unknown ∷ One ∷ []) ≡ 5
 row-bval_of = refl
+
+-- the words 1100 and 0101 in four bits are 1x0z
+pub row-bits_of_words : bits_of_words 4 12 5 ≡ Some (HighImpedance ∷ Zero ∷ Unknown ∷ One ∷ [])
+row-bits_of_words = refl
+
+-- four bits have no word 10000
+pub row-bits_of_words_aval : bits_of_words 4 16 0 ≡ None
+row-bits_of_words_aval = refl
+
+pub row-bits_of_words_bval : bits_of_words 4 0 16 ≡ None
+row-bits_of_words_bval = refl
+
+-- in 64 bits each word fits
+pub row-bits_of_words_64 : is_some (bits_of_words 64 0xffff_ffff_ffff_ffff 0xffff_ffff_ffff_ffff) ≡ true
+row-bits_of_words_64 = refl
 
 -- 1x0z is written as it was read
 pub row-digit_of : map digit_of (reverse (bits_of 4 12 5)) ≡ 49 ∷ 120 ∷ 48 ∷ 122 ∷ []

@@ -1,5 +1,5 @@
 -- A vector as the list of its bits, the least significant first.
-use Rattle.std.specs.Prelude.{ℕ, zero, suc, ◌+◌, ◌-◌, ◌*◌, ◌/◌, ◌%◌, ◌^◌, ◌<◌, ◌≤◌, ◌==◌, ◌&&◌, Bool, List, [], ◌∷◌, ◌++◌, length, take, replicate}
+use Rattle.std.specs.Prelude.{ℕ, zero, suc, ◌+◌, ◌-◌, ◌*◌, ◌/◌, ◌%◌, ◌^◌, ◌<◌, ◌≤◌, ◌==◌, ◌&&◌, nat_lt, Bool, if◌then◌else◌, Option, Some, None, List, [], ◌∷◌, ◌++◌, length, take, replicate}
 use Rattle.std.specs.Cmp.Lexicographic.{pointwise}
 use Rattle.vp_bits.specs.declared.bit.Bit.{Bit}
 use Rattle.vp_bits.specs.declared.bit.Bit.TheVariants.{Zero, One, Unknown, HighImpedance}
@@ -43,6 +43,11 @@ aval_of (bit ∷ bits) = aval_bit bit + 2 * aval_of bits
 abbrev pub bval_of : List Bit → ℕ
 bval_of [] = 0
 bval_of (bit ∷ bits) = bval_bit bit + 2 * bval_of bits
+
+-- the bits of two words; none where a word has a bit above the width (IEEE Std 1364-2005, 27, s_vpi_vecval)
+abbrev pub bits_of_words : ℕ → ℕ → ℕ → Option (List Bit)
+bits_of_words width aval bval =
+    if nat_lt aval (2 ^ width) && nat_lt bval (2 ^ width) then Some (bits_of width aval bval) else None
 
 -- the words have no bit above the width (profile)
 pub record IsStored (width aval bval : ℕ) : Type 0 where

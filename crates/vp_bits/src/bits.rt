@@ -3,7 +3,7 @@ ghost use Rattle.std.specs.Cmp.{partial_equiv_from_equiv};
 ghost use Rattle.vp_bits.specs.declared.bit.Bit.TheVariants.{HighImpedance, Unknown, Zero};
 ghost use Rattle.vp_bits.specs.Arithmetic.{bits_of_number};
 ghost use Rattle.vp_bits.specs.Digits.{digits_bits, digit_of};
-ghost use Rattle.vp_bits.specs.Vector.{IsWidth, resized, same_bits};
+ghost use Rattle.vp_bits.specs.Vector.{IsWidth, aval_of, bits_of_words, bval_of, resized, same_bits};
 ghost use Rattle.vp_bits.specs.laws.Words.{same_bits_equiv};
 
 mod arithmetic;
@@ -164,6 +164,29 @@ impl Bits {
             aval: lowest(number, width),
             bval: 0,
         }
+    }
+
+    /// The vector of these words aval and bval, in which bit k of each says what bit k of the vector is, as in
+    /// s_vpi_vecval (IEEE Std 1364-2005, 27). None where a word has a bit above the width.
+    pub fn from_words(width: u8, aval: u64, bval: u64) -> Option<Bits>
+        requires { IsWidth width }
+        ensures { result ≡ bits_of_words width aval bval }
+    {
+        let all = ones(width);
+        if aval <= all && bval <= all {
+            Some(Bits { width, aval, bval })
+        } else {
+            None
+        }
+    }
+
+    /// The words aval and bval of the vector, as in s_vpi_vecval (IEEE Std 1364-2005, 27): no word has a bit above
+    /// the width.
+    pub fn words(&self) -> (u64, u64)
+        ensures aval { result.0 ≡ aval_of self.now }
+        ensures bval { result.1 ≡ bval_of self.now }
+    {
+        (self.aval, self.bval)
     }
 
     // The vector of one bit.
