@@ -22,7 +22,7 @@ use Rattle.vp_source.specs.declared.source.Item.{Item}
 use Rattle.vp_source.specs.declared.source.Item.TheVariants as item
 use Rattle.vp_elab.specs.declared.object.Kind.{Kind}
 use Rattle.vp_elab.specs.declared.object.Kind.TheVariants as kind
-use Rattle.vp_elab.specs.Tree.{Step, Node, children_of}
+use Rattle.vp_elab.specs.Tree.{Step, Node, children_of, kind_of_name, type_name}
 use Rattle.vp_elab.specs.declared.object.Object.{Object}
 use Rattle.vp_elab.specs.declared.object.ObjectId.{ObjectId}
 use Rattle.vp_elab.specs.Objects.{objects_within}
@@ -190,3 +190,15 @@ nodes_of_procedures = refl
 accepted_procedures : refusal_of procedures (record { envelopes = []; viewports = [] }) ≡ None
 unfolding digits is_utf8 chars encode_utf8 further_limit
 accepted_procedures = refl
+
+-- ---- the names of kinds
+
+-- a continuous assignment is a vpiContAssign, and a localparam a vpiParameter
+type_names : map type_name (kind.Assign ∷ kind.Parameter ∷ []) ≡ codes "vpiContAssign" ∷ codes "vpiParameter" ∷ []
+type_names = refl
+
+-- a kind is named by its word, and by no other text
+kinds_named :
+    map kind_of_name (codes "assign" ∷ codes "module" ∷ codes "vpiModule" ∷ codes "wire" ∷ [] ∷ [])
+    ≡ Some kind.Assign ∷ Some kind.Module ∷ None ∷ None ∷ None ∷ []
+kinds_named = refl

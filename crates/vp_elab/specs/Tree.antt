@@ -1,5 +1,5 @@
 -- A design as a list of nodes in preorder, each with the steps of its path.
-use Rattle.std.specs.Prelude.{◌≡◌, ℕ, zero, suc, ◌-◌, ◌==◌, ◌&&◌, Bool, true, false, if◌then◌else◌, List, [], ◌∷◌, ◌++◌, length, map, filter, slice_get, slice_index_or, Option, Some, None, is_some, option_map, option_and_then}
+use Rattle.std.specs.Prelude.{◌≡◌, ℕ, zero, suc, ◌-◌, ◌==◌, ◌&&◌, Bool, true, false, if◌then◌else◌, codes, List, [], ◌∷◌, ◌++◌, length, map, filter, slice_get, slice_index_or, Option, Some, None, is_some, option_map, option_and_then}
 use Rattle.std.specs.List.{filter_map, list_any, position}
 use Rattle.std.specs.Option.{option_map_or}
 use Rattle.std.specs.Str.{bytes_eq}
@@ -41,6 +41,28 @@ has_value kind.Module = false
 has_value kind.Always = false
 has_value kind.Initial = false
 has_value kind.Assign = false
+
+-- the name of the type of an object of a kind (IEEE Std 1364-2005, 26.6)
+abbrev pub type_name : Kind → List ℕ
+type_name kind.Module = codes "vpiModule"
+type_name kind.Net = codes "vpiNet"
+type_name kind.Reg = codes "vpiReg"
+type_name kind.Parameter = codes "vpiParameter"
+type_name kind.Always = codes "vpiAlways"
+type_name kind.Initial = codes "vpiInitial"
+type_name kind.Assign = codes "vpiContAssign"
+
+-- the kind that a word names; none of any other word (profile)
+abbrev pub kind_of_name : List ℕ → Option Kind
+kind_of_name name =
+    if bytes_eq name (codes "module") then Some kind.Module
+    else (if bytes_eq name (codes "net") then Some kind.Net
+    else (if bytes_eq name (codes "reg") then Some kind.Reg
+    else (if bytes_eq name (codes "parameter") then Some kind.Parameter
+    else (if bytes_eq name (codes "always") then Some kind.Always
+    else (if bytes_eq name (codes "initial") then Some kind.Initial
+    else (if bytes_eq name (codes "assign") then Some kind.Assign
+    else None))))))
 
 -- the steps have these names
 abbrev pub is_named : List (List ℕ) → List Step → Bool

@@ -30,13 +30,45 @@ pub enum Kind {
 }
 
 impl Kind {
-    ghost use Rattle.vp_elab.specs.Tree.{has_value};
+    ghost use Rattle.vp_elab.specs.Tree.{has_value, kind_of_name, type_name};
 
     /// An object of this kind has a value.
     pub fn has_value(self) -> bool
         ensures { result ≡ has_value self }
     {
         matches!(self, Kind::Net | Kind::Reg | Kind::Parameter)
+    }
+
+    /// The name of the type of an object of this kind (IEEE Std 1364-2005, 26.6).
+    pub fn type_name(self) -> &'static str
+        ensures { result.now ≡ type_name self }
+    {
+        match self {
+            Kind::Module => "vpiModule",
+            Kind::Net => "vpiNet",
+            Kind::Reg => "vpiReg",
+            Kind::Parameter => "vpiParameter",
+            Kind::Always => "vpiAlways",
+            Kind::Initial => "vpiInitial",
+            Kind::Assign => "vpiContAssign",
+        }
+    }
+
+    /// The kind that a word names: `module`, `net`, `reg`, `parameter`, `always`, `initial` or `assign`. None of any
+    /// other word.
+    pub fn of_name(name: &str) -> Option<Kind>
+        ensures { result ≡ kind_of_name name.now }
+    {
+        match name {
+            "module" => Some(Kind::Module),
+            "net" => Some(Kind::Net),
+            "reg" => Some(Kind::Reg),
+            "parameter" => Some(Kind::Parameter),
+            "always" => Some(Kind::Always),
+            "initial" => Some(Kind::Initial),
+            "assign" => Some(Kind::Assign),
+            _ => None,
+        }
     }
 }
 
