@@ -22,13 +22,13 @@ use Rattle.vp_source.specs.declared.source.Item.{Item}
 use Rattle.vp_source.specs.declared.source.Item.TheVariants as item
 use Rattle.vp_elab.specs.declared.object.Kind.{Kind}
 use Rattle.vp_elab.specs.declared.object.Kind.TheVariants as kind
-use Rattle.vp_elab.specs.Tree.{Step, Node, children_of, kind_of_name, type_name}
+use Rattle.vp_elab.specs.Tree.{Step, Node, children_of, full_name_at, kind_of_name, type_name}
 use Rattle.vp_elab.specs.declared.object.Object.{Object}
 use Rattle.vp_elab.specs.declared.object.ObjectId.{ObjectId}
 use Rattle.vp_elab.specs.Objects.{objects_within}
 use Rattle.vp_elab.specs.Refusals.{refusal_of}
 use Rattle.vp_elab.specs.Sizes.{slots_in}
-use Rattle.vp_elab.specs.Elaboration.{further_limit, nodes_of}
+use Rattle.vp_elab.specs.Elaboration.{further_limit, nodes_of, tree_of}
 
 abbrev tokens_in : Result (List Token) LexError → List Token
 tokens_in (Ok tokens) = tokens
@@ -202,3 +202,16 @@ kinds_named :
     map kind_of_name (codes "assign" ∷ codes "module" ∷ codes "vpiModule" ∷ codes "wire" ∷ [] ∷ [])
     ≡ Some kind.Assign ∷ Some kind.Module ∷ None ∷ None ∷ None ∷ []
 kinds_named = refl
+
+-- ---- full names
+
+-- the full names of the top module, of one of its instances, of that instance's net, and behind the last object
+full_names_of_inverters :
+    map (full_name_at (tree_of inverters (record { envelopes = []; viewports = [] }))) (0 ∷ 5 ∷ 7 ∷ 14 ∷ [])
+    ≡ codes "top"
+    ∷ codes "top.u"
+    ∷ codes "top.u.y"
+    ∷ []
+    ∷ []
+unfolding digits is_utf8 chars encode_utf8 further_limit
+full_names_of_inverters = refl

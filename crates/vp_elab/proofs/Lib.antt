@@ -25,3 +25,4 @@ pub mod Items
 pub mod Rising
 pub mod Listed
 pub mod Listing
+pub mod FullNames

@@ -1,6 +1,6 @@
 -- A design as a list of nodes in preorder, each with the steps of its path.
 use Rattle.std.specs.Prelude.{◌≡◌, ℕ, zero, suc, ◌-◌, ◌==◌, ◌&&◌, Bool, true, false, if◌then◌else◌, codes, List, [], ◌∷◌, ◌++◌, length, map, filter, slice_get, slice_index_or, Option, Some, None, is_some, option_map, option_and_then}
-use Rattle.std.specs.List.{filter_map, list_any, position}
+use Rattle.std.specs.List.{filter_map, join_with_byte, list_any, position}
 use Rattle.std.specs.Option.{option_map_or}
 use Rattle.std.specs.Str.{bytes_eq}
 use Rattle.vp_pragma.specs.Rights.{RightSet, nothing, either}
@@ -159,6 +159,15 @@ path_of nodes (Some id) = option_map_or (λ n. n.path) (slice_get nodes id) []
 -- the names of a path
 abbrev pub names_of : List Step → List (List ℕ)
 names_of path = map (λ s. s.name) path
+
+-- these names with a '.' between each two
+abbrev pub dotted : List (List ℕ) → List ℕ
+dotted names = join_with_byte 46 names
+
+-- the full name of the object of a number: the names of its path, from the top module down; empty where no object is
+-- (IEEE Std 1364-2005, 26.6)
+abbrev pub full_name_at : Tree → ℕ → List ℕ
+full_name_at tree id = dotted (names_of (path_of tree.nodes (Some id)))
 
 -- the number of the first object whose path has these names
 abbrev pub find_named : List Node → List (List ℕ) → Option ℕ

@@ -1,4 +1,4 @@
-ghost use Rattle.std.specs.Prelude.{◌≡◌, ◌≤◌, [], None, Some, All, map, option_and_then, option_map, length, position, slice_get, slice_index_or, IfOk, IfSome, MatchOption};
+ghost use Rattle.std.specs.Prelude.{◌≡◌, ◌≤◌, [], None, Some, All, map, option_and_then, option_map, length, position, slice_get, slice_index_or, ◌++◌, string_bytes, IfOk, IfSome, MatchOption, OnOk};
 ghost use Rattle.std.specs.Option.{option_map_or};
 ghost use Rattle.std.specs.Str.{bytes_eq};
 ghost use Rattle.vp_names.specs.Items.{items_in};
@@ -7,7 +7,7 @@ ghost use Rattle.vp_pragma.specs.Envelopes.{object_of};
 ghost use Rattle.vp_pragma.specs.Reading.{viewport_of};
 ghost use Rattle.vp_pragma.specs.Rights.{nothing};
 ghost use Rattle.vp_source.specs.Whole.{AreWhole};
-ghost use Rattle.vp_elab.specs.Tree.{AreAlike, author_in, children_of, declared_envelopes, find_in, first_of, matches_at, name_at, node_envelope, sight_at};
+ghost use Rattle.vp_elab.specs.Tree.{AreAlike, author_in, children_of, declared_envelopes, find_in, first_of, full_name_at, matches_at, name_at, node_envelope, sight_at};
 ghost use Rattle.vp_elab.specs.Objects.{AreObjects, StandsFor, module_name_at};
 ghost use Rattle.vp_elab.specs.Built.{IsBuilt, IsElaborated, ItemsAreFound, design_of, shown};
 ghost use Rattle.vp_modules.specs.Refusals as modules;
@@ -20,7 +20,7 @@ use crate::scope::Scope;
 use crate::sight::{Sight, is_on};
 use std::alloc::{AllocError, Global};
 use std::marker::Model;
-use vp_list::{Sequence, SharedText};
+use vp_list::{Sequence, SharedText, Text};
 use vp_names::{Names, Tables, items_of};
 use vp_pragma::{Envelopes, Viewport};
 use vp_source::{Item, Module, Source};
@@ -318,6 +318,34 @@ impl Design {
                 child_name(objects, names, module, object.index)
             }
             None => self.source.word(object.place),
+        }
+    }
+
+    /// The full name of the object of a number, as `top.u.y`: the names of its path, from the top module down (IEEE Std
+    /// 1364-2005, 26.6). Empty behind the end. Takes memory.
+    pub fn full_name(&self, alloc: Global, id: ObjectId) -> Result<Text, AllocError>
+        ensures { IfOk result (λ name. name ≡ full_name_at self.now.tree id.0) }
+    {
+        let mut name = String::new(alloc);
+        self.push_full_name(id, &mut name)?;
+        Ok(Text::from_string(name))
+    }
+
+    /// The full name of the object of a number, behind a text.
+    fn push_full_name(&self, id: ObjectId, text: &mut String) -> Result<(), AllocError>
+        ensures { OnOk result (string_bytes text.new
+            ≡ string_bytes text.old ++ full_name_at self.now.tree id.0) }
+    {
+        let Some(object) = object_at(self.objects(), id) else {
+            return Ok(());
+        };
+        match object.parent {
+            Some(module) => {
+                self.push_full_name(module, text)?;
+                text.push('.')?;
+                text.push_str(self.name(id))
+            }
+            None => text.push_str(self.name(id)),
         }
     }
 
