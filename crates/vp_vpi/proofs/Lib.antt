@@ -1,1 +1,1 @@
-pub mod HandleLaws
+pub mod Handles

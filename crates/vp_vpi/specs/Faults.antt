@@ -1,13 +1,15 @@
 -- The numbers of the refusals of a session's calls.
 use Rattle.std.specs.Prelude.{ℕ}
 use Rattle.vp_vpi.specs.declared.fault.VpiError.{VpiError}
-use Rattle.vp_vpi.specs.declared.fault.VpiError.TheVariants.{BadHandle, Denied, WrongKind, TooManyHandles, NoSuchName, NoMemory}
+use Rattle.vp_vpi.specs.declared.fault.VpiError.TheVariants.{BadHandle, Denied, WrongKind, BadValue, Finished, TooManyHandles, NoSuchName, NoMemory}
 
 -- the number of a refusal (profile)
 abbrev pub code_of : VpiError → ℕ
 code_of BadHandle = 1101
 code_of (Denied words) = 1109
 code_of WrongKind = 1102
+code_of BadValue = 1103
+code_of Finished = 1104
 code_of TooManyHandles = 1105
 code_of NoSuchName = 1106
 code_of NoMemory = 1107

@@ -1,3 +1,4 @@
 pub mod Faults
 pub mod Observers
-pub mod Bounds
+pub mod Calls
+pub mod Seats

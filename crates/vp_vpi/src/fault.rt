@@ -13,6 +13,10 @@ pub enum VpiError {
     Denied(DenialWords),
     /// The object is of a kind that the call does not take (1102).
     WrongKind,
+    /// A put whose value does not have the object's width (1103).
+    BadValue,
+    /// A put behind `$finish` (1104).
+    Finished,
     /// 65,536 handles at once, or no number that was not used before (1105).
     TooManyHandles,
     /// Nothing of this name is there, and nothing is hidden there (1106).
@@ -32,6 +36,8 @@ impl VpiError {
             VpiError::BadHandle => 1101,
             VpiError::Denied(_) => 1109,
             VpiError::WrongKind => 1102,
+            VpiError::BadValue => 1103,
+            VpiError::Finished => 1104,
             VpiError::TooManyHandles => 1105,
             VpiError::NoSuchName => 1106,
             VpiError::NoMemory => 1107,

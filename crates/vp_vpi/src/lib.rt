@@ -2,7 +2,10 @@
 #![tactic(auto)]
 
 mod fault;
+mod property;
+mod put;
 mod session;
 
 pub use fault::VpiError;
+pub use property::{NumberProperty, PutValue, TextProperty, VectorWord};
 pub use session::{HANDLE_LIMIT, Session};

@@ -1,53 +1,79 @@
-ghost use Rattle.std.specs.Prelude.{◌≡◌, suc, None, option_map, Ok, IfErr, IfOk, IsOkAnd, OnErr};
-ghost use Rattle.vp_policy.specs.Users.{member_at};
-ghost use Rattle.vp_vpi.specs.Observers.{Explains, handle_of, lookup_of, no_handles, object_of, observer_of, value_of, with_handle};
+ghost use Rattle.std.specs.Option.{option_flatten};
+ghost use Rattle.std.specs.Prelude.{◌≡◌, [], is_some, None, option_map, slice_get, slice_set, Ok, IfErr, IfOk, IsOkAnd, IsSome, OnErr, OnOk};
+ghost use Rattle.vp_policy.specs.Filter.{words_of};
+ghost use Rattle.vp_policy.specs.Users.{Member, member_at};
+ghost use Rattle.vp_sim.specs.States.{Goes, State, put};
+ghost use Rattle.vp_vpi.specs.Observers.{lookup_of, observer_of};
+ghost use Rattle.vp_vpi.specs.Calls.{Explains, Refuses, Tells, allowed, handle_of, number_of, object_found, put_of, same_of, scope_of, text_at, text_of, value_of};
+ghost use Rattle.vp_vpi.specs.Seats.{is_full, next_handle, object_of, with_handle, without_handle};
 
 use crate::fault::VpiError;
-use indexmap::IndexMap;
+use crate::property::{NumberProperty, PutValue, TextProperty};
+use crate::put::put_bits;
 use std::alloc::Global;
 use std::marker::Model;
 use vp_bits::Bits;
-use vp_elab::{Design, ObjectId};
-use vp_policy::{Look, Policy, UserId};
+use vp_elab::{Design, Kind, ObjectId};
+use vp_list::{SharedText, Text};
+use vp_policy::{Denial, Look, Policy, UserId};
 use vp_pragma::Right;
 use vp_sim::Sim;
+use vp_waking::Change;
 
 /// How many handles a session has at most at once.
 pub const HANDLE_LIMIT: usize = 65_536;
 
-/// A user's session: his handles, each with its object. Handles are numbered 1, 2, .., and no number is
-/// used again. A contract sees its user and his handles.
+/// A user's session: his handles, each with its object. Handles are numbered 1, 2, .., and no number is used again. A contract
+/// sees its user and his handles.
 #[derive(Drop)]
 pub struct Session {
     alloc: Global,
     user: UserId,
-    handles: IndexMap<u32, ObjectId>,
-    /// The number of the newest handle; 0 before the first.
-    newest: u32,
+    /// Of each handle that was made, its object; none where it was freed.
+    handles: Vec<Option<ObjectId>>,
+    /// How many handles are not freed.
+    open_handles: usize,
 }
 
 impl Model for Session {
-    ghost use Rattle.std.specs.Prelude.{map};
-    ghost use Rattle.vp_vpi.specs.Observers.{Seat};
-    ghost use Rattle.vp_vpi.specs.Bounds.{AtMost};
+    ghost use Rattle.std.specs.Prelude.{◌≡◌, count_by, is_some};
+    ghost use Rattle.vp_vpi.specs.Seats.{Seat};
 
     ghost Value = { Seat };
 
-    ghost view = { λ s. record { user = s.user.0; handles = record { made = map (λ h. (h.0, h.1.0)) s.handles.entries; newest = s.newest } } };
+    ghost view = { λ s. record { user = s.user.0; handles = s.handles.items } };
 
-    ghost invariant = { λ s. AtMost s.newest s.handles.entries };
+    ghost invariant = { λ s. s.open_handles ≡ count_by is_some s.handles.items };
+}
+
+/// The object at a place of a list of handles; none where it was freed, and behind the end.
+fn object_at(handles: &[Option<ObjectId>], place: usize) -> Option<ObjectId>
+    ensures { result ≡ option_flatten (slice_get handles.now place) }
+{
+    handles.get(place).copied().flatten()
+}
+
+/// Frees the handle at a place of a list; tells whether it was one.
+fn take_at(handles: &mut Vec<Option<ObjectId>>, place: usize) -> bool
+    ensures taken { handles.new.items ≡ slice_set handles.old.items place None }
+    ensures there { result ≡ is_some (option_flatten (slice_get handles.old.items place)) }
+{
+    match handles.get_mut(place) {
+        Some(object) => object.take().is_some(),
+        None => false,
+    }
 }
 
 impl Session {
     /// A session without handles.
     pub fn new(alloc: Global, user: UserId) -> Session
-        ensures { result ≡ record { user = user.0; handles = no_handles } }
+        ensures { result ≡ record { user = user.0; handles = [] } }
     {
         Session {
             alloc,
             user,
-            handles: IndexMap::new(alloc),
-            newest: 0,
+            handles: Vec::new(alloc),
+            open_handles: 0,
         }
     }
 
@@ -58,79 +84,315 @@ impl Session {
         self.user
     }
 
-    /// A new handle of the object of a dotted name. Refused where the user may not list it, or the scope hides
-    /// something (1109), with too many handles (1105), where nothing is there (1106), or for want of memory (1107).
-    /// A refusal leaves the session as it was.
-    pub fn handle_by_name(
-        &mut self,
+    /// The object of a handle.
+    fn object(&self, handle: u32) -> Option<ObjectId>
+        ensures { option_map (λ o. o.0) result ≡ object_of self.now.handles handle }
+    {
+        let place = (handle as usize).checked_sub(1)?;
+        object_at(&self.handles, place)
+    }
+
+    /// There is no room for a handle.
+    fn is_full(&self) -> bool
+        ensures { result ≡ is_full self.now.handles }
+    {
+        self.open_handles >= HANDLE_LIMIT || self.handles.len() >= u32::MAX as usize
+    }
+
+    /// A denial, in words; or want of memory.
+    fn denied(&self, design: &Design, denial: Denial) -> VpiError
+        ensures { Tells (VpiError.Denied (words_of design.now.tree denial)) result }
+    {
+        match denial.words(self.alloc, design) {
+            Ok(words) => VpiError::Denied(words),
+            Err(_) => VpiError::NoMemory,
+        }
+    }
+
+    /// The object of a handle, on which the user has a right. Refused where the number is no handle (1101), or the user lacks the
+    /// right (1109), or for want of memory (1107).
+    fn allowed(
+        &self,
         policy: &Policy,
         sim: &Sim,
-        name: &str,
-    ) -> Result<u32, VpiError>
-        ensures handle { IfOk result (λ handle. handle ≡ suc self.old.handles.newest) }
-        ensures made { IfOk result
-            (λ handle. IsOkAnd (handle_of self.old.handles
-            ((observer_of sim.now (member_at policy.now self.old.user)).named None name.now))
-            (λ o. self.new ≡ record {
-              user = self.old.user;
-              handles = with_handle o self.old.handles;
-            })) }
+        handle: u32,
+        right: Right,
+    ) -> Result<ObjectId, VpiError>
+        ensures ok { IfOk result
+            (λ o. allowed (observer_of sim.now (member_at policy.now self.now.user)) right
+            (object_of self.now.handles handle) ≡ Ok o.0) }
         ensures refused { IfErr result
-            (λ e. Explains (handle_of self.old.handles
-            ((observer_of sim.now (member_at policy.now self.old.user)).named None name.now)) e) }
-        ensures unchanged { OnErr result (self.new ≡ self.old) }
+            (λ e. Refuses (allowed (observer_of sim.now (member_at policy.now self.now.user)) right
+            (object_of self.now.handles handle)) e) }
     {
-        let design = sim.design();
-        let found = policy.look(design, self.user, None, name);
-        let object = self.room_for(design, found)?;
-        let handle = self.newest + 1;
-        self.handles.insert(handle, object)?;
-        self.newest = handle;
-        Ok(handle)
+        let Some(object) = self.object(handle) else {
+            return Err(VpiError::BadHandle);
+        };
+        match policy.lacking(sim.design(), self.user, object, right) {
+            Some(denial) => Err(self.denied(sim.design(), denial)),
+            None => Ok(object),
+        }
+    }
+
+    /// The scope of a handle, which is a module; without a handle that of the top modules. Refused where the number is no handle
+    /// (1101), the user may not list it (1109), or it is no module (1102), or for want of memory (1107).
+    fn scope(
+        &self,
+        policy: &Policy,
+        sim: &Sim,
+        handle: Option<u32>,
+    ) -> Result<Option<ObjectId>, VpiError>
+        ensures ok { IfOk result
+            (λ scope. scope_of (observer_of sim.now (member_at policy.now self.now.user))
+            self.now.handles handle ≡ Ok (option_map (λ o. o.0) scope)) }
+        ensures refused { IfErr result
+            (λ e. Refuses (scope_of (observer_of sim.now (member_at policy.now self.now.user))
+            self.now.handles handle) e) }
+    {
+        let Some(handle) = handle else {
+            return Ok(None);
+        };
+        let object = self.allowed(policy, sim, handle, Right::List)?;
+        match sim.design().kind(object) {
+            Some(Kind::Module) => Ok(Some(object)),
+            _ => Err(VpiError::WrongKind),
+        }
     }
 
     /// The object of a look-up, for which there is room for a handle.
     fn room_for(&self, design: &Design, found: Look) -> Result<ObjectId, VpiError>
         ensures ok { IfOk result
-            (λ o. handle_of self.now.handles (lookup_of design.now.tree found) ≡ Ok o.0) }
+            (λ o. object_found self.now.handles (lookup_of design.now.tree found) ≡ Ok o.0) }
         ensures refused { IfErr result
-            (λ e. Explains (handle_of self.now.handles (lookup_of design.now.tree found)) e) }
+            (λ e. Refuses (object_found self.now.handles (lookup_of design.now.tree found)) e) }
     {
         match found {
-            Look::Denied(denial) => Err(VpiError::Denied(denial.words(self.alloc, design)?)),
-            _ if self.handles.len() >= HANDLE_LIMIT || self.newest == u32::MAX => {
-                Err(VpiError::TooManyHandles)
-            }
+            Look::Denied(denial) => Err(self.denied(design, denial)),
+            _ if self.is_full() => Err(VpiError::TooManyHandles),
             Look::Found(object) => Ok(object),
             Look::Absent => Err(VpiError::NoSuchName),
         }
     }
 
-    /// The object of a handle.
-    fn object(&self, handle: u32) -> Option<ObjectId>
-        ensures { option_map (λ o. o.0) result ≡ object_of self.now.handles.made handle }
+    /// The object of a dotted name in a scope, for which there is room for a handle; the refusals are those of its handle.
+    fn named(
+        &self,
+        policy: &Policy,
+        sim: &Sim,
+        scope: Option<u32>,
+        name: &str,
+    ) -> Result<ObjectId, VpiError>
+        ensures ok { IfOk result
+            (λ o. handle_of (observer_of sim.now (member_at policy.now self.now.user))
+            self.now.handles scope name.now ≡ Ok o.0) }
+        ensures refused { IfErr result
+            (λ e. Refuses (handle_of (observer_of sim.now (member_at policy.now self.now.user))
+            self.now.handles scope name.now) e) }
     {
-        self.handles.get(&handle).copied()
+        let above = self.scope(policy, sim, scope)?;
+        let design = sim.design();
+        let found = policy.look(design, self.user, above, name);
+        self.room_for(design, found)
     }
 
-    /// The value of a handle's object. Refused where the number is no handle (1101), the user lacks the right
-    /// to read (1109), or the object is no net, reg or parameter (1102), or for want of memory (1107).
+    /// A new handle of the object of a dotted name, in the scope of a handle or among the top modules. Refused where the scope is
+    /// no handle (1101), may not be listed (1109) or is no module (1102), the user may not list the object or the scope hides something
+    /// (1109), with too many handles (1105), where nothing is there (1106), or for want of memory (1107). A refusal leaves the session
+    /// as it was.
+    pub fn handle_by_name(
+        &mut self,
+        policy: &Policy,
+        sim: &Sim,
+        scope: Option<u32>,
+        name: &str,
+    ) -> Result<u32, VpiError>
+        ensures handle { IfOk result (λ handle. handle ≡ next_handle self.old.handles) }
+        ensures made { OnOk result
+            (IsOkAnd (handle_of (observer_of sim.now (member_at policy.now self.old.user))
+            self.old.handles scope name.now) (λ o. self.new ≡ with_handle o self.old)) }
+        ensures refused { IfErr result
+            (λ e. Explains (handle_of (observer_of sim.now (member_at policy.now self.old.user))
+            self.old.handles scope name.now) e) }
+        ensures unchanged { OnErr result (self.new ≡ self.old) }
+    {
+        let object = self.named(policy, sim, scope, name)?;
+        self.handles.push(Some(object))?;
+        self.open_handles += 1;
+        Ok(self.handles.len() as u32)
+    }
+
+    /// A number of a handle's object. Refused where the number is no handle (1101), the user may not list the object (1109), or it has no
+    /// such number (1102), or for want of memory (1107).
+    pub fn get(
+        &self,
+        policy: &Policy,
+        sim: &Sim,
+        handle: u32,
+        property: NumberProperty,
+    ) -> Result<u32, VpiError>
+        ensures ok { IfOk result
+            (λ n. number_of (observer_of sim.now (member_at policy.now self.now.user)) property
+            (object_of self.now.handles handle) ≡ Ok n) }
+        ensures refused { IfErr result
+            (λ e. Explains (number_of (observer_of sim.now (member_at policy.now self.now.user))
+            property (object_of self.now.handles handle)) e) }
+    {
+        let object = self.allowed(policy, sim, handle, Right::List)?;
+        let design = sim.design();
+        match (property, design.kind(object)) {
+            (NumberProperty::Line, _) => Ok(design.line(object)),
+            (NumberProperty::Size, Some(kind)) if kind.has_value() => Ok(design.width(object)),
+            (NumberProperty::Size, _) => Err(VpiError::WrongKind),
+        }
+    }
+
+    /// A text of an object of the design.
+    fn text(
+        &self,
+        design: &Design,
+        object: ObjectId,
+        property: TextProperty,
+    ) -> Result<Text, VpiError>
+        ensures ok { (run : State) → (user : Member) → run.design ≡ design.now → IfOk result
+            (λ t. text_at (observer_of run user) property object.0 ≡ Ok t) }
+        ensures refused { (run : State) → (user : Member) → run.design ≡ design.now → IfErr result
+            (λ e. Explains (text_at (observer_of run user) property object.0) e) }
+    {
+        match property {
+            TextProperty::Type => match design.kind(object) {
+                Some(kind) => Ok(Text::copy(self.alloc, kind.type_name())?),
+                None => Err(VpiError::WrongKind),
+            },
+            TextProperty::Name => Ok(Text::copy(self.alloc, design.name(object))?),
+            TextProperty::FullName => Ok(design.full_name(self.alloc, object)?),
+            TextProperty::DefinitionName => match design.def_name(object) {
+                Some(name) => Ok(Text::copy(self.alloc, name)?),
+                None => Err(VpiError::WrongKind),
+            },
+        }
+    }
+
+    /// A text of a handle's object, which several may hold. Refused where the number is no handle (1101), the user may not list the object
+    /// (1109), or it has no such text (1102), or for want of memory (1107).
+    pub fn get_str(
+        &self,
+        policy: &Policy,
+        sim: &Sim,
+        handle: u32,
+        property: TextProperty,
+    ) -> Result<SharedText, VpiError>
+        ensures ok { IfOk result
+            (λ t. text_of (observer_of sim.now (member_at policy.now self.now.user)) property
+            (object_of self.now.handles handle) ≡ Ok t) }
+        ensures refused { IfErr result
+            (λ e. Explains (text_of (observer_of sim.now (member_at policy.now self.now.user))
+            property (object_of self.now.handles handle)) e) }
+    {
+        let object = self.allowed(policy, sim, handle, Right::List)?;
+        let text = self.text(sim.design(), object, property)?;
+        Ok(SharedText::new(self.alloc, text)?)
+    }
+
+    /// The value of a handle's object. Refused where the number is no handle (1101), the user lacks the right to read (1109), or the
+    /// object is no net, reg or parameter (1102), or for want of memory (1107).
     pub fn get_value(&self, policy: &Policy, sim: &Sim, handle: u32) -> Result<Bits, VpiError>
         ensures ok { IfOk result
             (λ value. value_of (observer_of sim.now (member_at policy.now self.now.user))
-            (object_of self.now.handles.made handle) ≡ Ok value) }
+            (object_of self.now.handles handle) ≡ Ok value) }
         ensures refused { IfErr result
             (λ e. Explains (value_of (observer_of sim.now (member_at policy.now self.now.user))
-            (object_of self.now.handles.made handle)) e) }
+            (object_of self.now.handles handle)) e) }
     {
-        let design = sim.design();
-        let object = self.object(handle).ok_or(VpiError::BadHandle)?;
-        if let Some(denial) = policy.lacking(design, self.user, object, Right::Read) {
-            return Err(VpiError::Denied(denial.words(self.alloc, design)?));
-        }
-        match design.object(object) {
-            Some(found) if found.kind.has_value() => Ok(sim.value(object)),
+        let object = self.allowed(policy, sim, handle, Right::Read)?;
+        match sim.design().kind(object) {
+            Some(kind) if kind.has_value() => Ok(sim.value(object)),
             _ => Err(VpiError::WrongKind),
         }
+    }
+
+    /// What a put sets: its object and the bits; the refusals are those of the put.
+    fn put_due(
+        &self,
+        policy: &Policy,
+        sim: &Sim,
+        handle: u32,
+        value: &PutValue,
+    ) -> Result<(ObjectId, Bits), VpiError>
+        ensures ok { IfOk result
+            (λ p. put_of (observer_of sim.now (member_at policy.now self.now.user)) value.now
+            (object_of self.now.handles handle) ≡ Ok (p.0.0, p.1)) }
+        ensures refused { IfErr result
+            (λ e. Refuses (put_of (observer_of sim.now (member_at policy.now self.now.user))
+            value.now (object_of self.now.handles handle)) e) }
+    {
+        let object = self.allowed(policy, sim, handle, Right::Put)?;
+        let design = sim.design();
+        let Some(Kind::Reg) = design.kind(object) else {
+            return Err(VpiError::WrongKind);
+        };
+        let Some(bits) = put_bits(design.width(object), value) else {
+            return Err(VpiError::BadValue);
+        };
+        if sim.finished() {
+            return Err(VpiError::Finished);
+        }
+        Ok((object, bits))
+    }
+
+    /// Puts a value on a handle's object at once, and tells what changed. Refused where the number is no handle (1101), the user lacks the
+    /// right to put (1109), the object is no reg (1102), the value does not have its width (1103), or `$finish` was executed (1104), or
+    /// for want of memory (1107). A refusal leaves the simulation as it was.
+    pub fn put_value(
+        &self,
+        policy: &Policy,
+        sim: &mut Sim,
+        handle: u32,
+        value: &PutValue,
+    ) -> Result<Option<Change>, VpiError>
+        ensures put { IfOk result (λ change.
+            IsOkAnd (put_of (observer_of sim.old (member_at policy.now self.now.user)) value.now
+            (object_of self.now.handles handle)) (λ p. put sim.old p.0 p.1 ≡ Goes sim.new change)) }
+        ensures refused { IfErr result
+            (λ e. Explains (put_of (observer_of sim.old (member_at policy.now self.now.user))
+            value.now (object_of self.now.handles handle)) e) }
+        ensures unchanged { OnErr result (sim.new ≡ sim.old) }
+    {
+        let (object, bits) = self.put_due(policy, sim, handle, value)?;
+        match sim.put(object, bits) {
+            Ok(change) => Ok(change),
+            Err(_) => Err(VpiError::NoMemory),
+        }
+    }
+
+    /// Two handles are of one object. Refused where one of the numbers is no handle (1101).
+    pub fn compare_objects(&self, first: u32, second: u32) -> Result<bool, VpiError>
+        ensures ok { IfOk result
+            (λ same. same_of (object_of self.now.handles first)
+            (object_of self.now.handles second) ≡ Ok same) }
+        ensures refused { IfErr result
+            (λ e. Explains (same_of (object_of self.now.handles first)
+            (object_of self.now.handles second)) e) }
+    {
+        let first = self.object(first).ok_or(VpiError::BadHandle)?;
+        let second = self.object(second).ok_or(VpiError::BadHandle)?;
+        Ok(first.0 == second.0)
+    }
+
+    /// Frees a handle. Refused where the number is no handle (1101), which leaves the session as it was.
+    pub fn free_object(&mut self, handle: u32) -> Result<(), VpiError>
+        ensures freed { OnOk result (self.new ≡ without_handle handle self.old) }
+        ensures there { OnOk result (IsSome (object_of self.old.handles handle)) }
+        ensures refused { IfErr result (λ e. e ≡ VpiError.BadHandle) }
+        ensures absent { OnErr result (object_of self.old.handles handle ≡ None) }
+        ensures unchanged { OnErr result (self.new ≡ self.old) }
+    {
+        let Some(place) = (handle as usize).checked_sub(1) else {
+            return Err(VpiError::BadHandle);
+        };
+        if !take_at(&mut self.handles, place) {
+            return Err(VpiError::BadHandle);
+        }
+        self.open_handles -= 1;
+        Ok(())
     }
 }

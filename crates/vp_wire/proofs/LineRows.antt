@@ -8,6 +8,7 @@ use Rattle.vp_bits.specs.declared.bit.Bit.TheVariants.{Zero, One, Unknown, HighI
 use Rattle.vp_pragma.specs.declared.rights.Right.TheVariants as right
 use Rattle.vp_policy.specs.declared.denial.Barrier.TheVariants as by
 use Rattle.vp_world.specs.declared.event.Request.TheVariants as request
+use Rattle.vp_world.specs.declared.event.ValueFormat.TheVariants as format
 use Rattle.vp_world.specs.declared.reply.Refusal.TheVariants as refusal
 use Rattle.vp_world.specs.declared.reply.Reply.TheVariants as reply
 use Rattle.vp_wire.specs.Lines.{line_of, meaning_of, NotJson, NotRequest, Asks}
@@ -40,11 +41,11 @@ no_such_name : line_of (reply.Error refusal.NoSuchName) ≡ codes "{\"error\":\"
 unfolding serde_json_on_literals
 no_such_name = refl
 
-asks_handle : meaning_of (codes "{\"op\":\"handle\",\"name\":\"top.a\"}") ≡ Asks (request.Handle (codes "top.a"))
+asks_handle : meaning_of (codes "{\"op\":\"handle\",\"name\":\"top.a\"}") ≡ Asks (request.Handle (codes "top.a") None)
 unfolding serde_json_on_literals is_utf8 chars
 asks_handle = refl
 
-asks_value : meaning_of (codes "{\"h\":1,\"op\":\"value\"}") ≡ Asks (request.Value 1)
+asks_value : meaning_of (codes "{\"h\":1,\"op\":\"value\"}") ≡ Asks (request.Value 1 format.Binary)
 unfolding serde_json_on_literals is_utf8 chars
 asks_value = refl
 

@@ -1,5 +1,5 @@
 -- A dialogue: how an input is cut into lines, and what each line is answered (profile).
-use Rattle.std.specs.Prelude.{◌≡◌, ◌⊎◌, ℕ, nat_lt, if◌then◌else◌, List, [], ◌∷◌, ◌++◌, length, Option, codes}
+use Rattle.std.specs.Prelude.{◌≡◌, ◌⊎◌, ℕ, nat_lt, Bool, true, false, if◌then◌else◌, List, [], ◌∷◌, ◌++◌, length, Option, codes}
 use Rattle.std.specs.List.{concat}
 use Rattle.std.specs.Io.KnownBytes.{Appends, Consumes, IsAtEnd}
 use Rattle.vp_list.specs.Texts.{parts}
@@ -49,26 +49,23 @@ pub data Turn : Type 0 where
   Tells : List ℕ → Turn
   Calls : Request → Turn
 
+-- a request opens a session
+abbrev pub is_opening : Request → Bool
+is_opening (request.Open user token) = true
+is_opening r = false
+
 -- an `open` is asked once; before it is answered every other request is told that no session is open
+abbrev pub turn_by_opening : Stage → Request → (opens : Bool) → Turn
+turn_by_opening Before r true = Calls r
+turn_by_opening Before r false = Tells (codes "not open")
+turn_by_opening Open r true = Tells (codes "bad request")
+turn_by_opening Open r false = Calls r
+turn_by_opening Closed r true = Tells (codes "bad request")
+turn_by_opening Closed r false = Calls r
+
+-- what becomes of a request
 abbrev pub turn_of_request : Stage → Request → Turn
-turn_of_request Before (request.Open user token) = Calls (request.Open user token)
-turn_of_request Open (request.Open user token) = Tells (codes "bad request")
-turn_of_request Closed (request.Open user token) = Tells (codes "bad request")
-turn_of_request Before request.Close = Tells (codes "not open")
-turn_of_request Open request.Close = Calls request.Close
-turn_of_request Closed request.Close = Calls request.Close
-turn_of_request Before (request.Handle name) = Tells (codes "not open")
-turn_of_request Open (request.Handle name) = Calls (request.Handle name)
-turn_of_request Closed (request.Handle name) = Calls (request.Handle name)
-turn_of_request Before (request.Value handle) = Tells (codes "not open")
-turn_of_request Open (request.Value handle) = Calls (request.Value handle)
-turn_of_request Closed (request.Value handle) = Calls (request.Value handle)
-turn_of_request Before (request.Run until) = Tells (codes "not open")
-turn_of_request Open (request.Run until) = Calls (request.Run until)
-turn_of_request Closed (request.Run until) = Calls (request.Run until)
-turn_of_request Before request.Time = Tells (codes "not open")
-turn_of_request Open request.Time = Calls request.Time
-turn_of_request Closed request.Time = Calls request.Time
+turn_of_request stage r = turn_by_opening stage r (is_opening r)
 
 -- what becomes of a line that is not too long, by what it means
 abbrev pub turn_of_meaning : Stage → Meaning → Turn

@@ -1,18 +1,28 @@
 -- The lines of requests and replies.
-use Rattle.std.specs.Prelude.{ℕ, ◌^◌, nat_lt, Bool, true, if◌then◌else◌, List, [], ◌∷◌, ◌++◌, map, reverse, Option, Some, None, option_and_then, option_map, codes}
+use Rattle.std.specs.Prelude.{ℕ, ◌^◌, ◌/◌, ◌%◌, nat_le, nat_lt, Bool, true, if◌then◌else◌, List, [], ◌∷◌, ◌++◌, length, map, reverse, Option, Some, None, is_some, option_and_then, option_map, codes}
 use Rattle.std.specs.Str.{bytes_eq, is_utf8}
-use Rattle.serde_json.specs.Data.{unsigned, Data, Members, boolean, number, string, object, no_members, member}
-use Rattle.serde_json.specs.Find.{get, as_str, as_number, as_u64}
+use Rattle.serde_json.specs.Data.{unsigned, Data, Items, Members, array, boolean, item, member, no_items, no_members, number, object, string}
+use Rattle.serde_json.specs.Find.{as_array, as_number, as_str, as_u64, at, get}
 use Rattle.serde_json.specs.Read.{read}
 use Rattle.serde_json.specs.Written.{compact_text}
 use Rattle.vp_json.specs.Keys.{has_keys}
 use Rattle.vp_bits.specs.declared.bit.Bit.{Bit}
 use Rattle.vp_bits.specs.Digits.{digit_of}
+use Rattle.vp_bits.specs.Vector.{aval_of, bval_of}
 use Rattle.vp_pragma.specs.Rights.{name_of}
 use Rattle.vp_policy.specs.declared.denial.Barrier.{Barrier}
 use Rattle.vp_policy.specs.declared.denial.Barrier.TheVariants as by
 use Rattle.vp_policy.specs.Denials.{DenialWords}
+use Rattle.vp_policy.specs.File.{each_of}
 use Rattle.vp_policy.specs.Filter.{run_denied}
+use Rattle.vp_vpi.specs.declared.property.NumberProperty.{NumberProperty}
+use Rattle.vp_vpi.specs.declared.property.NumberProperty.TheVariants as property
+use Rattle.vp_vpi.specs.declared.property.TextProperty.{TextProperty}
+use Rattle.vp_vpi.specs.declared.property.TextProperty.TheVariants as text
+use Rattle.vp_vpi.specs.declared.property.VectorWord.{VectorWord}
+use Rattle.vp_vpi.specs.declared.property.PutValue.TheVariants as put
+use Rattle.vp_world.specs.declared.event.ValueFormat.{ValueFormat}
+use Rattle.vp_world.specs.declared.event.ValueFormat.TheVariants as format
 use Rattle.vp_world.specs.declared.event.Request.{Request}
 use Rattle.vp_world.specs.declared.event.Request.TheVariants as request
 use Rattle.vp_world.specs.declared.reply.Refusal.{Refusal}
@@ -73,6 +83,33 @@ handle_data handle = only (codes "h") (number (unsigned handle))
 abbrev pub vector_data : List Bit → Data
 vector_data bits = only (codes "value") (string (map digit_of (reverse bits)))
 
+-- a number of an object as JSON (profile)
+abbrev pub number_data : ℕ → Data
+number_data n = only (codes "n") (number (unsigned n))
+
+-- a text of an object as JSON (profile)
+abbrev pub text_data : List ℕ → Data
+text_data text = only (codes "s") (string text)
+
+-- two numbers as JSON
+abbrev pub pair_data : ℕ → ℕ → Data
+pair_data a b = array (item (number (unsigned a)) (item (number (unsigned b)) no_items))
+
+-- the words of 32 bits of a vector with the words aval and bval, least significant first (clause 27)
+abbrev pub words_of : (width aval bval : ℕ) → Items
+words_of width aval bval =
+    if nat_le width 32
+    then item (pair_data aval bval) no_items
+    else item (pair_data (aval % 2 ^ 32) (bval % 2 ^ 32)) (item (pair_data (aval / 2 ^ 32) (bval / 2 ^ 32)) no_items)
+
+-- the value of a vector as JSON, in words of 32 bits (profile)
+abbrev pub words_data : List Bit → Data
+words_data bits = only (codes "vector") (array (words_of (length bits) (aval_of bits) (bval_of bits)))
+
+-- whether two handles are of one object, as JSON (profile)
+abbrev pub same_data : Bool → Data
+same_data same = only (codes "same") (boolean same)
+
 -- a refusal as JSON (profile)
 abbrev pub error_data : Refusal → Data
 error_data refusal = only (codes "error") (string (text_of refusal))
@@ -82,7 +119,11 @@ abbrev pub data_of : Reply → Data
 data_of (reply.Opened session) = done_data
 data_of reply.Done = done_data
 data_of (reply.Handle handle) = handle_data handle
+data_of (reply.Number n) = number_data n
+data_of (reply.Text text) = text_data text
 data_of (reply.Value bits) = vector_data bits
+data_of (reply.Vector bits) = words_data bits
+data_of (reply.Same same) = same_data same
 data_of (reply.Denied words) = denial_data words
 data_of reply.RunDenied = run_denial_data
 data_of (reply.Time time finished) = time_data time finished
@@ -98,11 +139,17 @@ line_of r = compact_text (data_of r) ++ 10 ∷ []
 abbrev pub text_at : List ℕ → Data → Option (List ℕ)
 text_at key d = option_and_then as_str (get key d)
 
+-- a number of 32 bits
+abbrev pub word_of : ℕ → Option ℕ
+word_of n = if nat_lt n (2 ^ 32) then Some n else None
+
 -- the number of 32 bits under a key
 abbrev pub number_at : List ℕ → Data → Option ℕ
-number_at key d =
-    option_and_then (λ n. if nat_lt n (2 ^ 32) then Some n else None)
-    (option_and_then as_u64 (option_and_then as_number (get key d)))
+number_at key d = option_and_then word_of (option_and_then as_u64 (option_and_then as_number (get key d)))
+
+-- the number of 32 bits under a key that may be left out
+abbrev pub number_if : List ℕ → Data → Option (Option ℕ)
+number_if key d = if is_some (get key d) then option_map Some (number_at key d) else Some None
 
 -- the time under a key: a number below 2^62
 abbrev pub time_at : List ℕ → Data → Option ℕ
@@ -113,6 +160,10 @@ time_at key d =
 -- a request, of an object with exactly these keys beside op
 abbrev pub of_keys : List (List ℕ) → Data → Option Request → Option Request
 of_keys keys d r = if has_keys keys (codes "op" ∷ []) d then r else None
+
+-- the same of an object that may have one key more
+abbrev pub of_keys_or : List (List ℕ) → List ℕ → Data → Option Request → Option Request
+of_keys_or keys other d r = if has_keys keys (codes "op" ∷ other ∷ []) d then r else None
 
 -- the request to open a session
 abbrev pub open_request : Data → Option Request
@@ -126,11 +177,102 @@ close_request d = of_keys [] d (Some request.Close)
 
 -- the request of a handle
 abbrev pub handle_request : Data → Option Request
-handle_request d = of_keys (codes "name" ∷ []) d (option_map request.Handle (text_at (codes "name") d))
+handle_request d =
+    of_keys_or (codes "name" ∷ []) (codes "scope") d
+    (option_and_then (λ name. option_map (request.Handle name) (number_if (codes "scope") d)) (text_at (codes "name") d))
+
+-- the number of an object that a word names (profile)
+abbrev pub number_property : List ℕ → Option NumberProperty
+number_property word =
+    if bytes_eq word (codes "size") then Some property.Size
+    else (if bytes_eq word (codes "line") then Some property.Line
+    else None)
+
+-- the request of a number of an object
+abbrev pub get_request : Data → Option Request
+get_request d =
+    of_keys (codes "h" ∷ codes "prop" ∷ []) d
+    (option_and_then (λ handle. option_map (request.Get handle) (option_and_then number_property (text_at (codes "prop") d)))
+    (number_at (codes "h") d))
+
+-- the text of an object that a word names (profile)
+abbrev pub text_property : List ℕ → Option TextProperty
+text_property word =
+    if bytes_eq word (codes "type") then Some text.Type
+    else (if bytes_eq word (codes "name") then Some text.Name
+    else (if bytes_eq word (codes "full_name") then Some text.FullName
+    else (if bytes_eq word (codes "def_name") then Some text.DefinitionName
+    else None)))
+
+-- the request of a text of an object
+abbrev pub get_str_request : Data → Option Request
+get_str_request d =
+    of_keys (codes "h" ∷ codes "prop" ∷ []) d
+    (option_and_then (λ handle. option_map (request.GetStr handle) (option_and_then text_property (text_at (codes "prop") d)))
+    (number_at (codes "h") d))
+
+-- the format of values that a word names (profile)
+abbrev pub format_of : List ℕ → Option ValueFormat
+format_of word =
+    if bytes_eq word (codes "bin") then Some format.Binary
+    else (if bytes_eq word (codes "vec") then Some format.Vector
+    else None)
+
+-- the format that a value is asked in, by default binary digits
+abbrev pub format_at : Data → Option ValueFormat
+format_at d =
+    if is_some (get (codes "format") d) then option_and_then format_of (text_at (codes "format") d) else Some format.Binary
 
 -- the request of a value
 abbrev pub value_request : Data → Option Request
-value_request d = of_keys (codes "h" ∷ []) d (option_map request.Value (number_at (codes "h") d))
+value_request d =
+    of_keys_or (codes "h" ∷ []) (codes "format") d
+    (option_and_then (λ handle. option_map (request.Value handle) (format_at d)) (number_at (codes "h") d))
+
+-- the number of 32 bits at a place of an array
+abbrev pub number_in : ℕ → Data → Option ℕ
+number_in place d = option_and_then word_of (option_and_then as_u64 (option_and_then as_number (at place d)))
+
+-- a word of a vector of two numbers
+abbrev pub vector_word : ℕ → ℕ → VectorWord
+vector_word a b = record { aval = a; bval = b }
+
+-- a word of a vector: an array of two numbers of 32 bits (clause 27, profile)
+abbrev pub word_in : Data → Option VectorWord
+word_in d =
+    if is_some (at 2 d) then None else option_and_then (λ a. option_map (vector_word a) (number_in 1 d)) (number_in 0 d)
+
+-- the words of a vector under a key
+abbrev pub words_at : List ℕ → Data → Option (List VectorWord)
+words_at key d = option_and_then (each_of word_in) (option_and_then as_array (get key d))
+
+-- the request of a put by digits
+abbrev pub digits_request : Data → Option Request
+digits_request d =
+    of_keys (codes "h" ∷ codes "value" ∷ []) d
+    (option_and_then (λ handle. option_map (λ t. request.Put handle (put.Digits t)) (text_at (codes "value") d))
+    (number_at (codes "h") d))
+
+-- the request of a put by words
+abbrev pub vector_request : Data → Option Request
+vector_request d =
+    of_keys (codes "h" ∷ codes "vector" ∷ []) d
+    (option_and_then (λ handle. option_map (λ ws. request.Put handle (put.Words ws)) (words_at (codes "vector") d))
+    (number_at (codes "h") d))
+
+-- the request of a put: by digits, or else by words
+abbrev pub put_request : Data → Option Request
+put_request d = if is_some (get (codes "value") d) then digits_request d else vector_request d
+
+-- the request to compare two handles
+abbrev pub compare_request : Data → Option Request
+compare_request d =
+    of_keys (codes "a" ∷ codes "b" ∷ []) d
+    (option_and_then (λ a. option_map (request.Compare a) (number_at (codes "b") d)) (number_at (codes "a") d))
+
+-- the request to free a handle
+abbrev pub free_request : Data → Option Request
+free_request d = of_keys (codes "h" ∷ []) d (option_map request.Free (number_at (codes "h") d))
 
 -- the request to let the design run
 abbrev pub run_request : Data → Option Request
@@ -146,10 +288,15 @@ request_of_op op d =
     if bytes_eq op (codes "open") then open_request d
     else (if bytes_eq op (codes "close") then close_request d
     else (if bytes_eq op (codes "handle") then handle_request d
+    else (if bytes_eq op (codes "get") then get_request d
+    else (if bytes_eq op (codes "get_str") then get_str_request d
     else (if bytes_eq op (codes "value") then value_request d
+    else (if bytes_eq op (codes "put") then put_request d
+    else (if bytes_eq op (codes "compare") then compare_request d
+    else (if bytes_eq op (codes "free") then free_request d
     else (if bytes_eq op (codes "run") then run_request d
     else (if bytes_eq op (codes "time") then time_request d
-    else None)))))
+    else None))))))))))
 
 -- the request of a JSON value; none where it is no request
 abbrev pub request_of : Data → Option Request

@@ -45,11 +45,6 @@ abbrev pub text_told : {V : Type 0} → (V → List ℕ) → Result V LineError 
 text_told items (Ok line) = items line
 text_told items (Err e) = error_line (text_of e)
 
--- a request opens a session
-abbrev pub is_opening : Request → Bool
-is_opening (request.Open user token) = true
-is_opening r = false
-
 -- a request closes a session
 abbrev pub is_closing : Request → Bool
 is_closing request.Close = true

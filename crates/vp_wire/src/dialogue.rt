@@ -2,9 +2,9 @@ ghost use Rattle.std.specs.Prelude.{◌≡◌, ◌≤◌, ◌<◌, ◌+◌, ◌^
 ghost use Rattle.std.specs.Io.KnownBytes.{IsAtEnd};
 ghost use Rattle.vp_world.specs.declared.event.Request.{Request};
 ghost use Rattle.vp_world.specs.declared.reply.Reply.{Reply};
-ghost use Rattle.vp_wire.specs.Dialogue.{Answers, Asked, Closes, IsDialogue, IsWhole, Point, Stops, stage_behind, turn_of, turn_of_request};
+ghost use Rattle.vp_wire.specs.Dialogue.{Answers, Asked, Closes, IsDialogue, IsWhole, Point, Stops, is_opening, stage_behind, turn_of, turn_of_request};
 ghost use Rattle.vp_wire.specs.Failures.{failures_behind, one_more, reader_failures, writer_failures};
-ghost use Rattle.vp_wire.specs.Reading.{Finishes, Goes, IsBegun, Progress, Takes, Told, is_closing, is_opening, point_of, size_left, text_told, turn_by};
+ghost use Rattle.vp_wire.specs.Reading.{Finishes, Goes, IsBegun, Progress, Takes, Told, is_closing, point_of, size_left, text_told, turn_by};
 
 use crate::counted::{Counted, Failed};
 use crate::fault::WireError;

@@ -1,8 +1,8 @@
 // Replies (docs/FORMATS.md, "Lines").
 ghost use Rattle.std.specs.Prelude.{◌≡◌, None, IfOk, IsOkUnless, OnOk};
-ghost use Rattle.serde_json.specs.Data.{put as with_member, string};
+ghost use Rattle.serde_json.specs.Data.{array, put as with_member, string};
 ghost use Rattle.serde_json.specs.View.{members_view, view};
-ghost use Rattle.vp_wire.specs.Lines.{by_text, data_of, denial_data, denial_members, done_data, error_data, handle_data, line_of, only, run_denial_data, time_data, vector_data};
+ghost use Rattle.vp_wire.specs.Lines.{by_text, data_of, denial_data, denial_members, done_data, error_data, handle_data, line_of, number_data, only, pair_data, run_denial_data, same_data, text_data, time_data, vector_data, words_data, words_of};
 
 use crate::fault::WireError;
 use serde_json::{Map, Value, put};
@@ -42,6 +42,63 @@ fn vector_value(alloc: Global, bits: Bits) -> Result<Value, AllocError>
         Ok(digits) => only(alloc, "value", Value::String(digits)),
         Err(_) => Err(AllocError),
     }
+}
+
+/// A number of an object.
+fn number_value(alloc: Global, number: u32) -> Result<Value, AllocError>
+    ensures { IfOk result (λ v. view v ≡ number_data number) }
+{
+    only(alloc, "n", Value::from(number))
+}
+
+/// A text of an object.
+fn text_value(alloc: Global, text: &str) -> Result<Value, AllocError>
+    ensures { IfOk result (λ v. view v ≡ text_data text.now) }
+{
+    only(alloc, "s", Value::try_from_str(alloc, text)?)
+}
+
+/// Two numbers.
+fn pair_value(alloc: Global, first: u64, second: u64) -> Result<Value, AllocError>
+    ensures { IfOk result (λ v. view v ≡ pair_data first second) }
+{
+    let mut pair = Vec::new(alloc);
+    pair.push(Value::from(first))?;
+    pair.push(Value::from(second))?;
+    Ok(Value::Array(pair))
+}
+
+/// The words of 32 bits of a vector of a width with the words aval and bval, least significant first.
+fn words_value(alloc: Global, width: u8, aval: u64, bval: u64) -> Result<Value, AllocError>
+    ensures { IfOk result (λ v. view v ≡ array (words_of width aval bval)) }
+{
+    let mut words = Vec::new(alloc);
+    if width <= 32 {
+        words.push(pair_value(alloc, aval, bval)?)?;
+    } else {
+        words.push(pair_value(alloc, aval % 4_294_967_296, bval % 4_294_967_296)?)?;
+        words.push(pair_value(alloc, aval / 4_294_967_296, bval / 4_294_967_296)?)?;
+    }
+    Ok(Value::Array(words))
+}
+
+/// The value of a vector, in words of 32 bits.
+fn vector_words(alloc: Global, bits: Bits) -> Result<Value, AllocError>
+    ensures { IfOk result (λ v. view v ≡ words_data bits) }
+{
+    let (aval, bval) = bits.words();
+    only(
+        alloc,
+        "vector",
+        words_value(alloc, bits.width(), aval, bval)?,
+    )
+}
+
+/// Whether two handles are of one object.
+fn same_value(alloc: Global, same: bool) -> Result<Value, AllocError>
+    ensures { IfOk result (λ v. view v ≡ same_data same) }
+{
+    only(alloc, "same", Value::Bool(same))
 }
 
 /// What keeps a user out, in a line.
@@ -133,7 +190,11 @@ fn value_of(alloc: Global, reply: &Reply) -> Result<Value, AllocError>
     match reply {
         Reply::Opened(_) | Reply::Done => done_value(alloc),
         Reply::Handle(handle) => handle_value(alloc, *handle),
+        Reply::Number(number) => number_value(alloc, *number),
+        Reply::Text(text) => text_value(alloc, text.as_str()),
         Reply::Value(bits) => vector_value(alloc, *bits),
+        Reply::Vector(bits) => vector_words(alloc, *bits),
+        Reply::Same(same) => same_value(alloc, *same),
         Reply::Denied(words) => denied(alloc, words),
         Reply::RunDenied => run_denied(alloc),
         Reply::Time { time, finished } => time_value(alloc, *time, *finished),

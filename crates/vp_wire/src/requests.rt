@@ -1,15 +1,17 @@
 // Requests (docs/FORMATS.md, "Lines").
 ghost use Rattle.std.specs.Prelude.{◌≡◌, ◌⊎◌, [], ◌∷◌, None, Some, codes, map, IfErr, IfOk, IsErrOf};
-ghost use Rattle.serde_json.specs.View.{view};
+ghost use Rattle.serde_json.specs.View.{items_view, view};
 ghost use Rattle.vp_json.specs.Keys.{has_keys};
-ghost use Rattle.vp_wire.specs.Lines.{close_request, handle_request, meaning_of, number_at, open_request, request_of, request_of_op, run_request, time_at, time_request, value_request, Asks, NotJson, NotRequest};
+ghost use Rattle.vp_policy.specs.File.{each_of};
+ghost use Rattle.vp_wire.specs.Lines.{close_request, compare_request, digits_request, format_at, format_of, free_request, get_request, get_str_request, handle_request, meaning_of, number_at, number_if, number_in, number_property, open_request, put_request, request_of, request_of_op, run_request, text_property, time_at, time_request, value_request, vector_request, word_in, words_at, Asks, NotJson, NotRequest};
 
 use crate::fault::WireError;
 use serde_json::Value;
 use std::alloc::{AllocError, Global};
 use vp_json::{ReadError, has_keys, number, read, text};
-use vp_list::Text;
-use vp_world::Request;
+use vp_list::{Sequence, Text};
+use vp_vpi::{NumberProperty, PutValue, TextProperty, VectorWord};
+use vp_world::{Request, ValueFormat};
 
 /// Every time is below this one, in time units.
 const TIME_END: u64 = 1 << 62;
@@ -68,27 +70,230 @@ fn close_request(value: &Value) -> Option<Request>
     }
 }
 
+/// The handle under a key that may be left out.
+fn handle_if(value: &Value, key: &str) -> Option<Option<u32>>
+    ensures { result ≡ number_if key.now (view value.now) }
+{
+    if value.get(key).is_none() {
+        return Some(None);
+    }
+    match handle_under(value, key) {
+        Some(handle) => Some(Some(handle)),
+        None => None,
+    }
+}
+
 /// The request of a handle.
 fn handle_request(alloc: Global, value: &Value) -> Result<Option<Request>, AllocError>
     ensures { IfOk result (λ r. r ≡ handle_request (view value.now)) }
 {
-    if !has_request_keys(value, ["name"].as_slice()) {
+    if !has_keys(value, ["name"].as_slice(), ["op", "scope"].as_slice()) {
         return Ok(None);
     }
-    match text(value, "name") {
-        Some(name) => Ok(Some(Request::Handle {
+    match (text(value, "name"), handle_if(value, "scope")) {
+        (Some(name), Some(scope)) => Ok(Some(Request::Handle {
             name: Text::copy(alloc, name)?,
+            scope,
         })),
-        None => Ok(None),
+        _ => Ok(None),
     }
+}
+
+/// The number of an object that a word names.
+fn number_property(word: &str) -> Option<NumberProperty>
+    ensures { result ≡ number_property word.now }
+{
+    match word {
+        "size" => Some(NumberProperty::Size),
+        "line" => Some(NumberProperty::Line),
+        _ => None,
+    }
+}
+
+/// The request of a number of an object.
+fn get_request(value: &Value) -> Option<Request>
+    ensures { result ≡ get_request (view value.now) }
+{
+    if !has_request_keys(value, ["h", "prop"].as_slice()) {
+        return None;
+    }
+    let handle = handle_under(value, "h")?;
+    let property = number_property(text(value, "prop")?)?;
+    Some(Request::Get { handle, property })
+}
+
+/// The text of an object that a word names.
+fn text_property(word: &str) -> Option<TextProperty>
+    ensures { result ≡ text_property word.now }
+{
+    match word {
+        "type" => Some(TextProperty::Type),
+        "name" => Some(TextProperty::Name),
+        "full_name" => Some(TextProperty::FullName),
+        "def_name" => Some(TextProperty::DefinitionName),
+        _ => None,
+    }
+}
+
+/// The request of a text of an object.
+fn get_str_request(value: &Value) -> Option<Request>
+    ensures { result ≡ get_str_request (view value.now) }
+{
+    if !has_request_keys(value, ["h", "prop"].as_slice()) {
+        return None;
+    }
+    let handle = handle_under(value, "h")?;
+    let property = text_property(text(value, "prop")?)?;
+    Some(Request::GetStr { handle, property })
+}
+
+/// The format of values that a word names.
+fn format_of(word: &str) -> Option<ValueFormat>
+    ensures { result ≡ format_of word.now }
+{
+    match word {
+        "bin" => Some(ValueFormat::Binary),
+        "vec" => Some(ValueFormat::Vector),
+        _ => None,
+    }
+}
+
+/// The format that a value is asked in, by default binary digits.
+fn format_under(value: &Value) -> Option<ValueFormat>
+    ensures { result ≡ format_at (view value.now) }
+{
+    if value.get("format").is_none() {
+        return Some(ValueFormat::Binary);
+    }
+    format_of(text(value, "format")?)
 }
 
 /// The request of a value.
 fn value_request(value: &Value) -> Option<Request>
     ensures { result ≡ value_request (view value.now) }
 {
+    if !has_keys(value, ["h"].as_slice(), ["op", "format"].as_slice()) {
+        return None;
+    }
+    let handle = handle_under(value, "h")?;
+    let format = format_under(value)?;
+    Some(Request::Value { handle, format })
+}
+
+/// The number of 32 bits at a place of an array.
+fn number_in(array: &Value, place: usize) -> Option<u32>
+    ensures { result ≡ number_in place (view array.now) }
+{
+    match array.get(place).and_then(Value::as_u64) {
+        Some(number) => u32::try_from(number).ok(),
+        None => None,
+    }
+}
+
+/// A word of a vector: an array of two numbers of 32 bits.
+fn word_in(pair: &Value) -> Option<VectorWord>
+    ensures { result ≡ word_in (view pair.now) }
+{
+    if pair.get(2usize).is_some() {
+        return None;
+    }
+    let aval = number_in(pair, 0)?;
+    let bval = number_in(pair, 1)?;
+    Some(VectorWord { aval, bval })
+}
+
+/// The words of a vector; none where one of the items is no word.
+fn words_of(alloc: Global, items: &[Value]) -> Result<Option<Sequence<VectorWord>>, AllocError>
+    ensures { IfOk result (λ words. words ≡ each_of word_in (items_view items.now)) }
+{
+    let mut words = Vec::new(alloc);
+    for item in items {
+        let Some(word) = word_in(item) else {
+            return Ok(None);
+        };
+        words.push(word)?;
+    }
+    Ok(Some(Sequence::from_vec(words)))
+}
+
+/// The words of a vector under a key.
+fn words_under(
+    alloc: Global,
+    value: &Value,
+    key: &str,
+) -> Result<Option<Sequence<VectorWord>>, AllocError>
+    ensures { IfOk result (λ words. words ≡ words_at key.now (view value.now)) }
+{
+    match value.get(key).and_then(Value::as_array) {
+        Some(items) => words_of(alloc, items.as_slice()),
+        None => Ok(None),
+    }
+}
+
+/// The request of a put by digits.
+fn digits_request(alloc: Global, value: &Value) -> Result<Option<Request>, AllocError>
+    ensures { IfOk result (λ r. r ≡ digits_request (view value.now)) }
+{
+    if !has_request_keys(value, ["h", "value"].as_slice()) {
+        return Ok(None);
+    }
+    match (handle_under(value, "h"), text(value, "value")) {
+        (Some(handle), Some(digits)) => Ok(Some(Request::Put {
+            handle,
+            value: PutValue::Digits(Text::copy(alloc, digits)?),
+        })),
+        _ => Ok(None),
+    }
+}
+
+/// The request of a put by words.
+fn vector_request(alloc: Global, value: &Value) -> Result<Option<Request>, AllocError>
+    ensures { IfOk result (λ r. r ≡ vector_request (view value.now)) }
+{
+    if !has_request_keys(value, ["h", "vector"].as_slice()) {
+        return Ok(None);
+    }
+    match (
+        handle_under(value, "h"),
+        words_under(alloc, value, "vector")?,
+    ) {
+        (Some(handle), Some(words)) => Ok(Some(Request::Put {
+            handle,
+            value: PutValue::Words(words),
+        })),
+        _ => Ok(None),
+    }
+}
+
+/// The request of a put: by digits, or else by words.
+fn put_request(alloc: Global, value: &Value) -> Result<Option<Request>, AllocError>
+    ensures { IfOk result (λ r. r ≡ put_request (view value.now)) }
+{
+    if value.get("value").is_some() {
+        digits_request(alloc, value)
+    } else {
+        vector_request(alloc, value)
+    }
+}
+
+/// The request to compare two handles.
+fn compare_request(value: &Value) -> Option<Request>
+    ensures { result ≡ compare_request (view value.now) }
+{
+    if !has_request_keys(value, ["a", "b"].as_slice()) {
+        return None;
+    }
+    let first = handle_under(value, "a")?;
+    let second = handle_under(value, "b")?;
+    Some(Request::Compare { first, second })
+}
+
+/// The request to free a handle.
+fn free_request(value: &Value) -> Option<Request>
+    ensures { result ≡ free_request (view value.now) }
+{
     if has_request_keys(value, ["h"].as_slice()) {
-        Some(Request::Value {
+        Some(Request::Free {
             handle: handle_under(value, "h")?,
         })
     } else {
@@ -128,7 +333,12 @@ fn request_of_op(alloc: Global, op: &str, value: &Value) -> Result<Option<Reques
         "open" => open_request(alloc, value),
         "close" => Ok(close_request(value)),
         "handle" => handle_request(alloc, value),
+        "get" => Ok(get_request(value)),
+        "get_str" => Ok(get_str_request(value)),
         "value" => Ok(value_request(value)),
+        "put" => put_request(alloc, value),
+        "compare" => Ok(compare_request(value)),
+        "free" => Ok(free_request(value)),
         "run" => Ok(run_request(value)),
         "time" => Ok(time_request(value)),
         _ => Ok(None),

@@ -1,6 +1,6 @@
 pub mod Lists
 pub mod Standings
-pub mod Naming
+pub mod Asking
 pub mod WorldRows
 pub mod Logs
 pub mod Outcomes

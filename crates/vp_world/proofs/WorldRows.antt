@@ -24,6 +24,7 @@ use Rattle.vp_policy.specs.declared.denial.Barrier.TheVariants as by
 use Rattle.vp_policy.specs.Users.{Member}
 use Rattle.vp_world.specs.declared.event.SessionId.{SessionId}
 use Rattle.vp_world.specs.declared.event.Request.TheVariants as request
+use Rattle.vp_world.specs.declared.event.ValueFormat.TheVariants as format
 use Rattle.vp_world.specs.declared.event.Event.{Event}
 use Rattle.vp_world.specs.declared.event.Event.TheVariants as event
 use Rattle.vp_world.specs.declared.fault.WorldError.TheVariants as error
@@ -123,10 +124,10 @@ abbrev opens : Event
 opens = event.Open (codes "ann") (codes "t1")
 
 abbrev asks : List ℕ → Event
-asks name = event.Ask first (request.Handle name)
+asks name = event.Ask first (request.Handle name None)
 
 abbrev reads : ℕ → Event
-reads handle = event.Ask first (request.Value handle)
+reads handle = event.Ask first (request.Value handle format.Binary)
 
 abbrev hidden : Reply
 hidden = reply.Denied (record { by = by.Envelope; envelope = 1; right = right.List; author = codes "acme"; object = None })

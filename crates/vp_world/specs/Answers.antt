@@ -1,11 +1,15 @@
 -- What comes of a session's request.
-use Rattle.std.specs.Prelude.{ℕ, suc, if◌then◌else◌, List, Option, Some, None, Result, Ok, Err}
+use Rattle.std.specs.Prelude.{ℕ, if◌then◌else◌, List, Option, Some, None, Result, Ok, Err}
 use Rattle.vp_bits.specs.declared.bit.Bit.{Bit}
 use Rattle.vp_vpi.specs.declared.fault.VpiError.{VpiError}
 use Rattle.vp_vpi.specs.declared.fault.VpiError.TheVariants as vpi
-use Rattle.vp_vpi.specs.Observers.{Observer, Seat, handle_of, object_of, value_of, with_handle}
+use Rattle.vp_vpi.specs.Calls.{handle_of, number_of, or_refusal, put_of, same_of, text_of, value_of}
+use Rattle.vp_vpi.specs.Observers.{Observer}
+use Rattle.vp_vpi.specs.Seats.{Seat, next_handle, object_of, with_handle, without_handle}
 use Rattle.vp_world.specs.declared.event.Request.{Request}
 use Rattle.vp_world.specs.declared.event.Request.TheVariants as request
+use Rattle.vp_world.specs.declared.event.ValueFormat.{ValueFormat}
+use Rattle.vp_world.specs.declared.event.ValueFormat.TheVariants as format
 use Rattle.vp_world.specs.declared.reply.Refusal.TheVariants as refusal
 use Rattle.vp_world.specs.declared.reply.Reply.{Reply}
 use Rattle.vp_world.specs.declared.reply.Reply.TheVariants as reply
@@ -27,24 +31,42 @@ abbrev pub refused : VpiError → Reply
 refused (vpi.Denied words) = reply.Denied words
 refused vpi.BadHandle = reply.Error refusal.BadHandle
 refused vpi.WrongKind = reply.Error refusal.WrongKind
+refused vpi.BadValue = reply.Error refusal.BadValue
+refused vpi.Finished = reply.Error refusal.Finished
 refused vpi.TooManyHandles = reply.Error refusal.TooManyHandles
 refused vpi.NoSuchName = reply.Error refusal.NoSuchName
 refused vpi.NoMemory = reply.Error refusal.NoMemory
 
--- what comes of a name: the handle that it makes, by its number
-abbrev pub named_response : Seat → Result ℕ VpiError → Response
-named_response seat (Err e) = only_told seat (refused e)
-named_response seat (Ok object) = record {
-  reply = reply.Handle (suc seat.handles.newest);
-  seat = record { user = seat.user; handles = with_handle object seat.handles };
+-- what comes of an answer, if there is one; else only the refusal is told
+abbrev pub response_by : {A : Type 0} → Seat → (A → Response) → Result A VpiError → Response
+response_by seat given (Ok x) = given x
+response_by seat given (Err e) = only_told seat (refused e)
+
+-- a reply by an answer, if there is one, from which nothing else comes
+abbrev pub told_by : {A : Type 0} → Seat → (A → Reply) → Result A VpiError → Response
+told_by seat given due = response_by seat (λ x. only_told seat (given x)) due
+
+-- what comes of a handle that is made of an object: its number is told, and the session has it
+abbrev pub made : Seat → ℕ → Response
+made seat object = record {
+  reply = reply.Handle (next_handle seat.handles);
+  seat = with_handle object seat;
   goal = None;
   put = None;
 }
 
--- the reply to a handle: the value of its object
-abbrev pub reply_of_value : Result (List Bit) VpiError → Reply
-reply_of_value (Err e) = refused e
-reply_of_value (Ok bits) = reply.Value bits
+-- what comes of a handle that is freed
+abbrev pub freed : Seat → (handle : ℕ) → Response
+freed seat handle = record { reply = reply.Done; seat = without_handle handle seat; goal = None; put = None }
+
+-- what comes of a value that is put on an object
+abbrev pub putting : Seat → ℕ × List Bit → Response
+putting seat p = record { reply = reply.Done; seat = seat; goal = None; put = Some p }
+
+-- a value in a format
+abbrev pub value_in : ValueFormat → List Bit → Reply
+value_in format.Binary bits = reply.Value bits
+value_in format.Vector bits = reply.Vector bits
 
 -- what comes of a request to let the design run until a time, where the user may, and where he may not
 abbrev pub run_response : Observer → Seat → (until : ℕ) → Response
@@ -59,8 +81,14 @@ run_response eyes seat until = record {
 abbrev pub respond : Observer → Seat → Request → Response
 respond eyes seat (request.Open user token) = only_told seat (reply.Error refusal.NotOpen)
 respond eyes seat request.Close = only_told seat (reply.Error refusal.NotOpen)
-respond eyes seat (request.Handle name) = named_response seat (handle_of seat.handles (eyes.named None name))
-respond eyes seat (request.Value handle) =
-    only_told seat (reply_of_value (value_of eyes (object_of seat.handles.made handle)))
+respond eyes seat (request.Handle name scope) = response_by seat (made seat) (handle_of eyes seat.handles scope name)
+respond eyes seat (request.Get handle p) = told_by seat reply.Number (number_of eyes p (object_of seat.handles handle))
+respond eyes seat (request.GetStr handle p) = told_by seat reply.Text (text_of eyes p (object_of seat.handles handle))
+respond eyes seat (request.Value handle f) = told_by seat (value_in f) (value_of eyes (object_of seat.handles handle))
+respond eyes seat (request.Put handle v) = response_by seat (putting seat) (put_of eyes v (object_of seat.handles handle))
+respond eyes seat (request.Compare a b) =
+    told_by seat reply.Same (same_of (object_of seat.handles a) (object_of seat.handles b))
+respond eyes seat (request.Free handle) =
+    response_by seat (λ o. freed seat handle) (or_refusal (object_of seat.handles handle) vpi.BadHandle)
 respond eyes seat (request.Run until) = run_response eyes seat until
 respond eyes seat request.Time = only_told seat (reply.Time eyes.time eyes.finished)

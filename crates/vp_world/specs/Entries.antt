@@ -1,5 +1,5 @@
 -- An entry of the log.
-use Rattle.std.specs.Prelude.{ℕ, Bool, Option, None}
+use Rattle.std.specs.Prelude.{ℕ, Bool, Option, Some, None}
 use Rattle.std.specs.Arc.{arc_value}
 use Rattle.vp_waking.specs.declared.change.Change.{Change}
 use Rattle.vp_world.specs.declared.entry.Happening.{Happening}
@@ -23,6 +23,7 @@ pub record Entry : Type 0 where
 abbrev pub event_in : Happening → Event
 event_in (happening.Open login session) = event.Open (arc_value login).user (arc_value login).token
 event_in (happening.Ask asked reply) = event.Ask (arc_value asked).session (arc_value asked).request
+event_in (happening.Put asked change) = event.Ask (arc_value asked).session (arc_value asked).request
 event_in (happening.Close session) = event.Close session
 event_in (happening.Step k change) = event.Step k
 event_in happening.Advance = event.Advance
@@ -31,6 +32,7 @@ event_in happening.Advance = event.Advance
 abbrev pub reply_in : Happening → Reply
 reply_in (happening.Open login session) = reply.Opened session
 reply_in (happening.Ask asked reply) = reply
+reply_in (happening.Put asked change) = reply.Done
 reply_in (happening.Close session) = reply.Done
 reply_in (happening.Step k change) = reply.Done
 reply_in happening.Advance = reply.Done
@@ -39,6 +41,7 @@ reply_in happening.Advance = reply.Done
 abbrev pub change_in : Happening → Option Change
 change_in (happening.Open login session) = None
 change_in (happening.Ask asked reply) = None
+change_in (happening.Put asked change) = Some change
 change_in (happening.Close session) = None
 change_in (happening.Step k change) = change
 change_in happening.Advance = None

@@ -1,6 +1,6 @@
 -- Requests and events.
 use Rattle.vp_world.specs.declared.event.Request.{Request}
-use Rattle.vp_world.specs.declared.event.Request.TheVariants.{Open, Close, Handle, Value, Run, Time}
+use Rattle.vp_world.specs.declared.event.Request.TheVariants.{Open, Close}
 use Rattle.vp_world.specs.declared.event.Event.{Event}
 use Rattle.vp_world.specs.declared.event.Event.TheVariants as event
 
@@ -8,10 +8,7 @@ use Rattle.vp_world.specs.declared.event.Event.TheVariants as event
 abbrev pub IsAsked : Request → Type 0
 IsAsked (Open user token) = ⊥
 IsAsked Close = ⊥
-IsAsked (Handle name) = Unit {0}
-IsAsked (Value handle) = Unit {0}
-IsAsked (Run until) = Unit {0}
-IsAsked Time = Unit {0}
+IsAsked r = Unit {0}
 
 -- an event whose request, if it has one, is asked
 abbrev pub IsWellFormed : Event → Type 0

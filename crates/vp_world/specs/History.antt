@@ -6,7 +6,8 @@ use Rattle.vp_bits.specs.declared.bit.Bit.{Bit}
 use Rattle.vp_policy.specs.Users.{login_of, member_at}
 use Rattle.vp_waking.specs.declared.change.Change.{Change}
 use Rattle.vp_sim.specs.States as sim
-use Rattle.vp_vpi.specs.Observers.{Seat, no_handles, observer_of}
+use Rattle.vp_vpi.specs.Observers.{observer_of}
+use Rattle.vp_vpi.specs.Seats.{Seat}
 use Rattle.vp_world.specs.Entries.{Entry}
 use Rattle.vp_world.specs.declared.event.SessionId.{SessionId}
 use Rattle.vp_world.specs.declared.event.Request.{Request}
@@ -135,7 +136,7 @@ changed s event.Advance = change_of (sim.advance s.run)
 -- the state with one session more, of a user
 abbrev pub opened_by : State → ℕ → State
 opened_by s u = record s {
-  sessions = s.sessions ++ record { id = next_session s u; seat = record { user = u; handles = no_handles } } ∷ [];
+  sessions = s.sessions ++ record { id = next_session s u; seat = record { user = u; handles = [] } } ∷ [];
   opens = slice_set s.opens u (slice_index s.opens u + 1);
 }
 
@@ -249,6 +250,10 @@ refusal_in w full e = refusal_of w.opening full w.state e
 -- the reply to a request of the session in a place
 abbrev pub asked_in : Standing → ℕ → Request → Reply
 asked_in w place r = asked w.state (slice_get w.state.sessions place) r
+
+-- what a request of the session in a place changes
+abbrev pub changed_in : Standing → ℕ → Request → Option Change
+changed_in w place r = changed_by w.state (slice_get w.state.sessions place) r
 
 -- the refusal of a step, behind a log that is full or not, by its outcome
 abbrev pub due_step : Standing → Bool → sim.Outcome → Option WorldError

@@ -2,6 +2,8 @@ pub use Rattle.vp_elab.specs.Tree
 pub use Rattle.vp_policy.specs.Users
 pub use Rattle.vp_policy.specs.Filter
 pub use Rattle.vp_vpi.specs.Observers
+pub use Rattle.vp_vpi.specs.Seats
+pub use Rattle.vp_vpi.specs.Calls
 pub mod Events
 pub mod Faults
 pub mod Refusals
@@ -10,4 +12,4 @@ pub mod Worlds
 pub mod Answers
 pub mod History
 pub mod Shown
-pub mod Done
+pub mod Given

@@ -4,7 +4,7 @@ use Rattle.std.specs.List.{position}
 use Rattle.vp_elab.specs.Built.{Elaborated}
 use Rattle.vp_policy.specs.Users.{Member}
 use Rattle.vp_sim.specs.States as sim
-use Rattle.vp_vpi.specs.Observers.{Seat}
+use Rattle.vp_vpi.specs.Seats.{Seat}
 use Rattle.vp_world.specs.Entries.{Entry}
 use Rattle.vp_world.specs.declared.event.SessionId.{SessionId}
 use Rattle.vp_world.specs.declared.limits.Limits.{Limits}

@@ -32,6 +32,11 @@ pub enum Happening {
         asked: Arc<Asked>,
         reply: Reply,
     },
+    /// A session put a value, which was a change.
+    Put {
+        asked: Arc<Asked>,
+        change: Change,
+    },
     /// A session was closed.
     Close {
         session: SessionId,
@@ -43,6 +48,31 @@ pub enum Happening {
     },
     /// The simulation went on to the time of the next event.
     Advance,
+}
+
+impl Happening {
+    ghost use Rattle.std.specs.Prelude.{◌≡◌, IfSome};
+    ghost use Rattle.std.specs.Arc.{arc_value};
+    ghost use Rattle.vp_world.specs.declared.event.Event.TheVariants as event;
+    ghost use Rattle.vp_world.specs.declared.reply.Reply.TheVariants as reply;
+    ghost use Rattle.vp_world.specs.Entries.{change_in, event_in, reply_in};
+
+    /// A session asked, was answered so, and changed this; only what is done changes something.
+    pub fn of_asked(asked: Arc<Asked>, answer: Reply, change: Option<Change>) -> Happening
+        requires { IfSome change (λ c. answer ≡ reply.Done) }
+        ensures event { event_in result
+            ≡ event.Ask (arc_value asked).session (arc_value asked).request }
+        ensures reply { reply_in result ≡ answer }
+        ensures change { change_in result ≡ change }
+    {
+        match change {
+            Some(change) => Happening::Put { asked, change },
+            None => Happening::Ask {
+                asked,
+                reply: answer,
+            },
+        }
+    }
 }
 
 /// An entry of the log, of at most 80 bytes. A contract sees the event, its reply, what it changed, and the time and `$finish`

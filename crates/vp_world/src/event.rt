@@ -1,5 +1,6 @@
 use vp_list::Text;
 use vp_policy::UserId;
+use vp_vpi::{NumberProperty, PutValue, TextProperty};
 
 /// A session: its user, and the how-many-th of his it is, from 1.
 #[derive(Clone, Copy, Debug, PartialEq, Eq, Hash)]
@@ -8,19 +9,63 @@ pub struct SessionId {
     pub opens: u64,
 }
 
+/// How a value is told (clause 27.14).
+#[derive(Clone, Copy, Debug, PartialEq, Eq)]
+pub enum ValueFormat {
+    /// In binary digits.
+    Binary,
+    /// In words of 32 bits.
+    Vector,
+}
+
 /// What a line asks (docs/FORMATS.md, "Lines").
 #[derive(Drop)]
 pub enum Request {
     /// To open a session for a user, by his name and token.
-    Open { user: Text, token: Text },
+    Open {
+        user: Text,
+        token: Text,
+    },
     /// To close the session.
     Close,
-    /// A handle of the object of a dotted name.
-    Handle { name: Text },
-    /// The value of a handle's object, in binary digits.
-    Value { handle: u32 },
+    /// A handle of the object of a dotted name, in the module of a handle or among the top modules.
+    Handle {
+        name: Text,
+        scope: Option<u32>,
+    },
+    /// A number of a handle's object.
+    Get {
+        handle: u32,
+        property: NumberProperty,
+    },
+    /// A text of a handle's object.
+    GetStr {
+        handle: u32,
+        property: TextProperty,
+    },
+    /// The value of a handle's object.
+    Value {
+        handle: u32,
+        format: ValueFormat,
+    },
+    /// To give a handle's object a value.
+    Put {
+        handle: u32,
+        value: PutValue,
+    },
+    /// Whether two handles are of one object.
+    Compare {
+        first: u32,
+        second: u32,
+    },
+    /// To free a handle.
+    Free {
+        handle: u32,
+    },
     /// To let the design run until a time, in time units.
-    Run { until: u64 },
+    Run {
+        until: u64,
+    },
     /// The current time, and whether `$finish` was executed.
     Time,
 }

@@ -1,34 +1,29 @@
 ghost use Rattle.std.specs.Prelude.{◌≡◌};
 ghost use Rattle.vp_world.specs.declared.fault.WorldError.TheVariants.{NoMemory};
 
+use crate::reply::Refusal;
 use std::alloc::{AllocError, AllocFailed};
-use thiserror::Error;
+use std::error::Error;
+use std::fmt;
 use vp_sim::SimError;
 
 /// Why an event is refused. Those of an event are tested in the order in which they stand here, but that a step and an advance
 /// meet the log's limit first.
-#[derive(Clone, Copy, Debug, PartialEq, Eq, Error)]
+#[derive(Clone, Copy, Debug, PartialEq, Eq)]
 pub enum WorldError {
     /// No user of this name has this token (1302).
-    #[error("bad token")]
     BadToken,
     /// As many sessions are open as the limit allows (1301).
-    #[error("sessions full")]
     SessionsFull,
     /// The session is not open (1303).
-    #[error("not open")]
     NotOpen,
     /// The log has as many entries as the limit allows (1304).
-    #[error("log full")]
     LogFull,
     /// No run reaches so far (1305).
-    #[error("beyond the goal")]
     BeyondGoal,
     /// The simulation refuses it (1308).
-    #[error("simulation: {0}")]
     Sim(SimError),
     /// Want of memory (1307).
-    #[error("no memory")]
     NoMemory,
 }
 
@@ -50,6 +45,18 @@ impl WorldError {
         }
     }
 }
+
+impl fmt::Display for WorldError {
+    fn fmt<W: fmt::Write>(&self, f: &mut fmt::Formatter<W>) -> fmt::Result {
+        let text = Refusal::from(*self).text();
+        match self {
+            WorldError::Sim(error) => write!(f, "{text}: {error}"),
+            _ => f.write_str(text),
+        }
+    }
+}
+
+impl Error for WorldError {}
 
 impl From<SimError> for WorldError {
     ghost use Rattle.vp_world.specs.Faults.{error_of};

@@ -1,6 +1,7 @@
 //! The world: sessions of users over one design, changed by one event at a time, and the log of these events.
 #![tactic(auto)]
 
+mod answering;
 mod entry;
 mod event;
 mod fault;
@@ -11,7 +12,7 @@ mod session;
 mod world;
 
 pub use entry::{Asked, Entry, Happening, Login};
-pub use event::{Event, Request, SessionId};
+pub use event::{Event, Request, SessionId, ValueFormat};
 pub use fault::WorldError;
 pub use limits::Limits;
 pub use reply::{Refusal, Reply};

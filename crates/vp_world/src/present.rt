@@ -1,22 +1,18 @@
-ghost use Rattle.std.specs.Prelude.{◌≡◌, ◌≢◌, ◌<◌, false, true, length, slice_index, slice_set, None, Some, IfErr, IfOk, IsOkUnless, OnErr, OnOk};
+ghost use Rattle.std.specs.Prelude.{◌≡◌, ◌<◌, false, true, length, slice_index, slice_set, None, Some, IfErr, IfOk, IfSome, IsOkUnless, OnErr, OnOk};
 ghost use Rattle.std.specs.Arc.{arc_value};
 ghost use Rattle.vp_policy.specs.Users.{login_of};
 ghost use Rattle.vp_sim.specs.States as sim;
-ghost use Rattle.vp_vpi.specs.declared.fault.VpiError.TheVariants as vpi_error;
 ghost use Rattle.vp_world.specs.declared.event.Event.TheVariants as event;
-ghost use Rattle.vp_world.specs.declared.event.Request.TheVariants as request;
 ghost use Rattle.vp_world.specs.declared.fault.WorldError.TheVariants as world_error;
 ghost use Rattle.vp_world.specs.declared.reply.Reply.TheVariants as reply;
-ghost use Rattle.vp_world.specs.Answers.{refused};
 ghost use Rattle.vp_world.specs.Events.{IsAsked};
-ghost use Rattle.vp_world.specs.History.{Explains, asked_at, asked_in, change_of, closed_at, is_beyond, is_full, is_next_beyond, later, next_session, opened_by, refusal_in, refusal_of_log, refusal_of_outcome, refusal_of_session, refusal_of_step, due_advance, due_step, stepped, with_state};
-ghost use Rattle.vp_world.specs.Done.{done_answer};
+ghost use Rattle.vp_world.specs.History.{Explains, asked_at, asked_in, change_of, changed_in, closed_at, is_beyond, is_full, is_next_beyond, later, next_session, raised, opened_by, refusal_in, refusal_of_log, refusal_of_outcome, refusal_of_session, refusal_of_step, due_advance, due_step, stepped, with_state};
 ghost use Rattle.vp_world.specs.Worlds.{index_of, start};
 
+use crate::answering::{Answer, respond};
 use crate::event::{Request, SessionId};
 use crate::fault::WorldError;
 use crate::limits::Limits;
-use crate::reply::{Refusal, Reply};
 use crate::session::{OpenSession, place_of};
 use std::alloc::Global;
 use std::marker::Model;
@@ -24,7 +20,7 @@ use std::sync::Arc;
 use vp_expr::Checked;
 use vp_policy::{Policy, UserId};
 use vp_sim::Sim;
-use vp_vpi::{Session, VpiError};
+use vp_vpi::Session;
 use vp_waking::Change;
 
 /// A world without its log: a design with a policy, its simulation, and the sessions of its users. A contract sees how it began
@@ -56,51 +52,6 @@ impl Model for Present {
     ghost view = { λ w. shown w.sim (arc_value w.first_policy) (arc_value w.policy) w.limits w.sessions.items w.opens.items w.goal };
 }
 
-/// What a request is answered: the reply to be told, and the same to be kept.
-#[derive(Drop)]
-pub struct Answer {
-    pub told: Reply,
-    pub kept: Reply,
-}
-
-/// The reply to a request that a session refused; want of memory is the world's.
-fn session_reply(error: VpiError) -> Result<Reply, WorldError>
-    ensures reply { IfOk result (λ told. told ≡ refused error) }
-    ensures told { OnOk result (error ≢ vpi_error.NoMemory) }
-    ensures refused { IsOkUnless result world_error.NoMemory }
-{
-    Ok(match error {
-        VpiError::Denied(words) => Reply::Denied(words),
-        VpiError::BadHandle => Reply::Error(Refusal::BadHandle),
-        VpiError::WrongKind => Reply::Error(Refusal::WrongKind),
-        VpiError::TooManyHandles => Reply::Error(Refusal::TooManyHandles),
-        VpiError::NoSuchName => Reply::Error(Refusal::NoSuchName),
-        VpiError::NoMemory => return Err(WorldError::NoMemory),
-    })
-}
-
-/// The answer to a request that a session refused; want of memory is the world's.
-fn session_answer(error: VpiError) -> Result<Answer, WorldError>
-    ensures told { IfOk result (λ a. a.told ≡ refused error) }
-    ensures kept { IfOk result (λ a. a.kept ≡ refused error) }
-    ensures reason { OnOk result (error ≢ vpi_error.NoMemory) }
-    ensures refused { IsOkUnless result world_error.NoMemory }
-{
-    let told = session_reply(error)?;
-    let kept = told.try_clone()?;
-    Ok(Answer { told, kept })
-}
-
-/// The answer that it was done.
-fn done_answer() -> Answer
-    ensures { result ≡ done_answer }
-{
-    Answer {
-        told: Reply::Done,
-        kept: Reply::Done,
-    }
-}
-
 /// The later of a goal, if there is one, and a time.
 fn later(goal: Option<u64>, until: u64) -> u64
     ensures { result ≡ later goal until }
@@ -108,6 +59,16 @@ fn later(goal: Option<u64>, until: u64) -> u64
     match goal {
         Some(goal) => goal.max(until),
         None => until,
+    }
+}
+
+/// A goal, raised to a time, if there is one.
+fn raised(goal: Option<u64>, until: Option<u64>) -> Option<u64>
+    ensures { result ≡ raised goal until }
+{
+    match until {
+        Some(until) => Some(later(goal, until)),
+        None => goal,
     }
 }
 
@@ -387,99 +348,22 @@ impl Present {
     }
 
     /// Answers a request of the session in a place; or want of memory (1307), which leaves the world as it was.
-    #[tactic(auto, using(crate::proofs::Naming::value_asked, crate::proofs::Naming::time_asked))]
     pub fn ask(&mut self, place: usize, request: &Request) -> Result<Answer, WorldError>
         requires asked { IsAsked request.now }
         requires within { place < length self.old.state.sessions }
         ensures told { IfOk result (λ a. a.told ≡ asked_in self.old place request.now) }
         ensures kept { IfOk result (λ a. a.kept ≡ asked_in self.old place request.now) }
+        ensures change { IfOk result (λ a. a.change ≡ changed_in self.old place request.now) }
+        ensures done { IfOk result (λ a. IfSome a.change (λ c. a.kept ≡ reply.Done)) }
         ensures after { OnOk result
             (self.new ≡ with_state self.old
             (asked_at self.old.state (Some place) request.now)) }
         ensures refused { IsOkUnless result world_error.NoMemory }
         ensures unchanged { OnErr result (self.new ≡ self.old) }
     {
-        match request {
-            Request::Handle { name } => self.handle(place, name.as_str()),
-            Request::Value { handle } => self.value(place, *handle),
-            Request::Run { until } => Ok(self.run_until(place, *until)),
-            Request::Time => Ok(self.tell_time()),
-            Request::Open { .. } | Request::Close => unreachable!(),
-        }
-    }
-
-    /// Makes a handle for the session in a place.
-    fn handle(&mut self, place: usize, name: &str) -> Result<Answer, WorldError>
-        requires { place < length self.old.state.sessions }
-        ensures told { IfOk result
-            (λ a. a.told ≡ asked_in self.old place (request.Handle name.now)) }
-        ensures kept { IfOk result
-            (λ a. a.kept ≡ asked_in self.old place (request.Handle name.now)) }
-        ensures after { OnOk result
-            (self.new ≡ with_state self.old
-            (asked_at self.old.state (Some place) (request.Handle name.now))) }
-        ensures refused { IsOkUnless result world_error.NoMemory }
-        ensures unchanged { OnErr result (self.new ≡ self.old) }
-    {
         let session = &mut self.sessions[place].session;
-        match session.handle_by_name(&self.policy, &self.sim, name) {
-            Ok(handle) => Ok(Answer {
-                told: Reply::Handle(handle),
-                kept: Reply::Handle(handle),
-            }),
-            Err(error) => session_answer(error),
-        }
-    }
-
-    /// Reads the value of a handle of the session in a place.
-    fn value(&self, place: usize, handle: u32) -> Result<Answer, WorldError>
-        requires { place < length self.now.state.sessions }
-        ensures told { IfOk result (λ a. a.told ≡ asked_in self.now place (request.Value handle)) }
-        ensures kept { IfOk result (λ a. a.kept ≡ asked_in self.now place (request.Value handle)) }
-        ensures refused { IsOkUnless result world_error.NoMemory }
-    {
-        let session = &self.sessions[place].session;
-        match session.get_value(&self.policy, &self.sim, handle) {
-            Ok(value) => Ok(Answer {
-                told: Reply::Value(value),
-                kept: Reply::Value(value),
-            }),
-            Err(error) => session_answer(error),
-        }
-    }
-
-    /// Raises the goal, if the user of the session in a place may let the design run.
-    fn run_until(&mut self, place: usize, until: u64) -> Answer
-        requires { place < length self.old.state.sessions }
-        ensures told { result.told ≡ asked_in self.old place (request.Run until) }
-        ensures kept { result.kept ≡ asked_in self.old place (request.Run until) }
-        ensures after { self.new
-            ≡ with_state self.old (asked_at self.old.state (Some place)
-            (request.Run until)) }
-    {
-        let user = self.sessions[place].session.user();
-        if !self.policy.may_run(user) {
-            return Answer {
-                told: Reply::RunDenied,
-                kept: Reply::RunDenied,
-            };
-        }
-        self.goal = Some(later(self.goal, until));
-        done_answer()
-    }
-
-    /// The current time.
-    fn tell_time(&self) -> Answer
-        ensures told { result.told
-            ≡ reply.Time self.now.state.run.time self.now.state.run.finished }
-        ensures kept { result.kept
-            ≡ reply.Time self.now.state.run.time self.now.state.run.finished }
-    {
-        let time = self.sim.time();
-        let finished = self.sim.finished();
-        Answer {
-            told: Reply::Time { time, finished },
-            kept: Reply::Time { time, finished },
-        }
+        let answer = respond(session, &self.policy, &mut self.sim, request)?;
+        self.goal = raised(self.goal, answer.goal);
+        Ok(answer)
     }
 }

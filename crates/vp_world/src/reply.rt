@@ -4,6 +4,7 @@ use crate::event::SessionId;
 use crate::fault::WorldError;
 use std::alloc::AllocError;
 use vp_bits::Bits;
+use vp_list::SharedText;
 use vp_policy::DenialWords;
 
 /// What a line is told where it is refused.
@@ -11,6 +12,8 @@ use vp_policy::DenialWords;
 pub enum Refusal {
     BadHandle,
     WrongKind,
+    BadValue,
+    Finished,
     TooManyHandles,
     NoSuchName,
     SessionsFull,
@@ -32,6 +35,8 @@ impl Refusal {
         match self {
             Refusal::BadHandle => "bad handle",
             Refusal::WrongKind => "wrong kind",
+            Refusal::BadValue => "bad value",
+            Refusal::Finished => "finished",
             Refusal::TooManyHandles => "too many handles",
             Refusal::NoSuchName => "no such name",
             Refusal::SessionsFull => "sessions full",
@@ -72,8 +77,16 @@ pub enum Reply {
     Done,
     /// A handle was made.
     Handle(u32),
-    /// The value of an object.
+    /// A number of an object.
+    Number(u32),
+    /// A text of an object.
+    Text(SharedText),
+    /// The value of an object, in binary digits.
     Value(Bits),
+    /// The value of an object, in words of 32 bits.
+    Vector(Bits),
+    /// Whether two handles are of one object.
+    Same(bool),
     /// A right is lacking, in the words that the user is told.
     Denied(DenialWords),
     /// The user may not let the design run.
@@ -93,7 +106,11 @@ impl Reply {
             Reply::Opened(session) => Reply::Opened(*session),
             Reply::Done => Reply::Done,
             Reply::Handle(handle) => Reply::Handle(*handle),
+            Reply::Number(number) => Reply::Number(*number),
+            Reply::Text(text) => Reply::Text(text.try_clone()?),
             Reply::Value(bits) => Reply::Value(*bits),
+            Reply::Vector(bits) => Reply::Vector(*bits),
+            Reply::Same(same) => Reply::Same(*same),
             Reply::Denied(words) => Reply::Denied(words.try_clone()?),
             Reply::RunDenied => Reply::RunDenied,
             Reply::Time { time, finished } => Reply::Time {

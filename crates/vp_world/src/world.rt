@@ -188,10 +188,7 @@ impl World {
         let asked = Arc::new(self.alloc, Asked { session, request })?;
         let answer = self.present.ask(place, &asked.request)?;
         let entry = Entry {
-            happening: Happening::Ask {
-                asked,
-                reply: answer.kept,
-            },
+            happening: Happening::of_asked(asked, answer.kept, answer.change),
             time: self.present.time(),
             finished: self.present.finished(),
         };

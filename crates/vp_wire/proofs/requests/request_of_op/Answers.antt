@@ -21,3 +21,18 @@ returns-in-run c = c.run_request.ensures ∙ ap (λ op. request_of_op op (view c
 
 pub returns-in-time : goal.returns-in-time
 returns-in-time c = c.time_request.ensures ∙ ap (λ op. request_of_op op (view c.args.value.now)) (sym c.in-time.is)
+
+pub returns-in-put : goal.returns-in-put
+returns-in-put c = subst (λ op. IfOk c.put_request.result (λ r. r ≡ request_of_op op (view c.args.value.now))) (sym c.in-put.is) c.put_request.ensures
+
+pub returns-in-get : goal.returns-in-get
+returns-in-get c = c.get_request.ensures ∙ ap (λ op. request_of_op op (view c.args.value.now)) (sym c.in-get.is)
+
+pub returns-in-get_str : goal.returns-in-get_str
+returns-in-get_str c = c.get_str_request.ensures ∙ ap (λ op. request_of_op op (view c.args.value.now)) (sym c.in-get_str.is)
+
+pub returns-in-compare : goal.returns-in-compare
+returns-in-compare c = c.compare_request.ensures ∙ ap (λ op. request_of_op op (view c.args.value.now)) (sym c.in-compare.is)
+
+pub returns-in-free : goal.returns-in-free
+returns-in-free c = c.free_request.ensures ∙ ap (λ op. request_of_op op (view c.args.value.now)) (sym c.in-free.is)

@@ -5,10 +5,9 @@ use Rattle.vp_world.specs.declared.event.Request.{Request}
 use Rattle.vp_world.specs.Entries.{Entry}
 use Rattle.vp_world.specs.declared.event.Event.{Event}
 use Rattle.vp_world.specs.declared.event.Event.TheVariants as event
-use Rattle.vp_world.specs.History.{after, answer, asked, asked_at, asked_in, entry_of, refusal_behind, session_of, state_behind, with_state}
+use Rattle.vp_world.specs.History.{after, answer, asked, asked_at, asked_in, changed, changed_by, changed_in, entry_of, refusal_behind, state_behind, with_state}
 use Rattle.vp_world.specs.Worlds.{Standing, index_of}
 use Rattle.vp_world.proofs.Logs.{entry_is, keeps_more, seen_more}
-use Rattle.vp_world.proofs.Naming.{nothing_put}
 use Rattle.vp_world.proofs.world.World.apply_ask.Goals as goal
 
 module _ (c : goal.After-push_reserved) where
@@ -22,7 +21,7 @@ module _ (c : goal.After-push_reserved) where
   happens = event.Ask c.args.session c.args.request
 
   abbrev entry : Entry
-  entry = record { event = happens; reply = c.in_ok-answer.answer.kept; change = None; time = c.time.result; finished = c.finished.result }
+  entry = record { event = happens; reply = c.in_ok-answer.answer.kept; change = c.in_ok-answer.answer.change; time = c.time.result; finished = c.finished.result }
 
   found : index_of w.state.sessions c.args.session ≡ Some c.in_ok-place.place
   found = (c.in_ok-place.ensures {u = tt}).place
@@ -42,11 +41,17 @@ module _ (c : goal.After-push_reserved) where
       ∙ ap (λ (r : Request). asked_in w c.in_ok-place.place r) same
       ∙ ap (λ (o : Option ℕ). asked w.state (option_and_then (slice_get w.state.sessions) o) c.args.request) (sym found)
 
+  changes : c.in_ok-answer.answer.change ≡ changed w.state happens
+  changes =
+      (c.in_ok-answer.ensures {u = tt}).change
+      ∙ ap (λ (r : Request). changed_in w c.in_ok-place.place r) same
+      ∙ ap (λ (o : Option ℕ). changed_by w.state (option_and_then (slice_get w.state.sessions) o) c.args.request) (sym found)
+
   added : c.push_reserved.new.self.items ≡ log ++ entry ∷ []
   added = search rules
 
   made : entry ≡ entry_of w.opening (state_behind w.opening log) happens
-  made = entry_is w.opening w.state (state_behind w.opening log) entry c.self.invariant.state kept (sym (nothing_put w.state (session_of w.state.sessions c.args.session) c.args.request)) (c.time.ensures ∙ ap (λ (s : Standing). s.state.run.time) behind) (c.finished.ensures ∙ ap (λ (s : Standing). s.state.run.finished) behind)
+  made = entry_is w.opening w.state (state_behind w.opening log) entry c.self.invariant.state kept changes (c.time.ensures ∙ ap (λ (s : Standing). s.state.run.time) behind) (c.finished.ensures ∙ ap (λ (s : Standing). s.state.run.finished) behind)
 
 pub invariant_of-self-2 : goal.invariant_of-self-2
 invariant_of-self-2 c =

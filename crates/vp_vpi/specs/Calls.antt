@@ -1,0 +1,179 @@
+-- What a session's calls are answered: the first refusal that holds, else the value.
+use Rattle.std.specs.Prelude.{◌≡◌, ℕ, ◌+◌, ◌*◌, ◌/◌, ◌^◌, ◌==◌, ◌&&◌, ◌⊎◌, nat_le, Bool, true, false, if◌then◌else◌, List, [], ◌∷◌, length, reverse, Option, Some, None, option_map, Result, Ok, Err}
+use Rattle.std.specs.Option.{option_map_or}
+use Rattle.vp_bits.specs.declared.bit.Bit.{Bit}
+use Rattle.vp_bits.specs.Digits.{digits_bits}
+use Rattle.vp_bits.specs.Vector.{bits_of_words}
+use Rattle.vp_pragma.specs.declared.rights.Right.{Right}
+use Rattle.vp_pragma.specs.declared.rights.Right.TheVariants as right
+use Rattle.vp_elab.specs.declared.object.Kind.{Kind}
+use Rattle.vp_elab.specs.declared.object.Kind.TheVariants as kind
+use Rattle.vp_elab.specs.declared.object.ObjectId.{ObjectId}
+use Rattle.vp_elab.specs.Tree.{type_name}
+use Rattle.vp_policy.specs.Denials.{DenialWords}
+use Rattle.vp_vpi.specs.declared.fault.VpiError.{VpiError}
+use Rattle.vp_vpi.specs.declared.fault.VpiError.TheVariants as error
+use Rattle.vp_vpi.specs.declared.property.NumberProperty.{NumberProperty}
+use Rattle.vp_vpi.specs.declared.property.NumberProperty.TheVariants as number
+use Rattle.vp_vpi.specs.declared.property.TextProperty.{TextProperty}
+use Rattle.vp_vpi.specs.declared.property.TextProperty.TheVariants as text
+use Rattle.vp_vpi.specs.declared.property.VectorWord.{VectorWord}
+use Rattle.vp_vpi.specs.declared.property.PutValue.{PutValue}
+use Rattle.vp_vpi.specs.declared.property.PutValue.TheVariants as put
+use Rattle.vp_vpi.specs.Observers.{Absent, Denied, Found, Lookup, Observer, is_readable}
+use Rattle.vp_vpi.specs.Seats.{is_full, object_of}
+
+-- what comes next of a value; a refusal stays
+abbrev pub then_by : {A B : Type 0} → Result A VpiError → (A → Result B VpiError) → Result B VpiError
+then_by (Ok x) next = next x
+then_by (Err e) next = Err e
+
+-- a value that is there; or else this refusal
+abbrev pub or_refusal : {A : Type 0} → Option A → VpiError → Result A VpiError
+or_refusal None e = Err e
+or_refusal (Some x) e = Ok x
+
+-- an object on which a right is not denied; or the denial
+abbrev pub undenied : ℕ → Option DenialWords → Result ℕ VpiError
+undenied o None = Ok o
+undenied o (Some words) = Err (error.Denied words)
+
+-- the object of a handle, on which the user has a right; or the refusal that it is no handle, or the denial, in this order (profile)
+abbrev pub allowed : Observer → Right → Option ℕ → Result ℕ VpiError
+allowed eyes r found = then_by (or_refusal found error.BadHandle) (λ o. undenied o (eyes.denied r o))
+
+-- ---- names
+
+-- a kind is that of modules
+abbrev pub is_module : Option Kind → Bool
+is_module None = false
+is_module (Some kind.Module) = true
+is_module (Some k) = false
+
+-- the scope of a handle, which is a module; none: the top modules are its names; or the refusal of the handle, the denial of list,
+-- the wrong kind, in this order (profile)
+abbrev pub scope_of : Observer → List (Option ObjectId) → (handle : Option ℕ) → Result (Option ℕ) VpiError
+scope_of eyes handles None = Ok None
+scope_of eyes handles (Some handle) =
+    then_by (allowed eyes right.List (object_of handles handle))
+    (λ o. if is_module (eyes.kind o) then Ok (Some o) else Err error.WrongKind)
+
+-- the object of the handle that a look-up makes; or the denial, too many handles, no such name, in this order (profile)
+abbrev pub object_found : List (Option ObjectId) → Lookup → Result ℕ VpiError
+object_found handles (Denied words) = Err (error.Denied words)
+object_found handles Absent = if is_full handles then Err error.TooManyHandles else Err error.NoSuchName
+object_found handles (Found o) = if is_full handles then Err error.TooManyHandles else Ok o
+
+-- the object of the handle that a name in a scope makes; or the refusal of the scope, then those of the name (profile)
+abbrev pub handle_of : Observer → List (Option ObjectId) → (scope : Option ℕ) → (name : List ℕ) → Result ℕ VpiError
+handle_of eyes handles scope name =
+    then_by (scope_of eyes handles scope) (λ above. object_found handles (eyes.named above name))
+
+-- ---- properties
+
+-- a number of an object: its size, if it has a value, or its line (clause 26.6)
+abbrev pub number_at : Observer → NumberProperty → ℕ → Result ℕ VpiError
+number_at eyes number.Size o = if is_readable (eyes.kind o) then Ok (eyes.width o) else Err error.WrongKind
+number_at eyes number.Line o = Ok (eyes.line o)
+
+-- the number of a handle's object; or its refusal, the denial of list, the wrong kind, in this order (profile)
+abbrev pub number_of : Observer → NumberProperty → Option ℕ → Result ℕ VpiError
+number_of eyes p found = then_by (allowed eyes right.List found) (number_at eyes p)
+
+-- a text of an object: the name of its type, its name, its full name, or the name of its definition, if it is a module (clause 26.6)
+abbrev pub text_at : Observer → TextProperty → ℕ → Result (List ℕ) VpiError
+text_at eyes text.Type o = or_refusal (option_map type_name (eyes.kind o)) error.WrongKind
+text_at eyes text.Name o = Ok (eyes.name o)
+text_at eyes text.FullName o = Ok (eyes.full_name o)
+text_at eyes text.DefinitionName o = or_refusal (eyes.definition o) error.WrongKind
+
+-- the text of a handle's object; or its refusal, the denial of list, the wrong kind, in this order (profile)
+abbrev pub text_of : Observer → TextProperty → Option ℕ → Result (List ℕ) VpiError
+text_of eyes p found = then_by (allowed eyes right.List found) (text_at eyes p)
+
+-- ---- values
+
+-- the value of a handle's object; or its refusal, the denial of read, the wrong kind, in this order (profile)
+abbrev pub value_of : Observer → Option ℕ → Result (List Bit) VpiError
+value_of eyes found = then_by (allowed eyes right.Read found) (λ o. or_refusal (eyes.value o) error.WrongKind)
+
+-- how many words of 32 bits a vector of a width has (clause 27)
+abbrev pub word_count : ℕ → ℕ
+word_count width = (width + 31) / 32
+
+-- the numbers that words of 32 bits spell, least significant first (clause 27)
+abbrev pub number_of_words : List ℕ → ℕ
+number_of_words [] = 0
+number_of_words (w ∷ ws) = w + 2 ^ 32 * number_of_words ws
+
+-- the words aval, and the words bval
+abbrev pub avals : List VectorWord → List ℕ
+avals [] = []
+avals (w ∷ ws) = w.aval ∷ avals ws
+
+abbrev pub bvals : List VectorWord → List ℕ
+bvals [] = []
+bvals (w ∷ ws) = w.bval ∷ bvals ws
+
+-- the bits that words give a vector of a width: as many words as it needs, whose unused bits are 0 (clause 27, profile)
+abbrev pub bits_of_vector : ℕ → List VectorWord → Option (List Bit)
+bits_of_vector width words =
+    if length words == word_count width
+    then bits_of_words width (number_of_words (avals words)) (number_of_words (bvals words)) else None
+
+-- the bits that digits give a vector of a width: as many digits as it has bits (profile)
+abbrev pub digits_vector : ℕ → List ℕ → Option (List Bit)
+digits_vector width digits = if length digits == width then option_map reverse (digits_bits digits) else None
+
+-- the bits of a put's value, at a width
+abbrev pub bits_by : ℕ → PutValue → Option (List Bit)
+bits_by width (put.Digits digits) = digits_vector width digits
+bits_by width (put.Words words) = bits_of_vector width words
+
+-- the bits that a put gives a vector of a width; none where the value does not have that width, which is 1 to 64 (profile)
+abbrev pub put_bits : ℕ → PutValue → Option (List Bit)
+put_bits width v = if nat_le 1 width && nat_le width 64 then bits_by width v else None
+
+-- a kind is that of regs
+abbrev pub is_reg : Option Kind → Bool
+is_reg None = false
+is_reg (Some kind.Reg) = true
+is_reg (Some k) = false
+
+-- what a put of these bits sets of an object; or that they are none, or that $finish was executed, in this order (profile)
+abbrev pub set_by : Observer → ℕ → Option (List Bit) → Result (ℕ × List Bit) VpiError
+set_by eyes o None = Err error.BadValue
+set_by eyes o (Some bits) = if eyes.finished then Err error.Finished else Ok (o, bits)
+
+-- what a put sets of an object; or the wrong kind, then the refusals of the value (profile)
+abbrev pub put_at : Observer → PutValue → ℕ → Result (ℕ × List Bit) VpiError
+put_at eyes v o = if is_reg (eyes.kind o) then set_by eyes o (put_bits (eyes.width o) v) else Err error.WrongKind
+
+-- the object that a put sets, and its value; or the refusal of the handle, the denial of put, then those of the object and the value
+-- (profile)
+abbrev pub put_of : Observer → PutValue → Option ℕ → Result (ℕ × List Bit) VpiError
+put_of eyes v found = then_by (allowed eyes right.Put found) (put_at eyes v)
+
+-- ---- handles
+
+-- two handles are of one object; or the refusal that one is none: handles need no right (profile)
+abbrev pub same_of : Option ℕ → Option ℕ → Result Bool VpiError
+same_of a b =
+    then_by (or_refusal a error.BadHandle) (λ first. then_by (or_refusal b error.BadHandle) (λ second. Ok (first == second)))
+
+-- ---- errors
+
+-- an error tells a refusal: it is the refusal; want of memory may stand in the place of a denial, whose words take memory
+abbrev pub Tells : VpiError → VpiError → Type 0
+Tells (error.Denied words) e = (e ≡ error.Denied words) ⊎ (e ≡ error.NoMemory)
+Tells refusal e = e ≡ refusal
+
+-- an error tells the refusal of an answer, which has one
+abbrev pub Refuses : {A : Type 0} → Result A VpiError → VpiError → Type 0
+Refuses (Ok x) e = ⊥
+Refuses (Err refusal) e = Tells refusal e
+
+-- an error tells the refusal of an answer; want of memory may stand in the place of a value, too
+abbrev pub Explains : {A : Type 0} → Result A VpiError → VpiError → Type 0
+Explains (Ok x) e = e ≡ error.NoMemory
+Explains (Err refusal) e = Tells refusal e

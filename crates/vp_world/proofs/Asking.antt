@@ -1,0 +1,96 @@
+-- A world behind a request of the session in a place.
+use Rattle.std.proofs.Common.{◌≡◌, ℕ, ◌<◌, Bool, true, false, List, length, map, Option, Some, None, refl, sym, ap, subst, ◌∙◌}
+use Rattle.std.specs.Prelude.{slice_get, slice_index_or, slice_set, if◌then◌else◌, option_map}
+use Rattle.std.proofs.lemmas.List.{length-map, map-set, set-get_or}
+use Rattle.std.proofs.lemmas.Option.{slice_get-map, slice_get-get_or}
+use Rattle.vp_bits.specs.declared.bit.Bit.{Bit}
+use Rattle.vp_elab.specs.Built.{Elaborated}
+use Rattle.vp_policy.specs.Users.{Member, member_at}
+use Rattle.vp_sim.specs.declared.fault.SimError.{SimError}
+use Rattle.vp_sim.specs.States as sim
+use Rattle.vp_vpi.specs.Observers.{observer_of}
+use Rattle.vp_vpi.specs.Seats.{Seat}
+use Rattle.vp_waking.specs.declared.change.Change.{Change}
+use Rattle.vp_world.specs.declared.answering.Answer.{Answer}
+use Rattle.vp_world.specs.declared.event.Request.{Request}
+use Rattle.vp_world.specs.declared.limits.Limits.{Limits}
+use Rattle.vp_world.specs.declared.session.OpenSession.{OpenSession}
+use Rattle.vp_world.specs.Answers.{Response, respond}
+use Rattle.vp_world.specs.Given.{Gives}
+use Rattle.vp_world.specs.History.{asked_at, outcome_of_put, raised, run_behind, state_asked, with_state}
+use Rattle.vp_world.specs.Shown.{session_shown, shown}
+use Rattle.vp_world.specs.Worlds.{Standing, State}
+
+-- the session of a place, as it is shown
+session_found : (sessions : List OpenSession) (place : ℕ) (session : OpenSession) → place < length sessions → session ≡ slice_index_or sessions place session → slice_get (map session_shown sessions) place ≡ Some (session_shown session)
+session_found sessions place session within is =
+    slice_get-map session_shown sessions place
+    ∙ ap (λ there. option_map session_shown there) (slice_get-get_or sessions place session within)
+    ∙ ap (λ x. Some (session_shown x)) (sym is)
+
+-- the place of a session that is shown is one of the list
+within_shown :
+    (run : sim.State) (first policy : List Member) (limits : Limits) (sessions : List OpenSession) (opens : List ℕ) (goal : Option ℕ) (place : ℕ) (w : Standing)
+    → shown run first policy limits sessions opens goal ≡ w → place < length w.state.sessions → place < length sessions
+within_shown run first policy limits sessions opens goal place w is within =
+    subst (λ n. place < n) (length-map sessions session_shown) (subst (λ v. place < length v.state.sessions) (sym is) within)
+
+-- an open session with another seat
+abbrev pub seated : OpenSession → Seat → OpenSession
+seated session seat = record { id = session.id; session = seat }
+
+-- a session that is set back as it was
+pub set_same : (sessions : List OpenSession) (place : ℕ) (session : OpenSession) (new : Seat) → new ≡ session.session → session ≡ slice_index_or sessions place session → slice_set sessions place (seated session new) ≡ sessions
+set_same sessions place session new same at =
+    ap (λ (seat : Seat). slice_set sessions place (seated session seat)) same
+    ∙ ap (λ s. slice_set sessions place s) at
+    ∙ set-get_or sessions place session
+
+-- the design of an outcome
+abbrev design_in : sim.State → sim.Outcome → Elaborated
+design_in run (sim.Goes next change) = next.design
+design_in run (sim.Refuses e) = run.design
+
+chosen_design : (run next : sim.State) (change : Option Change) (e : SimError) (b : Bool) → next.design ≡ run.design → design_in run (if b then sim.Refuses e else sim.Goes next change) ≡ run.design
+chosen_design run next change e true h = refl
+chosen_design run next change e false h = h
+
+-- a put leaves the design
+put_design : (run : sim.State) (p : Option (ℕ × List Bit)) → design_in run (outcome_of_put run p) ≡ run.design
+put_design run None = refl
+put_design run (Some p) = chosen_design run _ _ _ run.finished refl
+
+-- what is known of the fields of a world in which a session of a place is asked
+module _
+    (run : sim.State) (first policy : List Member) (limits : Limits) (sessions : List OpenSession) (opens : List ℕ) (goal : Option ℕ)
+    (place : ℕ) (session : OpenSession) (r : Request) (w : Standing)
+    (is : shown run first policy limits sessions opens goal ≡ w) (inside : place < length w.state.sessions)
+    (at : session ≡ slice_index_or sessions place session)
+  where
+    abbrev old : Standing
+    old = shown run first policy limits sessions opens goal
+
+    abbrev pub due : Response
+    due = respond (observer_of run (member_at policy session.session.user)) session.session r
+
+    found : slice_get (map session_shown sessions) place ≡ Some (session_shown session)
+    found = session_found sessions place session (within_shown run first policy limits sessions opens goal place w is inside) at
+
+    -- the state behind it
+    abbrev behind : sim.State → Seat → Option ℕ → State
+    behind run' seat goal' = record old.state {
+      run = run';
+      sessions = slice_set (map session_shown sessions) place (record { id = session.id; seat = seat });
+      goal = goal';
+    }
+
+    pub state_given : (run' : sim.State) (new : Seat) (goal' : Option ℕ) (a : Answer) → Gives due run run' new a → goal' ≡ raised goal a.goal
+        → shown run' first policy limits (slice_set sessions place (seated session new)) opens goal' ≡ with_state w (asked_at w.state (Some place) r)
+    state_given run' new goal' a given raises =
+        ap (λ s. record { opening = record { design = run'.design; policy = first; limits = limits }; state = record (behind run' new goal') { sessions = s } }) (map-set session_shown sessions place (seated session new))
+        ∙ ap (λ d. record { opening = record { design = d; policy = first; limits = limits }; state = behind run' new goal' }) (ap (design_in run) (sym given.put) ∙ put_design run due.put)
+        ∙ ap (λ x. record old { state = behind x new goal' }) (ap (run_behind run) (sym given.put))
+        ∙ ap (λ x. record old { state = behind (run_behind run (outcome_of_put run due.put)) x goal' }) given.seat
+        ∙ ap (λ x. record old { state = behind (run_behind run (outcome_of_put run due.put)) due.seat x }) (raises ∙ ap (raised goal) given.goal)
+        ∙ ap (λ there. with_state old (state_asked old.state place there r)) (sym found)
+        ∙ ap (λ v. with_state v (asked_at v.state (Some place) r)) is
