@@ -68,6 +68,10 @@ def main():
     case("a bundle of over 16,777,216 bytes", "", one, copies(16_777_216, "1"), "fault 1603 line 0")
     case("65,535 regs", regs(65_535), one, OPEN, OK)
     case("65,536 regs", regs(65_536), one, OPEN, "fault 507 line 0")
+    listing = '{"users":[{"name":"ann","token":"t1","open":"list"}]}'
+    asked = ['{"op":"handle","name":"m"}', '{"op":"handle","name":"m.Aaa"}', '{"op":"iterate","h":1,"kind":"reg"}', '{"op":"handle","name":"m.Aab"}', '{"op":"iterate","h":1,"kind":"net"}']
+    answered = ['{"h":1}', '{"h":2}', '{"error":"too many handles"}', '{"h":3}', '{"closed":[],"items":[]}']
+    case("an iteration over 65,535 regs behind two handles makes none", regs(65_535), listing, "\n".join([OPEN] + asked), "\n".join([OK] + answered))
     case("256 users", "", users(256), OPEN, OK)
     case("257 users", "", users(257), OPEN, "fault 904 line 0")
     case("255 envelopes", envelopes(255), one, OPEN, OK)

@@ -5,7 +5,7 @@ use Rattle.vp_pragma.specs.declared.rights.Right.{Right}
 use Rattle.vp_pragma.specs.declared.rights.Right.TheVariants as right
 use Rattle.vp_pragma.specs.Rights.{RightSet, has, nothing, everything, both, either}
 use Rattle.vp_pragma.specs.Envelopes.{Viewport, object_of}
-use Rattle.vp_elab.specs.Tree.{Step, Node, Tree, author_in, envelopes_in, find_named, first_viewport, path_of, scope_names, viewed}
+use Rattle.vp_elab.specs.Tree.{Step, Node, Tree, author_in, children_of, declared_envelopes, envelopes_in, find_named, first_viewport, path_of, scope_names, viewed}
 use Rattle.vp_policy.specs.declared.denial.By.{By}
 use Rattle.vp_policy.specs.declared.denial.By.TheVariants as by
 use Rattle.vp_policy.specs.declared.denial.Barrier.{Barrier}
@@ -44,6 +44,10 @@ is_closed u envelope = not (has right.List (granted u envelope))
 -- the closed list of a scope: the numbers of the envelopes of what is declared in it whose grant lacks list, rising (profile)
 abbrev pub closed : Tree → Member → List (List ℕ) → List ℕ
 closed tree u scope = filter (is_closed u) (envelopes_in tree scope)
+
+-- the closed list of a scope that is an object or contains the top modules; empty where the object is not there (profile)
+abbrev pub closed_in : Tree → Member → (scope : Option ℕ) → List ℕ
+closed_in tree u scope = filter (is_closed u) (declared_envelopes tree scope)
 
 -- ---- denials
 
@@ -115,6 +119,10 @@ unlisted u (e ∷ es) = look.Denied (record { by = by_grant u e; envelope = e; r
 -- the object of a number is listed to a user
 abbrev pub is_listed_at : Tree → Member → ℕ → Bool
 is_listed_at tree u o = option_map_or (is_listed tree u) (slice_get tree.nodes o) false
+
+-- the numbers of the objects that are declared in a scope and listed to a user, rising (profile)
+abbrev pub listed : Tree → Member → (scope : Option ℕ) → List ℕ
+listed tree u scope = filter (is_listed_at tree u) (children_of tree.nodes scope)
 
 -- the number of an object that was found, if it is listed to a user
 abbrev pub listed_in : Tree → Member → Option ℕ → Option ℕ

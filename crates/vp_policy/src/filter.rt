@@ -1,9 +1,9 @@
 // What is opened to a user, step by step of an object's path (docs/FORMATS.md, "Rights").
-ghost use Rattle.std.specs.Prelude.{◌≡◌, ℕ, Option, Some, IsSome, IfOk, IsOkUnless, filter, option_map};
+ghost use Rattle.std.specs.Prelude.{◌≡◌, ℕ, Option, Some, IsSome, IfOk, IsOkUnless, map, option_map};
 ghost use Rattle.vp_list.specs.Texts.{parts};
 ghost use Rattle.vp_pragma.specs.Rights.{either, set_of};
-ghost use Rattle.vp_elab.specs.Tree.{declared_envelopes, find_in};
-ghost use Rattle.vp_policy.specs.Filter.{IsAnsweredAlike, by_first, by_grant, denial_at, is_closed, is_listed_at, listed_in, look_in, rights_at, unlisted};
+ghost use Rattle.vp_elab.specs.Tree.{find_in};
+ghost use Rattle.vp_policy.specs.Filter.{IsAnsweredAlike, by_first, by_grant, closed_in, denial_at, is_closed, is_listed_at, listed, listed_in, look_in, rights_at, unlisted};
 ghost use Rattle.vp_policy.specs.Users.{granted, has_entry, member_at};
 
 use crate::denial::{By, Denial, Look};
@@ -138,8 +138,8 @@ impl Policy {
         scope: Option<ObjectId>,
     ) -> Result<Sequence<u8>, PolicyError>
         ensures numbers { IfOk result
-            (λ numbers. numbers ≡ filter (is_closed (member_at self.now user.0))
-            (declared_envelopes design.now.tree (option_map (λ o. o.0) scope))) }
+            (λ numbers. let scope : Option ℕ = option_map (λ o. o.0) scope in
+            numbers ≡ closed_in design.now.tree (member_at self.now user.0) scope) }
         ensures err { IsOkUnless result PolicyError.NoMemory }
     {
         let mut numbers = Vec::new(alloc);
@@ -154,9 +154,9 @@ impl Policy {
     /// What is answered to a name that is not listed in a scope: it is denied by the scope's first closed
     /// envelope, the same for a hidden name as for an absent one.
     fn unlisted(&self, design: &Design, user: UserId, scope: Option<ObjectId>) -> Look
-        ensures { result ≡ unlisted (member_at self.now user.0)
-            (filter (is_closed (member_at self.now user.0))
-            (declared_envelopes design.now.tree (option_map (λ o. o.0) scope))) }
+        ensures { let scope : Option ℕ = option_map (λ o. o.0) scope in
+            result ≡ unlisted (member_at self.now user.0)
+            (closed_in design.now.tree (member_at self.now user.0) scope) }
     {
         for envelope in design.envelopes(scope) {
             if self.is_closed(user, *envelope) {
@@ -175,6 +175,33 @@ impl Policy {
         ensures { result ≡ is_listed_at design.now.tree (member_at self.now user.0) object.0 }
     {
         self.rights(design, user, object).has(Right::List)
+    }
+
+    /// The objects that are declared in a module, or the top modules, and listed to a user: rising. None for an object
+    /// that is no module. Takes memory (905).
+    pub fn listed(
+        &self,
+        alloc: Global,
+        design: &Design,
+        user: UserId,
+        scope: Option<ObjectId>,
+    ) -> Result<Sequence<ObjectId>, PolicyError>
+        ensures objects { IfOk result
+            (λ ids. let scope : Option ℕ = option_map (λ o. o.0) scope in
+            map (λ o. o.0) ids ≡ listed design.now.tree (member_at self.now user.0) scope) }
+        ensures err { IsOkUnless result PolicyError.NoMemory }
+    {
+        let declared = match scope {
+            Some(module) => design.children(alloc, module)?,
+            None => design.roots(alloc)?,
+        };
+        let mut ids = Vec::new(alloc);
+        for object in declared.as_slice() {
+            if self.is_listed(design, user, *object) {
+                ids.push(*object)?;
+            }
+        }
+        Ok(Sequence::from_vec(ids))
     }
 
     /// The object of a name in a scope, if it is listed to a user.

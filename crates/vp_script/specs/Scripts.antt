@@ -1,5 +1,5 @@
 -- A script: the lines of one session with a world, in which the simulation runs behind each request (profile).
-use Rattle.std.specs.Prelude.{◌≡◌, ◌⊎◌, ◌<◌, ◌≤◌, IsUtf8, length, ℕ, zero, suc, Bool, true, List, [], ◌∷◌, ◌++◌, Option, Some, None, IsSome, Ok}
+use Rattle.std.specs.Prelude.{◌≡◌, ◌⊎◌, ◌<◌, ◌≤◌, IsUtf8, length, ℕ, zero, suc, Bool, true, List, [], Option, Some, None, IsSome, Ok}
 use Rattle.vp_elab.specs.Built.{Elaborated}
 use Rattle.vp_policy.specs.Faults.{Explains}
 use Rattle.vp_policy.specs.File.{file_of}

@@ -47,13 +47,9 @@ fn proceed(world: &mut World) -> Result<(), WorldError>
         (λ e. (e ≡ NoMemory) ⊎ IsSome (refused_by world.old (next_event world.old))) }
     ensures unchanged { OnErr result (world.new ≡ world.old) }
 {
-    match world.apply(Event::Step(0)) {
-        Ok(_) => Ok(()),
-        Err(WorldError::Sim(SimError::Idle)) => match world.apply(Event::Advance) {
-            Ok(_) => Ok(()),
-            Err(error) => Err(error),
-        },
-        Err(error) => Err(error),
+    match world.step(0) {
+        Err(WorldError::Sim(SimError::Idle)) => world.advance(),
+        ended => ended,
     }
 }
 

@@ -15,7 +15,10 @@ a line %%, and the script of request lines. Each line of the script is answered 
 Exit status: 0 after the script's end, 1 after a fault, which is printed as `fault CODE line N`, 2 after bad words.";
 
 const RUN_HELP: &str =
-    "The script of request lines is read from standard input. Each line is answered by a line.";
+    "The script of request lines is read from standard input. Each line is answered by a line.
+
+A line is a JSON object whose `op` is one of: open, close, handle, iterate, get, get_str, value, put, compare, free, run, \
+time. docs/FORMATS.md has the keys of each.";
 
 /// The program's words.
 fn grammar<'a>(alloc: Global) -> Result<clap::Command<'a>, AllocError> {

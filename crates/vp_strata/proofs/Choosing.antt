@@ -7,7 +7,7 @@ use Rattle.std.proofs.lemmas.List.Folds.{list_any-append}
 use Rattle.std.proofs.lemmas.List.Sums.{count_by_more_yes, sum_by-cons, sum_by-take-le}
 use Rattle.std.proofs.lemmas.Option.{slice_get-get_or, slice_get-map}
 use Rattle.vp_strata.specs.declared.event.Event.{Event}
-use Rattle.vp_strata.specs.declared.event.Event.TheVariants.{Evaluation, Nonblocking}
+use Rattle.vp_strata.specs.declared.event.Event.TheVariants.{Evaluation, NetUpdate, Nonblocking}
 use Rattle.vp_strata.specs.declared.event.NonblockingUpdate.{NonblockingUpdate}
 use Rattle.vp_strata.specs.Events.{eligible_behind, eligible_places, is_eligible, is_nonblocking}
 
@@ -103,3 +103,15 @@ found_at ps k (Some p) h = slice_get-map Evaluation ps k ∙ ap (option_map Eval
 pub evaluation_at : (ps : List ℕ) (k : ℕ) → option_and_then (slice_get (map Evaluation ps)) (slice_get (eligible_places (map Evaluation ps)) k) ≡ option_map Evaluation (slice_get ps k)
 evaluation_at ps k =
     ap (option_and_then (slice_get (map Evaluation ps))) (place_behind [] ps k k (omega arith)) ∙ found_at ps k (slice_get ps k) refl
+
+-- where no event is, none is eligible
+pub none_eligible : (events : List Event) → length events ≡ 0 → slice_get (eligible_places events) 0 ≡ None
+none_eligible [] h = refl
+none_eligible (e ∷ es) h = absurd (omega (arith, h))
+
+-- the oldest event is eligible
+pub first_eligible : (events : List Event) → 0 < length events → slice_get (eligible_places events) 0 ≡ Some 0
+first_eligible [] h = absurd (omega (arith, h))
+first_eligible (Evaluation process ∷ es) h = refl
+first_eligible (NetUpdate process value ∷ es) h = refl
+first_eligible (Nonblocking update ∷ es) h = refl

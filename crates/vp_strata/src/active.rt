@@ -224,7 +224,24 @@ impl ActiveRegion {
     }
 
     /// The place of the k-th of the eligible events, counted from 0; none where there are not so many.
+    #[tactic(auto, using(crate::proofs::Choosing::none_eligible))]
     pub fn eligible_place(&self, k: usize) -> Option<usize>
+        ensures place { result ≡ slice_get (eligible_places self.now.events) k }
+        ensures within { IfSome result (λ place. place < length self.now.events) }
+    {
+        if k > 0 {
+            return self.sought_place(k);
+        }
+        // The oldest event is always eligible.
+        if self.events.is_empty() {
+            None
+        } else {
+            Some(0)
+        }
+    }
+
+    /// The same, looked for among all events.
+    fn sought_place(&self, k: usize) -> Option<usize>
         ensures place { result ≡ slice_get (eligible_places self.now.events) k }
         ensures within { IfSome result (λ place. place < length self.now.events) }
     {

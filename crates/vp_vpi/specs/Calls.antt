@@ -1,6 +1,5 @@
 -- What a session's calls are answered: the first refusal that holds, else the value.
-use Rattle.std.specs.Prelude.{◌≡◌, ℕ, ◌+◌, ◌*◌, ◌/◌, ◌^◌, ◌==◌, ◌&&◌, ◌⊎◌, nat_le, Bool, true, false, if◌then◌else◌, List, [], ◌∷◌, length, reverse, Option, Some, None, option_map, Result, Ok, Err}
-use Rattle.std.specs.Option.{option_map_or}
+use Rattle.std.specs.Prelude.{◌≡◌, ℕ, suc, ◌+◌, ◌*◌, ◌/◌, ◌^◌, ◌==◌, ◌&&◌, ◌⊎◌, nat_le, Bool, true, false, if◌then◌else◌, List, [], ◌∷◌, filter, length, map, reverse, Option, Some, None, option_map, Result, Ok, Err}
 use Rattle.vp_bits.specs.declared.bit.Bit.{Bit}
 use Rattle.vp_bits.specs.Digits.{digits_bits}
 use Rattle.vp_bits.specs.Vector.{bits_of_words}
@@ -13,6 +12,8 @@ use Rattle.vp_elab.specs.Tree.{type_name}
 use Rattle.vp_policy.specs.Denials.{DenialWords}
 use Rattle.vp_vpi.specs.declared.fault.VpiError.{VpiError}
 use Rattle.vp_vpi.specs.declared.fault.VpiError.TheVariants as error
+use Rattle.vp_vpi.specs.declared.iteration.ListedObject.{ListedObject}
+use Rattle.vp_vpi.specs.declared.iteration.Listing.{Listing}
 use Rattle.vp_vpi.specs.declared.property.NumberProperty.{NumberProperty}
 use Rattle.vp_vpi.specs.declared.property.NumberProperty.TheVariants as number
 use Rattle.vp_vpi.specs.declared.property.TextProperty.{TextProperty}
@@ -21,7 +22,7 @@ use Rattle.vp_vpi.specs.declared.property.VectorWord.{VectorWord}
 use Rattle.vp_vpi.specs.declared.property.PutValue.{PutValue}
 use Rattle.vp_vpi.specs.declared.property.PutValue.TheVariants as put
 use Rattle.vp_vpi.specs.Observers.{Absent, Denied, Found, Lookup, Observer, is_readable}
-use Rattle.vp_vpi.specs.Seats.{is_full, object_of}
+use Rattle.vp_vpi.specs.Seats.{handle_to, has_room, is_full, next_handle, object_of}
 
 -- what comes next of a value; a refusal stays
 abbrev pub then_by : {A B : Type 0} → Result A VpiError → (A → Result B VpiError) → Result B VpiError
@@ -68,6 +69,56 @@ object_found handles (Found o) = if is_full handles then Err error.TooManyHandle
 abbrev pub handle_of : Observer → List (Option ObjectId) → (scope : Option ℕ) → (name : List ℕ) → Result ℕ VpiError
 handle_of eyes handles scope name =
     then_by (scope_of eyes handles scope) (λ above. object_found handles (eyes.named above name))
+
+-- ---- iterations
+
+-- two kinds are the same
+abbrev pub is_same : Kind → Kind → Bool
+is_same kind.Module kind.Module = true
+is_same kind.Net kind.Net = true
+is_same kind.Reg kind.Reg = true
+is_same kind.Parameter kind.Parameter = true
+is_same kind.Always kind.Always = true
+is_same kind.Initial kind.Initial = true
+is_same kind.Assign kind.Assign = true
+is_same a b = false
+
+-- an object is there and of this kind
+abbrev pub is_of : Kind → Option Kind → Bool
+is_of k None = false
+is_of k (Some found) = is_same k found
+
+-- the objects of a kind that are listed in a scope, rising (clause 26.6.1, profile)
+abbrev pub listed_of : Observer → Kind → (scope : Option ℕ) → List ℕ
+listed_of eyes k scope = filter (λ o. is_of k (eyes.kind o)) (eyes.listed scope)
+
+-- the objects of an iteration, each with its name and the handle that is made of it, from this handle on
+abbrev pub items_from : (name : ℕ → List ℕ) → (handle : ℕ) → List ℕ → List ListedObject
+items_from name handle [] = []
+items_from name handle (o ∷ os) = record { handle = handle; name = name o } ∷ items_from name (suc handle) os
+
+-- what an iteration gives: what is told of it, and the handles that it makes
+pub record Iterated : Type 0 where
+  pub listing : Listing
+  pub handles : List (Option ObjectId)
+
+-- an iteration over these objects: it tells the numbers of the envelopes that are closed in its scope, too (profile)
+abbrev pub iteration : Observer → List (Option ObjectId) → (scope : Option ℕ) → List ℕ → Iterated
+iteration eyes handles scope objects = record {
+  listing = record { closed = eyes.closed scope; items = items_from eyes.name (next_handle handles) objects };
+  handles = map handle_to objects;
+}
+
+-- an iteration over these objects, if there is room for a handle of each: it makes all of them or none (profile)
+abbrev pub iteration_in_room : Observer → List (Option ObjectId) → (scope : Option ℕ) → List ℕ → Result Iterated VpiError
+iteration_in_room eyes handles scope objects =
+    if has_room (length objects) handles then Ok (iteration eyes handles scope objects) else Err error.TooManyHandles
+
+-- the iteration over the objects of a kind in the scope of a handle, or over the top modules; or the refusal of the scope, or too
+-- many handles, in this order (profile)
+abbrev pub iterated : Observer → List (Option ObjectId) → Kind → (scope : Option ℕ) → Result Iterated VpiError
+iterated eyes handles k scope =
+    then_by (scope_of eyes handles scope) (λ above. iteration_in_room eyes handles above (listed_of eyes k above))
 
 -- ---- properties
 
@@ -177,3 +228,9 @@ Refuses (Err refusal) e = Tells refusal e
 abbrev pub Explains : {A : Type 0} → Result A VpiError → VpiError → Type 0
 Explains (Ok x) e = e ≡ error.NoMemory
 Explains (Err refusal) e = Tells refusal e
+
+-- an error tells the refusal of an iteration; want of memory may stand in the place of an iteration, too, and of too many handles,
+-- since what is listed is found first, which takes memory
+abbrev pub ExplainsIteration : Result Iterated VpiError → VpiError → Type 0
+ExplainsIteration (Err error.TooManyHandles) e = (e ≡ error.TooManyHandles) ⊎ (e ≡ error.NoMemory)
+ExplainsIteration due e = Explains due e

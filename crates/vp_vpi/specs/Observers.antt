@@ -1,5 +1,5 @@
 -- What a session can look up.
-use Rattle.std.specs.Prelude.{ℕ, ◌&&◌, Bool, false, if◌then◌else◌, List, [], ◌∷◌, slice_get, slice_index_or, Option, Some, None, is_none, option_and_then, option_map}
+use Rattle.std.specs.Prelude.{ℕ, ◌&&◌, Bool, false, if◌then◌else◌, List, [], ◌∷◌, slice_get, slice_index_or, Option, Some, None, is_none, option_map}
 use Rattle.std.specs.Option.{option_map_or}
 use Rattle.vp_list.specs.Texts.{parts}
 use Rattle.vp_bits.specs.declared.bit.Bit.{Bit}
@@ -12,7 +12,7 @@ use Rattle.vp_policy.specs.Denials.{DenialWords}
 use Rattle.vp_policy.specs.declared.denial.Look.{Look}
 use Rattle.vp_policy.specs.declared.denial.Look.TheVariants as look
 use Rattle.vp_policy.specs.Users.{Member}
-use Rattle.vp_policy.specs.Filter.{denial_at, look_in, words_of}
+use Rattle.vp_policy.specs.Filter.{closed_in, denial_at, listed, look_in, words_of}
 use Rattle.vp_sim.specs.States as sim
 
 -- what is found under a name: an object, a denial in words, or nothing
@@ -21,12 +21,15 @@ pub data Lookup : Type 0 where
   Denied : DenialWords → Lookup
   Absent : Lookup
 
--- what a session can look up: what is found under a dotted name in a scope, which is an object or contains the top modules; why a
--- right on an object is denied; the kind, width, line, name, full name and definition of an object; the value of an object that
+-- what a session can look up: what is found under a dotted name in a scope, which is an object or contains the top modules; the
+-- objects that are listed there, rising, and the numbers of the envelopes that are closed there, rising; why a right on an object
+-- is denied; the kind, width, line, name, full name and definition of an object; the value of an object that
 -- may be read; whether the design may be run; the time, and whether $finish was executed. A world gives it from a simulation and a
 -- user of its policy; what a user sees gives it from that alone
 pub record Observer : Type 0 where
   pub named : (scope : Option ℕ) → List ℕ → Lookup
+  pub listed : (scope : Option ℕ) → List ℕ
+  pub closed : (scope : Option ℕ) → List ℕ
   pub denied : Right → ℕ → Option DenialWords
   pub kind : ℕ → Option Kind
   pub width : ℕ → ℕ
@@ -72,6 +75,8 @@ value_read run u o =
 abbrev pub observer_of : sim.State → Member → Observer
 observer_of run u = record {
   named = λ scope name. lookup_of run.design.tree (look_in run.design.tree u scope (parts 46 name));
+  listed = listed run.design.tree u;
+  closed = closed_in run.design.tree u;
   denied = λ r o. option_map (words_of run.design.tree) (denial_at run.design.tree u r o);
   kind = kind_at run.design.tree;
   width = width_at run.design.tree;

@@ -1,5 +1,5 @@
 -- A session: its user and his handles.
-use Rattle.std.specs.Prelude.{ℕ, zero, suc, ◌||◌, nat_le, Bool, List, [], ◌∷◌, ◌++◌, length, count_by, slice_get, slice_set, Option, Some, None, is_some, option_map}
+use Rattle.std.specs.Prelude.{ℕ, zero, suc, ◌+◌, ◌&&◌, not, nat_le, Bool, List, [], ◌∷◌, ◌++◌, length, count_by, slice_get, slice_set, Option, Some, None, is_some, option_map}
 use Rattle.std.specs.Option.{option_flatten}
 use Rattle.vp_elab.specs.declared.object.ObjectId.{ObjectId}
 
@@ -17,9 +17,17 @@ object_of handles (suc n) = option_map (λ o. o.0) (option_flatten (slice_get ha
 abbrev pub next_handle : List (Option ObjectId) → ℕ
 next_handle handles = suc (length handles)
 
+-- the handle of an object
+abbrev pub handle_to : ℕ → Option ObjectId
+handle_to object = Some (record { 0 = object })
+
+-- a session with these handles more
+abbrev pub with_handles : List (Option ObjectId) → Seat → Seat
+with_handles more s = record { user = s.user; handles = s.handles ++ more }
+
 -- a session with one handle more
 abbrev pub with_handle : ℕ → Seat → Seat
-with_handle object s = record { user = s.user; handles = s.handles ++ Some (record { 0 = object }) ∷ [] }
+with_handle object s = with_handles (handle_to object ∷ []) s
 
 -- the handles without that of a number
 abbrev pub freed : ℕ → List (Option ObjectId) → List (Option ObjectId)
@@ -34,6 +42,14 @@ without_handle handle s = record { user = s.user; handles = freed handle s.handl
 abbrev pub handle_limit : ℕ
 handle_limit = 65536
 
--- there is no room for a handle: there are as many as there may be, or no number of 32 bits is left (profile)
+-- how many handles a session ever makes at most: their numbers have 32 bits (profile)
+abbrev pub number_limit : ℕ
+number_limit = 4294967295
+
+-- there is room for so many handles more: no more than there may be at once, and each with a number (profile)
+abbrev pub has_room : ℕ → List (Option ObjectId) → Bool
+has_room n handles = nat_le (count_by is_some handles + n) handle_limit && nat_le (length handles + n) number_limit
+
+-- there is no room for a handle
 abbrev pub is_full : List (Option ObjectId) → Bool
-is_full handles = nat_le handle_limit (count_by is_some handles) || nat_le 4294967295 (length handles)
+is_full handles = not (has_room 1 handles)

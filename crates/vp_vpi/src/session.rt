@@ -1,20 +1,21 @@
 ghost use Rattle.std.specs.Option.{option_flatten};
-ghost use Rattle.std.specs.Prelude.{◌≡◌, [], is_some, None, option_map, slice_get, slice_set, Ok, IfErr, IfOk, IsOkAnd, IsSome, OnErr, OnOk};
+ghost use Rattle.std.specs.Prelude.{◌≡◌, [], count_by, is_some, length, map, None, option_map, slice_get, slice_set, Ok, IfErr, IfOk, IsOkAnd, IsSome, IsTrue, OnErr, OnOk};
 ghost use Rattle.vp_policy.specs.Filter.{words_of};
 ghost use Rattle.vp_policy.specs.Users.{Member, member_at};
 ghost use Rattle.vp_sim.specs.States.{Goes, State, put};
 ghost use Rattle.vp_vpi.specs.Observers.{lookup_of, observer_of};
-ghost use Rattle.vp_vpi.specs.Calls.{Explains, Refuses, Tells, allowed, handle_of, number_of, object_found, put_of, same_of, scope_of, text_at, text_of, value_of};
-ghost use Rattle.vp_vpi.specs.Seats.{is_full, next_handle, object_of, with_handle, without_handle};
+ghost use Rattle.vp_vpi.specs.Calls.{Explains, ExplainsIteration, Refuses, Tells, allowed, handle_of, iterated, iteration, listed_of, number_of, object_found, put_of, same_of, scope_of, text_at, text_of, value_of};
+ghost use Rattle.vp_vpi.specs.Seats.{has_room, next_handle, object_of, with_handle, with_handles, without_handle};
 
 use crate::fault::VpiError;
+use crate::iteration::{Iteration, of_kind};
 use crate::property::{NumberProperty, PutValue, TextProperty};
 use crate::put::put_bits;
-use std::alloc::Global;
+use std::alloc::{AllocError, Global};
 use std::marker::Model;
 use vp_bits::Bits;
 use vp_elab::{Design, Kind, ObjectId};
-use vp_list::{SharedText, Text};
+use vp_list::{Sequence, SharedText, Text};
 use vp_policy::{Denial, Look, Policy, UserId};
 use vp_pragma::Right;
 use vp_sim::Sim;
@@ -64,6 +65,13 @@ fn take_at(handles: &mut Vec<Option<ObjectId>>, place: usize) -> bool
     }
 }
 
+/// How many of these handles are not freed.
+fn open_in(handles: &[Option<ObjectId>]) -> usize
+    ensures { result ≡ count_by is_some handles.now }
+{
+    handles.iter().filter(|handle| handle.is_some()).count()
+}
+
 impl Session {
     /// A session without handles.
     pub fn new(alloc: Global, user: UserId) -> Session
@@ -92,11 +100,13 @@ impl Session {
         object_at(&self.handles, place)
     }
 
-    /// There is no room for a handle.
-    fn is_full(&self) -> bool
-        ensures { result ≡ is_full self.now.handles }
+    /// There is room for so many handles more.
+    fn has_room(&self, more: usize) -> bool
+        ensures { result ≡ has_room more self.now.handles }
     {
-        self.open_handles >= HANDLE_LIMIT || self.handles.len() >= u32::MAX as usize
+        more <= HANDLE_LIMIT
+            && self.open_handles <= HANDLE_LIMIT - more
+            && self.handles.len() <= u32::MAX as usize - more
     }
 
     /// A denial, in words; or want of memory.
@@ -168,7 +178,7 @@ impl Session {
     {
         match found {
             Look::Denied(denial) => Err(self.denied(design, denial)),
-            _ if self.is_full() => Err(VpiError::TooManyHandles),
+            _ if !self.has_room(1) => Err(VpiError::TooManyHandles),
             Look::Found(object) => Ok(object),
             Look::Absent => Err(VpiError::NoSuchName),
         }
@@ -219,6 +229,83 @@ impl Session {
         self.handles.push(Some(object))?;
         self.open_handles += 1;
         Ok(self.handles.len() as u32)
+    }
+
+    /// The objects of a kind that are listed to the user in a scope.
+    fn listed(
+        &self,
+        policy: &Policy,
+        design: &Design,
+        kind: Kind,
+        scope: Option<ObjectId>,
+    ) -> Result<Sequence<ObjectId>, AllocError>
+        ensures { (run : State) → run.design ≡ design.now → IfOk result
+            (λ ids. map (λ o. o.0) ids
+            ≡ listed_of (observer_of run (member_at policy.now self.now.user)) kind
+            (option_map (λ o. o.0) scope)) }
+    {
+        match policy.listed(self.alloc, design, self.user, scope) {
+            Ok(objects) => of_kind(self.alloc, design, kind, objects.as_slice()),
+            Err(_) => Err(AllocError),
+        }
+    }
+
+    /// An iteration over these objects of a scope, for whose handles there is room.
+    fn iteration(
+        &self,
+        policy: &Policy,
+        design: &Design,
+        scope: Option<ObjectId>,
+        objects: &[ObjectId],
+    ) -> Result<Iteration, AllocError>
+        requires { IsTrue (has_room (length objects.now) self.now.handles) }
+        ensures iteration { (run : State) → run.design ≡ design.now → IfOk result
+            (λ i. i ≡ iteration (observer_of run (member_at policy.now self.now.user))
+            self.now.handles (option_map (λ o. o.0) scope) (map (λ o. o.0) objects.now)) }
+        ensures count { IfOk result (λ i. length i.handles ≡ length objects.now) }
+    {
+        let Ok(closed) = policy.closed(self.alloc, design, self.user, scope) else {
+            return Err(AllocError);
+        };
+        let last = self.handles.len() as u32;
+        Iteration::new(self.alloc, design, closed, last, objects)
+    }
+
+    /// An iteration over the objects of a kind in the scope of a handle, or over the top modules: of a list that is made at once,
+    /// with a new handle of each object. `scan` makes the handles. Refused where the scope is no handle (1101), may not be listed (1109)
+    /// or is no module (1102), with too many handles (1105), or for want of memory (1107), which may come before 1105.
+    pub fn iterate(
+        &self,
+        policy: &Policy,
+        sim: &Sim,
+        kind: Kind,
+        scope: Option<u32>,
+    ) -> Result<Iteration, VpiError>
+        ensures ok { IfOk result
+            (λ i. iterated (observer_of sim.now (member_at policy.now self.now.user))
+            self.now.handles kind scope ≡ Ok i) }
+        ensures room { IfOk result (λ i. IsTrue (has_room (length i.handles) self.now.handles)) }
+        ensures refused { IfErr result (λ e. ExplainsIteration
+            (iterated (observer_of sim.now (member_at policy.now self.now.user))
+            self.now.handles kind scope) e) }
+    {
+        let above = self.scope(policy, sim, scope)?;
+        let objects = self.listed(policy, sim.design(), kind, above)?;
+        if !self.has_room(objects.len()) {
+            return Err(VpiError::TooManyHandles);
+        }
+        Ok(self.iteration(policy, sim.design(), above, objects.as_slice())?)
+    }
+
+    /// Makes the handles of an iteration, all of them; or none, for want of memory.
+    pub fn scan(&mut self, iteration: &Iteration) -> Result<(), AllocError>
+        requires { IsTrue (has_room (length iteration.now.handles) self.now.handles) }
+        ensures made { OnOk result (self.new ≡ with_handles iteration.now.handles self.old) }
+        ensures unchanged { OnErr result (self.new ≡ self.old) }
+    {
+        self.handles.extend_from_slice(iteration.handles())?;
+        self.open_handles += open_in(iteration.handles());
+        Ok(())
     }
 
     /// A number of a handle's object. Refused where the number is no handle (1101), the user may not list the object (1109), or it has no

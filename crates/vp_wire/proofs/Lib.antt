@@ -7,3 +7,4 @@ pub mod Parting
 pub mod Answering
 pub mod Progressing
 pub mod Ending
+pub mod Floats

@@ -4,17 +4,21 @@ use Rattle.std.specs.Str.{bytes_eq, is_utf8}
 use Rattle.serde_json.specs.Data.{unsigned, Data, Items, Members, array, boolean, item, member, no_items, no_members, number, object, string}
 use Rattle.serde_json.specs.Find.{as_array, as_number, as_str, as_u64, at, get}
 use Rattle.serde_json.specs.Read.{read}
+use Rattle.serde_json.specs.View.{items_of}
 use Rattle.serde_json.specs.Written.{compact_text}
 use Rattle.vp_json.specs.Keys.{has_keys}
 use Rattle.vp_bits.specs.declared.bit.Bit.{Bit}
 use Rattle.vp_bits.specs.Digits.{digit_of}
 use Rattle.vp_bits.specs.Vector.{aval_of, bval_of}
 use Rattle.vp_pragma.specs.Rights.{name_of}
+use Rattle.vp_elab.specs.Tree.{kind_of_name}
 use Rattle.vp_policy.specs.declared.denial.Barrier.{Barrier}
 use Rattle.vp_policy.specs.declared.denial.Barrier.TheVariants as by
 use Rattle.vp_policy.specs.Denials.{DenialWords}
 use Rattle.vp_policy.specs.File.{each_of}
 use Rattle.vp_policy.specs.Filter.{run_denied}
+use Rattle.vp_vpi.specs.declared.iteration.ListedObject.{ListedObject}
+use Rattle.vp_vpi.specs.declared.iteration.Listing.{Listing}
 use Rattle.vp_vpi.specs.declared.property.NumberProperty.{NumberProperty}
 use Rattle.vp_vpi.specs.declared.property.NumberProperty.TheVariants as property
 use Rattle.vp_vpi.specs.declared.property.TextProperty.{TextProperty}
@@ -79,6 +83,19 @@ done_data = only (codes "ok") (boolean true)
 abbrev pub handle_data : ℕ → Data
 handle_data handle = only (codes "h") (number (unsigned handle))
 
+-- numbers as JSON
+abbrev pub numbers_data : List ℕ → Data
+numbers_data numbers = array (items_of (map (λ n. number (unsigned n)) numbers))
+
+-- an object of an iteration as JSON, its keys in the order of their bytes (profile)
+abbrev pub listed_data : ListedObject → Data
+listed_data o = object (member (codes "h") (number (unsigned o.handle)) (member (codes "name") (string o.name) no_members))
+
+-- what is told of an iteration as JSON, its keys in the order of their bytes (profile)
+abbrev pub listing_data : Listing → Data
+listing_data l =
+    object (member (codes "closed") (numbers_data l.closed) (member (codes "items") (array (items_of (map listed_data l.items))) no_members))
+
 -- the value of a vector as JSON, in binary digits, greatest bit first (profile)
 abbrev pub vector_data : List Bit → Data
 vector_data bits = only (codes "value") (string (map digit_of (reverse bits)))
@@ -119,6 +136,7 @@ abbrev pub data_of : Reply → Data
 data_of (reply.Opened session) = done_data
 data_of reply.Done = done_data
 data_of (reply.Handle handle) = handle_data handle
+data_of (reply.Listing l) = listing_data l
 data_of (reply.Number n) = number_data n
 data_of (reply.Text text) = text_data text
 data_of (reply.Value bits) = vector_data bits
@@ -180,6 +198,13 @@ abbrev pub handle_request : Data → Option Request
 handle_request d =
     of_keys_or (codes "name" ∷ []) (codes "scope") d
     (option_and_then (λ name. option_map (request.Handle name) (number_if (codes "scope") d)) (text_at (codes "name") d))
+
+-- the request of an iteration
+abbrev pub iterate_request : Data → Option Request
+iterate_request d =
+    of_keys_or (codes "kind" ∷ []) (codes "h") d
+    (option_and_then (λ k. option_map (request.Iterate k) (number_if (codes "h") d))
+    (option_and_then kind_of_name (text_at (codes "kind") d)))
 
 -- the number of an object that a word names (profile)
 abbrev pub number_property : List ℕ → Option NumberProperty
@@ -288,6 +313,7 @@ request_of_op op d =
     if bytes_eq op (codes "open") then open_request d
     else (if bytes_eq op (codes "close") then close_request d
     else (if bytes_eq op (codes "handle") then handle_request d
+    else (if bytes_eq op (codes "iterate") then iterate_request d
     else (if bytes_eq op (codes "get") then get_request d
     else (if bytes_eq op (codes "get_str") then get_str_request d
     else (if bytes_eq op (codes "value") then value_request d
@@ -296,7 +322,7 @@ request_of_op op d =
     else (if bytes_eq op (codes "free") then free_request d
     else (if bytes_eq op (codes "run") then run_request d
     else (if bytes_eq op (codes "time") then time_request d
-    else None))))))))))
+    else None)))))))))))
 
 -- the request of a JSON value; none where it is no request
 abbrev pub request_of : Data → Option Request

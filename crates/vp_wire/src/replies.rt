@@ -1,14 +1,15 @@
 // Replies (docs/FORMATS.md, "Lines").
-ghost use Rattle.std.specs.Prelude.{◌≡◌, None, IfOk, IsOkUnless, OnOk};
+ghost use Rattle.std.specs.Prelude.{◌≡◌, None, map, IfOk, IsOkUnless, OnOk};
 ghost use Rattle.serde_json.specs.Data.{array, put as with_member, string};
-ghost use Rattle.serde_json.specs.View.{members_view, view};
-ghost use Rattle.vp_wire.specs.Lines.{by_text, data_of, denial_data, denial_members, done_data, error_data, handle_data, line_of, number_data, only, pair_data, run_denial_data, same_data, text_data, time_data, vector_data, words_data, words_of};
+ghost use Rattle.serde_json.specs.View.{items_of, members_view, view};
+ghost use Rattle.vp_wire.specs.Lines.{by_text, data_of, denial_data, denial_members, done_data, error_data, handle_data, line_of, listed_data, listing_data, number_data, numbers_data, only, pair_data, run_denial_data, same_data, text_data, time_data, vector_data, words_data, words_of};
 
 use crate::fault::WireError;
 use serde_json::{Map, Value, put};
 use std::alloc::{AllocError, Global};
 use vp_bits::Bits;
 use vp_policy::{Barrier, DenialWords};
+use vp_vpi::{ListedObject, Listing};
 use vp_world::{Refusal, Reply};
 
 /// An object of one member.
@@ -32,6 +33,50 @@ fn handle_value(alloc: Global, handle: u32) -> Result<Value, AllocError>
     ensures { IfOk result (λ v. view v ≡ handle_data handle) }
 {
     only(alloc, "h", Value::from(handle))
+}
+
+/// Numbers.
+fn numbers_value(alloc: Global, numbers: &[u8]) -> Result<Value, AllocError>
+    ensures { IfOk result (λ v. view v ≡ numbers_data numbers.now) }
+{
+    let mut items = Vec::new(alloc);
+    for number in numbers {
+        items.push(Value::from(*number))?;
+    }
+    Ok(Value::Array(items))
+}
+
+/// An object of an iteration.
+fn listed_value(alloc: Global, object: &ListedObject) -> Result<Value, AllocError>
+    ensures { IfOk result (λ v. view v ≡ listed_data object.now) }
+{
+    let mut members = Map::new(alloc);
+    put(&mut members, alloc, "h", Value::from(object.handle))?;
+    put_text(alloc, &mut members, "name", object.name.as_str())?;
+    Ok(Value::Object(members))
+}
+
+/// The objects of an iteration.
+fn items_value(alloc: Global, objects: &[ListedObject]) -> Result<Value, AllocError>
+    ensures { IfOk result (λ v. view v ≡ array (items_of (map listed_data objects.now))) }
+{
+    let mut items = Vec::new(alloc);
+    for object in objects {
+        items.push(listed_value(alloc, object)?)?;
+    }
+    Ok(Value::Array(items))
+}
+
+/// What is told of an iteration.
+fn listing_value(alloc: Global, listing: &Listing) -> Result<Value, AllocError>
+    ensures { IfOk result (λ v. view v ≡ listing_data listing.now) }
+{
+    let mut members = Map::new(alloc);
+    let closed = numbers_value(alloc, listing.closed.as_slice())?;
+    put(&mut members, alloc, "closed", closed)?;
+    let items = items_value(alloc, listing.items.as_slice())?;
+    put(&mut members, alloc, "items", items)?;
+    Ok(Value::Object(members))
 }
 
 /// The value of a vector, in binary digits.
@@ -190,6 +235,7 @@ fn value_of(alloc: Global, reply: &Reply) -> Result<Value, AllocError>
     match reply {
         Reply::Opened(_) | Reply::Done => done_value(alloc),
         Reply::Handle(handle) => handle_value(alloc, *handle),
+        Reply::Listing(listing) => listing_value(alloc, listing.listing()),
         Reply::Number(number) => number_value(alloc, *number),
         Reply::Text(text) => text_value(alloc, text.as_str()),
         Reply::Value(bits) => vector_value(alloc, *bits),
@@ -203,6 +249,7 @@ fn value_of(alloc: Global, reply: &Reply) -> Result<Value, AllocError>
 }
 
 /// The line of a reply: compact JSON with its keys in the order of their bytes, and a newline. Takes memory (1507).
+#[tactic(auto, using(crate::proofs::Floats::reply_whole))]
 pub fn reply_line(alloc: Global, reply: &Reply) -> Result<Vec<u8>, WireError>
     ensures ok { IfOk result (λ line. line.items ≡ line_of reply.now) }
     ensures err { IsOkUnless result WireError.NoMemory }

@@ -3,11 +3,12 @@ ghost use Rattle.std.specs.Prelude.{◌≡◌, ◌⊎◌, [], ◌∷◌, None, S
 ghost use Rattle.serde_json.specs.View.{items_view, view};
 ghost use Rattle.vp_json.specs.Keys.{has_keys};
 ghost use Rattle.vp_policy.specs.File.{each_of};
-ghost use Rattle.vp_wire.specs.Lines.{close_request, compare_request, digits_request, format_at, format_of, free_request, get_request, get_str_request, handle_request, meaning_of, number_at, number_if, number_in, number_property, open_request, put_request, request_of, request_of_op, run_request, text_property, time_at, time_request, value_request, vector_request, word_in, words_at, Asks, NotJson, NotRequest};
+ghost use Rattle.vp_wire.specs.Lines.{close_request, compare_request, digits_request, format_at, format_of, free_request, get_request, get_str_request, handle_request, iterate_request, meaning_of, number_at, number_if, number_in, number_property, open_request, put_request, request_of, request_of_op, run_request, text_property, time_at, time_request, value_request, vector_request, word_in, words_at, Asks, NotJson, NotRequest};
 
 use crate::fault::WireError;
 use serde_json::Value;
 use std::alloc::{AllocError, Global};
+use vp_elab::Kind;
 use vp_json::{ReadError, has_keys, number, read, text};
 use vp_list::{Sequence, Text};
 use vp_vpi::{NumberProperty, PutValue, TextProperty, VectorWord};
@@ -97,6 +98,18 @@ fn handle_request(alloc: Global, value: &Value) -> Result<Option<Request>, Alloc
         })),
         _ => Ok(None),
     }
+}
+
+/// The request of an iteration.
+fn iterate_request(value: &Value) -> Option<Request>
+    ensures { result ≡ iterate_request (view value.now) }
+{
+    if !has_keys(value, ["kind"].as_slice(), ["op", "h"].as_slice()) {
+        return None;
+    }
+    let kind = Kind::of_name(text(value, "kind")?)?;
+    let scope = handle_if(value, "h")?;
+    Some(Request::Iterate { kind, scope })
 }
 
 /// The number of an object that a word names.
@@ -333,6 +346,7 @@ fn request_of_op(alloc: Global, op: &str, value: &Value) -> Result<Option<Reques
         "open" => open_request(alloc, value),
         "close" => Ok(close_request(value)),
         "handle" => handle_request(alloc, value),
+        "iterate" => Ok(iterate_request(value)),
         "get" => Ok(get_request(value)),
         "get_str" => Ok(get_str_request(value)),
         "value" => Ok(value_request(value)),

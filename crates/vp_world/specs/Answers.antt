@@ -3,9 +3,9 @@ use Rattle.std.specs.Prelude.{ℕ, if◌then◌else◌, List, Option, Some, None
 use Rattle.vp_bits.specs.declared.bit.Bit.{Bit}
 use Rattle.vp_vpi.specs.declared.fault.VpiError.{VpiError}
 use Rattle.vp_vpi.specs.declared.fault.VpiError.TheVariants as vpi
-use Rattle.vp_vpi.specs.Calls.{handle_of, number_of, or_refusal, put_of, same_of, text_of, value_of}
+use Rattle.vp_vpi.specs.Calls.{Iterated, handle_of, iterated, number_of, or_refusal, put_of, same_of, text_of, value_of}
 use Rattle.vp_vpi.specs.Observers.{Observer}
-use Rattle.vp_vpi.specs.Seats.{Seat, next_handle, object_of, with_handle, without_handle}
+use Rattle.vp_vpi.specs.Seats.{Seat, next_handle, object_of, with_handle, with_handles, without_handle}
 use Rattle.vp_world.specs.declared.event.Request.{Request}
 use Rattle.vp_world.specs.declared.event.Request.TheVariants as request
 use Rattle.vp_world.specs.declared.event.ValueFormat.{ValueFormat}
@@ -55,6 +55,15 @@ made seat object = record {
   put = None;
 }
 
+-- what comes of an iteration: it is told, and the session has its handles
+abbrev pub scanned : Seat → Iterated → Response
+scanned seat found = record {
+  reply = reply.Listing found.listing;
+  seat = with_handles found.handles seat;
+  goal = None;
+  put = None;
+}
+
 -- what comes of a handle that is freed
 abbrev pub freed : Seat → (handle : ℕ) → Response
 freed seat handle = record { reply = reply.Done; seat = without_handle handle seat; goal = None; put = None }
@@ -82,6 +91,7 @@ abbrev pub respond : Observer → Seat → Request → Response
 respond eyes seat (request.Open user token) = only_told seat (reply.Error refusal.NotOpen)
 respond eyes seat request.Close = only_told seat (reply.Error refusal.NotOpen)
 respond eyes seat (request.Handle name scope) = response_by seat (made seat) (handle_of eyes seat.handles scope name)
+respond eyes seat (request.Iterate k scope) = response_by seat (scanned seat) (iterated eyes seat.handles k scope)
 respond eyes seat (request.Get handle p) = told_by seat reply.Number (number_of eyes p (object_of seat.handles handle))
 respond eyes seat (request.GetStr handle p) = told_by seat reply.Text (text_of eyes p (object_of seat.handles handle))
 respond eyes seat (request.Value handle f) = told_by seat (value_in f) (value_of eyes (object_of seat.handles handle))

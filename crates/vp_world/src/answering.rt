@@ -1,9 +1,11 @@
 // What a session's request is answered, and what comes of it (docs/FORMATS.md, "Lines").
-ghost use Rattle.std.specs.Prelude.{◌≡◌, ◌≢◌, None, option_map, string_bytes, IfOk, IsOkUnless, OnErr, OnOk};
+ghost use Rattle.std.specs.Prelude.{◌≡◌, ◌≢◌, None, length, option_map, string_bytes, IfOk, IsOkUnless, IsTrue, OnErr, OnOk};
 ghost use Rattle.vp_policy.specs.Users.{member_at};
 ghost use Rattle.vp_vpi.specs.Observers.{observer_of};
 ghost use Rattle.vp_vpi.specs.declared.fault.VpiError.TheVariants as vpi_error;
+ghost use Rattle.vp_vpi.specs.Seats.{has_room, with_handles};
 ghost use Rattle.vp_world.specs.declared.event.Request.TheVariants as request;
+ghost use Rattle.vp_world.specs.declared.reply.Reply.TheVariants as reply;
 ghost use Rattle.vp_world.specs.declared.fault.WorldError.TheVariants as world_error;
 ghost use Rattle.vp_world.specs.Answers.{refused, respond, value_in};
 ghost use Rattle.vp_world.specs.Events.{IsAsked};
@@ -13,9 +15,10 @@ use crate::event::{Request, ValueFormat};
 use crate::fault::WorldError;
 use crate::reply::{Refusal, Reply};
 use vp_bits::Bits;
+use vp_elab::Kind;
 use vp_policy::Policy;
 use vp_sim::Sim;
-use vp_vpi::{NumberProperty, PutValue, Session, TextProperty, VpiError};
+use vp_vpi::{Iteration, NumberProperty, PutValue, Session, TextProperty, VpiError};
 use vp_waking::Change;
 
 /// What a request is answered.
@@ -94,6 +97,40 @@ fn handle(
             goal: None,
             change: None,
         }),
+        Err(error) => refusal(error),
+    }
+}
+
+/// Makes the handles of an iteration that was found; or want of memory.
+fn scan(session: &mut Session, found: &Iteration) -> Result<Answer, WorldError>
+    requires { IsTrue (has_room (length found.now.handles) session.now.handles) }
+    ensures answer { IfOk result (λ a. a ≡ plain (reply.Listing found.now.listing)) }
+    ensures made { OnOk result (session.new ≡ with_handles found.now.handles session.old) }
+    ensures refused { IsOkUnless result world_error.NoMemory }
+    ensures unchanged { OnErr result (session.new ≡ session.old) }
+{
+    let listing = found.listing().try_clone()?;
+    let answer = plain(Reply::Listing(listing))?;
+    session.scan(found)?;
+    Ok(answer)
+}
+
+/// Makes handles of all objects of a kind in a scope.
+fn iterate(
+    session: &mut Session,
+    policy: &Policy,
+    simulation: &Sim,
+    kind: Kind,
+    scope: Option<u32>,
+) -> Result<Answer, WorldError>
+    ensures given { IfOk result
+        (Gives (respond (observer_of simulation.now (member_at policy.now session.old.user))
+        session.old (request.Iterate kind scope)) simulation.now simulation.now session.new) }
+    ensures refused { IsOkUnless result world_error.NoMemory }
+    ensures unchanged { OnErr result (session.new ≡ session.old) }
+{
+    match session.iterate(policy, simulation, kind, scope) {
+        Ok(found) => scan(session, &found),
         Err(error) => refusal(error),
     }
 }
@@ -293,6 +330,7 @@ pub fn respond(
             name.as_str(),
             *scope,
         ),
+        Request::Iterate { kind, scope } => iterate(session, policy, simulation, *kind, *scope),
         Request::Get { handle, property } => get(session, policy, simulation, *handle, *property),
         Request::GetStr { handle, property } => get_str(
             session, policy, simulation, *handle, *property,

@@ -1,3 +1,4 @@
+use vp_elab::Kind;
 use vp_list::Text;
 use vp_policy::UserId;
 use vp_vpi::{NumberProperty, PutValue, TextProperty};
@@ -31,6 +32,11 @@ pub enum Request {
     /// A handle of the object of a dotted name, in the module of a handle or among the top modules.
     Handle {
         name: Text,
+        scope: Option<u32>,
+    },
+    /// Handles of all objects of a kind in the module of a handle, or among the top modules.
+    Iterate {
+        kind: Kind,
         scope: Option<u32>,
     },
     /// A number of a handle's object.

@@ -6,6 +6,7 @@ use std::alloc::AllocError;
 use vp_bits::Bits;
 use vp_list::SharedText;
 use vp_policy::DenialWords;
+use vp_vpi::SharedListing;
 
 /// What a line is told where it is refused.
 #[derive(Clone, Copy, Debug, PartialEq, Eq)]
@@ -77,6 +78,8 @@ pub enum Reply {
     Done,
     /// A handle was made.
     Handle(u32),
+    /// Handles of the objects that a scope lists were made.
+    Listing(SharedListing),
     /// A number of an object.
     Number(u32),
     /// A text of an object.
@@ -106,6 +109,7 @@ impl Reply {
             Reply::Opened(session) => Reply::Opened(*session),
             Reply::Done => Reply::Done,
             Reply::Handle(handle) => Reply::Handle(*handle),
+            Reply::Listing(listing) => Reply::Listing(listing.try_clone()?),
             Reply::Number(number) => Reply::Number(*number),
             Reply::Text(text) => Reply::Text(text.try_clone()?),
             Reply::Value(bits) => Reply::Value(*bits),

@@ -109,6 +109,18 @@ impl World {
         ensures refused { IfErr result (λ e. Explains (refused_by self.old (event.Step k)) e) }
         ensures unchanged { OnErr result (self.new ≡ self.old) }
     {
+        self.step(k)?;
+        Ok(Reply::Done)
+    }
+
+    /// Applies the Step with which the simulation takes the k-th of the events that a step can take, from 0. Its refusals are those
+    /// of `apply`; its reply, that it was done, is no one's.
+    pub fn step(&mut self, k: u32) -> Result<(), WorldError>
+        ensures accepted { OnOk result (refused_by self.old (event.Step k) ≡ None) }
+        ensures logged { OnOk result (self.new ≡ with_entry self.old (event.Step k)) }
+        ensures refused { IfErr result (λ e. Explains (refused_by self.old (event.Step k)) e) }
+        ensures unchanged { OnErr result (self.new ≡ self.old) }
+    {
         let full = self.is_full();
         self.present.check_goal(full)?;
         if let Err(lacking) = self.log.reserve(1) {
@@ -122,13 +134,25 @@ impl World {
             time: self.present.time(),
             finished: self.present.finished(),
         });
-        Ok(Reply::Done)
+        Ok(())
     }
 
     /// The same of an Advance.
     fn apply_advance(&mut self) -> Result<Reply, WorldError>
         ensures accepted { OnOk result (refused_by self.old event.Advance ≡ None) }
         ensures reply { IfOk result (λ reply. reply ≡ answered_by self.old event.Advance) }
+        ensures logged { OnOk result (self.new ≡ with_entry self.old event.Advance) }
+        ensures refused { IfErr result (λ e. Explains (refused_by self.old event.Advance) e) }
+        ensures unchanged { OnErr result (self.new ≡ self.old) }
+    {
+        self.advance()?;
+        Ok(Reply::Done)
+    }
+
+    /// Applies the Advance with which the simulation goes on to the time of the next event. Its refusals are those of `apply`; its
+    /// reply, that it was done, is no one's.
+    pub fn advance(&mut self) -> Result<(), WorldError>
+        ensures accepted { OnOk result (refused_by self.old event.Advance ≡ None) }
         ensures logged { OnOk result (self.new ≡ with_entry self.old event.Advance) }
         ensures refused { IfErr result (λ e. Explains (refused_by self.old event.Advance) e) }
         ensures unchanged { OnErr result (self.new ≡ self.old) }
@@ -145,7 +169,7 @@ impl World {
             time: self.present.time(),
             finished: self.present.finished(),
         });
-        Ok(Reply::Done)
+        Ok(())
     }
 
     /// The same of an Open.

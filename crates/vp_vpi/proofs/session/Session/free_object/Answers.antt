@@ -1,5 +1,5 @@
-use Rattle.std.proofs.Common.{◌≡◌, ◌+◌, ◌∙◌, ◌≤◌, true, false, None, sym, ap, arith}
-use Rattle.std.specs.Prelude.{count_by, is_some, slice_get, slice_set}
+use Rattle.std.proofs.Common.{◌≡◌, ◌∙◌, true, false, None, sym, ap, arith}
+use Rattle.std.specs.Prelude.{is_some, slice_get, slice_set}
 use Rattle.std.specs.Option.{option_flatten}
 use Rattle.vp_vpi.proofs.Handles.{open_in, open_less, set_none}
 use Rattle.vp_vpi.specs.Seats.{Seat}

@@ -1,6 +1,6 @@
 use Rattle.std.proofs.Common.{◌≡◌, drop, slice_get, take}
 use Rattle.vp_strata.specs.Events.{eligible_behind, eligible_places}
-use Rattle.vp_strata.proofs.active.ActiveRegion.eligible_place.Given as goal
+use Rattle.vp_strata.proofs.active.ActiveRegion.sought_place.Given as goal
 
 -- what is sought among all stands among those that are left
 abbrev pub invariant-loop-place : goal.invariant-loop-place

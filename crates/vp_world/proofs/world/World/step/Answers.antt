@@ -4,7 +4,7 @@ use Rattle.vp_world.specs.declared.event.Event.TheVariants as event
 use Rattle.vp_world.specs.declared.reply.Reply.TheVariants as reply
 use Rattle.vp_world.specs.History.{refusal_behind, state_behind}
 use Rattle.vp_world.proofs.Logs.{entry_is, keeps_more}
-use Rattle.vp_world.proofs.world.World.apply_step.Goals as goal
+use Rattle.vp_world.proofs.world.World.step.Goals as goal
 
 pub invariant_of-self-2 : goal.invariant_of-self-2
 invariant_of-self-2 c =

@@ -1,0 +1,197 @@
+// What an iteration over a scope tells, and the handles that it makes (docs/FORMATS.md, "Lines").
+ghost use Rattle.std.specs.Prelude.{◌≡◌, ℕ, suc, ◌+◌, ◌≤◌, List, filter, length, map, IfOk};
+ghost use Rattle.vp_elab.specs.Tree.{name_at};
+ghost use Rattle.vp_vpi.specs.Calls.{is_of, is_same, items_from};
+ghost use Rattle.vp_vpi.specs.Observers.{kind_at};
+ghost use Rattle.vp_vpi.specs.Seats.{handle_to, number_limit};
+
+use std::alloc::{AllocError, Global};
+use std::marker::Model;
+use std::sync::Arc;
+use vp_elab::{Design, Kind, ObjectId};
+use vp_list::{Sequence, Text};
+
+/// An object that is listed: the handle that is made of it, and its name.
+#[derive(Drop)]
+pub struct ListedObject {
+    pub handle: u32,
+    pub name: Text,
+}
+
+/// What is told of an iteration.
+#[derive(Drop)]
+pub struct Listing {
+    /// The numbers of the envelopes that are closed to the user in the scope: rising, each once.
+    pub closed: Sequence<u8>,
+    /// The objects that are listed to him, in the order of the text.
+    pub items: Sequence<ListedObject>,
+}
+
+/// What is told of an iteration, which several may hold. A contract sees what is told.
+#[derive(Drop)]
+pub struct SharedListing {
+    listing: Arc<Listing>,
+}
+
+impl Model for SharedListing {
+    ghost use Rattle.std.specs.Arc.{arc_value};
+    ghost use Rattle.vp_vpi.specs.declared.iteration.Listing.{Listing};
+
+    ghost Value = { Listing };
+
+    ghost view = { λ l. arc_value l.listing };
+}
+
+impl SharedListing {
+    /// A listing, which is moved in. Takes memory.
+    pub fn new(alloc: Global, listing: Listing) -> Result<SharedListing, AllocError>
+        ensures { IfOk result (λ l. l ≡ listing) }
+    {
+        match Arc::new(alloc, listing) {
+            Ok(listing) => Ok(SharedListing { listing }),
+            Err(_) => Err(AllocError),
+        }
+    }
+
+    /// The same listing for one holder more; or an error where they can't be counted.
+    pub fn try_clone(&self) -> Result<SharedListing, AllocError>
+        ensures { IfOk result (λ l. l ≡ self.now) }
+    {
+        Ok(SharedListing {
+            listing: Arc::try_clone(&self.listing)?,
+        })
+    }
+
+    /// What is told.
+    pub fn listing(&self) -> &Listing
+        ensures { result.now ≡ self.now }
+    {
+        &self.listing
+    }
+}
+
+/// An iteration over the objects of a scope. A contract sees what is told of it, and the handles that it makes.
+#[derive(Drop)]
+pub struct Iteration {
+    listing: SharedListing,
+    handles: Sequence<Option<ObjectId>>,
+}
+
+impl Model for Iteration {
+    ghost use Rattle.vp_vpi.specs.Calls.{Iterated};
+
+    ghost Value = { Iterated };
+
+    ghost view = { λ i. record { listing = i.listing; handles = i.handles } };
+}
+
+impl Iteration {
+    /// An iteration over these objects: it tells these numbers of envelopes, and the handles behind the last one. Takes memory.
+    pub(crate) fn new(
+        alloc: Global,
+        design: &Design,
+        closed: Sequence<u8>,
+        last: u32,
+        objects: &[ObjectId],
+    ) -> Result<Iteration, AllocError>
+        requires { last + length objects.now ≤ number_limit }
+        ensures iteration { let ids : List ℕ = map (λ o. o.0) objects.now in
+            IfOk result (λ i. i ≡ record {
+              listing = record {
+                closed = closed;
+                items = items_from (name_at design.now.tree) (suc last) ids;
+              };
+              handles = map handle_to ids;
+            }) }
+        ensures count { IfOk result (λ i. length i.handles ≡ length objects.now) }
+    {
+        let items = items_behind(alloc, design, last, objects)?;
+        let listing = SharedListing::new(alloc, Listing { closed, items })?;
+        let handles = handles_to(alloc, objects)?;
+        Ok(Iteration { listing, handles })
+    }
+
+    /// What is told of it.
+    pub fn listing(&self) -> &SharedListing
+        ensures { result.now ≡ self.now.listing }
+    {
+        &self.listing
+    }
+
+    /// The handles that it makes.
+    pub(crate) fn handles(&self) -> &[Option<ObjectId>]
+        ensures { result.now ≡ self.now.handles }
+    {
+        self.handles.as_slice()
+    }
+}
+
+/// Two kinds are the same.
+fn is_same(first: Kind, second: Kind) -> bool
+    ensures { result ≡ is_same first second }
+{
+    first == second
+}
+
+/// An object is there and of a kind.
+fn is_of(kind: Kind, found: Option<Kind>) -> bool
+    ensures { result ≡ is_of kind found }
+{
+    match found {
+        Some(found) => is_same(kind, found),
+        None => false,
+    }
+}
+
+/// Those objects that are of a kind. Takes memory.
+pub fn of_kind(
+    alloc: Global,
+    design: &Design,
+    kind: Kind,
+    objects: &[ObjectId],
+) -> Result<Sequence<ObjectId>, AllocError>
+    ensures { IfOk result (λ ids. map (λ o. o.0) ids
+        ≡ filter (λ o. is_of kind (kind_at design.now.tree o)) (map (λ o. o.0) objects.now)) }
+{
+    let mut ids = Vec::new(alloc);
+    for object in objects {
+        if is_of(kind, design.kind(*object)) {
+            ids.push(*object)?;
+        }
+    }
+    Ok(Sequence::from_vec(ids))
+}
+
+/// The objects with their names, and with the handles behind the last one. Takes memory.
+fn items_behind(
+    alloc: Global,
+    design: &Design,
+    last: u32,
+    objects: &[ObjectId],
+) -> Result<Sequence<ListedObject>, AllocError>
+    requires { last + length objects.now ≤ number_limit }
+    ensures { IfOk result (λ items. items
+        ≡ items_from (name_at design.now.tree) (suc last) (map (λ o. o.0) objects.now)) }
+{
+    let mut items = Vec::new(alloc);
+    for object in objects {
+        items.push(ListedObject {
+            handle: last + items.len() as u32 + 1,
+            name: Text::copy(alloc, design.name(*object))?,
+        })?;
+    }
+    Ok(Sequence::from_vec(items))
+}
+
+/// A handle of each of these objects. Takes memory.
+fn handles_to(alloc: Global, objects: &[ObjectId]) -> Result<Sequence<Option<ObjectId>>, AllocError>
+    ensures handles { IfOk result (λ handles. handles
+        ≡ map handle_to (map (λ o. o.0) objects.now)) }
+    ensures count { IfOk result (λ handles. length handles ≡ length objects.now) }
+{
+    let mut handles = Vec::new(alloc);
+    for object in objects {
+        handles.push(Some(*object))?;
+    }
+    Ok(Sequence::from_vec(handles))
+}
