@@ -7,16 +7,18 @@ ghost use Rattle.vp_expr.specs.Start.{start_of, start_value};
 ghost use Rattle.vp_operand.specs.Values.{no_value};
 
 use crate::checked::Checked;
+use crate::kept::KeptValues;
 use std::alloc::Global;
 use std::marker::Model;
 use vp_bits::Bits;
 use vp_elab::{Design, Kind, Object, ObjectId};
+use vp_list::TrackedList;
 use vp_resolve::{ExprError, constant_at};
 
-/// A value for each object of a design. A contract sees their list, by object number.
+/// A value for each object of a design, of which copies can be kept. A contract sees their list, by object number.
 #[derive(Drop)]
 pub struct Values {
-    values: Vec<Bits>,
+    values: TrackedList<Bits>,
 }
 
 impl Model for Values {
@@ -25,7 +27,7 @@ impl Model for Values {
 
     ghost Value = { List (List Bit) };
 
-    ghost view = { λ v. v.values.items };
+    ghost view = { λ v. v.values };
 }
 
 /// The value of an object before anything has happened, by its number.
@@ -75,14 +77,25 @@ impl Values {
         for number in 0..checked.design().count() {
             values.push(start_at(checked, ObjectId(number)))?;
         }
-        Ok(Values { values })
+        Values::from_vec(alloc, values)
+    }
+
+    /// The values of a vector, by object number.
+    fn from_vec(alloc: Global, values: Vec<Bits>) -> Result<Values, ExprError>
+        ensures values { IfOk result (λ v. v ≡ values.items) }
+        ensures err { IsOkUnless result ExprError.NoMemory }
+    {
+        match TrackedList::from_vec(alloc, values) {
+            Ok(values) => Ok(Values { values }),
+            Err(_) => Err(ExprError::NoMemory),
+        }
     }
 
     /// The value of an object; one unknown bit for a number that is not there.
     pub fn get(&self, id: ObjectId) -> Bits
         ensures { result ≡ slice_index_or self.now id.0 no_value }
     {
-        value_in(&self.values, id.0)
+        value_in(self.values.as_slice(), id.0)
     }
 
     /// The values of an instance and of the objects behind it: that of an object of the instance stands at its slot.
@@ -90,8 +103,9 @@ impl Values {
         ensures { result.now ≡ drop instance.0 self.now }
     {
         let from = instance.0 as usize;
-        if from <= self.values.len() {
-            &self.values[from..]
+        let values = self.values.as_slice();
+        if from <= values.len() {
+            &values[from..]
         } else {
             &[]
         }
@@ -101,7 +115,7 @@ impl Values {
     pub fn find(&self, id: ObjectId) -> Option<Bits>
         ensures { result ≡ slice_get self.now id.0 }
     {
-        self.values.get(id.0 as usize).copied()
+        self.values.as_slice().get(id.0 as usize).copied()
     }
 
     /// Sets the value of an object, which has this width; changes nothing for a number that is not there.
@@ -109,8 +123,18 @@ impl Values {
         requires { length (slice_index_or self.old id.0 value) ≡ length value }
         ensures { self.new ≡ slice_set self.old id.0 value }
     {
-        if let Some(place) = self.values.get_mut(id.0 as usize) {
-            *place = value;
+        self.values.set(id.0 as usize, value);
+    }
+
+    /// A copy of the values to be kept, which shares what was not set since the last one; takes memory (604).
+    pub fn keep(&mut self) -> Result<KeptValues, ExprError>
+        ensures copy { IfOk result (λ copy. copy ≡ self.old) }
+        ensures same { self.new ≡ self.old }
+        ensures err { IsOkUnless result ExprError.NoMemory }
+    {
+        match self.values.keep() {
+            Ok(values) => Ok(KeptValues::new(values)),
+            Err(_) => Err(ExprError::NoMemory),
         }
     }
 
@@ -119,10 +143,6 @@ impl Values {
         ensures values { IfOk result (λ values. values ≡ self.now) }
         ensures err { IsOkUnless result ExprError.NoMemory }
     {
-        let mut values = Vec::new(alloc);
-        for value in &self.values {
-            values.push(*value)?;
-        }
-        Ok(Values { values })
+        Values::from_vec(alloc, Vec::from_slice(alloc, self.values.as_slice())?)
     }
 }

@@ -1,3 +1,5 @@
 pub mod Texts
 pub mod Lists
+pub mod Chunks
 pub mod laws
+pub mod Tracked

@@ -1,2 +1,4 @@
 pub mod Texts
 pub mod Searches
+pub mod Chunks
+pub mod Tracked

@@ -1,12 +1,16 @@
 //! Texts and lists that contracts see as lists.
 #![tactic(auto)]
 
+mod chunks;
 mod part;
 mod sequence;
 mod shared;
 mod text;
+mod tracked;
 
+pub use chunks::{Chunk, SharedList};
 pub use part::{first_part, first_piece};
 pub use sequence::Sequence;
 pub use shared::SharedText;
 pub use text::Text;
+pub use tracked::TrackedList;

@@ -1,4 +1,5 @@
 mod building;
+mod copies;
 mod designs;
 mod dialogues;
 mod simulations;

@@ -1,0 +1,326 @@
+ghost use Rattle.std.specs.Prelude.{◌≡◌, ◌<◌, ◌≤◌, ◌*◌, ◌%◌, ◌++◌, ℕ, List, length, slice_get, slice_set, take, drop, IfOk, OnOk, OnErr};
+ghost use Rattle.std.specs.Arc.{arc_value};
+
+use std::alloc::{AllocError, Global};
+use std::marker::{Model, PhantomData};
+use std::sync::Arc;
+
+/// What stands for a list, and of which a longer list can be made.
+pub trait Part<T>: Clone + Drop {
+    /// The list.
+    ghost items: { Self → List T };
+
+    /// What its maker needs.
+    ghost can_make: { Type 0 };
+
+    /// A part that stands for some items. Takes memory.
+    fn of_items(alloc: Global, list: &[T]) -> Result<Self, AllocError>
+        requires { can_make }
+        ensures { IfOk result (λ p. items p ≡ list.now) };
+
+    /// The item at a place, if there is one.
+    fn item(&self, place: usize) -> Option<T>
+        ensures { result ≡ slice_get (items self.now) place };
+
+    /// Exchanges the item at a place; does nothing where there is none. May take memory, and changes nothing if there is
+    /// none.
+    fn set_item(&mut self, place: usize, item: T) -> Result<(), AllocError>
+        ensures set { OnOk result (items self.new ≡ slice_set (items self.old) place item) }
+        ensures kept { OnErr result (items self.new ≡ items self.old) };
+
+    /// A clone stands for the same list.
+    ghost copied: { (a b : Self) → Self.is_clone a b → items b ≡ items a };
+}
+
+/// Some items, which are copied where they are cloned. A contract sees its list.
+#[derive(Drop)]
+pub struct Chunk<T: Copy + Drop> {
+    alloc: Global,
+    items: Vec<T>,
+}
+
+impl<T: Copy + Drop> Model for Chunk<T> {
+    ghost use Rattle.std.specs.Prelude.{List};
+
+    ghost Value = { List T };
+
+    ghost view = { λ c. c.items.items };
+}
+
+impl<T: Copy + Drop> Chunk<T> {
+    /// How many items there are.
+    pub fn len(&self) -> usize
+        ensures { result ≡ length self.now }
+    {
+        self.items.len()
+    }
+
+    /// The item at a place, if there is one.
+    pub fn get(&self, place: usize) -> Option<T>
+        ensures { result ≡ slice_get self.now place }
+    {
+        self.items.get(place).copied()
+    }
+
+    /// Exchanges the item at a place; does nothing where there is none.
+    fn set(&mut self, place: usize, item: T)
+        ensures { self.new ≡ slice_set self.old place item }
+    {
+        if place < self.items.len() {
+            self.items[place] = item;
+        }
+    }
+}
+
+impl<T: Copy + Drop> Clone for Chunk<T> {
+    ghost is_clone = { λ c d. d ≡ c };
+
+    fn clone(&self) -> Result<Chunk<T>, AllocError> {
+        Ok(Chunk {
+            alloc: self.alloc,
+            items: Vec::from_slice(self.alloc, self.items.as_slice())?,
+        })
+    }
+}
+
+impl<T: Copy + Drop> Part<T> for Chunk<T> {
+    ghost items = { λ c. c };
+
+    ghost can_make = { Unit {0} };
+
+    ghost copied = { λ a b h. h };
+
+    fn of_items(alloc: Global, list: &[T]) -> Result<Chunk<T>, AllocError> {
+        Ok(Chunk {
+            alloc,
+            items: Vec::from_slice(alloc, list)?,
+        })
+    }
+
+    fn item(&self, place: usize) -> Option<T> {
+        self.get(place)
+    }
+
+    fn set_item(&mut self, place: usize, item: T) -> Result<(), AllocError> {
+        self.set(place, item);
+        Ok(())
+    }
+}
+
+/// A list in parts of SIZE items, of which the last may have fewer; clones share the parts. A contract sees the list.
+#[derive(Drop)]
+pub struct Parts<T: Copy + Drop, P: Part<T>, const SIZE: usize> {
+    alloc: Global,
+    parts: Vec<Arc<P>>,
+    kind: PhantomData<T>,
+}
+
+impl<T: Copy + Drop, P: Part<T>, const SIZE: usize> Model for Parts<T, P, SIZE> {
+    ghost use Rattle.std.specs.Prelude.{List, ◌<◌, map};
+    ghost use Rattle.std.specs.Arc.{arc_value};
+    ghost use Rattle.vp_list.specs.Chunks.{joined, AreChunks};
+
+    ghost Value = { List T };
+
+    ghost view = { λ s. joined (map (λ p. P.items (arc_value p)) s.parts.items) };
+
+    ghost invariant = { λ s. (0 < SIZE)
+        × AreChunks SIZE (map (λ p. P.items (arc_value p)) s.parts.items) };
+}
+
+impl<T: Copy + Drop, P: Part<T>, const SIZE: usize> Parts<T, P, SIZE> {
+    /// The item at a place, if there is one.
+    pub fn get(&self, place: usize) -> Option<T>
+        ensures { result ≡ slice_get self.now place }
+    {
+        match self.parts.get(place / SIZE) {
+            Some(part) => part.item(place % SIZE),
+            None => None,
+        }
+    }
+
+    /// Exchanges the item at a place; does nothing where there is none. A part that is shared is copied first, and where
+    /// there is no memory for that nothing changes.
+    pub fn set(&mut self, place: usize, item: T) -> Result<(), AllocError>
+        ensures set { OnOk result (self.new ≡ slice_set self.old place item) }
+        ensures kept { OnErr result (self.new ≡ self.old) }
+    {
+        let _ = &self.parts;
+        let number = place / SIZE;
+        if number >= self.parts.len() {
+            return Ok(());
+        }
+        let part = Arc::make_mut(&mut self.parts[number])?;
+        part.set_item(place % SIZE, item)
+    }
+
+    /// Appends a part of some items to full parts; where there is no memory nothing changes.
+    fn add(&mut self, list: &[T]) -> Result<(), AllocError>
+        requires full { length self.old % SIZE ≡ 0 }
+        requires some { 0 < length list.now }
+        requires most { length list.now ≤ SIZE }
+        requires can_make { P.can_make }
+        ensures added { OnOk result (self.new ≡ self.old ++ list.now) }
+        ensures kept { OnErr result (self.new ≡ self.old) }
+    {
+        let made = P::of_items(self.alloc, list)?;
+        let part = Arc::new(self.alloc, made)?;
+        self.parts.push(part)?;
+        Ok(())
+    }
+
+    /// The parts of a list. Takes memory.
+    pub fn cut(alloc: Global, list: &[T]) -> Result<Parts<T, P, SIZE>, AllocError>
+        requires size { 0 < SIZE }
+        requires can_make { P.can_make }
+        ensures { IfOk result (λ s. s ≡ list.now) }
+    {
+        let mut parts = Parts {
+            alloc,
+            parts: Vec::new(alloc),
+            kind: PhantomData,
+        };
+        let full = list.len() / SIZE;
+        for number in 0..full {
+            let start = number * SIZE;
+            parts.add(&list[start..start + SIZE])?;
+        }
+        let start = full * SIZE;
+        if start < list.len() {
+            parts.add(&list[start..])?;
+        }
+        Ok(parts)
+    }
+
+    /// A part of the list by its number.
+    pub fn part(&self, number: usize) -> &Arc<P>
+        requires { SIZE * number < length self.now }
+        ensures { P.items (arc_value result.now) ≡ take SIZE (drop (SIZE * number) self.now) }
+    {
+        &self.parts[number]
+    }
+}
+
+impl<T: Copy + Drop, P: Part<T>, const SIZE: usize> Clone for Parts<T, P, SIZE> {
+    ghost is_clone = { λ c d. d ≡ c };
+
+    fn clone(&self) -> Result<Parts<T, P, SIZE>, AllocError> {
+        let mut parts = Vec::with_capacity(self.alloc, self.parts.len())?;
+        for part in &self.parts {
+            parts.push(Arc::try_clone(part)?)?;
+        }
+        Ok(Parts {
+            alloc: self.alloc,
+            parts,
+            kind: PhantomData,
+        })
+    }
+}
+
+impl<T: Copy + Drop, P: Part<T>, const SIZE: usize> Part<T> for Parts<T, P, SIZE> {
+    ghost items = { λ s. s };
+
+    ghost can_make = { (0 < SIZE) × P.can_make };
+
+    ghost copied = { λ a b h. h };
+
+    fn of_items(alloc: Global, list: &[T]) -> Result<Parts<T, P, SIZE>, AllocError> {
+        Parts::cut(alloc, list)
+    }
+
+    fn item(&self, place: usize) -> Option<T> {
+        self.get(place)
+    }
+
+    fn set_item(&mut self, place: usize, item: T) -> Result<(), AllocError> {
+        self.set(place, item)
+    }
+}
+
+/// A list that several hold at once: one holder more costs a count for each 4096 items and copies none of them, and a write
+/// copies at most a chunk of 64 items and the pointers to 64 chunks. A contract sees its items, in order.
+#[derive(Drop)]
+pub struct SharedList<T: Copy + Drop> {
+    len: usize,
+    parts: Parts<T, Parts<T, Chunk<T>, 64>, 4096>,
+}
+
+impl<T: Copy + Drop> Model for SharedList<T> {
+    ghost use Rattle.std.specs.Prelude.{◌≡◌, List, length};
+
+    ghost Value = { List T };
+
+    ghost view = { λ s. s.parts };
+
+    ghost invariant = { λ s. s.len ≡ length s.parts };
+}
+
+impl<T: Copy + Drop> SharedList<T> {
+    /// The list of a slice's items. Takes memory.
+    pub fn from_slice(alloc: Global, list: &[T]) -> Result<SharedList<T>, AllocError>
+        ensures { IfOk result (λ s. s ≡ list.now) }
+    {
+        Ok(SharedList {
+            len: list.len(),
+            parts: Parts::cut(alloc, list)?,
+        })
+    }
+
+    /// How many items there are.
+    pub fn len(&self) -> usize
+        ensures { result ≡ length self.now }
+    {
+        self.len
+    }
+
+    /// The item at a place, if there is one.
+    pub fn get(&self, place: usize) -> Option<T>
+        ensures { result ≡ slice_get self.now place }
+    {
+        self.parts.get(place)
+    }
+
+    /// Exchanges the item at a place; does nothing where there is none. What is shared there is copied first, and where
+    /// there is no memory for that nothing changes.
+    pub fn set(&mut self, place: usize, item: T) -> Result<(), AllocError>
+        ensures set { OnOk result (self.new ≡ slice_set self.old place item) }
+        ensures kept { OnErr result (self.new ≡ self.old) }
+    {
+        self.parts.set(place, item)
+    }
+
+    /// The same list for one holder more, which shares the items; or an error where there is no memory, or the holders can't
+    /// be counted. Takes memory for a pointer to each 4096 items.
+    pub fn try_clone(&self) -> Result<SharedList<T>, AllocError>
+        ensures { IfOk result (λ s. s ≡ self.now) }
+    {
+        Ok(SharedList {
+            len: self.len,
+            parts: self.parts.clone()?,
+        })
+    }
+
+    /// The chunk of 64 items, or fewer at the end, by its number: those from 64 times the number on.
+    pub fn chunk(&self, number: usize) -> &Arc<Chunk<T>>
+        requires { 64 * number < length self.now }
+        ensures { arc_value result.now ≡ take 64 (drop (64 * number) self.now) }
+    {
+        chunk_in(self.chunks_from(number / 64), number % 64)
+    }
+
+    /// The part of 64 chunks, or fewer at the end, by its number.
+    fn chunks_from(&self, number: usize) -> &Parts<T, Chunk<T>, 64>
+        requires { 4096 * number < length self.now }
+        ensures { result.now ≡ take 4096 (drop (4096 * number) self.now) }
+    {
+        self.parts.part(number)
+    }
+}
+
+/// A chunk of a part by its number there.
+fn chunk_in<T: Copy + Drop>(part: &Parts<T, Chunk<T>, 64>, number: usize) -> &Arc<Chunk<T>>
+    requires { 64 * number < length part.now }
+    ensures { arc_value result.now ≡ take 64 (drop (64 * number) part.now) }
+{
+    part.part(number)
+}
