@@ -2,6 +2,7 @@ mod building;
 mod copies;
 mod designs;
 mod dialogues;
+mod notices;
 mod simulations;
 mod tokens;
 mod views;

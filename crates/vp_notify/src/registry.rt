@@ -1,0 +1,184 @@
+ghost use Rattle.std.specs.Prelude.{◌≡◌, ◌+◌, ◌-◌, ◌^◌, ◌≤◌, ◌↔◌, ◌∷◌, ◌++◌, [], length, min, nat_lt, false, true, if◌then◌else◌, option_copied, IfErr, IfOk, IsOk, OnErr, OnOk};
+ghost use Rattle.std.specs.List.{list_any};
+ghost use Rattle.vp_notify.specs.declared.fault.NotifyError.TheVariants.{NoMemory, NoSuchCallback, TooManyCallbacks};
+ghost use Rattle.vp_notify.specs.Registry.{AreOrdered, drained, due, empty_registry, has_number, is_full, is_numbered, notice_of, registered, watches, without};
+
+use crate::fault::NotifyError;
+use crate::notice::{Notice, Notices};
+use crate::order::{count_by, on_object};
+use circular_buffer::HeapCircularBuffer;
+use std::alloc::Global;
+use std::marker::Model;
+use vp_elab::ObjectId;
+use vp_waking::Change;
+
+/// The most callbacks that a registry has at a time.
+pub const CALLBACK_LIMIT: usize = 1_024;
+
+/// The most notices that wait at a time.
+pub const NOTICE_LIMIT: usize = 4_096;
+
+/// A callback: its number, and the object whose changes it is told of.
+#[derive(Clone, Copy)]
+pub struct Callback {
+    pub number: u32,
+    pub object: ObjectId,
+}
+
+/// The value-change callbacks of a session, the notices that wait, and how many were lost (IEEE Std 1364-2005, 27.33, cbValueChange).
+/// Numbers begin at 1 and are never used again.
+#[derive(Drop)]
+pub struct Registry {
+    alloc: Global,
+    /// By object, each object's in order of registration, so that a change costs what watches its object.
+    callbacks: Vec<Callback>,
+    /// The number given last; 0 before the first.
+    given: u32,
+    waiting: HeapCircularBuffer<Notice>,
+    /// How many were lost since the last drain, as far as a `u64` counts.
+    lost: u64,
+}
+
+impl Model for Registry {
+    ghost use Rattle.std.specs.Prelude.{◌≡◌, ◌≤◌, length};
+    ghost use Rattle.vp_notify.specs.Registry.{AreOrdered, RegistryState};
+
+    ghost Value = { RegistryState };
+
+    ghost view = { λ r. record { callbacks = r.callbacks.items; given = r.given; waiting = r.waiting.items; lost = r.lost } };
+
+    ghost invariant = { λ r. AreOrdered r.callbacks.items × (length r.callbacks.items ≤ 1024) × (r.waiting.capacity ≡ 4096) };
+}
+
+/// One of the callbacks has a number.
+fn has_number(callbacks: &[Callback], number: u32) -> bool
+    ensures { result ≡ list_any (is_numbered number) callbacks.now }
+{
+    callbacks.iter().any(|callback| callback.number == number)
+}
+
+/// What a callback is told of a change at a time.
+fn notice_of(change: &Change, time: u64, callback: &Callback) -> Notice
+    ensures { result ≡ notice_of change.now time callback.now }
+{
+    Notice {
+        callback: callback.number,
+        object: change.object,
+        time,
+        value: change.value,
+    }
+}
+
+/// One more notice waits, or is counted as lost where there is no room for it.
+fn hold(waiting: &mut HeapCircularBuffer<Notice>, lost: &mut u64, notice: Notice)
+    ensures waiting { waiting.new.items ≡ (if nat_lt (length waiting.old.items) waiting.old.capacity
+        then waiting.old.items ++ notice ∷ [] else waiting.old.items) }
+    ensures lost { lost.new ≡ (if nat_lt (length waiting.old.items) waiting.old.capacity
+        then lost.old else min (lost.old + 1) (2 ^ 64 - 1)) }
+    ensures capacity { waiting.new.capacity ≡ waiting.old.capacity }
+{
+    if waiting.try_push_back(notice).is_err() {
+        *lost = lost.saturating_add(1);
+    }
+}
+
+impl Registry {
+    /// A registry without callbacks, with room for as many notices as may wait. Refuses with `NoMemory` where there is none.
+    pub fn new(alloc: Global) -> Result<Registry, NotifyError>
+        ensures empty { IfOk result (λ r. r ≡ empty_registry) }
+        ensures refusal { IfErr result (λ e. e ≡ NoMemory) }
+    {
+        let waiting = HeapCircularBuffer::with_capacity(alloc, NOTICE_LIMIT)?;
+        Ok(Registry {
+            alloc,
+            callbacks: Vec::new(alloc),
+            given: 0,
+            waiting,
+            lost: 0,
+        })
+    }
+
+    /// The callbacks, by object, each object's in order of registration.
+    pub fn callbacks(&self) -> &[Callback]
+        ensures callbacks { result.now ≡ self.now.callbacks }
+        ensures ordered { AreOrdered self.now.callbacks }
+        ensures within { length self.now.callbacks ≤ 1024 }
+    {
+        &self.callbacks
+    }
+
+    /// A callback on an object is added, and its number returned (27.33). Refuses with `TooManyCallbacks` where there are as many as may
+    /// be or every number was given, and otherwise with `NoMemory` where there is none; then nothing is changed.
+    pub fn register(&mut self, object: ObjectId) -> Result<u32, NotifyError>
+        ensures number { IfOk result (λ n. n ≡ self.old.given + 1) }
+        ensures added { OnOk result (self.new ≡ registered self.old object.0) }
+        ensures room { OnOk result (is_full self.old ≡ false) }
+        ensures refusal { IfErr result (λ e. e
+            ≡ (if is_full self.old then TooManyCallbacks else NoMemory)) }
+        ensures same { OnErr result (self.new ≡ self.old) }
+    {
+        if self.callbacks.len() >= CALLBACK_LIMIT || self.given == u32::MAX {
+            return Err(NotifyError::TooManyCallbacks);
+        }
+        let number = self.given + 1;
+        let place = count_by(&self.callbacks, object);
+        self.callbacks.insert(place, Callback { number, object })?;
+        self.given = number;
+        Ok(number)
+    }
+
+    /// The callback of a number is taken out; what waits for it stays. Refuses with `NoSuchCallback` where no callback has the number;
+    /// then nothing is changed. Takes no memory.
+    pub fn remove(&mut self, callback: u32) -> Result<(), NotifyError>
+        ensures found { IsOk result ↔ (has_number self.old callback ≡ true) }
+        ensures taken { OnOk result (self.new ≡ without self.old callback) }
+        ensures refusal { IfErr result (λ e. e ≡ NoSuchCallback) }
+        ensures same { OnErr result (self.new ≡ self.old) }
+    {
+        if !has_number(&self.callbacks, callback) {
+            return Err(NotifyError::NoSuchCallback);
+        }
+        self.callbacks.retain(|other| other.number != callback);
+        Ok(())
+    }
+
+    /// Some callback is on an object.
+    pub fn watches(&self, object: ObjectId) -> bool
+        ensures { result ≡ watches self.now object.0 }
+    {
+        !on_object(&self.callbacks, object).is_empty()
+    }
+
+    /// A change at a time is due to each callback on its object, in order of registration; no change is due to none (27.33,
+    /// cbValueChange). Where as many notices wait as may, the new one is lost. Takes no memory.
+    pub fn on_changes(&mut self, change: Option<&Change>, time: u64)
+        ensures { self.new ≡ due self.old (option_copied change.entry) time }
+    {
+        let Some(change) = change else {
+            return;
+        };
+        for callback in on_object(&self.callbacks, change.object) {
+            hold(
+                &mut self.waiting,
+                &mut self.lost,
+                notice_of(change, time, callback),
+            );
+        }
+    }
+
+    /// The notices that wait, oldest first, and how many were lost since the last drain; now none waits and none counts as lost. Refuses
+    /// with `NoMemory` where there is none; then nothing is changed.
+    pub fn drain(&mut self) -> Result<Notices, NotifyError>
+        ensures notices { IfOk result (λ n. n.notices.items ≡ self.old.waiting) }
+        ensures lost { IfOk result (λ n. n.lost ≡ self.old.lost) }
+        ensures drained { OnOk result (self.new ≡ drained self.old) }
+        ensures refusal { IfErr result (λ e. e ≡ NoMemory) }
+        ensures same { OnErr result (self.new ≡ self.old) }
+    {
+        let notices = self.waiting.to_vec(self.alloc)?;
+        let lost = self.lost;
+        self.waiting.clear();
+        self.lost = 0;
+        Ok(Notices { notices, lost })
+    }
+}
