@@ -1,3 +1,2 @@
-pub mod Stacking
 pub mod StepRows
 pub mod NetRows

@@ -17,7 +17,7 @@ use Rattle.vp_sim.specs.declared.fault.SimError.{SimError}
 use Rattle.vp_sim.specs.declared.fault.SimError.TheVariants.{Finished, Idle, SlotNotDone, NoSuchChoice, TimeLimit}
 use Rattle.vp_waking.specs.declared.waiting.Waiting.{Waiting}
 use Rattle.vp_waking.specs.declared.waiting.Waiting.TheVariants as wait
-use Rattle.vp_sim.specs.States.{Goes, Outcome, Refuses, State, advance, performed, put_by, rest_of, source_by, step_by}
+use Rattle.vp_sim.specs.States.{Goes, Outcome, Refuses, State, advance, again, goes_on, performed, put_by, source_by, step_by}
 use Rattle.vp_waking.specs.Waking.{is_of}
 
 -- a design of no text: the tables say what runs
@@ -54,7 +54,7 @@ at_five waiting q = record {
   time = 5;
   finished = false;
   values = x ∷ x ∷ x ∷ x ∷ [];
-  remaining = [] ∷ [] ∷ (9 ∷ []) ∷ [];
+  remaining = None ∷ None ∷ Some 9 ∷ [];
   waiting = waiting;
   queue = q;
 }
@@ -84,9 +84,9 @@ waits_behind o = behind (λ s. s.waiting) o
 abbrev change : (object : ℕ) → List Bit → Change
 change object value = record { object = record { 0 = object }; value = value }
 
--- the event of the procedure, process 2, which is active alone, does this
+-- the event of the procedure, process 2, which is active alone, does this; nothing comes behind it
 abbrev does : Effect → Outcome
-does e = performed tables (at_five both_wait (with_active no_events (Evaluation 2 ∷ []))) 0 2 (rest_of tables true 7 (9 ∷ []) e) e
+does e = performed tables (at_five both_wait (with_active no_events (Evaluation 2 ∷ []))) 0 2 (again true 7 (goes_on None e)) e
 
 -- ---- delays
 
@@ -99,23 +99,30 @@ delayed : queue_behind (does (effect.Pauses 3 4)) ≡ Some (record no_events { f
 delayed = refl
 
 -- it goes on with its statement, and does not begin again
-goes_on : behind (λ s. s.remaining) (does (effect.Pauses 0 4)) ≡ Some ([] ∷ [] ∷ (4 ∷ []) ∷ [])
-goes_on = refl
+goes_on_controlled : behind (λ s. s.remaining) (does (effect.Pauses 0 4)) ≡ Some (None ∷ None ∷ Some 4 ∷ [])
+goes_on_controlled = refl
 
 -- an always begins again where nothing remains, and its event keeps its place
-begins_again : behind (λ s. s.remaining) (does effect.Nothing) ≡ Some ([] ∷ [] ∷ (7 ∷ []) ∷ [])
+begins_again : behind (λ s. s.remaining) (does effect.Nothing) ≡ Some (None ∷ None ∷ Some 7 ∷ [])
 begins_again = refl
 
 keeps_its_place : queue_behind (does effect.Nothing) ≡ Some (with_active no_events (Evaluation 2 ∷ []))
 keeps_its_place = refl
 
 -- of an initial nothing remains
-initial_ends : rest_of tables false 7 (9 ∷ []) effect.Nothing ≡ []
+initial_ends : again false 7 (goes_on None effect.Nothing) ≡ None
 initial_ends = refl
 
--- a test goes on with the last of its statements first
-proceeds : behind (λ s. s.remaining) (does (effect.Proceeds (Some 1) None (Some 3))) ≡ Some ([] ∷ [] ∷ (1 ∷ 3 ∷ []) ∷ [])
+-- a test goes on with the statement that it chose, and where it chose none with what comes behind it
+proceeds : behind (λ s. s.remaining) (does (effect.Proceeds (Some 3))) ≡ Some (None ∷ None ∷ Some 3 ∷ [])
 proceeds = refl
+
+chooses_none : goes_on (Some 4) (effect.Proceeds None) ≡ Some 4
+chooses_none = refl
+
+-- an assignment goes on with what comes behind it
+goes_on_behind : goes_on (Some 4) (effect.Assigns 1 (Some 0) one) ≡ Some 4
+goes_on_behind = refl
 
 -- 2^62 is too late
 too_late : told (does (effect.Pauses 4611686018427387899 4)) ≡ Err TimeLimit
@@ -199,7 +206,7 @@ waits_again = refl
 awaits : queue_behind (does (effect.Awaits 9 9)) ≡ Some no_events
 awaits = refl
 
-tests_again : behind (λ s. s.remaining) (does (effect.Awaits 9 9)) ≡ Some ([] ∷ [] ∷ (9 ∷ []) ∷ [])
+tests_again : behind (λ s. s.remaining) (does (effect.Awaits 9 9)) ≡ Some (None ∷ None ∷ Some 9 ∷ [])
 tests_again = refl
 
 waits_for_its_statement : waits_behind (does (effect.Awaits 9 9)) ≡ Some (wait.Operands ∷ wait.Operands ∷ wait.Statement 9 ∷ [])

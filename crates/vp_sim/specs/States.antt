@@ -1,6 +1,7 @@
 -- A state of a simulation, and its steps (clause 11.3).
-use Rattle.std.specs.Prelude.{◌≡◌, ℕ, ◌+◌, ◌≤◌, ◌==◌, ◌&&◌, nat_le, Bool, true, false, if◌then◌else◌, List, [], ◌∷◌, ◌++◌, drop, length, map, replicate, slice_get, slice_index_or, slice_set, Option, Some, None, option_and_then, option_to_list}
-use Rattle.std.specs.Option.{option_map_or}
+use Rattle.std.specs.Prelude.{◌≡◌, ℕ, ◌+◌, ◌≤◌, ◌==◌, ◌&&◌, nat_le, Bool, true, false, if◌then◌else◌, List, [], ◌∷◌, ◌++◌, drop, length, map, replicate, slice_get, slice_index_or, slice_set, Option, Some, None, option_and_then}
+use Rattle.std.specs.Option.{option_map_or, option_or}
+use Rattle.vp_source.specs.declared.source.Source.{Source}
 use Rattle.vp_bits.specs.declared.bit.Bit.{Bit}
 use Rattle.vp_bits.specs.Vector.{resized}
 use Rattle.vp_elab.specs.declared.object.ObjectId.{ObjectId}
@@ -16,7 +17,7 @@ use Rattle.vp_expr.specs.Tables.{process_object, tables_of}
 use Rattle.vp_statement.specs.declared.effect.Effect.{Effect}
 use Rattle.vp_statement.specs.declared.effect.Effect.TheVariants as effect
 use Rattle.vp_statement.specs.Effects.{effect_at}
-use Rattle.vp_statement.specs.Walking.{behind_event, next_event}
+use Rattle.vp_statement.specs.Walking.{behind_at, flow_of, next_event}
 use Rattle.vp_strata.specs.declared.event.Delayed.{Delayed}
 use Rattle.vp_strata.specs.declared.event.Delayed.TheVariants as later
 use Rattle.vp_strata.specs.declared.event.Event.{Event}
@@ -34,14 +35,14 @@ use Rattle.vp_waking.specs.Changes.{change_of, net_at, set_change, updated_by, v
 use Rattle.vp_waking.specs.Listening.{AreHeard, IsHeard, count_of}
 use Rattle.vp_waking.specs.Waking.{awaited_by, roused, with_evaluations, woken_by}
 
--- a state: the design, the time, whether $finish was executed, the value of each object, what remains of each process, what each waits
--- for, and the event queue (clause 11.3)
+-- a state: the design, the time, whether $finish was executed, the value of each object, the place of the statement with which each
+-- process goes on, if one remains of it, what each waits for, and the event queue (clause 11.3)
 pub record State : Type 0 where
   pub design : Elaborated
   pub time : ℕ
   pub finished : Bool
   pub values : List (List Bit)
-  pub remaining : List (List ℕ)
+  pub remaining : List (Option ℕ)
   pub waiting : List Waiting
   pub queue : Queue
 
@@ -76,29 +77,30 @@ updated tables s k change = Goes (with_change tables (without_event s k) change)
 
 -- ---- the event of a procedure
 
--- what remains of a procedure behind an event: an always begins again where nothing does (clause 9.9.2)
-abbrev pub again : (repeats : Bool) → (body : ℕ) → (rest : List ℕ) → List ℕ
-again true body [] = body ∷ []
-again true body (r ∷ rs) = r ∷ rs
+-- an always begins again where nothing remains of it (clause 9.9.2)
+abbrev pub again : (repeats : Bool) → (body : ℕ) → (rest : Option ℕ) → Option ℕ
+again true body None = Some body
+again true body (Some place) = Some place
 again false body rest = rest
 
--- the statements with which a procedure goes on behind its event, the next one last
-abbrev pub follows : Effect → List ℕ
-follows effect.Nothing = []
-follows (effect.Assigns object place value) = []
-follows (effect.Defers object place value delay) = []
-follows (effect.Pauses amount next) = next ∷ []
-follows (effect.Awaits place next) = next ∷ []
-follows (effect.Proceeds third second next) = option_to_list third ++ (option_to_list second ++ option_to_list next)
-follows effect.Finishes = []
+-- the statement with which a procedure goes on behind its event: behind a control the one that it controls, behind a test the one that it
+-- chose, else the one that comes behind the event (clauses 9.4 to 9.8)
+abbrev pub goes_on : (behind : Option ℕ) → Effect → Option ℕ
+goes_on behind effect.Nothing = behind
+goes_on behind (effect.Assigns object place value) = behind
+goes_on behind (effect.Defers object place value delay) = behind
+goes_on behind (effect.Pauses amount next) = Some next
+goes_on behind (effect.Awaits place next) = Some next
+goes_on behind (effect.Proceeds next) = option_or next behind
+goes_on behind effect.Finishes = behind
 
 -- the event of a procedure is over where the procedure pauses or waits, and where nothing remains of it; else it keeps its place
 -- (profile)
-abbrev pub is_over : Effect → (rest : List ℕ) → Bool
+abbrev pub is_over : Effect → (rest : Option ℕ) → Bool
 is_over (effect.Pauses amount next) rest = true
 is_over (effect.Awaits place next) rest = true
-is_over e [] = true
-is_over e (r ∷ rs) = false
+is_over e None = true
+is_over e (Some place) = false
 
 -- the queue behind the k-th of the eligible events, if that is over
 abbrev pub taken_if : Bool → Queue → (k : ℕ) → Queue
@@ -106,7 +108,7 @@ taken_if true q k = taken q k
 taken_if false q k = q
 
 -- a state behind the event of a process, the k-th, of which this remains
-abbrev pub with_remaining : State → (k : ℕ) → (process : ℕ) → (rest : List ℕ) → Effect → State
+abbrev pub with_remaining : State → (k : ℕ) → (process : ℕ) → (rest : Option ℕ) → Effect → State
 with_remaining s k process rest e = record s {
   remaining = slice_set s.remaining process rest;
   queue = taken_if (is_over e rest) s.queue k;
@@ -140,7 +142,7 @@ with_effect tables s process (effect.Defers object place value delay) =
     deferred s delay (record { process = process; object = object; place = place; value = value })
 with_effect tables s process (effect.Pauses amount next) = paused s process amount
 with_effect tables s process (effect.Awaits place next) = record s { waiting = slice_set s.waiting process (wait.Statement place) }
-with_effect tables s process (effect.Proceeds third second next) = s
+with_effect tables s process (effect.Proceeds next) = s
 with_effect tables s process effect.Finishes = record s { finished = true }
 
 -- what the event of a procedure changes at once: a blocking assignment its target (clause 9.2.1)
@@ -150,7 +152,7 @@ change_by values (effect.Assigns object place value) = set_change values object 
 change_by values (effect.Defers object place value delay) = None
 change_by values (effect.Pauses amount next) = None
 change_by values (effect.Awaits place next) = None
-change_by values (effect.Proceeds third second next) = None
+change_by values (effect.Proceeds next) = None
 change_by values effect.Finishes = None
 
 -- so much later the event of a procedure makes something happen
@@ -160,36 +162,40 @@ delay_of (effect.Assigns object place value) = 0
 delay_of (effect.Defers object place value delay) = delay
 delay_of (effect.Pauses amount next) = amount
 delay_of (effect.Awaits place next) = 0
-delay_of (effect.Proceeds third second next) = 0
+delay_of (effect.Proceeds next) = 0
 delay_of effect.Finishes = 0
 
 -- what happens so much later would happen at 2^62 or later (profile)
 abbrev pub is_late : (time : ℕ) → (delay : ℕ) → Bool
 is_late time delay = nat_le 1 delay && nat_le TIME_LIMIT (time + delay)
 
--- what remains of a procedure behind its next event, which does this
-abbrev pub rest_of : Tables → (repeats : Bool) → (body : ℕ) → (remaining : List ℕ) → Effect → List ℕ
-rest_of tables repeats body remaining e = again repeats body (behind_event tables.actions remaining ++ follows e)
+-- the statement with which a procedure goes on behind the event at a place, which does this
+abbrev pub rest_of : Tables → Source → (repeats : Bool) → (body : ℕ) → (event : ℕ) → Effect → Option ℕ
+rest_of tables source repeats body event e = again repeats body (goes_on (behind_at source tables.actions event) e)
 
--- the k-th of the eligible events, of a process, does this, and this remains of the process
-abbrev pub performed : Tables → State → (k : ℕ) → (process : ℕ) → (rest : List ℕ) → Effect → Outcome
+-- the k-th of the eligible events, of a process, does this, and the process goes on with this
+abbrev pub performed : Tables → State → (k : ℕ) → (process : ℕ) → (rest : Option ℕ) → Effect → Outcome
 performed tables s k process rest e =
     if is_late s.time (delay_of e)
     then Refuses TimeLimit
     else Goes (with_effect tables (with_remaining s k process rest e) process e) (change_by s.values e)
 
--- what the next event of a procedure does, of which this remains
-abbrev pub next_effect : Tables → State → (instance : ObjectId) → (remaining : List ℕ) → Effect
-next_effect tables s instance remaining =
-    effect_at s.design instance (drop instance.0 s.values) (next_event tables.actions remaining)
+-- what the event at a place does in an instance
+abbrev pub next_effect : Tables → State → (instance : ObjectId) → (event : ℕ) → Effect
+next_effect tables s instance event = effect_at s.design instance (drop instance.0 s.values) event
+
+-- the event at a place happens, as the k-th of the eligible events, of a process
+abbrev pub happens_at : Tables → State → (k : ℕ) → (process : ℕ) → (instance : ObjectId) → (repeats : Bool) → (body : ℕ) → (event : ℕ) → Outcome
+happens_at tables s k process instance repeats body event =
+    performed tables s k process
+    (rest_of tables s.design.source repeats body event (next_effect tables s instance event))
+    (next_effect tables s instance event)
 
 -- the evaluation of a procedure: one event's worth of what remains of it (profile)
-abbrev pub turn : Tables → State → (k : ℕ) → (process : ℕ) → (instance : ObjectId) → (repeats : Bool) → (body : ℕ) → (remaining : List ℕ) → Outcome
-turn tables s k process instance repeats body [] = Goes (without_event s k) None
-turn tables s k process instance repeats body (r ∷ rs) =
-    performed tables s k process
-    (rest_of tables repeats body (r ∷ rs) (next_effect tables s instance (r ∷ rs)))
-    (next_effect tables s instance (r ∷ rs))
+abbrev pub turn : Tables → State → (k : ℕ) → (process : ℕ) → (instance : ObjectId) → (repeats : Bool) → (body : ℕ) → (remaining : Option ℕ) → Outcome
+turn tables s k process instance repeats body None = Goes (without_event s k) None
+turn tables s k process instance repeats body (Some place) =
+    happens_at tables s k process instance repeats body (next_event tables.actions place)
 
 -- ---- the event of a continuous process
 
@@ -208,7 +214,7 @@ driven s k process net value =
 abbrev pub evaluated : Tables → State → (k : ℕ) → (process : ℕ) → Option Process → Outcome
 evaluated tables s k process None = Goes (without_event s k) None
 evaluated tables s k process (Some (Procedure object instance repeats body)) =
-    turn tables s k process instance repeats body (slice_index_or s.remaining process [])
+    turn tables s k process instance repeats body (slice_index_or s.remaining process None)
 evaluated tables s k process (Some (Assignment object net instance value)) =
     Goes (driven s k process net (eval tables (drop instance.0 s.values) value)) None
 evaluated tables s k process (Some (Connection port net)) = Goes (driven s k process net (value_in s.values port.0)) None
@@ -264,10 +270,10 @@ put s object value = put_by (tables_of s.design) s object value
 -- ---- the start
 
 -- what a process does: the statement of a procedure, and no statement of another (clause 9.9)
-abbrev pub whole_of : Process → List ℕ
-whole_of (Procedure object instance repeats body) = body ∷ []
-whole_of (Assignment object net instance value) = []
-whole_of (Connection port net) = []
+abbrev pub whole_of : Process → Option ℕ
+whole_of (Procedure object instance repeats body) = Some body
+whole_of (Assignment object net instance value) = None
+whole_of (Connection port net) = None
 
 -- at the start every process is evaluated, in the order of the objects (clauses 6.1 and 9.9, profile)
 abbrev pub start_by : Tables → Elaborated → State
@@ -322,8 +328,10 @@ Explains (Refuses r) e = e ≡ r
 
 -- ---- a state as it is kept
 
--- there is a value for each object of a design, what each process waits for, and each process that waits is heard
-pub record IsWhole (design : Elaborated) (values : List (List Bit)) (count : ℕ) (waiting : List Waiting) (lists : List (List ℕ)) : Type 0 where
+-- what comes behind each statement is the design's, there is a value for each object of the design, what each process waits for, and each
+-- process that waits is heard
+pub record IsWhole (design : Elaborated) (flow : List (Option ℕ)) (values : List (List Bit)) (count : ℕ) (waiting : List Waiting) (lists : List (List ℕ)) : Type 0 where
+  pub flows : flow ≡ flow_of design.source (tables_of design).actions
   pub objects : length values ≡ length design.tree.nodes
   pub processes : count ≡ length (tables_of design).processes
   pub waits : length waiting ≡ length (tables_of design).processes
@@ -344,5 +352,5 @@ IsReady tables lists spare process change (effect.Defers object place value dela
 IsReady tables lists spare process change (effect.Pauses amount next) = 1 ≤ spare
 IsReady tables lists spare process change (effect.Awaits place next) =
     IsHeard lists (awaited_by tables (wait.Statement place) process) process
-IsReady tables lists spare process change (effect.Proceeds third second next) = Unit {0}
+IsReady tables lists spare process change (effect.Proceeds next) = Unit {0}
 IsReady tables lists spare process change effect.Finishes = Unit {0}

@@ -108,22 +108,24 @@ impl Machine {
     ) -> Result<Option<Change>, SimError>
         ensures ok { IfOk result (λ change. turn (tables_of self.old.state.design)
             (with_activation self.old.state) k process instance repeats body
-            (slice_index_or self.old.state.remaining process []) ≡ Goes self.new.state change) }
+            (slice_index_or self.old.state.remaining process None) ≡ Goes self.new.state change) }
         ensures refused { IfErr result (λ e. Explains
             (turn (tables_of self.old.state.design) (with_activation self.old.state) k process
-            instance repeats body (slice_index_or self.old.state.remaining process [])) e) }
+            instance repeats body (slice_index_or self.old.state.remaining process None)) e) }
         ensures unchanged { OnErr result (self.new.state ≡ self.old.state) }
     {
         let Some(next) = self.next_of(process) else {
             self.pass(k);
             return Ok(None);
         };
-        let effect = self.effect(instance, next);
+        let event = self.next_event(next);
+        let effect = self.effect(instance, event);
         if self.is_late(&effect) {
             return Err(SimError::TimeLimit);
         }
         let change = self.change_by(&effect);
-        self.perform(k, process, repeats, body, &change, effect)?;
+        let rest = self.rest_of(repeats, body, event, &effect);
+        self.perform(k, process, rest, &change, effect)?;
         Ok(change)
     }
 
@@ -191,15 +193,16 @@ impl Machine {
     fn check_turn(&self, process: usize, instance: ObjectId) -> Result<(), SimError>
         ensures ok { OnOk result ((k : ℕ) → (repeats : Bool) → (body : ℕ)
             → IsStep (turn (tables_of self.now.state.design) (with_activation self.now.state) k
-            process instance repeats body (slice_index_or self.now.state.remaining process []))) }
+            process instance repeats body (slice_index_or self.now.state.remaining process None))) }
         ensures refused { IfErr result (λ e. (k : ℕ) → (repeats : Bool) → (body : ℕ)
             → turn (tables_of self.now.state.design) (with_activation self.now.state) k process
-            instance repeats body (slice_index_or self.now.state.remaining process []) ≡ Refuses e) }
+            instance repeats body (slice_index_or self.now.state.remaining process None) ≡ Refuses e) }
     {
         let Some(next) = self.next_of(process) else {
             return Ok(());
         };
-        let effect = self.effect(instance, next);
+        let event = self.next_event(next);
+        let effect = self.effect(instance, event);
         if self.is_late(&effect) {
             return Err(SimError::TimeLimit);
         }

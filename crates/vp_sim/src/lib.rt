@@ -5,8 +5,8 @@ mod events;
 mod fault;
 mod machine;
 mod procedure;
+mod remaining;
 mod sim;
-mod stacks;
 mod steps;
 
 pub use fault::SimError;

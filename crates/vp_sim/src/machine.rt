@@ -9,12 +9,12 @@ ghost use Rattle.vp_sim.specs.States.{with_activation, with_change, without_even
 ghost use Rattle.vp_waking.specs.Waking.{awaited_by};
 
 use crate::fault::SimError;
-use crate::stacks::Stacks;
 use std::alloc::Global;
 use std::marker::Model;
 use std::sync::Arc;
 use vp_bits::Bits;
 use vp_expr::{Checked, Values};
+use vp_statement::Flow;
 use vp_strata::Strata;
 use vp_waking::{Change, Listeners, Waiting, set_wait, wake};
 
@@ -28,21 +28,23 @@ pub struct Machine {
     pub(crate) time: u64,
     pub(crate) finished: bool,
     pub(crate) values: Values,
-    pub(crate) stacks: Stacks,
+    /// What comes behind each statement of the design.
+    pub(crate) flow: Arc<Flow>,
+    /// Of each process the statement with which it goes on, if one remains of it.
+    pub(crate) remaining: Vec<Option<u32>>,
     pub(crate) waiting: Vec<Waiting>,
     pub(crate) queue: Strata,
-    /// Room for what an event leaves of its statement.
-    pub(crate) scratch: Vec<u32>,
 }
 
 impl Model for Machine {
+    ghost use Rattle.std.specs.Arc.{arc_value};
     ghost use Rattle.vp_sim.specs.States.{IsWhole, Running};
 
     ghost Value = { Running };
 
-    ghost view = { λ m. record { state = record { design = m.listeners.design; time = m.time; finished = m.finished; values = m.values; remaining = m.stacks; waiting = m.waiting.items; queue = m.queue.queue }; spare = m.queue.spare; lists = m.listeners.lists } };
+    ghost view = { λ m. record { state = record { design = m.listeners.design; time = m.time; finished = m.finished; values = m.values; remaining = m.remaining.items; waiting = m.waiting.items; queue = m.queue.queue }; spare = m.queue.spare; lists = m.listeners.lists } };
 
-    ghost invariant = { λ m. IsWhole m.listeners.design m.values m.queue.processes m.waiting.items m.listeners.lists };
+    ghost invariant = { λ m. IsWhole m.listeners.design (arc_value m.flow) m.values m.queue.processes m.waiting.items m.listeners.lists };
 }
 
 impl Machine {

@@ -1,20 +1,17 @@
 ghost use Rattle.std.specs.Prelude.{◌≡◌, ◌≤◌, ◌++◌, ◌-◌, ◌==◌, [], ◌∷◌, drop, false, length, slice_get, slice_index_or, slice_set, take, true, option_to_list, None, IfErr, IfOk, IfSome, MatchOption, OnErr, OnOk, IsOkUnless, ◌+◌, ◌<◌};
 ghost use Rattle.vp_expr.specs.Tables.{tables_of};
-ghost use Rattle.vp_statement.specs.Effects.{effect_at};
-ghost use Rattle.vp_statement.specs.Walking.{behind_event, first_event, left_behind, next_of};
+ghost use Rattle.vp_statement.specs.Walking.{next_event};
 ghost use Rattle.vp_sim.specs.declared.fault.SimError.TheVariants.{NoMemory};
 ghost use Rattle.vp_waking.specs.Changes.{change_of, set_change, set_change_of};
-ghost use Rattle.vp_sim.specs.States.{Explains, Goes, IsReady, with_activation, change_by, deferred, delay_of, delayed, with_effect, follows, is_late, is_over, with_remaining, paused, rest_of, taken_if, turn};
+ghost use Rattle.vp_sim.specs.States.{IsReady, with_activation, again, change_by, deferred, delay_of, delayed, with_effect, goes_on, is_late, is_over, next_effect, with_remaining, paused, rest_of};
 
 use crate::fault::SimError;
 use crate::machine::Machine;
-use crate::stacks::Stacks;
-use std::alloc::AllocError;
+use crate::remaining::{remaining_of, set_remaining};
 use vp_bits::Bits;
 use vp_elab::ObjectId;
-use vp_expr::Tables;
 use vp_operand::set_in;
-use vp_statement::{Effect, effect_of, first_event, push_left_behind};
+use vp_statement::{Effect, effect_of, next_event};
 use vp_strata::{Delayed, NonblockingUpdate, TIME_LIMIT};
 use vp_waking::{Change, Waiting, change_of};
 
@@ -40,9 +37,9 @@ fn is_late(time: u64, delay: u32) -> bool
     delay > 0 && time.saturating_add(u64::from(delay)) >= TIME_LIMIT
 }
 
-/// The event of a procedure of which this remains is over.
-fn is_over(effect: &Effect, rest: &[u32]) -> bool
-    ensures { result ≡ is_over effect.now rest.now }
+/// The event of a procedure that goes on with this is over.
+fn is_over(effect: &Effect, rest: Option<u32>) -> bool
+    ensures { result ≡ is_over effect.now rest }
 {
     match effect {
         Effect::Pauses { .. } | Effect::Awaits { .. } => true,
@@ -50,77 +47,27 @@ fn is_over(effect: &Effect, rest: &[u32]) -> bool
         | Effect::Assigns { .. }
         | Effect::Defers { .. }
         | Effect::Proceeds { .. }
-        | Effect::Finishes => rest.is_empty(),
+        | Effect::Finishes => rest.is_none(),
     }
 }
 
-/// Pushes a place, if there is one.
-fn push_some(stack: &mut Vec<u32>, place: Option<u32>) -> Result<(), AllocError>
-    ensures { OnOk result (stack.new.items ≡ stack.old.items ++ option_to_list place) }
-{
-    if let Some(place) = place {
-        stack.push(place)?;
-    }
-    Ok(())
-}
-
-/// Pushes the statements with which a procedure goes on behind its event, the next one last.
-fn push_follows(effect: &Effect, stack: &mut Vec<u32>) -> Result<(), AllocError>
-    ensures { OnOk result (stack.new.items ≡ stack.old.items ++ follows effect.now) }
+/// The statement with which a procedure goes on behind its event, by the one that comes behind that.
+fn goes_on(behind: Option<u32>, effect: &Effect) -> Option<u32>
+    ensures { result ≡ goes_on behind effect.now }
 {
     match effect {
-        Effect::Pauses { next, .. } | Effect::Awaits { next, .. } => push_some(stack, Some(*next)),
-        Effect::Proceeds { again, step, next } => {
-            push_some(stack, *again)?;
-            push_some(stack, *step)?;
-            push_some(stack, *next)
-        }
-        Effect::Nothing | Effect::Assigns { .. } | Effect::Defers { .. } | Effect::Finishes => Ok(
-            (),
-        ),
+        Effect::Pauses { next, .. } | Effect::Awaits { next, .. } => Some(*next),
+        Effect::Proceeds { next } => next.or(behind),
+        Effect::Nothing | Effect::Assigns { .. } | Effect::Defers { .. } | Effect::Finishes =>
+            behind,
     }
 }
 
-/// What takes the place of the next statement of a procedure, of which this remains, behind its event.
-fn push_rest(
-    tables: &Tables,
-    stack: &[u32],
-    repeats: bool,
-    body: u32,
-    effect: &Effect,
-    rest: &mut Vec<u32>,
-) -> Result<(), AllocError>
-    requires { 1 ≤ length stack.now }
-    ensures { OnOk result (take (length stack.now - 1) stack.now ++ rest.new.items
-        ≡ rest_of tables.now repeats body stack.now effect.now) }
+/// An `always` begins again where nothing remains of it (9.9.2).
+fn again(repeats: bool, body: u32, rest: Option<u32>) -> Option<u32>
+    ensures { result ≡ again repeats body rest }
 {
-    rest.clear();
-    push_left_behind(tables.actions.as_slice(), stack[stack.len() - 1], rest)?;
-    push_follows(effect, rest)?;
-    if repeats && rest.is_empty() && stack.len() == 1 {
-        rest.push(body)?;
-    }
-    Ok(())
-}
-
-/// What remains of a procedure behind its event.
-fn leave(
-    tables: &Tables,
-    stacks: &mut Stacks,
-    scratch: &mut Vec<u32>,
-    process: usize,
-    repeats: bool,
-    body: u32,
-    effect: &Effect,
-) -> Result<(), AllocError>
-    requires { 1 ≤ length (slice_index_or stacks.old process []) }
-    ensures ok { OnOk result (stacks.new
-        ≡ slice_set stacks.old process (rest_of tables.now repeats body
-        (slice_index_or stacks.old process []) effect.now)) }
-    ensures err { OnErr result (stacks.new ≡ stacks.old) }
-{
-    push_rest(tables, stacks.of(process), repeats, body, effect, scratch)?;
-    stacks.replace_next(process, scratch)
+    if repeats { rest.or(Some(body)) } else { rest }
 }
 
 impl Machine {
@@ -167,28 +114,34 @@ impl Machine {
         }
     }
 
-    /// The next statement of a process; none where nothing remains of it.
+    /// The statement with which a process goes on; none where nothing remains of it.
     pub fn next_of(&self, process: usize) -> Option<u32>
-        ensures { MatchOption result (slice_index_or self.now.state.remaining process [] ≡ [])
-            (λ next. (next ≡ next_of (slice_index_or self.now.state.remaining process []))
-            × (1 ≤ length (slice_index_or self.now.state.remaining process []))) }
+        ensures { result ≡ slice_index_or self.now.state.remaining process None }
     {
-        self.stacks.of(process).last().copied()
+        remaining_of(&self.remaining, process)
     }
 
-    /// What the first event of a statement of a procedure in an instance does.
-    pub fn effect(&self, instance: ObjectId, statement: u32) -> Effect
-        ensures { let actions = (tables_of self.now.state.design).actions in result
-            ≡ effect_at self.now.state.design instance (drop instance.0 self.now.state.values)
-            (first_event actions (length actions) statement) }
+    /// The place of the first event of a statement.
+    pub fn next_event(&self, statement: u32) -> u32
+        ensures { result ≡ next_event (tables_of self.now.state.design).actions statement }
     {
-        let actions = self.checked().tables().actions.as_slice();
-        effect_of(
-            self.checked(),
-            &self.values,
-            instance,
-            first_event(actions, statement),
-        )
+        next_event(self.checked().tables().actions.as_slice(), statement)
+    }
+
+    /// What the event at a place does in an instance.
+    pub fn effect(&self, instance: ObjectId, event: u32) -> Effect
+        ensures { result ≡ next_effect (tables_of self.now.state.design) self.now.state instance
+            event }
+    {
+        effect_of(self.checked(), &self.values, instance, event)
+    }
+
+    /// The statement with which a procedure goes on behind the event at a place, which does this.
+    pub fn rest_of(&self, repeats: bool, body: u32, event: u32, effect: &Effect) -> Option<u32>
+        ensures { result ≡ rest_of (tables_of self.now.state.design) self.now.state.design.source
+            repeats body event effect.now }
+    {
+        again(repeats, body, goes_on(self.flow.behind(event), effect))
     }
 
     /// What the event of a procedure does would happen at 2^62 or later.
@@ -198,49 +151,14 @@ impl Machine {
         is_late(self.time, delay_of(effect))
     }
 
-    /// What remains of a procedure behind its event.
-    fn leave(
-        &mut self,
-        process: usize,
-        repeats: bool,
-        body: u32,
-        effect: &Effect,
-    ) -> Result<(), SimError>
-        requires { 1 ≤ length (slice_index_or self.old.state.remaining process []) }
-        ensures ok { OnOk result (self.new.state
-            ≡ record self.old.state {
-              remaining = slice_set self.old.state.remaining process
-                  (rest_of (tables_of self.old.state.design) repeats body
-                  (slice_index_or self.old.state.remaining process []) effect.now);
-            }) }
-        ensures refused { IsOkUnless result NoMemory }
-        ensures unchanged { OnErr result (self.new.state ≡ self.old.state) }
+    /// A procedure goes on with a statement behind its event, the k-th of the eligible ones, which is over if it is by what it does.
+    fn leave(&mut self, k: usize, process: usize, rest: Option<u32>, effect: &Effect)
+        ensures state { self.new.state ≡ with_remaining self.old.state k process rest effect.now }
         ensures spare { self.new.spare ≡ self.old.spare }
         ensures lists { self.new.lists ≡ self.old.lists }
     {
-        let tables = self.listeners.checked().tables();
-        leave(
-            tables,
-            &mut self.stacks,
-            &mut self.scratch,
-            process,
-            repeats,
-            body,
-            effect,
-        )?;
-        Ok(())
-    }
-
-    /// The event of a procedure, the k-th of the eligible ones, is over, if it is by what remains of the procedure.
-    fn end(&mut self, k: usize, process: usize, effect: &Effect)
-        ensures state { self.new.state ≡ record self.old.state {
-          queue = taken_if (is_over effect.now
-              (slice_index_or self.old.state.remaining process [])) self.old.state.queue k;
-        } }
-        ensures spare { self.new.spare ≡ self.old.spare }
-        ensures lists { self.new.lists ≡ self.old.lists }
-    {
-        if is_over(effect, self.stacks.of(process)) {
+        set_remaining(&mut self.remaining, process, rest);
+        if is_over(effect, rest) {
             self.queue.take(k);
         }
     }
@@ -335,34 +253,31 @@ impl Machine {
         }
     }
 
-    /// The event of a procedure, the k-th of the eligible ones, does this and makes this change; or want of memory (806).
+    /// The event of a procedure, the k-th of the eligible ones, does this and makes this change, and the procedure goes on with a
+    /// statement; or want of memory (806).
     pub fn perform(
         &mut self,
         k: usize,
         process: usize,
-        repeats: bool,
-        body: u32,
+        rest: Option<u32>,
         change: &Option<Change>,
         effect: Effect,
     ) -> Result<(), SimError>
-        requires some { 1 ≤ length (slice_index_or self.old.state.remaining process []) }
         requires on_time { is_late self.old.state.time (delay_of effect) ≡ false }
         requires fits { IfSome change.now
             (λ c. length (slice_index_or self.old.state.values c.object.0 c.value)
             ≡ length c.value) }
         requires of { change.now ≡ change_by self.old.state.values effect }
-        ensures ok { let tables = tables_of self.old.state.design
-            in OnOk result (self.new.state ≡ with_effect tables
-            (with_remaining (with_activation self.old.state) k process
-            (rest_of tables repeats body (slice_index_or self.old.state.remaining process [])
-            effect) effect) process effect) }
+        ensures ok { OnOk result (self.new.state
+            ≡ with_effect (tables_of self.old.state.design)
+            (with_remaining (with_activation self.old.state) k process rest effect) process
+            effect) }
         ensures refused { IsOkUnless result NoMemory }
         ensures unchanged { OnErr result (self.new.state ≡ self.old.state) }
     {
         self.prepare(process, change, &effect)?;
-        self.leave(process, repeats, body, &effect)?;
         self.activate();
-        self.end(k, process, &effect);
+        self.leave(k, process, rest, &effect);
         self.do_effect(process, change, effect);
         Ok(())
     }

@@ -5,17 +5,19 @@ ghost use Rattle.vp_strata.specs.declared.event.Event.TheVariants.{Evaluation};
 ghost use Rattle.vp_strata.specs.Events.{process_of};
 ghost use Rattle.vp_strata.specs.Queues.{no_events, with_active};
 ghost use Rattle.vp_expr.specs.Tables.{tables_of};
+ghost use Rattle.vp_statement.specs.Walking.{flow_of};
 ghost use Rattle.vp_sim.specs.declared.fault.SimError.TheVariants.{NoMemory};
 ghost use Rattle.vp_sim.specs.States.{Explains, Goes, IsStep, Refuses, advance, advanced_to, eligible, next_time, put, slot_done, source_of, start, step};
 
 use crate::fault::SimError;
 use crate::machine::Machine;
-use crate::stacks::Stacks;
-use std::alloc::Global;
+use crate::remaining::all_whole;
+use std::alloc::{AllocError, Global};
 use std::sync::Arc;
 use vp_bits::Bits;
 use vp_elab::ObjectId;
 use vp_expr::{Checked, Values};
+use vp_statement::Flow;
 use vp_strata::{Event, Strata, StrataError};
 use vp_waking::{Change, Listeners, Waiting, process_at};
 
@@ -31,6 +33,17 @@ fn first_queue(alloc: Global, processes: usize) -> Result<Strata, StrataError>
         queue.push_active(process)?;
     }
     Ok(queue)
+}
+
+/// What comes behind each statement of a design.
+fn flow_for(alloc: Global, checked: &Checked) -> Result<Arc<Flow>, AllocError>
+    ensures { IfOk result (λ flow. arc_value flow
+        ≡ flow_of checked.now.source (tables_of checked.now).actions) }
+{
+    let actions = checked.tables().actions.as_slice();
+    let flow = Flow::new(alloc, checked.design().source(), actions)?;
+    let flow = Arc::new(alloc, flow)?;
+    Ok(flow)
 }
 
 /// The event of a process.
@@ -56,7 +69,8 @@ impl Machine {
         let Ok(queue) = first_queue(alloc, count) else {
             return Err(SimError::NoMemory);
         };
-        let stacks = Stacks::new(alloc, checked.tables().processes.as_slice())?;
+        let flow = flow_for(alloc, &checked)?;
+        let remaining = all_whole(alloc, checked.tables().processes.as_slice())?;
         let waiting = vec![in alloc; Waiting::Nothing; count]?;
         let listeners = Listeners::new(alloc, checked)?;
         Ok(Machine {
@@ -65,10 +79,10 @@ impl Machine {
             time: 0,
             finished: false,
             values,
-            stacks,
+            flow,
+            remaining,
             waiting,
             queue,
-            scratch: Vec::new(alloc),
         })
     }
 
@@ -83,7 +97,7 @@ impl Machine {
         let Ok(queue) = self.queue.try_clone(self.alloc) else {
             return Err(SimError::NoMemory);
         };
-        let stacks = self.stacks.try_clone(self.alloc)?;
+        let remaining = Vec::from_slice(self.alloc, &self.remaining)?;
         let waiting = Vec::from_slice(self.alloc, &self.waiting)?;
         let listeners = self.listeners.try_clone()?;
         Ok(Machine {
@@ -92,10 +106,10 @@ impl Machine {
             time: self.time,
             finished: self.finished,
             values,
-            stacks,
+            flow: Arc::try_clone(&self.flow)?,
+            remaining,
             waiting,
             queue,
-            scratch: Vec::new(self.alloc),
         })
     }
 

@@ -1,4 +1,6 @@
 pub mod Beginning
+pub mod Rising
+pub mod Noted
 pub mod Places
 pub mod Derivations
 pub mod Bounds

@@ -2,60 +2,92 @@
 use Rattle.std.proofs.Common.{◌≡◌, ◌==◌, true, false, List, [], ◌∷◌, Some, None, refl}
 use Rattle.vp_bits.specs.declared.bit.Bit.TheVariants.{Zero, One, Unknown, HighImpedance}
 use Rattle.vp_source.specs.declared.statement.Choice.{Choice}
+use Rattle.vp_source.specs.declared.source.Source.{Source}
+use Rattle.vp_operand.specs.Ids.{Sized}
 use Rattle.vp_expr.specs.declared.tables.Action.{Action}
 use Rattle.vp_expr.specs.declared.tables.Action.TheVariants as action
 use Rattle.vp_statement.specs.declared.effect.Effect.TheVariants as effect
 use Rattle.vp_statement.specs.Effects.{default_of, first_of, is_one, matches, turned, waited}
-use Rattle.vp_statement.specs.Walking.{behind_event, next_event}
+use Rattle.vp_statement.specs.Walking.{flow_of, next_event}
 
--- ---- what comes next
+-- ---- where a procedure goes on
+
+-- a text with a case of two choices, of which only these matter here
+abbrev source : Source
+source = record {
+  text = [];
+  tokens = [];
+  modules = [];
+  connections = [];
+  items = [];
+  statements = [];
+  expressions = [];
+  terms = [];
+  choices = record { label = Some 0; body = 0 } ∷ record { label = None; body = 1 } ∷ [];
+}
+
+abbrev condition : Sized
+condition = record { place = 0; size = 1 }
 
 -- `begin ; begin end $finish; end`
 abbrev block : List Action
 block = action.Nothing ∷ action.Null ∷ action.Then 0 1 ∷ action.Nothing ∷ action.Then 2 3 ∷ action.Finish ∷ action.Then 4 5 ∷ []
 
--- it begins with its first statement; the empty block and the last one are left
-first_of_a_block : next_event block (6 ∷ []) ≡ 1
+-- it begins with its first statement
+first_of_a_block : next_event block 6 ≡ 1
 first_of_a_block = refl
 
-left_of_a_block : behind_event block (6 ∷ []) ≡ 5 ∷ 3 ∷ []
-left_of_a_block = refl
-
 -- an empty block is an event of its own
-empty_block : next_event block (5 ∷ 3 ∷ []) ≡ 3
+empty_block : next_event block 3 ≡ 3
 empty_block = refl
 
-left_of_an_empty_block : behind_event block (5 ∷ 3 ∷ []) ≡ 5 ∷ []
-left_of_an_empty_block = refl
+-- behind its first statement comes the empty block, behind that the last one, and behind that nothing
+behind_in_a_block : flow_of source block ≡ Some 1 ∷ Some 3 ∷ Some 3 ∷ Some 5 ∷ Some 5 ∷ None ∷ None ∷ []
+unfolding flow_of
+behind_in_a_block = refl
 
 -- `forever ;`, and a for of a start, a body, a step and turns
 abbrev loops : List Action
 loops =
     action.Null ∷ action.Forever 0
-    ∷ action.Null ∷ action.Null ∷ action.Null ∷ action.While (record { place = 0; size = 1 }) 3 (Some 4) ∷ action.For 2 5
+    ∷ action.Null ∷ action.Null ∷ action.Null ∷ action.While condition 3 (Some 4) ∷ action.For 2 5
     ∷ []
 
--- a forever begins with its body, and is left itself
-forever_begins : next_event loops (1 ∷ []) ≡ 0
+-- a forever begins with its body, and a for with its start
+forever_begins : next_event loops 1 ≡ 0
 forever_begins = refl
 
-forever_is_left : behind_event loops (1 ∷ []) ≡ 1 ∷ []
-forever_is_left = refl
-
--- a for begins with its start, and its turns are left
-for_begins : next_event loops (6 ∷ []) ≡ 2
+for_begins : next_event loops 6 ≡ 2
 for_begins = refl
 
-for_is_left : behind_event loops (6 ∷ []) ≡ 5 ∷ []
-for_is_left = refl
+-- behind the body of a forever comes the forever; behind the start of a for its turns, behind its body the step, behind the step the
+-- turns, and nothing behind these
+behind_in_loops : flow_of source loops ≡ Some 1 ∷ None ∷ Some 5 ∷ Some 4 ∷ Some 5 ∷ None ∷ None ∷ []
+unfolding flow_of
+behind_in_loops = refl
+
+-- `begin if (c) ; else ; ; end`: behind both choices comes what comes behind the if
+behind_in_a_choice : flow_of source (action.Nothing ∷ action.Null ∷ action.Null ∷ action.If condition 1 (Some 2) ∷ action.Then 0 3 ∷ action.Null ∷ action.Then 4 5 ∷ []) ≡ Some 3 ∷ Some 5 ∷ Some 5 ∷ Some 5 ∷ Some 5 ∷ None ∷ None ∷ []
+unfolding flow_of
+behind_in_a_choice = refl
+
+-- `forever case (s) 0: ; default: ; endcase`: behind each choice comes the forever
+behind_in_a_case : flow_of source (action.Null ∷ action.Null ∷ action.Case false condition (record { first = 0; end = 2 }) ∷ action.Forever 2 ∷ []) ≡ Some 3 ∷ Some 3 ∷ Some 3 ∷ None ∷ []
+unfolding flow_of
+behind_in_a_case = refl
+
+-- `while (c) #1 wait (c) @(a) ;`: behind what a control controls comes what comes behind the control
+behind_controls : flow_of source (action.Null ∷ action.Event 0 ∷ action.Wait condition 1 ∷ action.Delay 1 2 ∷ action.While condition 3 None ∷ []) ≡ Some 4 ∷ Some 4 ∷ Some 4 ∷ Some 4 ∷ None ∷ []
+unfolding flow_of
+behind_controls = refl
 
 -- ---- tests
 
--- a loop whose condition holds goes on with its body, then its step, then itself
-loop_goes_on : turned true 5 (Some 4) 3 ≡ effect.Proceeds (Some 5) (Some 4) (Some 3)
+-- a loop whose condition holds goes on with its body
+loop_goes_on : turned true 3 ≡ effect.Proceeds (Some 3)
 loop_goes_on = refl
 
-loop_ends : turned false 5 (Some 4) 3 ≡ effect.Proceeds None None None
+loop_ends : turned false 3 ≡ effect.Proceeds None
 loop_ends = refl
 
 -- a wait whose condition does not hold tests it again

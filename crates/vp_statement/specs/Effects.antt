@@ -97,18 +97,14 @@ chosen tables values is_wild selected choices = first_of (is_taken tables values
 
 -- ---- tests
 
--- a procedure goes on with a statement, if there is one
-abbrev pub proceeds : Option ℕ → Effect
-proceeds next = effect.Proceeds None None next
-
--- a loop whose condition holds goes on with its body, its step and itself (clause 9.6)
-abbrev pub turned : (is_true : Bool) → (place : ℕ) → (step : Option ℕ) → (body : ℕ) → Effect
-turned true place step body = effect.Proceeds (Some place) step (Some body)
-turned false place step body = proceeds None
+-- a loop whose condition holds goes on with its body (clause 9.6)
+abbrev pub turned : (is_true : Bool) → (body : ℕ) → Effect
+turned true body = effect.Proceeds (Some body)
+turned false body = effect.Proceeds None
 
 -- a wait whose condition does not hold tests it again at a change (clause 9.7.6)
 abbrev pub waited : (is_true : Bool) → (place body : ℕ) → Effect
-waited true place body = proceeds (Some body)
+waited true place body = effect.Proceeds (Some body)
 waited false place body = effect.Awaits place place
 
 -- what the statement at a place does, which is an event itself; a block or a loop with parts does nothing
@@ -120,10 +116,10 @@ effect_by design instance values place (action.Delay amount body) = effect.Pause
 effect_by design instance values place (action.Event body) = effect.Awaits place body
 effect_by design instance values place (action.Wait c body) = waited (holds (tables_of design) values c) place body
 effect_by design instance values place (action.If c first second) =
-    proceeds (if holds (tables_of design) values c then Some first else second)
-effect_by design instance values place (action.While c body step) = turned (holds (tables_of design) values c) place step body
+    effect.Proceeds (if holds (tables_of design) values c then Some first else second)
+effect_by design instance values place (action.While c body step) = turned (holds (tables_of design) values c) body
 effect_by design instance values place (action.Case is_wild selector span) =
-    proceeds (chosen (tables_of design) values is_wild (eval (tables_of design) values selector) (choices_in design.source span))
+    effect.Proceeds (chosen (tables_of design) values is_wild (eval (tables_of design) values selector) (choices_in design.source span))
 effect_by design instance values place action.Finish = effect.Finishes
 effect_by design instance values place _ = effect.Nothing
 

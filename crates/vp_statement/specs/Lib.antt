@@ -1,4 +1,5 @@
 pub mod Walking
+pub mod Noting
 pub mod Effects
 pub mod Derived
 pub mod Reads

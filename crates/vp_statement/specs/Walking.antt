@@ -1,11 +1,19 @@
--- What remains of a procedure, as the places of statements, the next one last, and where its next event stands (clauses 9.6 and 9.8.1).
-use Rattle.std.specs.Prelude.{ℕ, zero, suc, ◌-◌, Bool, true, false, if◌then◌else◌, List, [], ◌∷◌, ◌++◌, length, take, slice_index, slice_index_or, Option, Some, None}
+-- Where a procedure goes on: where the first event of a statement stands, and what comes behind a statement (clauses 9.4 to 9.8.1).
+use Rattle.std.specs.Prelude.{ℕ, zero, suc, ◌==◌, Bool, true, false, if◌then◌else◌, List, [], ◌∷◌, length, map, slice_index_or, Option, Some, None}
+use Rattle.std.specs.List.{find, flat_map}
+use Rattle.std.specs.Option.{option_or}
+use Rattle.vp_elab.specs.Tree.{below}
+use Rattle.vp_source.specs.declared.source.Source.{Source}
+use Rattle.vp_expr.specs.Awaits.{choices_at}
 use Rattle.vp_expr.specs.declared.tables.Action.{Action}
-use Rattle.vp_expr.specs.declared.tables.Action.TheVariants.{Nothing, Then, For, Forever}
+use Rattle.vp_expr.specs.declared.tables.Action.TheVariants.{Nothing, Then, Delay, Event, Wait, If, While, For, Case, Forever}
+use Rattle.vp_statement.specs.declared.flow.Part.{Part}
 
 -- the statement at a place; nothing behind the end
 abbrev pub action_at : List Action → ℕ → Action
 action_at actions place = slice_index_or actions place Nothing
+
+-- ---- where a statement begins
 
 -- a statement is a block without statements
 abbrev pub is_nothing : Action → Bool
@@ -20,14 +28,6 @@ first_part actions (For start turns) = Some start
 first_part actions (Forever body) = Some body
 first_part actions _ = None
 
--- the parts of the statement at a place that are left behind the one with which it begins; to go back to a forever is no event of its
--- own (profile)
-abbrev pub other_parts : List Action → (place : ℕ) → Action → List ℕ
-other_parts actions place (Then list last) = if is_nothing (action_at actions list) then [] else last ∷ []
-other_parts actions place (For start turns) = turns ∷ []
-other_parts actions place (Forever body) = place ∷ []
-other_parts actions place _ = []
-
 -- the first event of the statement at a place, if it has a first part by that part
 abbrev pub event_in : (ℕ → ℕ) → ℕ → Option ℕ → ℕ
 event_in go place None = place
@@ -38,26 +38,69 @@ abbrev pub first_event : List Action → ℕ → ℕ → ℕ
 first_event actions zero place = place
 first_event actions (suc n) place = event_in (first_event actions n) place (first_part actions (action_at actions place))
 
--- what is left of a statement, by what is left of its first part
-abbrev pub left_in : (ℕ → List ℕ) → List ℕ → Option ℕ → List ℕ
-left_in go others None = []
-left_in go others (Some part) = others ++ go part
+-- the place of the first event of the statement at a place
+abbrev pub next_event : List Action → (place : ℕ) → ℕ
+next_event actions place = first_event actions (length actions) place
 
--- what is left of the statement at a place behind its first event
-abbrev pub left_behind : List Action → ℕ → ℕ → List ℕ
-left_behind actions zero place = []
-left_behind actions (suc n) place =
-    left_in (left_behind actions n) (other_parts actions place (action_at actions place)) (first_part actions (action_at actions place))
+-- ---- what comes behind a statement
 
--- the next statement of a process: the last of those that remain
-abbrev pub next_of : List ℕ → ℕ
-next_of remaining = slice_index remaining (length remaining - 1)
+-- a part of the statement at a place, and what comes behind the part, where that is not what comes behind the whole
+abbrev pub part_of : (whole : ℕ) → (place : ℕ) → (next : Option ℕ) → Part
+part_of whole place next = record { whole = whole; place = place; next = next }
 
--- the place of the next event of a process
-abbrev pub next_event : List Action → List ℕ → ℕ
-next_event actions remaining = first_event actions (length actions) (next_of remaining)
+-- a part that may be missing, with what comes behind it
+abbrev pub part_if : (whole : ℕ) → (place : Option ℕ) → (next : Option ℕ) → List Part
+part_if whole None next = []
+part_if whole (Some place) next = part_of whole place next ∷ []
 
--- what remains of a process behind its next event, besides what the event goes on with
-abbrev pub behind_event : List Action → List ℕ → List ℕ
-behind_event actions remaining =
-    take (length remaining - 1) remaining ++ left_behind actions (length actions) (next_of remaining)
+-- the step of a loop, if there is one, else the loop
+abbrev pub step_or : (whole : ℕ) → Option ℕ → ℕ
+step_or whole None = whole
+step_or whole (Some step) = step
+
+-- the parts of the statement at a place. Behind the statements of a block comes its last one (clause 9.8.1), behind the start of a for
+-- its turns, behind the body of a loop its step or the loop, and behind the step the loop (clause 9.6); behind any other part comes
+-- what comes behind the whole (clauses 9.4, 9.5 and 9.7)
+abbrev pub parts_of : Source → (place : ℕ) → Action → List Part
+parts_of source place (Then list last) = part_of place list (Some last) ∷ part_of place last None ∷ []
+parts_of source place (Delay amount body) = part_of place body None ∷ []
+parts_of source place (Event body) = part_of place body None ∷ []
+parts_of source place (Wait condition body) = part_of place body None ∷ []
+parts_of source place (If condition first second) = part_of place first None ∷ part_if place second None
+parts_of source place (While condition body step) =
+    part_of place body (Some (step_or place step)) ∷ part_if place step (Some place)
+parts_of source place (For start turns) = part_of place start (Some turns) ∷ part_of place turns None ∷ []
+parts_of source place (Case is_wild selector choices) = map (λ c. part_of place c.body None) (choices_at source choices)
+parts_of source place (Forever body) = part_of place body (Some place) ∷ []
+parts_of source place _ = []
+
+-- the parts of all statements
+abbrev pub all_parts : Source → List Action → List Part
+all_parts source actions = flat_map (λ place. parts_of source place (action_at actions place)) (below (length actions))
+
+-- a part stands at a place
+abbrev pub stands_at : (place : ℕ) → Part → Bool
+stands_at place part = part.place == place
+
+-- of each statement which part it is, if it is one; the statement of a procedure is none
+abbrev pub parts_by_place : Source → List Action → List (Option Part)
+parts_by_place source actions = map (λ place. find (stands_at place) (all_parts source actions)) (below (length actions))
+
+-- what comes behind a part, by what comes behind the whole; nothing comes behind what is no part
+abbrev pub behind_part : (ℕ → Option ℕ) → Option Part → Option ℕ
+behind_part go None = None
+behind_part go (Some part) = option_or part.next (go part.whole)
+
+-- the place of the statement that comes behind the one at a place, if one does, which lies nested at most so deep
+abbrev pub behind : List (Option Part) → ℕ → (place : ℕ) → Option ℕ
+behind parts zero place = None
+behind parts (suc n) place = behind_part (behind parts n) (slice_index_or parts place None)
+
+-- of each statement the place of the one that comes behind it, if one does
+unfoldable pub flow_of : Source → List Action → List (Option ℕ)
+flow_of source actions =
+    let parts = parts_by_place source actions in map (behind parts (length parts)) (below (length actions))
+
+-- the place of the statement that comes behind the one at a place, if one does
+abbrev pub behind_at : Source → List Action → (place : ℕ) → Option ℕ
+behind_at source actions place = slice_index_or (flow_of source actions) place None

@@ -7,7 +7,7 @@ ghost use Rattle.vp_source.specs.declared.source.Module.{Module};
 ghost use Rattle.vp_source.specs.Standing.{StatementStandsAt};
 ghost use Rattle.vp_source.specs.StmtGrammar.{Stmt};
 ghost use Rattle.vp_statement.specs.Derived.{IsActionOf};
-ghost use Rattle.vp_statement.specs.Effects.{assigned, choices_in, chosen, cut_to, default_of, deferred, effect_at, effect_by, holds, is_taken, matches, object_at, proceeds, turned, waited};
+ghost use Rattle.vp_statement.specs.Effects.{assigned, choices_in, chosen, cut_to, default_of, deferred, effect_at, effect_by, holds, is_taken, matches, object_at, turned, waited};
 ghost use Rattle.vp_statement.specs.Reads.{stmt_awaits};
 
 use crate::walk::action_at;
@@ -47,10 +47,8 @@ pub enum Effect {
         place: u32,
         next: u32,
     },
-    /// A test: the procedure goes on with the last of these statements, and then with those before it (9.4 to 9.6).
+    /// A test: the procedure goes on with a statement, or else behind the test (9.4 to 9.6).
     Proceeds {
-        again: Option<u32>,
-        step: Option<u32>,
         next: Option<u32>,
     },
     /// `$finish` (17.4.1).
@@ -72,7 +70,7 @@ fn holds(checked: &Checked, values: &Values, instance: ObjectId, condition: Expr
 }
 
 /// The choices that lie in a span of a source's list; none where it reaches behind the end.
-fn choices_in(source: &Source, span: Span) -> &[Choice]
+pub fn choices_in(source: &Source, span: Span) -> &[Choice]
     ensures { result.now ≡ choices_in source.now span }
 {
     let choices = source.choices.as_slice();
@@ -199,28 +197,12 @@ fn deferred(
     }
 }
 
-/// A procedure goes on with a statement, if there is one.
-fn proceeds(next: Option<u32>) -> Effect
-    ensures { result ≡ proceeds next }
+/// A test of a loop: where its condition holds, the procedure goes on with the body (9.6).
+fn turned(is_true: bool, body: u32) -> Effect
+    ensures { result ≡ turned is_true body }
 {
     Effect::Proceeds {
-        again: None,
-        step: None,
-        next,
-    }
-}
-
-/// A test of a loop: where its condition holds, the procedure goes on with the body, the step and the loop again (9.6).
-fn turned(is_true: bool, place: u32, step: Option<u32>, body: u32) -> Effect
-    ensures { result ≡ turned is_true place step body }
-{
-    if !is_true {
-        return proceeds(None);
-    }
-    Effect::Proceeds {
-        again: Some(place),
-        step,
-        next: Some(body),
+        next: if is_true { Some(body) } else { None },
     }
 }
 
@@ -229,7 +211,7 @@ fn waited(is_true: bool, place: u32, body: u32) -> Effect
     ensures { result ≡ waited is_true place body }
 {
     if is_true {
-        proceeds(Some(body))
+        Effect::Proceeds { next: Some(body) }
     } else {
         Effect::Awaits { place, next: place }
     }
@@ -263,18 +245,15 @@ fn effect_by(
             second,
         } => {
             let is_true = holds(checked, values, instance, condition);
-            proceeds(if is_true { Some(first) } else { second })
+            Effect::Proceeds {
+                next: if is_true { Some(first) } else { second },
+            }
         }
         Action::While {
             condition,
             body,
-            step,
-        } => turned(
-            holds(checked, values, instance, condition),
-            place,
-            step,
-            body,
-        ),
+            ..
+        } => turned(holds(checked, values, instance, condition), body),
         Action::Case {
             is_wild,
             selector,
@@ -282,7 +261,9 @@ fn effect_by(
         } => {
             let selected = eval(checked, values, instance, selector);
             let choices = choices_in(checked.design().source(), choices);
-            proceeds(chosen(checked, values, instance, is_wild, selected, choices))
+            Effect::Proceeds {
+                next: chosen(checked, values, instance, is_wild, selected, choices),
+            }
         }
         Action::Finish => Effect::Finishes,
         Action::Nothing

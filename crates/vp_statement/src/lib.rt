@@ -1,8 +1,10 @@
-//! What the next event of a procedure is, what is left of the procedure behind it, and what it does (IEEE Std 1364-2005, clause 9).
+//! What the next event of a procedure is, what it does, and where the procedure goes on behind it (IEEE Std 1364-2005, clause 9).
 #![tactic(auto)]
 
 mod effect;
+mod flow;
 mod walk;
 
 pub use effect::{Effect, effect_of};
-pub use walk::{action_at, first_event, push_left_behind};
+pub use flow::Flow;
+pub use walk::{action_at, next_event};

@@ -1,7 +1,6 @@
-ghost use Rattle.std.specs.Prelude.{◌≡◌, ◌++◌, length, option_to_list, OnOk};
-ghost use Rattle.vp_statement.specs.Walking.{action_at, first_event, first_part, is_nothing, left_behind, other_parts};
+ghost use Rattle.std.specs.Prelude.{◌≡◌, length};
+ghost use Rattle.vp_statement.specs.Walking.{action_at, first_part, is_nothing, next_event};
 
-use std::alloc::AllocError;
 use vp_expr::Action;
 
 /// The statement at a place; nothing behind the end.
@@ -36,21 +35,9 @@ fn first_part(actions: &[Action], action: Action) -> Option<u32>
     }
 }
 
-/// The part of the statement at a place that is left behind the one with which it begins.
-fn other_part(actions: &[Action], place: u32, action: Action) -> Option<u32>
-    ensures { option_to_list result ≡ other_parts actions.now place action }
-{
-    match action {
-        Action::Then { list, last } if !is_nothing(action_at(actions, list)) => Some(last),
-        Action::For { turns, .. } => Some(turns),
-        Action::Forever { .. } => Some(place),
-        _ => None,
-    }
-}
-
 /// The place of the first event of the statement at a place.
-pub fn first_event(actions: &[Action], place: u32) -> u32
-    ensures { result ≡ first_event actions.now (length actions.now) place }
+pub fn next_event(actions: &[Action], place: u32) -> u32
+    ensures { result ≡ next_event actions.now place }
 {
     let mut here = place;
     'begin: for _turn in 0..actions.len() {
@@ -60,26 +47,4 @@ pub fn first_event(actions: &[Action], place: u32) -> u32
         }
     }
     here
-}
-
-/// Pushes what is left of the statement at a place behind its first event, the next statement last. Takes memory.
-pub fn push_left_behind(
-    actions: &[Action],
-    place: u32,
-    stack: &mut Vec<u32>,
-) -> Result<(), AllocError>
-    ensures { OnOk result (stack.new.items ≡ stack.old.items
-        ++ left_behind actions.now (length actions.now) place) }
-{
-    let mut here = place;
-    'begin: for _turn in 0..actions.len() {
-        let Some(part) = first_part(actions, action_at(actions, here)) else {
-            return Ok(());
-        };
-        if let Some(other) = other_part(actions, here, action_at(actions, here)) {
-            stack.push(other)?;
-        }
-        here = part;
-    }
-    Ok(())
 }

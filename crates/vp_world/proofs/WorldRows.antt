@@ -20,6 +20,7 @@ use Rattle.vp_elab.specs.Tree.{Node, Tree}
 use Rattle.vp_operand.specs.Arena.{sizes_in}
 use Rattle.vp_expr.specs.Tables.{tables_of}
 use Rattle.vp_statement.specs.Effects.{effect_at}
+use Rattle.vp_statement.specs.Walking.{flow_of}
 use Rattle.vp_policy.specs.declared.denial.Barrier.TheVariants as by
 use Rattle.vp_policy.specs.Users.{Member}
 use Rattle.vp_world.specs.declared.event.SessionId.{SessionId}
@@ -213,11 +214,11 @@ unfolding digits is_utf8 chars encode sizes_in tables_of effect_at
 no_such_choice = refl
 
 idle : refused (opens ∷ runs ∷ steps 0 ∷ steps 0 ∷ []) (steps 0) ≡ Some (error.Sim sim.Idle)
-unfolding digits is_utf8 chars encode sizes_in tables_of effect_at
+unfolding digits is_utf8 chars encode sizes_in tables_of effect_at flow_of
 idle = refl
 
 no_future : refused (opens ∷ runs ∷ steps 0 ∷ steps 0 ∷ []) event.Advance ≡ Some (error.Sim sim.Idle)
-unfolding digits is_utf8 chars encode sizes_in tables_of effect_at
+unfolding digits is_utf8 chars encode sizes_in tables_of effect_at flow_of
 no_future = refl
 
 -- a full log is told before the goal, and behind a session that is not open

@@ -1,10 +1,11 @@
 -- What a simulation refuses, it refuses for a reason of its own: want of memory is no part of the definition.
-use Rattle.std.proofs.Common.{◌≡◌, ◌≢◌, ℕ, Bool, true, false, if◌then◌else◌, List, [], ◌∷◌, Option, Some, None}
+use Rattle.std.proofs.Common.{◌≡◌, ◌≢◌, ℕ, Bool, true, false, if◌then◌else◌, Option, Some, None}
 use Rattle.vp_elab.specs.declared.object.ObjectId.{ObjectId}
 use Rattle.vp_expr.specs.declared.tables.Process.{Process}
 use Rattle.vp_expr.specs.declared.tables.Process.TheVariants.{Procedure, Assignment, Connection}
 use Rattle.vp_expr.specs.declared.tables.Tables.{Tables}
 use Rattle.vp_expr.specs.Tables.{tables_of}
+use Rattle.vp_statement.specs.Walking.{next_event}
 use Rattle.vp_strata.specs.declared.event.Event.{Event}
 use Rattle.vp_strata.specs.declared.event.Event.TheVariants.{Evaluation, NetUpdate, Nonblocking}
 use Rattle.vp_strata.specs.Queues.{first_time, is_done, peeked}
@@ -20,10 +21,10 @@ either : (b : Bool) (x y : Outcome) → IsOwn x → IsOwn y → IsOwn (if b then
 either true x y h k = h
 either false x y h k = k
 
-turn_own : (tables : Tables) (s : State) (k process : ℕ) (instance : ObjectId) (repeats : Bool) (body : ℕ) (remaining : List ℕ) → IsOwn (turn tables s k process instance repeats body remaining)
-turn_own tables s k process instance repeats body [] = tt
-turn_own tables s k process instance repeats body (r ∷ rs) =
-    either (is_late s.time (delay_of (next_effect tables s instance (r ∷ rs)))) _ _ (λ e. cc) tt
+turn_own : (tables : Tables) (s : State) (k process : ℕ) (instance : ObjectId) (repeats : Bool) (body : ℕ) (remaining : Option ℕ) → IsOwn (turn tables s k process instance repeats body remaining)
+turn_own tables s k process instance repeats body None = tt
+turn_own tables s k process instance repeats body (Some place) =
+    either (is_late s.time (delay_of (next_effect tables s instance (next_event tables.actions place)))) _ _ (λ e. cc) tt
 
 evaluated_own : (tables : Tables) (s : State) (k process : ℕ) (p : Option Process) → IsOwn (evaluated tables s k process p)
 evaluated_own tables s k process None = tt

@@ -10,6 +10,7 @@ invariant_of-result c =
     let tables = tables_of c.in_ok-listeners.listeners.design in
     let waits : c.in_ok-waiting.waiting.items ≡ replicate c.len-count.result wait.Nothing = grind (arith, common_steps) in
     record {
+      flows = grind (arith, common_steps);
       objects = grind (arith, common_steps);
       processes = grind (arith, common_steps);
       waits = grind (arith, common_steps);

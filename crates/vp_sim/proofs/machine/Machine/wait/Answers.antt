@@ -15,6 +15,7 @@ invariant_of-self c =
     let process = c.args.process in
     let heard = subst (λ (r : Running). IsHeard r.lists (awaited_by (tables_of r.state.design) c.args.waiting process) process) (sym c.self.view_is) c.requires in
     record {
+      flows = c.self.invariant.flows;
       objects = c.self.invariant.objects;
       processes = c.self.invariant.processes;
       waits = ap (λ (l : List Waiting). length l) c.set_wait.ensures ∙ length-set c.self.inside.waiting.items process c.args.waiting ∙ c.self.invariant.waits;

@@ -16,6 +16,7 @@ invariant_of-self c =
     let change = c.args.change.now in
     let woken = woken_by tables c.get-old.result change waiting in
     record {
+      flows = c.self.invariant.flows;
       objects = ap (λ (l : List (List Bit)). length l) c.set.ensures ∙ length-set c.self.inside.values change.object.0 change.value ∙ c.self.invariant.objects;
       processes = c.wake.ensures.processes ∙ c.self.invariant.processes;
       waits = ap (λ (l : List Waiting). length l) c.wake.ensures.waiting ∙ length_roused waiting woken ∙ c.self.invariant.waits;

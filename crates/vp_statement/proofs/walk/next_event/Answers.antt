@@ -1,6 +1,6 @@
 use Rattle.std.proofs.Common.{◌∙◌, sym, length}
 use Rattle.vp_statement.proofs.Beginning.{event_goes}
-use Rattle.vp_statement.proofs.walk.first_event.Goals as goal
+use Rattle.vp_statement.proofs.walk.next_event.Goals as goal
 
 pub begin-preserved : goal.begin-preserved
 begin-preserved c =

@@ -1,6 +1,6 @@
 use Rattle.std.proofs.Common.{◌≡◌, ◌-◌, length}
 use Rattle.vp_statement.specs.Walking.{first_event}
-use Rattle.vp_statement.proofs.walk.first_event.Given as goal
+use Rattle.vp_statement.proofs.walk.next_event.Given as goal
 
 -- the first event of this part is that of the whole
 abbrev pub invariant-begin : goal.invariant-begin
