@@ -57,6 +57,26 @@ def regs(count):
     return f"module m; reg {','.join(names[:count])}; endmodule"
 
 
+def callbacks():
+    """One callback more than there may be, and what is answered."""
+    ann = '{"users":[{"name":"ann","token":"t1","open":"watch"}]}'
+    asked = [OPEN, '{"op":"handle","name":"m.c"}'] + ['{"op":"watch","h":1}'] * 1_025 + ['{"op":"unwatch","cb":7}', '{"op":"watch","h":1}']
+    answered = [OK, '{"h":1}'] + [f'{{"cb":{i}}}' for i in range(1, 1_025)] + ['{"error":"too many callbacks"}', OK, '{"cb":1025}']
+    case("1,025 callbacks", "module m; reg c; endmodule", ann, "\n".join(asked), "\n".join(answered))
+
+
+def notices():
+    """One notice more than may wait, and what is answered: the first notices stay, the last is lost."""
+    ann = '{"users":[{"name":"ann","token":"t1","open":"watch+put"}]}'
+    values = ["01"[i % 2] for i in range(4_097)]
+    puts = [f'{{"op":"put","h":1,"value":"{value}"}}' for value in values]
+    asked = [OPEN, '{"op":"handle","name":"m.c"}', '{"op":"watch","h":1}'] + puts + ['{"op":"poll"}'] * 2
+    told = [f'{{"cb":1,"time":0,"value":"{value}"}}' for value in values[:4_096]]
+    polled = ['{"lost":1,"notices":[' + ",".join(told) + "]}", '{"lost":0,"notices":[]}']
+    answered = [OK, '{"h":1}', '{"cb":1}'] + [OK] * 4_097 + polled
+    case("4,097 notices", "module m; reg c; endmodule", ann, "\n".join(asked), "\n".join(answered))
+
+
 def main():
     one = users(1)
     case("a line of 65,537 bytes", "", one, copies(65_537, "1") + '\n{"op":"value","h":1}', '{"error":"line too long"}\n{"error":"not open"}')
@@ -72,6 +92,8 @@ def main():
     asked = ['{"op":"handle","name":"m"}', '{"op":"handle","name":"m.Aaa"}', '{"op":"iterate","h":1,"kind":"reg"}', '{"op":"handle","name":"m.Aab"}', '{"op":"iterate","h":1,"kind":"net"}']
     answered = ['{"h":1}', '{"h":2}', '{"error":"too many handles"}', '{"h":3}', '{"closed":[],"items":[]}']
     case("an iteration over 65,535 regs behind two handles makes none", regs(65_535), listing, "\n".join([OPEN] + asked), "\n".join([OK] + answered))
+    callbacks()
+    notices()
     case("256 users", "", users(256), OPEN, OK)
     case("257 users", "", users(257), OPEN, "fault 904 line 0")
     case("255 envelopes", envelopes(255), one, OPEN, OK)

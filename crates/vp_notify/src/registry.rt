@@ -166,6 +166,25 @@ impl Registry {
         }
     }
 
+    /// The notices that wait, oldest first, and how many were lost since the last drain. Refuses with `NoMemory` where there is none.
+    pub fn notices(&self) -> Result<Notices, NotifyError>
+        ensures notices { IfOk result (λ n. n.notices.items ≡ self.now.waiting) }
+        ensures lost { IfOk result (λ n. n.lost ≡ self.now.lost) }
+        ensures refusal { IfErr result (λ e. e ≡ NoMemory) }
+    {
+        let notices = self.waiting.to_vec(self.alloc)?;
+        let lost = self.lost;
+        Ok(Notices { notices, lost })
+    }
+
+    /// None waits any more, and none counts as lost. Takes no memory.
+    pub fn clear(&mut self)
+        ensures { self.new ≡ drained self.old }
+    {
+        self.waiting.clear();
+        self.lost = 0;
+    }
+
     /// The notices that wait, oldest first, and how many were lost since the last drain; now none waits and none counts as lost. Refuses
     /// with `NoMemory` where there is none; then nothing is changed.
     pub fn drain(&mut self) -> Result<Notices, NotifyError>
@@ -175,10 +194,8 @@ impl Registry {
         ensures refusal { IfErr result (λ e. e ≡ NoMemory) }
         ensures same { OnErr result (self.new ≡ self.old) }
     {
-        let notices = self.waiting.to_vec(self.alloc)?;
-        let lost = self.lost;
-        self.waiting.clear();
-        self.lost = 0;
-        Ok(Notices { notices, lost })
+        let notices = self.notices()?;
+        self.clear();
+        Ok(notices)
     }
 }

@@ -17,8 +17,8 @@ Exit status: 0 after the script's end, 1 after a fault, which is printed as `fau
 const RUN_HELP: &str =
     "The script of request lines is read from standard input. Each line is answered by a line.
 
-A line is a JSON object whose `op` is one of: open, close, handle, iterate, get, get_str, value, put, compare, free, run, \
-time. docs/FORMATS.md has the keys of each.";
+A line is a JSON object whose `op` is one of: open, close, handle, iterate, get, get_str, value, put, compare, free, watch, \
+unwatch, poll, run, time. docs/FORMATS.md has the keys of each.";
 
 /// The program's words.
 fn grammar<'a>(alloc: Global) -> Result<clap::Command<'a>, AllocError> {

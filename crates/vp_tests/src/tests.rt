@@ -1,4 +1,5 @@
 mod building;
+mod callbacks;
 mod copies;
 mod designs;
 mod dialogues;

@@ -10,6 +10,7 @@ use Rattle.vp_elab.specs.declared.object.Kind.TheVariants as kind
 use Rattle.vp_elab.specs.declared.object.ObjectId.{ObjectId}
 use Rattle.vp_elab.specs.Tree.{type_name}
 use Rattle.vp_policy.specs.Denials.{DenialWords}
+use Rattle.vp_notify.specs.Registry as registry
 use Rattle.vp_vpi.specs.declared.fault.VpiError.{VpiError}
 use Rattle.vp_vpi.specs.declared.fault.VpiError.TheVariants as error
 use Rattle.vp_vpi.specs.declared.iteration.ListedObject.{ListedObject}
@@ -204,6 +205,26 @@ put_at eyes v o = if is_reg (eyes.kind o) then set_by eyes o (put_bits (eyes.wid
 -- (profile)
 abbrev pub put_of : Observer → PutValue → Option ℕ → Result (ℕ × List Bit) VpiError
 put_of eyes v found = then_by (allowed eyes right.Put found) (put_at eyes v)
+
+-- ---- callbacks
+
+-- a kind is that of nets or of regs, whose changes can be watched (profile)
+abbrev pub is_watchable : Option Kind → Bool
+is_watchable None = false
+is_watchable (Some kind.Net) = true
+is_watchable (Some kind.Reg) = true
+is_watchable (Some k) = false
+
+-- the object of a handle, whose changes the user may watch; or the refusal of the handle, the denial of watch, the wrong kind, in
+-- this order (profile)
+abbrev pub watchable_of : Observer → Option ℕ → Result ℕ VpiError
+watchable_of eyes found =
+    then_by (allowed eyes right.Watch found) (λ o. if is_watchable (eyes.kind o) then Ok o else Err error.WrongKind)
+
+-- the object that a callback is registered on; or the refusals of the object, then too many callbacks (clause 27.33, profile)
+abbrev pub watched_of : Observer → registry.RegistryState → Option ℕ → Result ℕ VpiError
+watched_of eyes r found =
+    then_by (watchable_of eyes found) (λ o. if registry.is_full r then Err error.TooManyCallbacks else Ok o)
 
 -- ---- handles
 

@@ -1,7 +1,9 @@
 -- The numbers of the refusals of a session's calls.
 use Rattle.std.specs.Prelude.{ℕ}
+use Rattle.vp_notify.specs.declared.fault.NotifyError.{NotifyError}
+use Rattle.vp_notify.specs.declared.fault.NotifyError.TheVariants as notify
 use Rattle.vp_vpi.specs.declared.fault.VpiError.{VpiError}
-use Rattle.vp_vpi.specs.declared.fault.VpiError.TheVariants.{BadHandle, Denied, WrongKind, BadValue, Finished, TooManyHandles, NoSuchName, NoMemory}
+use Rattle.vp_vpi.specs.declared.fault.VpiError.TheVariants.{BadHandle, Denied, WrongKind, BadValue, Finished, TooManyHandles, NoSuchName, TooManyCallbacks, NoSuchCallback, NoMemory}
 
 -- the number of a refusal (profile)
 abbrev pub code_of : VpiError → ℕ
@@ -12,4 +14,12 @@ code_of BadValue = 1103
 code_of Finished = 1104
 code_of TooManyHandles = 1105
 code_of NoSuchName = 1106
+code_of TooManyCallbacks = 1001
+code_of NoSuchCallback = 1002
 code_of NoMemory = 1107
+
+-- the refusal by an error of the callbacks
+abbrev pub error_of : NotifyError → VpiError
+error_of notify.TooManyCallbacks = TooManyCallbacks
+error_of notify.NoSuchCallback = NoSuchCallback
+error_of notify.NoMemory = NoMemory

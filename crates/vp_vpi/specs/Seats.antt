@@ -1,12 +1,23 @@
--- A session: its user and his handles.
+-- A session: its user, his handles, and his callbacks.
 use Rattle.std.specs.Prelude.{ℕ, zero, suc, ◌+◌, ◌&&◌, not, nat_le, Bool, List, [], ◌∷◌, ◌++◌, length, count_by, slice_get, slice_set, Option, Some, None, is_some, option_map}
 use Rattle.std.specs.Option.{option_flatten}
 use Rattle.vp_elab.specs.declared.object.ObjectId.{ObjectId}
+use Rattle.vp_waking.specs.declared.change.Change.{Change}
+use Rattle.vp_notify.specs.declared.notice.Notice.{Notice}
+use Rattle.vp_notify.specs.Registry as registry
 
--- a session: its user; and his handles in the order in which they were made, each with its object, or none where it was freed
+-- a session: its user; his handles in the order in which they were made, each with its object, or none where it was freed; and his
+-- callbacks with the notices that wait
 pub record Seat : Type 0 where
   pub user : ℕ
   pub handles : List (Option ObjectId)
+  pub registry : registry.RegistryState
+
+-- a session of a user in which nothing has happened
+abbrev pub new_seat : (user : ℕ) → Seat
+new_seat user = record { user = user; handles = []; registry = registry.empty_registry }
+
+-- ---- handles
 
 -- the object of a handle; handles are numbered from 1 (profile)
 abbrev pub object_of : List (Option ObjectId) → ℕ → Option ℕ
@@ -23,7 +34,7 @@ handle_to object = Some (record { 0 = object })
 
 -- a session with these handles more
 abbrev pub with_handles : List (Option ObjectId) → Seat → Seat
-with_handles more s = record { user = s.user; handles = s.handles ++ more }
+with_handles more s = record s { handles = s.handles ++ more }
 
 -- a session with one handle more
 abbrev pub with_handle : ℕ → Seat → Seat
@@ -36,7 +47,7 @@ freed (suc n) handles = slice_set handles n None
 
 -- a session without the handle of a number
 abbrev pub without_handle : ℕ → Seat → Seat
-without_handle handle s = record { user = s.user; handles = freed handle s.handles }
+without_handle handle s = record s { handles = freed handle s.handles }
 
 -- how many handles a session has at most at once (profile)
 abbrev pub handle_limit : ℕ
@@ -53,3 +64,30 @@ has_room n handles = nat_le (count_by is_some handles + n) handle_limit && nat_l
 -- there is no room for a handle
 abbrev pub is_full : List (Option ObjectId) → Bool
 is_full handles = not (has_room 1 handles)
+
+-- ---- callbacks
+
+-- a session with a callback more, on an object (clause 27.33)
+abbrev pub with_callback : (object : ℕ) → Seat → Seat
+with_callback object s = record s { registry = registry.registered s.registry object }
+
+-- a session without the callback of a number (clause 27.34)
+abbrev pub without_callback : (callback : ℕ) → Seat → Seat
+without_callback callback s = record s { registry = registry.without s.registry callback }
+
+-- a session whose callbacks a change at a time is due to (clause 27.33)
+abbrev pub with_due : Option Change → (time : ℕ) → Seat → Seat
+with_due change time s = record s { registry = registry.due s.registry change time }
+
+-- what a poll tells: the notices that wait, oldest first, and how many were lost since the last poll
+pub record Polled : Type 0 where
+  pub notices : List Notice
+  pub lost : ℕ
+
+-- what a session's poll tells (profile)
+abbrev pub polled : Seat → Polled
+polled s = record { notices = s.registry.waiting; lost = s.registry.lost }
+
+-- a session behind a poll: none waits any more, and none counts as lost (profile)
+abbrev pub drained : Seat → Seat
+drained s = record s { registry = registry.drained s.registry }

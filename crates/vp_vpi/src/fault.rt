@@ -2,6 +2,7 @@ ghost use Rattle.std.specs.Prelude.{◌≡◌};
 ghost use Rattle.vp_vpi.specs.declared.fault.VpiError.TheVariants.{NoMemory};
 
 use std::alloc::{AllocError, AllocFailed};
+use vp_notify::NotifyError;
 use vp_policy::DenialWords;
 
 /// Why a session's call is refused. The refusals are tested in the order in which they stand here.
@@ -21,6 +22,10 @@ pub enum VpiError {
     TooManyHandles,
     /// Nothing of this name is there, and nothing is hidden there (1106).
     NoSuchName,
+    /// 1,024 callbacks at once, or no number that was not used before (1001).
+    TooManyCallbacks,
+    /// A number that is no callback of the session (1002).
+    NoSuchCallback,
     /// Want of memory (1107).
     NoMemory,
 }
@@ -28,7 +33,7 @@ pub enum VpiError {
 impl VpiError {
     ghost use Rattle.vp_vpi.specs.Faults.{code_of};
 
-    /// The number of the refusal, 1101 to 1109.
+    /// The number of the refusal: 1101 to 1109, and of callbacks 1001 and 1002.
     pub fn code(&self) -> u32
         ensures { result ≡ code_of self.now }
     {
@@ -40,6 +45,8 @@ impl VpiError {
             VpiError::Finished => 1104,
             VpiError::TooManyHandles => 1105,
             VpiError::NoSuchName => 1106,
+            VpiError::TooManyCallbacks => 1001,
+            VpiError::NoSuchCallback => 1002,
             VpiError::NoMemory => 1107,
         }
     }
@@ -58,5 +65,19 @@ impl<T: Drop> From<AllocFailed<T>> for VpiError {
 
     fn from(_e: AllocFailed<T>) -> VpiError {
         VpiError::NoMemory
+    }
+}
+
+impl From<NotifyError> for VpiError {
+    ghost use Rattle.vp_vpi.specs.Faults.{error_of};
+
+    ghost from_gives = { λ error refusal. refusal ≡ error_of error };
+
+    fn from(error: NotifyError) -> VpiError {
+        match error {
+            NotifyError::TooManyCallbacks => VpiError::TooManyCallbacks,
+            NotifyError::NoSuchCallback => VpiError::NoSuchCallback,
+            NotifyError::NoMemory => VpiError::NoMemory,
+        }
     }
 }

@@ -1,11 +1,13 @@
 ghost use Rattle.std.specs.Option.{option_flatten};
-ghost use Rattle.std.specs.Prelude.{◌≡◌, [], count_by, is_some, length, map, None, option_map, slice_get, slice_set, Ok, IfErr, IfOk, IsOkAnd, IsSome, IsTrue, OnErr, OnOk};
+ghost use Rattle.std.specs.Prelude.{◌≡◌, [], count_by, is_some, length, map, None, option_map, slice_get, slice_set, Ok, IfErr, IfOk, IsOkAnd, IsOkUnless, IsSome, IsTrue, OnErr, OnOk};
 ghost use Rattle.vp_policy.specs.Filter.{words_of};
 ghost use Rattle.vp_policy.specs.Users.{Member, member_at};
 ghost use Rattle.vp_sim.specs.States.{Goes, State, put};
 ghost use Rattle.vp_vpi.specs.Observers.{lookup_of, observer_of};
 ghost use Rattle.vp_vpi.specs.Calls.{Explains, ExplainsIteration, Refuses, Tells, allowed, handle_of, iterated, iteration, listed_of, number_of, object_found, put_of, same_of, scope_of, text_at, text_of, value_of};
-ghost use Rattle.vp_vpi.specs.Seats.{has_room, next_handle, object_of, with_handle, with_handles, without_handle};
+ghost use Rattle.vp_vpi.specs.Seats.{has_room, new_seat, next_handle, object_of, with_handle, with_handles, without_handle};
+
+mod callbacks;
 
 use crate::fault::VpiError;
 use crate::iteration::{Iteration, of_kind};
@@ -16,6 +18,7 @@ use std::marker::Model;
 use vp_bits::Bits;
 use vp_elab::{Design, Kind, ObjectId};
 use vp_list::{Sequence, SharedText, Text};
+use vp_notify::Registry;
 use vp_policy::{Denial, Look, Policy, UserId};
 use vp_pragma::Right;
 use vp_sim::Sim;
@@ -24,8 +27,8 @@ use vp_waking::Change;
 /// How many handles a session has at most at once.
 pub const HANDLE_LIMIT: usize = 65_536;
 
-/// A user's session: his handles, each with its object. Handles are numbered 1, 2, .., and no number is used again. A contract
-/// sees its user and his handles.
+/// A user's session: his handles, each with its object, and his callbacks. Handles are numbered 1, 2, .., and no number is used again.
+/// A contract sees its user, his handles and his callbacks.
 #[derive(Drop)]
 pub struct Session {
     alloc: Global,
@@ -34,6 +37,7 @@ pub struct Session {
     handles: Vec<Option<ObjectId>>,
     /// How many handles are not freed.
     open_handles: usize,
+    registry: Registry,
 }
 
 impl Model for Session {
@@ -42,7 +46,7 @@ impl Model for Session {
 
     ghost Value = { Seat };
 
-    ghost view = { λ s. record { user = s.user.0; handles = s.handles.items } };
+    ghost view = { λ s. record { user = s.user.0; handles = s.handles.items; registry = s.registry } };
 
     ghost invariant = { λ s. s.open_handles ≡ count_by is_some s.handles.items };
 }
@@ -73,16 +77,19 @@ fn open_in(handles: &[Option<ObjectId>]) -> usize
 }
 
 impl Session {
-    /// A session without handles.
-    pub fn new(alloc: Global, user: UserId) -> Session
-        ensures { result ≡ record { user = user.0; handles = [] } }
+    /// A session without handles and callbacks; or want of memory (1107).
+    pub fn new(alloc: Global, user: UserId) -> Result<Session, VpiError>
+        ensures session { IfOk result (λ s. s ≡ new_seat user.0) }
+        ensures refused { IsOkUnless result VpiError.NoMemory }
     {
-        Session {
+        let registry = Registry::new(alloc)?;
+        Ok(Session {
             alloc,
             user,
             handles: Vec::new(alloc),
             open_handles: 0,
-        }
+            registry,
+        })
     }
 
     /// Its user.

@@ -6,10 +6,11 @@ use Rattle.serde_json.specs.View.{items_of}
 use Rattle.serde_json.specs.Written.{has_float, items_have_float, members_have_float}
 use Rattle.vp_bits.specs.Vector.{aval_of, bval_of}
 use Rattle.vp_pragma.specs.Rights.{name_of}
+use Rattle.vp_notify.specs.declared.notice.Notice.{Notice}
 use Rattle.vp_vpi.specs.declared.iteration.ListedObject.{ListedObject}
 use Rattle.vp_world.specs.declared.reply.Reply.{Reply}
 use Rattle.vp_world.specs.declared.reply.Reply.TheVariants as reply
-use Rattle.vp_wire.specs.Lines.{by_text, data_of, denial_members, listed_data, pair_data, words_of}
+use Rattle.vp_wire.specs.Lines.{by_text, data_of, denial_members, listed_data, notice_data, pair_data, words_of}
 
 -- lists of numbers
 numbers_whole : (ns : List ℕ) → items_have_float (items_of (map (λ n. number (unsigned n)) ns)) ≡ false
@@ -20,6 +21,11 @@ numbers_whole (n ∷ ns) = numbers_whole ns
 listed_whole : (os : List ListedObject) → items_have_float (items_of (map listed_data os)) ≡ false
 listed_whole [] = refl
 listed_whole (o ∷ os) = listed_whole os
+
+-- notices
+notices_whole : (ns : List Notice) → items_have_float (items_of (map notice_data ns)) ≡ false
+notices_whole [] = refl
+notices_whole (n ∷ ns) = notices_whole ns
 
 -- one list or another
 either_whole : (first : Bool) (xs ys : Items) → items_have_float xs ≡ false → items_have_float ys ≡ false → items_have_float (if first then xs else ys) ≡ false
@@ -56,6 +62,8 @@ reply_whole (reply.Text text) = refl
 reply_whole (reply.Value bits) = refl
 reply_whole (reply.Vector bits) = or_false_one (words_whole (length bits) (aval_of bits) (bval_of bits))
 reply_whole (reply.Same same) = refl
+reply_whole (reply.Callback callback) = refl
+reply_whole (reply.Notices p) = or_false_one (notices_whole p.notices)
 reply_whole (reply.Denied words) = or_false_one (denial_whole words.author (by_text words.by) words.envelope words.object (name_of words.right))
 reply_whole reply.RunDenied = refl
 reply_whole (reply.Time time finished) = refl

@@ -37,6 +37,16 @@ denied_by_viewport :
 unfolding serde_json_on_literals digits
 denied_by_viewport = refl
 
+callback : line_of (reply.Callback 3) ≡ codes "{\"cb\":3}\n"
+unfolding serde_json_on_literals digits
+callback = refl
+
+notices :
+    line_of (reply.Notices (record { notices = record { callback = 1; object = record { 0 = 2 }; time = 5; value = HighImpedance ∷ Zero ∷ Unknown ∷ One ∷ [] } ∷ []; lost = 7 }))
+    ≡ codes "{\"lost\":7,\"notices\":[{\"cb\":1,\"time\":5,\"value\":\"1x0z\"}]}\n"
+unfolding serde_json_on_literals digits
+notices = refl
+
 no_such_name : line_of (reply.Error refusal.NoSuchName) ≡ codes "{\"error\":\"no such name\"}\n"
 unfolding serde_json_on_literals
 no_such_name = refl
@@ -48,6 +58,14 @@ asks_handle = refl
 asks_value : meaning_of (codes "{\"h\":1,\"op\":\"value\"}") ≡ Asks (request.Value 1 format.Binary)
 unfolding serde_json_on_literals is_utf8 chars
 asks_value = refl
+
+asks_watch : meaning_of (codes "{\"op\":\"watch\",\"h\":2}") ≡ Asks (request.Watch 2)
+unfolding serde_json_on_literals is_utf8 chars
+asks_watch = refl
+
+asks_poll : meaning_of (codes "{\"op\":\"poll\"}") ≡ Asks request.Poll
+unfolding serde_json_on_literals is_utf8 chars
+asks_poll = refl
 
 cut_off : meaning_of (codes "{\"op\":\"time\"") ≡ NotJson
 unfolding serde_json_on_literals is_utf8 chars

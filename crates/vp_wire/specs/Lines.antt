@@ -17,6 +17,7 @@ use Rattle.vp_policy.specs.declared.denial.Barrier.TheVariants as by
 use Rattle.vp_policy.specs.Denials.{DenialWords}
 use Rattle.vp_policy.specs.File.{each_of}
 use Rattle.vp_policy.specs.Filter.{run_denied}
+use Rattle.vp_notify.specs.declared.notice.Notice.{Notice}
 use Rattle.vp_vpi.specs.declared.iteration.ListedObject.{ListedObject}
 use Rattle.vp_vpi.specs.declared.iteration.Listing.{Listing}
 use Rattle.vp_vpi.specs.declared.property.NumberProperty.{NumberProperty}
@@ -25,6 +26,7 @@ use Rattle.vp_vpi.specs.declared.property.TextProperty.{TextProperty}
 use Rattle.vp_vpi.specs.declared.property.TextProperty.TheVariants as text
 use Rattle.vp_vpi.specs.declared.property.VectorWord.{VectorWord}
 use Rattle.vp_vpi.specs.declared.property.PutValue.TheVariants as put
+use Rattle.vp_vpi.specs.Seats.{Polled}
 use Rattle.vp_world.specs.declared.event.ValueFormat.{ValueFormat}
 use Rattle.vp_world.specs.declared.event.ValueFormat.TheVariants as format
 use Rattle.vp_world.specs.declared.event.Request.{Request}
@@ -96,9 +98,13 @@ abbrev pub listing_data : Listing → Data
 listing_data l =
     object (member (codes "closed") (numbers_data l.closed) (member (codes "items") (array (items_of (map listed_data l.items))) no_members))
 
--- the value of a vector as JSON, in binary digits, greatest bit first (profile)
+-- the bits of a vector as JSON: binary digits, greatest bit first (profile)
+abbrev pub digits_data : List Bit → Data
+digits_data bits = string (map digit_of (reverse bits))
+
+-- the value of a vector as JSON, in binary digits (profile)
 abbrev pub vector_data : List Bit → Data
-vector_data bits = only (codes "value") (string (map digit_of (reverse bits)))
+vector_data bits = only (codes "value") (digits_data bits)
 
 -- a number of an object as JSON (profile)
 abbrev pub number_data : ℕ → Data
@@ -127,6 +133,22 @@ words_data bits = only (codes "vector") (array (words_of (length bits) (aval_of 
 abbrev pub same_data : Bool → Data
 same_data same = only (codes "same") (boolean same)
 
+-- a callback as JSON (profile)
+abbrev pub callback_data : ℕ → Data
+callback_data callback = only (codes "cb") (number (unsigned callback))
+
+-- a notice as JSON, its keys in the order of their bytes (profile)
+abbrev pub notice_data : Notice → Data
+notice_data n =
+    object (member (codes "cb") (number (unsigned n.callback))
+    (member (codes "time") (number (unsigned n.time)) (member (codes "value") (digits_data n.value) no_members)))
+
+-- what a poll tells as JSON, its keys in the order of their bytes (profile)
+abbrev pub polled_data : Polled → Data
+polled_data p =
+    object (member (codes "lost") (number (unsigned p.lost))
+    (member (codes "notices") (array (items_of (map notice_data p.notices))) no_members))
+
 -- a refusal as JSON (profile)
 abbrev pub error_data : Refusal → Data
 error_data refusal = only (codes "error") (string (text_of refusal))
@@ -142,6 +164,8 @@ data_of (reply.Text text) = text_data text
 data_of (reply.Value bits) = vector_data bits
 data_of (reply.Vector bits) = words_data bits
 data_of (reply.Same same) = same_data same
+data_of (reply.Callback callback) = callback_data callback
+data_of (reply.Notices p) = polled_data p
 data_of (reply.Denied words) = denial_data words
 data_of reply.RunDenied = run_denial_data
 data_of (reply.Time time finished) = time_data time finished
@@ -299,6 +323,18 @@ compare_request d =
 abbrev pub free_request : Data → Option Request
 free_request d = of_keys (codes "h" ∷ []) d (option_map request.Free (number_at (codes "h") d))
 
+-- the request to be told of an object's changes
+abbrev pub watch_request : Data → Option Request
+watch_request d = of_keys (codes "h" ∷ []) d (option_map request.Watch (number_at (codes "h") d))
+
+-- the request not to be told by a callback any more
+abbrev pub unwatch_request : Data → Option Request
+unwatch_request d = of_keys (codes "cb" ∷ []) d (option_map request.Unwatch (number_at (codes "cb") d))
+
+-- the request of what was to be told
+abbrev pub poll_request : Data → Option Request
+poll_request d = of_keys [] d (Some request.Poll)
+
 -- the request to let the design run
 abbrev pub run_request : Data → Option Request
 run_request d = of_keys (codes "until" ∷ []) d (option_map request.Run (time_at (codes "until") d))
@@ -320,9 +356,12 @@ request_of_op op d =
     else (if bytes_eq op (codes "put") then put_request d
     else (if bytes_eq op (codes "compare") then compare_request d
     else (if bytes_eq op (codes "free") then free_request d
+    else (if bytes_eq op (codes "watch") then watch_request d
+    else (if bytes_eq op (codes "unwatch") then unwatch_request d
+    else (if bytes_eq op (codes "poll") then poll_request d
     else (if bytes_eq op (codes "run") then run_request d
     else (if bytes_eq op (codes "time") then time_request d
-    else None)))))))))))
+    else None))))))))))))))
 
 -- the request of a JSON value; none where it is no request
 abbrev pub request_of : Data → Option Request

@@ -2,14 +2,15 @@
 ghost use Rattle.std.specs.Prelude.{◌≡◌, None, map, IfOk, IsOkUnless, OnOk};
 ghost use Rattle.serde_json.specs.Data.{array, put as with_member, string};
 ghost use Rattle.serde_json.specs.View.{items_of, members_view, view};
-ghost use Rattle.vp_wire.specs.Lines.{by_text, data_of, denial_data, denial_members, done_data, error_data, handle_data, line_of, listed_data, listing_data, number_data, numbers_data, only, pair_data, run_denial_data, same_data, text_data, time_data, vector_data, words_data, words_of};
+ghost use Rattle.vp_wire.specs.Lines.{by_text, callback_data, data_of, denial_data, denial_members, digits_data, done_data, error_data, handle_data, line_of, listed_data, listing_data, notice_data, number_data, numbers_data, only, pair_data, polled_data, run_denial_data, same_data, text_data, time_data, vector_data, words_data, words_of};
 
 use crate::fault::WireError;
 use serde_json::{Map, Value, put};
 use std::alloc::{AllocError, Global};
 use vp_bits::Bits;
+use vp_notify::Notice;
 use vp_policy::{Barrier, DenialWords};
-use vp_vpi::{ListedObject, Listing};
+use vp_vpi::{ListedObject, Listing, SharedNotices};
 use vp_world::{Refusal, Reply};
 
 /// An object of one member.
@@ -79,14 +80,21 @@ fn listing_value(alloc: Global, listing: &Listing) -> Result<Value, AllocError>
     Ok(Value::Object(members))
 }
 
+/// The bits of a vector, in binary digits.
+fn digits_value(alloc: Global, bits: Bits) -> Result<Value, AllocError>
+    ensures { IfOk result (λ v. view v ≡ digits_data bits) }
+{
+    match bits.to_bin(alloc) {
+        Ok(digits) => Ok(Value::String(digits)),
+        Err(_) => Err(AllocError),
+    }
+}
+
 /// The value of a vector, in binary digits.
 fn vector_value(alloc: Global, bits: Bits) -> Result<Value, AllocError>
     ensures { IfOk result (λ v. view v ≡ vector_data bits) }
 {
-    match bits.to_bin(alloc) {
-        Ok(digits) => only(alloc, "value", Value::String(digits)),
-        Err(_) => Err(AllocError),
-    }
+    only(alloc, "value", digits_value(alloc, bits)?)
 }
 
 /// A number of an object.
@@ -144,6 +152,51 @@ fn same_value(alloc: Global, same: bool) -> Result<Value, AllocError>
     ensures { IfOk result (λ v. view v ≡ same_data same) }
 {
     only(alloc, "same", Value::Bool(same))
+}
+
+/// A callback.
+fn callback_value(alloc: Global, callback: u32) -> Result<Value, AllocError>
+    ensures { IfOk result (λ v. view v ≡ callback_data callback) }
+{
+    only(alloc, "cb", Value::from(callback))
+}
+
+/// A notice.
+fn notice_value(alloc: Global, notice: &Notice) -> Result<Value, AllocError>
+    ensures { IfOk result (λ v. view v ≡ notice_data notice.now) }
+{
+    let mut members = Map::new(alloc);
+    put(&mut members, alloc, "cb", Value::from(notice.callback))?;
+    put(&mut members, alloc, "time", Value::from(notice.time))?;
+    put(
+        &mut members,
+        alloc,
+        "value",
+        digits_value(alloc, notice.value)?,
+    )?;
+    Ok(Value::Object(members))
+}
+
+/// Notices.
+fn notices_value(alloc: Global, notices: &[Notice]) -> Result<Value, AllocError>
+    ensures { IfOk result (λ v. view v ≡ array (items_of (map notice_data notices.now))) }
+{
+    let mut items = Vec::new(alloc);
+    for notice in notices {
+        items.push(notice_value(alloc, notice)?)?;
+    }
+    Ok(Value::Array(items))
+}
+
+/// What a poll tells.
+fn polled_value(alloc: Global, polled: &SharedNotices) -> Result<Value, AllocError>
+    ensures { IfOk result (λ v. view v ≡ polled_data polled.now) }
+{
+    let mut members = Map::new(alloc);
+    put(&mut members, alloc, "lost", Value::from(polled.lost()))?;
+    let notices = notices_value(alloc, polled.notices())?;
+    put(&mut members, alloc, "notices", notices)?;
+    Ok(Value::Object(members))
 }
 
 /// What keeps a user out, in a line.
@@ -241,6 +294,8 @@ fn value_of(alloc: Global, reply: &Reply) -> Result<Value, AllocError>
         Reply::Value(bits) => vector_value(alloc, *bits),
         Reply::Vector(bits) => vector_words(alloc, *bits),
         Reply::Same(same) => same_value(alloc, *same),
+        Reply::Callback(callback) => callback_value(alloc, *callback),
+        Reply::Notices(polled) => polled_value(alloc, polled),
         Reply::Denied(words) => denied(alloc, words),
         Reply::RunDenied => run_denied(alloc),
         Reply::Time { time, finished } => time_value(alloc, *time, *finished),

@@ -3,7 +3,7 @@ ghost use Rattle.std.specs.Prelude.{◌≡◌, ◌⊎◌, [], ◌∷◌, None, S
 ghost use Rattle.serde_json.specs.View.{items_view, view};
 ghost use Rattle.vp_json.specs.Keys.{has_keys};
 ghost use Rattle.vp_policy.specs.File.{each_of};
-ghost use Rattle.vp_wire.specs.Lines.{close_request, compare_request, digits_request, format_at, format_of, free_request, get_request, get_str_request, handle_request, iterate_request, meaning_of, number_at, number_if, number_in, number_property, open_request, put_request, request_of, request_of_op, run_request, text_property, time_at, time_request, value_request, vector_request, word_in, words_at, Asks, NotJson, NotRequest};
+ghost use Rattle.vp_wire.specs.Lines.{close_request, compare_request, digits_request, format_at, format_of, free_request, get_request, get_str_request, handle_request, iterate_request, meaning_of, number_at, number_if, number_in, number_property, open_request, poll_request, put_request, request_of, request_of_op, run_request, text_property, time_at, time_request, unwatch_request, value_request, vector_request, watch_request, word_in, words_at, Asks, NotJson, NotRequest};
 
 use crate::fault::WireError;
 use serde_json::Value;
@@ -17,7 +17,7 @@ use vp_world::{Request, ValueFormat};
 /// Every time is below this one, in time units.
 const TIME_END: u64 = 1 << 62;
 
-/// The handle under a key of a request: a number of 32 bits.
+/// The handle or callback under a key of a request: a number of 32 bits.
 fn handle_under(value: &Value, key: &str) -> Option<u32>
     ensures { result ≡ number_at key.now (view value.now) }
 {
@@ -314,6 +314,43 @@ fn free_request(value: &Value) -> Option<Request>
     }
 }
 
+/// The request to be told of an object's changes.
+fn watch_request(value: &Value) -> Option<Request>
+    ensures { result ≡ watch_request (view value.now) }
+{
+    if has_request_keys(value, ["h"].as_slice()) {
+        Some(Request::Watch {
+            handle: handle_under(value, "h")?,
+        })
+    } else {
+        None
+    }
+}
+
+/// The request not to be told by a callback any more.
+fn unwatch_request(value: &Value) -> Option<Request>
+    ensures { result ≡ unwatch_request (view value.now) }
+{
+    if has_request_keys(value, ["cb"].as_slice()) {
+        Some(Request::Unwatch {
+            callback: handle_under(value, "cb")?,
+        })
+    } else {
+        None
+    }
+}
+
+/// The request of what was to be told.
+fn poll_request(value: &Value) -> Option<Request>
+    ensures { result ≡ poll_request (view value.now) }
+{
+    if has_request_keys(value, [].as_slice()) {
+        Some(Request::Poll)
+    } else {
+        None
+    }
+}
+
 /// The request to let the design run.
 fn run_request(value: &Value) -> Option<Request>
     ensures { result ≡ run_request (view value.now) }
@@ -353,6 +390,9 @@ fn request_of_op(alloc: Global, op: &str, value: &Value) -> Result<Option<Reques
         "put" => put_request(alloc, value),
         "compare" => Ok(compare_request(value)),
         "free" => Ok(free_request(value)),
+        "watch" => Ok(watch_request(value)),
+        "unwatch" => Ok(unwatch_request(value)),
+        "poll" => Ok(poll_request(value)),
         "run" => Ok(run_request(value)),
         "time" => Ok(time_request(value)),
         _ => Ok(None),

@@ -17,9 +17,9 @@ use Rattle.vp_world.specs.declared.limits.Limits.{Limits}
 use Rattle.vp_world.specs.declared.session.OpenSession.{OpenSession}
 use Rattle.vp_world.specs.Answers.{Response, respond}
 use Rattle.vp_world.specs.Given.{Gives}
-use Rattle.vp_world.specs.History.{asked_at, outcome_of_put, raised, run_behind, state_asked, with_state}
+use Rattle.vp_world.specs.History.{asked, asked_at, asked_in, change_of, changed_by, changed_in, noticed, outcome_of_put, raised, state_asked, stepped, with_state}
 use Rattle.vp_world.specs.Shown.{session_shown, shown}
-use Rattle.vp_world.specs.Worlds.{Standing, State}
+use Rattle.vp_world.specs.Worlds.{SessionState, Standing, State}
 
 -- the session of a place, as it is shown
 session_found : (sessions : List OpenSession) (place : ℕ) (session : OpenSession) → place < length sessions → session ≡ slice_index_or sessions place session → slice_get (map session_shown sessions) place ≡ Some (session_shown session)
@@ -29,7 +29,7 @@ session_found sessions place session within is =
     ∙ ap (λ x. Some (session_shown x)) (sym is)
 
 -- the place of a session that is shown is one of the list
-within_shown :
+pub within_shown :
     (run : sim.State) (first policy : List Member) (limits : Limits) (sessions : List OpenSession) (opens : List ℕ) (goal : Option ℕ) (place : ℕ) (w : Standing)
     → shown run first policy limits sessions opens goal ≡ w → place < length w.state.sessions → place < length sessions
 within_shown run first policy limits sessions opens goal place w is within =
@@ -60,6 +60,21 @@ put_design : (run : sim.State) (p : Option (ℕ × List Bit)) → design_in run 
 put_design run None = refl
 put_design run (Some p) = chosen_design run _ _ _ run.finished refl
 
+-- what an answer gives by a policy it gives by the same policy
+pub gives_by :
+    (run next : sim.State) (asked policy : List Member) (seat : Seat) (r : Request) (new : Seat) (a : Answer) → asked ≡ policy
+    → Gives (respond (observer_of run (member_at asked seat.user)) seat r) run next new a
+    → Gives (respond (observer_of run (member_at policy seat.user)) seat r) run next new a
+gives_by run next asked policy seat r new a same given =
+    subst (λ p. Gives (respond (observer_of run (member_at p seat.user)) seat r) run next new a) same given
+
+-- a world with this design, simulation and sessions
+abbrev pub with_run : Standing → Elaborated → sim.State → List SessionState → Standing
+with_run w design run sessions = record {
+  opening = record w.opening { design = design };
+  state = record w.state { run = run; sessions = sessions };
+}
+
 -- what is known of the fields of a world in which a session of a place is asked
 module _
     (run : sim.State) (first policy : List Member) (limits : Limits) (sessions : List OpenSession) (opens : List ℕ) (goal : Option ℕ)
@@ -76,21 +91,36 @@ module _
     found : slice_get (map session_shown sessions) place ≡ Some (session_shown session)
     found = session_found sessions place session (within_shown run first policy limits sessions opens goal place w is inside) at
 
-    -- the state behind it
-    abbrev behind : sim.State → Seat → Option ℕ → State
-    behind run' seat goal' = record old.state {
-      run = run';
+    pub told_given : (run' : sim.State) (new : Seat) (a : Answer) → Gives due run run' new a → a.told ≡ asked_in w place r
+    told_given run' new a given =
+        given.told ∙ ap (λ there. asked old.state there r) (sym found) ∙ ap (λ (v : Standing). asked_in v place r) is
+
+    pub kept_given : (run' : sim.State) (new : Seat) (a : Answer) → Gives due run run' new a → a.kept ≡ asked_in w place r
+    kept_given run' new a given =
+        given.kept ∙ ap (λ there. asked old.state there r) (sym found) ∙ ap (λ (v : Standing). asked_in v place r) is
+
+    pub changed_given : (run' : sim.State) (new : Seat) (a : Answer) → Gives due run run' new a → a.change ≡ changed_in w place r
+    changed_given run' new a given =
+        sym (ap change_of given.put) ∙ ap (λ there. changed_by old.state there r) (sym found) ∙ ap (λ (v : Standing). changed_in v place r) is
+
+    -- the state in which the session has this seat, and this is the goal
+    abbrev with_seat : Seat → Option ℕ → State
+    with_seat seat goal' = record old.state {
       sessions = slice_set (map session_shown sessions) place (record { id = session.id; seat = seat });
       goal = goal';
     }
 
-    pub state_given : (run' : sim.State) (new : Seat) (goal' : Option ℕ) (a : Answer) → Gives due run run' new a → goal' ≡ raised goal a.goal
-        → shown run' first policy limits (slice_set sessions place (seated session new)) opens goal' ≡ with_state w (asked_at w.state (Some place) r)
-    state_given run' new goal' a given raises =
-        ap (λ s. record { opening = record { design = run'.design; policy = first; limits = limits }; state = record (behind run' new goal') { sessions = s } }) (map-set session_shown sessions place (seated session new))
-        ∙ ap (λ d. record { opening = record { design = d; policy = first; limits = limits }; state = behind run' new goal' }) (ap (design_in run) (sym given.put) ∙ put_design run due.put)
-        ∙ ap (λ x. record old { state = behind x new goal' }) (ap (run_behind run) (sym given.put))
-        ∙ ap (λ x. record old { state = behind (run_behind run (outcome_of_put run due.put)) x goal' }) given.seat
-        ∙ ap (λ x. record old { state = behind (run_behind run (outcome_of_put run due.put)) due.seat x }) (raises ∙ ap (raised goal) given.goal)
+    pub state_given :
+        (run' : sim.State) (new : Seat) (told : List OpenSession) (goal' : Option ℕ) (a : Answer) → Gives due run run' new a → goal' ≡ raised goal a.goal
+        → map session_shown told ≡ noticed a.change run'.time (map session_shown (slice_set sessions place (seated session new)))
+        → shown run' first policy limits told opens goal' ≡ with_state w (asked_at w.state (Some place) r)
+    state_given run' new told goal' a given raises tells =
+        let between : Seat → Option ℕ → Standing = λ seat goal'. record old { state = with_seat seat goal' } in
+        let behind : Seat → Option ℕ → sim.Outcome → Standing = λ seat goal' o. with_state old (stepped (with_seat seat goal') o) in
+        ap (with_run (between new goal') run'.design run') (tells ∙ ap (noticed a.change run'.time) (map-set session_shown sessions place (seated session new)))
+        ∙ ap (λ d. with_run (between new goal') d run' (noticed a.change run'.time (with_seat new goal').sessions)) (ap (design_in run) (sym given.put) ∙ put_design run due.put)
+        ∙ ap (behind new goal') (sym given.put)
+        ∙ ap (λ seat. behind seat goal' (outcome_of_put run due.put)) given.seat
+        ∙ ap (λ goal'. behind due.seat goal' (outcome_of_put run due.put)) (raises ∙ ap (raised goal) given.goal)
         ∙ ap (λ there. with_state old (state_asked old.state place there r)) (sym found)
         ∙ ap (λ v. with_state v (asked_at v.state (Some place) r)) is

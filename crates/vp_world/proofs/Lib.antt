@@ -1,5 +1,9 @@
 pub mod Lists
 pub mod Standings
+pub mod Noticing
+pub mod Marks
+pub mod MarksAsked
+pub mod Refusing
 pub mod Asking
 pub mod WorldRows
 pub mod Logs

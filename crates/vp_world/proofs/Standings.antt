@@ -6,6 +6,7 @@ use Rattle.std.proofs.lemmas.List.{map-append}
 use Rattle.vp_elab.specs.Built.{Elaborated}
 use Rattle.vp_policy.specs.Users.{Member}
 use Rattle.vp_sim.specs.States as sim
+use Rattle.vp_vpi.specs.Seats.{new_seat}
 use Rattle.vp_world.specs.declared.limits.Limits.{Limits}
 use Rattle.vp_world.specs.declared.session.OpenSession.{OpenSession}
 use Rattle.vp_world.specs.History.{next_session, opened_by}
@@ -48,7 +49,7 @@ closed_shown run first policy limits sessions left opens goal place w is taken =
 pub opened_shown :
     (run : sim.State) (first policy : List Member) (limits : Limits) (sessions more : List OpenSession) (opens counts : List ℕ) (goal : Option ℕ) (session : OpenSession) (user : ℕ) (w : Standing)
     → shown run first policy limits sessions opens goal ≡ w
-    → session_shown session ≡ record { id = next_session w.state user; seat = record { user = user; handles = [] } }
+    → session_shown session ≡ record { id = next_session w.state user; seat = new_seat user }
     → more ≡ sessions ++ session ∷ []
     → counts ≡ slice_set opens user (slice_index w.state.opens user + 1)
     → shown run first policy limits more counts goal ≡ record { opening = w.opening; state = opened_by w.state user }
@@ -57,4 +58,4 @@ opened_shown run first policy limits sessions more opens counts goal session use
     ∙ ap (λ c. shown run first policy limits (sessions ++ session ∷ []) c goal) counted
     ∙ ap (λ s. with_sessions (shown run first policy limits sessions opens goal) s (slice_set opens user (slice_index w.state.opens user + 1)))
     (map-append session_shown sessions (session ∷ []) ∙ ap (λ (s : SessionState). map session_shown sessions ++ s ∷ []) new)
-    ∙ ap (λ (v : Standing). with_sessions v (v.state.sessions ++ record { id = next_session w.state user; seat = record { user = user; handles = [] } } ∷ []) (slice_set v.state.opens user (slice_index w.state.opens user + 1))) is
+    ∙ ap (λ (v : Standing). with_sessions v (v.state.sessions ++ record { id = next_session w.state user; seat = new_seat user } ∷ []) (slice_set v.state.opens user (slice_index w.state.opens user + 1))) is

@@ -23,6 +23,7 @@ use Rattle.vp_statement.specs.Effects.{effect_at}
 use Rattle.vp_statement.specs.Walking.{flow_of}
 use Rattle.vp_policy.specs.declared.denial.Barrier.TheVariants as by
 use Rattle.vp_policy.specs.Users.{Member}
+use Rattle.vp_vpi.specs.declared.property.PutValue.TheVariants.{Digits}
 use Rattle.vp_world.specs.declared.event.SessionId.{SessionId}
 use Rattle.vp_world.specs.declared.event.Request.TheVariants as request
 use Rattle.vp_world.specs.declared.event.ValueFormat.TheVariants as format
@@ -220,6 +221,45 @@ idle = refl
 no_future : refused (opens ∷ runs ∷ steps 0 ∷ steps 0 ∷ []) event.Advance ≡ Some (error.Sim sim.Idle)
 unfolding digits is_utf8 chars encode sizes_in tables_of effect_at flow_of
 no_future = refl
+
+-- ---- two sessions of one user, who may watch and put
+
+abbrev bob : Member
+bob = record {
+  name = codes "bob";
+  token = codes "t2";
+  open_set = with_right right.Put (with_right right.Watch (with_right right.List nothing));
+  grants = [];
+  run = false;
+}
+
+abbrev shared : Opening
+shared = record opening { policy = bob ∷ []; limits = record { log = 7; book = 65536; sessions = 2 } }
+
+abbrev second : SessionId
+second = record { user = record { 0 = 0 }; opens = 2 }
+
+-- both are open, and each has a handle of the reg `a`; the second has a callback on it
+abbrev watching : List Event
+watching =
+    event.Open (codes "bob") (codes "t2") ∷ event.Open (codes "bob") (codes "t2") ∷ asks (codes "top.a")
+    ∷ event.Ask second (request.Handle (codes "top.a") None) ∷ event.Ask second (request.Watch 1) ∷ []
+
+-- what an event is answered behind a put of the first session
+abbrev answered_behind_a_put : Event → Reply
+answered_behind_a_put e =
+    answer shared (after shared (fold (after shared) (start shared) watching) (event.Ask first (request.Put 1 (Digits (codes "1"))))) e
+
+-- the second is told of it, and the first has nothing to be told
+put_told : answered_behind_a_put (event.Ask second request.Poll) ≡ reply.Notices (record { notices = record { callback = 1; object = record { 0 = 1 }; time = 0; value = One ∷ [] } ∷ []; lost = 0 })
+unfolding digits is_utf8 chars encode sizes_in tables_of effect_at
+put_told = refl
+
+put_not_told : answered_behind_a_put (event.Ask first request.Poll) ≡ reply.Notices (record { notices = []; lost = 0 })
+unfolding digits is_utf8 chars encode sizes_in tables_of effect_at
+put_not_told = refl
+
+-- ---- logs
 
 -- a full log is told before the goal, and behind a session that is not open
 log_full_first : refusal_of opening true (behind (opens ∷ [])) (steps 0) ≡ Some error.LogFull

@@ -1,11 +1,12 @@
 -- What comes of a session's request.
-use Rattle.std.specs.Prelude.{ℕ, if◌then◌else◌, List, Option, Some, None, Result, Ok, Err}
+use Rattle.std.specs.Prelude.{ℕ, ◌+◌, if◌then◌else◌, List, Option, Some, None, Result, Ok, Err}
 use Rattle.vp_bits.specs.declared.bit.Bit.{Bit}
+use Rattle.vp_notify.specs.Registry.{has_number}
 use Rattle.vp_vpi.specs.declared.fault.VpiError.{VpiError}
 use Rattle.vp_vpi.specs.declared.fault.VpiError.TheVariants as vpi
-use Rattle.vp_vpi.specs.Calls.{Iterated, handle_of, iterated, number_of, or_refusal, put_of, same_of, text_of, value_of}
+use Rattle.vp_vpi.specs.Calls.{Iterated, handle_of, iterated, number_of, or_refusal, put_of, same_of, text_of, value_of, watched_of}
 use Rattle.vp_vpi.specs.Observers.{Observer}
-use Rattle.vp_vpi.specs.Seats.{Seat, next_handle, object_of, with_handle, with_handles, without_handle}
+use Rattle.vp_vpi.specs.Seats.{Seat, drained, next_handle, object_of, polled, with_callback, with_handle, with_handles, without_callback, without_handle}
 use Rattle.vp_world.specs.declared.event.Request.{Request}
 use Rattle.vp_world.specs.declared.event.Request.TheVariants as request
 use Rattle.vp_world.specs.declared.event.ValueFormat.{ValueFormat}
@@ -35,6 +36,8 @@ refused vpi.BadValue = reply.Error refusal.BadValue
 refused vpi.Finished = reply.Error refusal.Finished
 refused vpi.TooManyHandles = reply.Error refusal.TooManyHandles
 refused vpi.NoSuchName = reply.Error refusal.NoSuchName
+refused vpi.TooManyCallbacks = reply.Error refusal.TooManyCallbacks
+refused vpi.NoSuchCallback = reply.Error refusal.NoSuchCallback
 refused vpi.NoMemory = reply.Error refusal.NoMemory
 
 -- what comes of an answer, if there is one; else only the refusal is told
@@ -68,6 +71,26 @@ scanned seat found = record {
 abbrev pub freed : Seat → (handle : ℕ) → Response
 freed seat handle = record { reply = reply.Done; seat = without_handle handle seat; goal = None; put = None }
 
+-- what comes of a callback that is registered on an object: its number is told, and the session has it
+abbrev pub watching : Seat → ℕ → Response
+watching seat object = record {
+  reply = reply.Callback (seat.registry.given + 1);
+  seat = with_callback object seat;
+  goal = None;
+  put = None;
+}
+
+-- what comes of a request to remove the callback of a number, where there is one, and where there is none
+abbrev pub unwatch_response : Seat → (callback : ℕ) → Response
+unwatch_response seat callback =
+    if has_number seat.registry callback
+    then only_told (without_callback callback seat) reply.Done
+    else only_told seat (refused vpi.NoSuchCallback)
+
+-- what comes of a poll: the notices that wait are told, and wait no more
+abbrev pub polling : Seat → Response
+polling seat = only_told (drained seat) (reply.Notices (polled seat))
+
 -- what comes of a value that is put on an object
 abbrev pub putting : Seat → ℕ × List Bit → Response
 putting seat p = record { reply = reply.Done; seat = seat; goal = None; put = Some p }
@@ -100,5 +123,9 @@ respond eyes seat (request.Compare a b) =
     told_by seat reply.Same (same_of (object_of seat.handles a) (object_of seat.handles b))
 respond eyes seat (request.Free handle) =
     response_by seat (λ o. freed seat handle) (or_refusal (object_of seat.handles handle) vpi.BadHandle)
+respond eyes seat (request.Watch handle) =
+    response_by seat (watching seat) (watched_of eyes seat.registry (object_of seat.handles handle))
+respond eyes seat (request.Unwatch callback) = unwatch_response seat callback
+respond eyes seat request.Poll = polling seat
 respond eyes seat (request.Run until) = run_response eyes seat until
 respond eyes seat request.Time = only_told seat (reply.Time eyes.time eyes.finished)

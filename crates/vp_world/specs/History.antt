@@ -1,5 +1,5 @@
 -- The world as a function of its events.
-use Rattle.std.specs.Prelude.{◌≡◌, ℕ, ◌+◌, ◌||◌, nat_le, nat_lt, max, Bool, true, false, if◌then◌else◌, List, [], ◌∷◌, ◌++◌, length, fold, slice_get, slice_index, slice_set, Option, Some, None, option_and_then}
+use Rattle.std.specs.Prelude.{◌≡◌, ℕ, ◌+◌, ◌||◌, nat_le, nat_lt, max, Bool, true, false, if◌then◌else◌, List, [], ◌∷◌, ◌++◌, length, fold, map, slice_get, slice_index, slice_set, Option, Some, None, option_and_then}
 use Rattle.std.specs.List.{remove}
 use Rattle.std.specs.Option.{option_map_or}
 use Rattle.vp_bits.specs.declared.bit.Bit.{Bit}
@@ -7,7 +7,7 @@ use Rattle.vp_policy.specs.Users.{login_of, member_at}
 use Rattle.vp_waking.specs.declared.change.Change.{Change}
 use Rattle.vp_sim.specs.States as sim
 use Rattle.vp_vpi.specs.Observers.{observer_of}
-use Rattle.vp_vpi.specs.Seats.{Seat}
+use Rattle.vp_vpi.specs.Seats.{Seat, new_seat, with_due}
 use Rattle.vp_world.specs.Entries.{Entry}
 use Rattle.vp_world.specs.declared.event.SessionId.{SessionId}
 use Rattle.vp_world.specs.declared.event.Request.{Request}
@@ -136,7 +136,7 @@ changed s event.Advance = change_of (sim.advance s.run)
 -- the state with one session more, of a user
 abbrev pub opened_by : State → ℕ → State
 opened_by s u = record s {
-  sessions = s.sessions ++ record { id = next_session s u; seat = record { user = u; handles = [] } } ∷ [];
+  sessions = s.sessions ++ record { id = next_session s u; seat = new_seat u } ∷ [];
   opens = slice_set s.opens u (slice_index s.opens u + 1);
 }
 
@@ -150,18 +150,25 @@ abbrev pub raised : Option ℕ → Option ℕ → Option ℕ
 raised goal None = goal
 raised goal (Some until) = Some (later goal until)
 
--- the state of a simulation behind what it does; a refusal changes nothing
-abbrev pub run_behind : sim.State → sim.Outcome → sim.State
-run_behind run (sim.Goes next change) = next
-run_behind run (sim.Refuses e) = run
+-- an open session behind a change at a time, which is due to its callbacks (clause 27.33)
+abbrev pub told : Option Change → (time : ℕ) → SessionState → SessionState
+told change time s = record s { seat = with_due change time s.seat }
 
--- the state behind what comes of a request of the session in a place
+-- the open sessions behind a change at a time: each of them is told, whoever made it (profile)
+abbrev pub noticed : Option Change → (time : ℕ) → List SessionState → List SessionState
+noticed change time sessions = map (told change time) sessions
+
+-- the state behind what the simulation does, of whose change the open sessions are told; a refusal changes nothing
+abbrev pub stepped : State → sim.Outcome → State
+stepped s (sim.Goes run change) = record s { run = run; sessions = noticed change run.time s.sessions }
+stepped s (sim.Refuses e) = s
+
+-- the state behind what comes of a request of the session in a place: the session is as the request leaves it, and then the put is made
 abbrev pub with_response : State → ℕ → SessionState → Response → State
-with_response s place session given = record s {
-  run = run_behind s.run (outcome_of_put s.run given.put);
-  sessions = slice_set s.sessions place (record session { seat = given.seat });
-  goal = raised s.goal given.goal;
-}
+with_response s place session given =
+    stepped
+    (record s { sessions = slice_set s.sessions place (record session { seat = given.seat }); goal = raised s.goal given.goal })
+    (outcome_of_put s.run given.put)
 
 -- the state behind a request of the session in a place
 abbrev pub state_asked : State → ℕ → Option SessionState → Request → State
@@ -177,11 +184,6 @@ asked_at s (Some place) r = state_asked s place (slice_get s.sessions place) r
 abbrev pub closed_at : State → Option ℕ → State
 closed_at s None = s
 closed_at s (Some place) = record s { sessions = remove s.sessions place }
-
--- the state behind a step of the simulation
-abbrev pub stepped : State → sim.Outcome → State
-stepped s (sim.Goes run change) = record s { run = run }
-stepped s (sim.Refuses e) = s
 
 -- the state behind an event that is accepted
 abbrev pub after : Opening → State → Event → State

@@ -12,4 +12,5 @@ pub mod Worlds
 pub mod Answers
 pub mod History
 pub mod Shown
+pub mod Marks
 pub mod Given

@@ -3,7 +3,7 @@ use Rattle.std.specs.Prelude.{ℕ, List, codes}
 use Rattle.vp_world.specs.declared.fault.WorldError.{WorldError}
 use Rattle.vp_world.specs.declared.fault.WorldError.TheVariants as error
 use Rattle.vp_world.specs.declared.reply.Refusal.{Refusal}
-use Rattle.vp_world.specs.declared.reply.Refusal.TheVariants.{BadHandle, WrongKind, BadValue, Finished, TooManyHandles, NoSuchName, SessionsFull, BadToken, NotOpen, LogFull, BeyondGoal, Simulation, NoMemory}
+use Rattle.vp_world.specs.declared.reply.Refusal.TheVariants.{BadHandle, WrongKind, BadValue, Finished, TooManyHandles, NoSuchName, TooManyCallbacks, NoSuchCallback, SessionsFull, BadToken, NotOpen, LogFull, BeyondGoal, Simulation, NoMemory}
 
 -- what a line is told where the world refuses its event (profile)
 abbrev pub refusal_of_error : WorldError → Refusal
@@ -23,6 +23,8 @@ text_of BadValue = codes "bad value"
 text_of Finished = codes "finished"
 text_of TooManyHandles = codes "too many handles"
 text_of NoSuchName = codes "no such name"
+text_of TooManyCallbacks = codes "too many callbacks"
+text_of NoSuchCallback = codes "no such callback"
 text_of SessionsFull = codes "sessions full"
 text_of BadToken = codes "bad token"
 text_of NotOpen = codes "not open"

@@ -62,6 +62,8 @@ fn refusal_reply(error: VpiError) -> Result<Reply, WorldError>
         VpiError::Finished => Reply::Error(Refusal::Finished),
         VpiError::TooManyHandles => Reply::Error(Refusal::TooManyHandles),
         VpiError::NoSuchName => Reply::Error(Refusal::NoSuchName),
+        VpiError::TooManyCallbacks => Reply::Error(Refusal::TooManyCallbacks),
+        VpiError::NoSuchCallback => Reply::Error(Refusal::NoSuchCallback),
         VpiError::NoMemory => return Err(WorldError::NoMemory),
     })
 }
@@ -270,6 +272,70 @@ fn free(
     }
 }
 
+/// Registers a callback on a handle's object.
+fn watch(
+    session: &mut Session,
+    policy: &Policy,
+    simulation: &Sim,
+    handle: u32,
+) -> Result<Answer, WorldError>
+    ensures given { IfOk result
+        (Gives (respond (observer_of simulation.now (member_at policy.now session.old.user))
+        session.old (request.Watch handle)) simulation.now simulation.now session.new) }
+    ensures refused { IsOkUnless result world_error.NoMemory }
+    ensures unchanged { OnErr result (session.new ≡ session.old) }
+{
+    match session.register_cb(policy, simulation, handle) {
+        Ok(callback) => Ok(Answer {
+            told: Reply::Callback(callback),
+            kept: Reply::Callback(callback),
+            goal: None,
+            change: None,
+        }),
+        Err(error) => refusal(error),
+    }
+}
+
+/// Removes a callback.
+fn unwatch(
+    session: &mut Session,
+    policy: &Policy,
+    simulation: &Sim,
+    callback: u32,
+) -> Result<Answer, WorldError>
+    ensures given { IfOk result
+        (Gives (respond (observer_of simulation.now (member_at policy.now session.old.user))
+        session.old (request.Unwatch callback)) simulation.now simulation.now session.new) }
+    ensures refused { IsOkUnless result world_error.NoMemory }
+    ensures unchanged { OnErr result (session.new ≡ session.old) }
+{
+    match session.remove_cb(callback) {
+        Ok(()) => Ok(Answer {
+            told: Reply::Done,
+            kept: Reply::Done,
+            goal: None,
+            change: None,
+        }),
+        Err(error) => refusal(error),
+    }
+}
+
+/// Tells the notices that wait, which wait no more.
+fn poll(session: &mut Session, policy: &Policy, simulation: &Sim) -> Result<Answer, WorldError>
+    ensures given { IfOk result
+        (Gives (respond (observer_of simulation.now (member_at policy.now session.old.user))
+        session.old request.Poll) simulation.now simulation.now session.new) }
+    ensures refused { IsOkUnless result world_error.NoMemory }
+    ensures unchanged { OnErr result (session.new ≡ session.old) }
+{
+    let Ok(notices) = session.poll() else {
+        return Err(WorldError::NoMemory);
+    };
+    let answer = plain(Reply::Notices(notices))?;
+    session.drain();
+    Ok(answer)
+}
+
 /// Lets the design run until a time, if the user may.
 fn run(session: &Session, policy: &Policy, simulation: &Sim, until: u64) -> Answer
     ensures { Gives (respond (observer_of simulation.now (member_at policy.now session.now.user))
@@ -339,6 +405,9 @@ pub fn respond(
         Request::Put { handle, value } => put(session, policy, simulation, *handle, value),
         Request::Compare { first, second } => compare(session, policy, simulation, *first, *second),
         Request::Free { handle } => free(session, policy, simulation, *handle),
+        Request::Watch { handle } => watch(session, policy, simulation, *handle),
+        Request::Unwatch { callback } => unwatch(session, policy, simulation, *callback),
+        Request::Poll => poll(session, policy, simulation),
         Request::Run { until } => Ok(run(session, policy, simulation, *until)),
         Request::Time => Ok(time(session, policy, simulation)),
         Request::Open { .. } | Request::Close => unreachable!(),

@@ -68,6 +68,16 @@ pub enum Request {
     Free {
         handle: u32,
     },
+    /// To be told of the changes of a handle's object (clause 27.33).
+    Watch {
+        handle: u32,
+    },
+    /// Not to be told by the callback of a number any more (clause 27.34).
+    Unwatch {
+        callback: u32,
+    },
+    /// What was to be told of changes since the last poll.
+    Poll,
     /// To let the design run until a time, in time units.
     Run {
         until: u64,

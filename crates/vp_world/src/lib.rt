@@ -9,6 +9,7 @@ mod limits;
 mod present;
 mod reply;
 mod session;
+mod watching;
 mod world;
 
 pub use entry::{Asked, Entry, Happening, Login};

@@ -14,6 +14,7 @@ use crate::event::{Request, SessionId};
 use crate::fault::WorldError;
 use crate::limits::Limits;
 use crate::session::{OpenSession, place_of};
+use crate::watching::{mark_asked, notify};
 use std::alloc::Global;
 use std::marker::Model;
 use std::sync::Arc;
@@ -36,6 +37,8 @@ pub struct Present {
     limits: Limits,
     /// Those that are open, in the order in which they were opened.
     sessions: Vec<OpenSession>,
+    /// Of each object, whether one of them may have a callback on it.
+    watched: Vec<bool>,
     /// How often each user has opened a session, by his number.
     opens: Vec<u64>,
     /// Until when the simulation may run, in time units.
@@ -44,12 +47,16 @@ pub struct Present {
 
 impl Model for Present {
     ghost use Rattle.std.specs.Arc.{arc_value};
+    ghost use Rattle.std.specs.Prelude.{◌≡◌, true};
     ghost use Rattle.vp_world.specs.Shown.{shown};
+    ghost use Rattle.vp_world.specs.Marks.{all_marked};
     ghost use Rattle.vp_world.specs.Worlds.{Standing};
 
     ghost Value = { Standing };
 
     ghost view = { λ w. shown w.sim (arc_value w.first_policy) (arc_value w.policy) w.limits w.sessions.items w.opens.items w.goal };
+
+    ghost invariant = { λ w. all_marked w.watched.items w.sessions.items ≡ true };
 }
 
 /// The later of a goal, if there is one, and a time.
@@ -131,6 +138,7 @@ impl Present {
             return Err(WorldError::NoMemory);
         };
         let opens = vec![in alloc; 0u64; policy.count()]?;
+        let watched = vec![in alloc; false; sim.design().count() as usize]?;
         let first_policy = Arc::new(alloc, policy)?;
         let policy = Arc::try_clone(&first_policy)?;
         Ok(Present {
@@ -140,6 +148,7 @@ impl Present {
             policy,
             limits,
             sessions: Vec::new(alloc),
+            watched,
             opens,
             goal: None,
         })
@@ -293,7 +302,9 @@ impl Present {
             user,
             opens: self.opened(user) + 1,
         };
-        let session = Session::new(self.alloc, user);
+        let Ok(session) = Session::new(self.alloc, user) else {
+            return Err(WorldError::NoMemory);
+        };
         self.sessions.push(OpenSession { id, session })?;
         set_count(&mut self.opens, user, id.opens);
         Ok(id)
@@ -307,7 +318,7 @@ impl Present {
         self.sessions.remove(place);
     }
 
-    /// Takes the k-th of the events that a step can take, and tells what it changes; else the simulation's refusal (1308), or want of
+    /// Takes the k-th of the events that a step can take, and tells what it changes, which is due to the callbacks on it; else the simulation's refusal (1308), or want of
     /// memory (1307). A refusal leaves the world as it was.
     #[tactic(auto, using(crate::proofs::Outcomes::step_explained))]
     pub fn step(&mut self, k: u32) -> Result<Option<Change>, WorldError>
@@ -322,14 +333,18 @@ impl Present {
         ensures unchanged { OnErr result (self.new ≡ self.old) }
     {
         match self.sim.step(k as usize) {
-            Ok(change) => Ok(change),
+            Ok(change) => {
+                let time = self.sim.time();
+                notify(&mut self.sessions, &mut self.watched, change.as_ref(), time);
+                Ok(change)
+            }
             Err(error) => Err(WorldError::from(error)),
         }
     }
 
     /// Goes on to the time of the next event; else the simulation's refusal (1308), or want of memory (1307). A refusal leaves the
     /// world as it was.
-    #[tactic(auto, using(crate::proofs::Outcomes::advance_explained))]
+    #[tactic(auto, using(crate::proofs::Outcomes::advance_explained, crate::proofs::Noticing::noticed_none))]
     pub fn advance(&mut self) -> Result<(), WorldError>
         ensures accepted { OnOk result
             (refusal_of_outcome (sim.advance self.old.state.run) ≡ None) }
@@ -347,7 +362,8 @@ impl Present {
         }
     }
 
-    /// Answers a request of the session in a place; or want of memory (1307), which leaves the world as it was.
+    /// Answers a request of the session in a place, whose change is due to the callbacks on it; or want of memory (1307), which leaves
+    /// the world as it was.
     pub fn ask(&mut self, place: usize, request: &Request) -> Result<Answer, WorldError>
         requires asked { IsAsked request.now }
         requires within { place < length self.old.state.sessions }
@@ -363,7 +379,11 @@ impl Present {
     {
         let session = &mut self.sessions[place].session;
         let answer = respond(session, &self.policy, &mut self.sim, request)?;
+        mark_asked(&mut self.watched, session, request);
         self.goal = raised(self.goal, answer.goal);
+        let change = answer.change.as_ref();
+        let time = self.sim.time();
+        notify(&mut self.sessions, &mut self.watched, change, time);
         Ok(answer)
     }
 }

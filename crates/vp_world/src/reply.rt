@@ -6,7 +6,7 @@ use std::alloc::AllocError;
 use vp_bits::Bits;
 use vp_list::SharedText;
 use vp_policy::DenialWords;
-use vp_vpi::SharedListing;
+use vp_vpi::{SharedListing, SharedNotices};
 
 /// What a line is told where it is refused.
 #[derive(Clone, Copy, Debug, PartialEq, Eq)]
@@ -17,6 +17,8 @@ pub enum Refusal {
     Finished,
     TooManyHandles,
     NoSuchName,
+    TooManyCallbacks,
+    NoSuchCallback,
     SessionsFull,
     BadToken,
     NotOpen,
@@ -40,6 +42,8 @@ impl Refusal {
             Refusal::Finished => "finished",
             Refusal::TooManyHandles => "too many handles",
             Refusal::NoSuchName => "no such name",
+            Refusal::TooManyCallbacks => "too many callbacks",
+            Refusal::NoSuchCallback => "no such callback",
             Refusal::SessionsFull => "sessions full",
             Refusal::BadToken => "bad token",
             Refusal::NotOpen => "not open",
@@ -90,6 +94,10 @@ pub enum Reply {
     Vector(Bits),
     /// Whether two handles are of one object.
     Same(bool),
+    /// A callback was registered.
+    Callback(u32),
+    /// The notices that waited.
+    Notices(SharedNotices),
     /// A right is lacking, in the words that the user is told.
     Denied(DenialWords),
     /// The user may not let the design run.
@@ -115,6 +123,8 @@ impl Reply {
             Reply::Value(bits) => Reply::Value(*bits),
             Reply::Vector(bits) => Reply::Vector(*bits),
             Reply::Same(same) => Reply::Same(*same),
+            Reply::Callback(callback) => Reply::Callback(*callback),
+            Reply::Notices(notices) => Reply::Notices(notices.try_clone()?),
             Reply::Denied(words) => Reply::Denied(words.try_clone()?),
             Reply::RunDenied => Reply::RunDenied,
             Reply::Time { time, finished } => Reply::Time {

@@ -1,9 +1,10 @@
-ghost use Rattle.std.specs.Prelude.{◌≡◌, ◌<◌, length, map, IfSome};
-ghost use Rattle.vp_world.specs.Shown.{session_shown};
+ghost use Rattle.std.specs.Prelude.{◌≡◌, ◌<◌, length, map, Some, IfSome};
+ghost use Rattle.vp_world.specs.Shown.{session_shown, told_open};
 ghost use Rattle.vp_world.specs.Worlds.{index_of, same_session};
 
 use crate::event::SessionId;
 use vp_vpi::Session;
+use vp_waking::Change;
 
 /// An open session, with its name.
 #[derive(Drop)]
@@ -29,4 +30,13 @@ pub fn place_of(sessions: &[OpenSession], id: SessionId) -> Option<usize>
         }
     }
     None
+}
+
+/// A change at a time is due to the callbacks of these sessions. Takes no memory.
+pub fn tell(sessions: &mut [OpenSession], change: &Change, time: u64)
+    ensures { sessions.new ≡ map (told_open (Some change.now) time) sessions.old }
+{
+    for opened in sessions {
+        opened.session.on_changes(Some(change), time);
+    }
 }

@@ -1,4 +1,7 @@
+use Rattle.std.proofs.Common.{◌∙◌, ap}
 use Rattle.std.specs.Arc.{arc_value}
+use Rattle.vp_world.specs.Marks.{all_marked}
+use Rattle.vp_world.proofs.Marks.{marked_without}
 use Rattle.vp_world.proofs.Standings.{closed_shown}
 use Rattle.vp_world.proofs.present.Present.close.Goals as goal
 
@@ -6,3 +9,9 @@ pub returns : goal.returns
 returns c =
     let inside = c.self.inside in
     closed_shown inside.sim (arc_value inside.first_policy) (arc_value inside.policy) inside.limits inside.sessions.items c.remove.new.self.items inside.opens.items inside.goal c.args.place c.args.self.now c.self.view_is c.remove.ensures.items
+
+pub invariant_of-self : goal.invariant_of-self
+invariant_of-self c =
+    let inside = c.self.inside in
+    ap (all_marked inside.watched.items) c.remove.ensures.items
+    ∙ marked_without inside.watched.items inside.sessions.items c.args.place c.self.invariant

@@ -1,0 +1,183 @@
+-- Objects that may be watched, while callbacks come and go.
+use Rattle.std.proofs.Common.{◌≡◌, ◌∙◌, ◌<◌, ℕ, zero, suc, ◌&&◌, ◌||◌, Bool, true, false, List, [], ◌∷◌, ◌++◌, map, filter, length, arith, Option, Some, None, refl, sym, ap}
+use Rattle.std.specs.Prelude.{cond, if◌then◌else◌, slice_index_or, slice_set}
+use Rattle.std.specs.List.{fold, list_any, remove}
+use Rattle.std.proofs.lemmas.Bool.{eq-eqb, eqb-true}
+use Rattle.vp_notify.specs.declared.notice.Notice.{Notice}
+use Rattle.vp_notify.specs.declared.registry.Callback.{Callback}
+use Rattle.vp_notify.specs.Registry.{RegistryState, due, is_on, notice_of, with_notice}
+use Rattle.vp_waking.specs.declared.change.Change.{Change}
+use Rattle.vp_world.specs.declared.session.OpenSession.{OpenSession}
+use Rattle.vp_world.specs.Marks.{all_marked, are_marked, is_marked, is_watched, may_be_watched}
+use Rattle.vp_world.specs.Shown.{told_open}
+
+-- ---- two tests
+
+both_parts : (a b : Bool) → (a && b) ≡ true → (a ≡ true) × (b ≡ true)
+both_parts true b h = (refl, h)
+both_parts false b h = absurd (let no : false ≡ true = h in cc)
+
+pub both : (a b : Bool) → a ≡ true → b ≡ true → (a && b) ≡ true
+both a b h k = ap (λ x. x && b) h ∙ k
+
+first_of_two : (a b : Bool) → a ≡ true → (a || b) ≡ true
+first_of_two a b h = ap (λ x. x || b) h
+
+second_of_two : (a b : Bool) → b ≡ true → (a || b) ≡ true
+second_of_two true b h = refl
+second_of_two false b h = h
+
+-- ---- marks
+
+-- an object that is marked may be watched
+pub marked_same : (watched : List Bool) (object : ℕ) → may_be_watched (slice_set watched object true) object ≡ true
+marked_same [] object = refl
+marked_same (w ∷ watched) zero = refl
+marked_same (w ∷ watched) (suc object) = marked_same watched object
+
+-- what may be watched still may where another mark is set, unless that is on it
+set_keeps : (watched : List Bool) (object other : ℕ) (mark : Bool) → may_be_watched watched other ≡ true → (other ≡ object → mark ≡ true) → may_be_watched (slice_set watched object mark) other ≡ true
+set_keeps [] object other mark may same = refl
+set_keeps (w ∷ watched) zero zero mark may same = same refl
+set_keeps (w ∷ watched) zero (suc other) mark may same = may
+set_keeps (w ∷ watched) (suc object) zero mark may same = may
+set_keeps (w ∷ watched) (suc object) (suc other) mark may same = set_keeps watched object other mark may (λ e. same (ap suc e))
+
+-- a mark takes none away
+pub mark_keeps : (watched : List Bool) (object other : ℕ) → may_be_watched watched other ≡ true → may_be_watched (slice_set watched object true) other ≡ true
+mark_keeps watched object other may = set_keeps watched object other true may (λ e. refl)
+
+-- ---- callbacks
+
+-- callbacks that are marked stay so where more is
+pub are_marked_more : (watched more : List Bool) (callbacks : List Callback) → ((object : ℕ) → may_be_watched watched object ≡ true → may_be_watched more object ≡ true) → are_marked watched callbacks ≡ true → are_marked more callbacks ≡ true
+are_marked_more watched more [] grown marked = refl
+are_marked_more watched more (c ∷ callbacks) grown marked =
+    let parts = both_parts (is_marked watched c) (are_marked watched callbacks) marked in
+    both (is_marked more c) (are_marked more callbacks) (grown c.object.0 parts.0) (are_marked_more watched more callbacks grown parts.1)
+
+-- and so do those of open sessions
+pub all_marked_more : (watched more : List Bool) (sessions : List OpenSession) → ((object : ℕ) → may_be_watched watched object ≡ true → may_be_watched more object ≡ true) → all_marked watched sessions ≡ true → all_marked more sessions ≡ true
+all_marked_more watched more [] grown marked = refl
+all_marked_more watched more (s ∷ sessions) grown marked =
+    let own = s.session.registry.callbacks in
+    let parts = both_parts (are_marked watched own) (all_marked watched sessions) marked in
+    both (are_marked more own) (all_marked more sessions) (are_marked_more watched more own grown parts.0) (all_marked_more watched more sessions grown parts.1)
+
+-- some of them are
+pub are_marked_filter : (watched : List Bool) (test : Callback → Bool) (callbacks : List Callback) → are_marked watched callbacks ≡ true → are_marked watched (filter test callbacks) ≡ true
+are_marked_filter watched test [] marked = refl
+are_marked_filter watched test (c ∷ callbacks) marked =
+    let parts = both_parts (is_marked watched c) (are_marked watched callbacks) marked in
+    let rest = are_marked_filter watched test callbacks parts.1 in
+    elim (test c) as (λ b. are_marked watched (cond b (c ∷ filter test callbacks) (filter test callbacks)) ≡ true) [
+      | true ↦ both (is_marked watched c) (are_marked watched (filter test callbacks)) parts.0 rest
+      | false ↦ rest
+    ]
+
+-- where the mark of an object says whether it is watched, callbacks are marked
+callbacks_marked : (watched : List Bool) (object : ℕ) (mark : Bool) (callbacks : List Callback) → are_marked watched callbacks ≡ true → (list_any (is_on object) callbacks ≡ true → mark ≡ true) → are_marked (slice_set watched object mark) callbacks ≡ true
+callbacks_marked watched object mark [] marked says = refl
+callbacks_marked watched object mark (c ∷ callbacks) marked says =
+    let parts = both_parts (is_marked watched c) (are_marked watched callbacks) marked in
+    both (is_marked (slice_set watched object mark) c) (are_marked (slice_set watched object mark) callbacks)
+    (set_keeps watched object c.object.0 mark parts.0 (λ e. says (first_of_two (is_on object c) (list_any (is_on object) callbacks) (eq-eqb c.object.0 object e))))
+    (callbacks_marked watched object mark callbacks parts.1 (λ any. says (second_of_two (is_on object c) (list_any (is_on object) callbacks) any)))
+
+-- and so are those of open sessions
+pub sessions_marked : (watched : List Bool) (object : ℕ) (mark : Bool) (sessions : List OpenSession) → all_marked watched sessions ≡ true → (is_watched sessions object ≡ true → mark ≡ true) → all_marked (slice_set watched object mark) sessions ≡ true
+sessions_marked watched object mark [] marked says = refl
+sessions_marked watched object mark (s ∷ sessions) marked says =
+    let own = s.session.registry.callbacks in
+    let parts = both_parts (are_marked watched own) (all_marked watched sessions) marked in
+    both (are_marked (slice_set watched object mark) own) (all_marked (slice_set watched object mark) sessions)
+    (callbacks_marked watched object mark own parts.0 (λ any. says (first_of_two (list_any (is_on object) own) (is_watched sessions object) any)))
+    (sessions_marked watched object mark sessions parts.1 (λ any. says (second_of_two (list_any (is_on object) own) (is_watched sessions object) any)))
+
+-- ---- open sessions
+
+-- one more
+pub marked_behind : (watched : List Bool) (sessions : List OpenSession) (s : OpenSession) → all_marked watched sessions ≡ true → are_marked watched s.session.registry.callbacks ≡ true → all_marked watched (sessions ++ s ∷ []) ≡ true
+marked_behind watched [] s marked own = both (are_marked watched s.session.registry.callbacks) true own refl
+marked_behind watched (x ∷ sessions) s marked own =
+    let parts = both_parts (are_marked watched x.session.registry.callbacks) (all_marked watched sessions) marked in
+    both (are_marked watched x.session.registry.callbacks) (all_marked watched (sessions ++ s ∷ [])) parts.0 (marked_behind watched sessions s parts.1 own)
+
+-- one less
+pub marked_without : (watched : List Bool) (sessions : List OpenSession) (place : ℕ) → all_marked watched sessions ≡ true → all_marked watched (remove sessions place) ≡ true
+marked_without watched [] zero marked = refl
+marked_without watched [] (suc place) marked = refl
+marked_without watched (x ∷ sessions) zero marked = (both_parts (are_marked watched x.session.registry.callbacks) (all_marked watched sessions) marked).1
+marked_without watched (x ∷ sessions) (suc place) marked =
+    let parts = both_parts (are_marked watched x.session.registry.callbacks) (all_marked watched sessions) marked in
+    both (are_marked watched x.session.registry.callbacks) (all_marked watched (remove sessions place)) parts.0 (marked_without watched sessions place parts.1)
+
+-- another in a place
+pub marked_set : (watched : List Bool) (sessions : List OpenSession) (place : ℕ) (s : OpenSession) → all_marked watched sessions ≡ true → are_marked watched s.session.registry.callbacks ≡ true → all_marked watched (slice_set sessions place s) ≡ true
+marked_set watched [] place s marked own = refl
+marked_set watched (x ∷ sessions) zero s marked own =
+    both (are_marked watched s.session.registry.callbacks) (all_marked watched sessions) own (both_parts (are_marked watched x.session.registry.callbacks) (all_marked watched sessions) marked).1
+marked_set watched (x ∷ sessions) (suc place) s marked own =
+    let parts = both_parts (are_marked watched x.session.registry.callbacks) (all_marked watched sessions) marked in
+    both (are_marked watched x.session.registry.callbacks) (all_marked watched (slice_set sessions place s)) parts.0 (marked_set watched sessions place s parts.1 own)
+
+-- ---- changes
+
+notice_keeps : (r : RegistryState) (notice : Notice) (has_room : Bool) (more less : RegistryState) → more.callbacks ≡ r.callbacks → less.callbacks ≡ r.callbacks → (let x : RegistryState = if has_room then more else less in x.callbacks ≡ r.callbacks)
+notice_keeps r notice true more less h k = h
+notice_keeps r notice false more less h k = k
+
+notices_keep : (r : RegistryState) (notices : List Notice) → (fold with_notice r notices).callbacks ≡ r.callbacks
+notices_keep r [] = refl
+notices_keep r (n ∷ notices) = notices_keep (with_notice r n) notices ∙ notice_keeps r n _ _ _ refl refl
+
+-- a change leaves the callbacks
+pub due_keeps : (r : RegistryState) (change : Option Change) (time : ℕ) → (due r change time).callbacks ≡ r.callbacks
+due_keeps r None time = refl
+due_keeps r (Some change) time = notices_keep r (map (notice_of change time) (filter (is_on change.object.0) r.callbacks))
+
+-- and so their marks
+pub told_marked : (watched : List Bool) (change : Option Change) (time : ℕ) (sessions : List OpenSession) → all_marked watched sessions ≡ true → all_marked watched (map (told_open change time) sessions) ≡ true
+told_marked watched change time [] marked = refl
+told_marked watched change time (s ∷ sessions) marked =
+    let own = s.session.registry in
+    let parts = both_parts (are_marked watched own.callbacks) (all_marked watched sessions) marked in
+    both (are_marked watched (due own change time).callbacks) (all_marked watched (map (told_open change time) sessions))
+    (ap (are_marked watched) (due_keeps own change time) ∙ parts.0)
+    (told_marked watched change time sessions parts.1)
+
+-- a callback that is marked is not on an object that may not be watched
+off_object : (watched : List Bool) (object : ℕ) (c : Callback) → may_be_watched watched object ≡ false → is_marked watched c ≡ true → (on : Bool) → is_on object c ≡ on → on ≡ false
+off_object watched object c quiet marked false is = refl
+off_object watched object c quiet marked true is =
+    let same : c.object.0 ≡ object = eqb-true c.object.0 object is in
+    sym marked ∙ ap (may_be_watched watched) same ∙ quiet
+
+-- no callback is on an object that may not be watched
+none_on : (watched : List Bool) (object : ℕ) (callbacks : List Callback) → may_be_watched watched object ≡ false → are_marked watched callbacks ≡ true → filter (is_on object) callbacks ≡ []
+none_on watched object [] quiet marked = refl
+none_on watched object (c ∷ callbacks) quiet marked =
+    let parts = both_parts (is_marked watched c) (are_marked watched callbacks) marked in
+    let rest = none_on watched object callbacks quiet parts.1 in
+    let off : is_on object c ≡ false = off_object watched object c quiet parts.0 (is_on object c) refl in
+    ap (λ b. cond b (c ∷ filter (is_on object) callbacks) (filter (is_on object) callbacks)) off ∙ rest
+
+-- a change of such an object is told to nobody
+pub quiet_told : (watched : List Bool) (change : Change) (time : ℕ) (sessions : List OpenSession) → may_be_watched watched change.object.0 ≡ false → all_marked watched sessions ≡ true → map (told_open (Some change) time) sessions ≡ sessions
+quiet_told watched change time [] quiet marked = refl
+quiet_told watched change time (s ∷ sessions) quiet marked =
+    let own = s.session.registry in
+    let parts = both_parts (are_marked watched own.callbacks) (all_marked watched sessions) marked in
+    let none = none_on watched change.object.0 own.callbacks quiet parts.0 in
+    let state : RegistryState → OpenSession = λ r. record { id = s.id; session = record s.session { registry = r } } in
+    ap (λ cs. state (fold with_notice own (map (notice_of change time) cs)) ∷ map (told_open (Some change) time) sessions) none
+    ∙ ap (λ more. s ∷ more) (quiet_told watched change time sessions quiet parts.1)
+
+-- the callbacks of the session in a place
+pub marked_at : (watched : List Bool) (sessions : List OpenSession) (place : ℕ) (s : OpenSession) → place < length sessions → s ≡ slice_index_or sessions place s → all_marked watched sessions ≡ true → are_marked watched s.session.registry.callbacks ≡ true
+marked_at watched [] place s within at marked = absurd (omega (arith, within))
+marked_at watched (x ∷ sessions) zero s within at marked =
+    ap (λ (y : OpenSession). are_marked watched y.session.registry.callbacks) at
+    ∙ (both_parts (are_marked watched x.session.registry.callbacks) (all_marked watched sessions) marked).0
+marked_at watched (x ∷ sessions) (suc place) s within at marked =
+    marked_at watched sessions place s (omega (arith, within)) at (both_parts (are_marked watched x.session.registry.callbacks) (all_marked watched sessions) marked).1

@@ -1,0 +1,17 @@
+-- Open sessions that are told of a change.
+use Rattle.std.proofs.Common.{◌≡◌, ℕ, List, [], ◌∷◌, map, Option, None, refl, ap}
+use Rattle.vp_waking.specs.declared.change.Change.{Change}
+use Rattle.vp_world.specs.declared.session.OpenSession.{OpenSession}
+use Rattle.vp_world.specs.History.{noticed}
+use Rattle.vp_world.specs.Shown.{session_shown, told_open}
+use Rattle.vp_world.specs.Worlds.{SessionState}
+
+-- no change is told
+pub noticed_none : (time : ℕ) (sessions : List SessionState) → noticed None time sessions ≡ sessions
+noticed_none time [] = refl
+noticed_none time (s ∷ sessions) = ap (λ told. s ∷ told) (noticed_none time sessions)
+
+-- sessions that are told of a change, as they are shown
+pub told_shown : (change : Option Change) (time : ℕ) (sessions : List OpenSession) → map session_shown (map (told_open change time) sessions) ≡ noticed change time (map session_shown sessions)
+told_shown change time [] = refl
+told_shown change time (s ∷ sessions) = ap (λ more. session_shown (told_open change time s) ∷ more) (told_shown change time sessions)

@@ -1,0 +1,109 @@
+// Which objects may be watched, so that a change of another one costs no look at the open sessions.
+ghost use Rattle.std.specs.Prelude.{◌≡◌, ℕ, true, map, option_copied, slice_set, Some};
+ghost use Rattle.vp_vpi.specs.Observers.{Observer};
+ghost use Rattle.vp_vpi.specs.Seats.{Seat};
+ghost use Rattle.vp_world.specs.Answers.{respond};
+ghost use Rattle.vp_world.specs.History.{noticed};
+ghost use Rattle.vp_world.specs.Shown.{session_shown};
+ghost use Rattle.vp_world.specs.Marks.{all_marked, are_marked, is_watch, is_watched, may_be_watched};
+
+use crate::event::Request;
+use crate::session::{OpenSession, tell};
+use vp_elab::ObjectId;
+use vp_notify::Callback;
+use vp_vpi::Session;
+use vp_waking::Change;
+
+/// Some open session may have a callback on an object, by a list that says so of each object.
+fn may_be_watched(watched: &[bool], object: ObjectId) -> bool
+    ensures { result ≡ may_be_watched watched.now object.0 }
+{
+    match watched.get(object.0 as usize) {
+        Some(may) => *may,
+        None => true,
+    }
+}
+
+/// Says of an object whether it may be watched.
+fn set_mark(watched: &mut Vec<bool>, object: ObjectId, mark: bool)
+    ensures { watched.new.items ≡ slice_set watched.old.items object.0 mark }
+{
+    if let Some(may) = watched.get_mut(object.0 as usize) {
+        *may = mark;
+    }
+}
+
+/// The objects of these callbacks may be watched.
+fn mark_all(watched: &mut Vec<bool>, callbacks: &[Callback])
+    ensures marked { are_marked watched.new.items callbacks.now ≡ true }
+    ensures grown { (object : ℕ) → may_be_watched watched.old.items object ≡ true
+        → may_be_watched watched.new.items object ≡ true }
+{
+    for callback in callbacks {
+        set_mark(watched, callback.object, true);
+    }
+}
+
+/// A request registers a callback.
+fn is_watch(request: &Request) -> bool
+    ensures { result ≡ is_watch request.now }
+{
+    match request {
+        Request::Watch { .. } => true,
+        _ => false,
+    }
+}
+
+/// Behind a request of a session the objects of its callbacks may be watched, if they might before.
+pub fn mark_asked(watched: &mut Vec<bool>, session: &Session, request: &Request)
+    ensures marked { (eyes : Observer) → (seat : Seat) → session.now ≡ (respond eyes seat request.now).seat
+        → are_marked watched.old.items seat.registry.callbacks ≡ true
+        → are_marked watched.new.items session.now.registry.callbacks ≡ true }
+    ensures grown { (object : ℕ) → may_be_watched watched.old.items object ≡ true
+        → may_be_watched watched.new.items object ≡ true }
+{
+    if is_watch(request) {
+        mark_all(watched, session.callbacks());
+    }
+}
+
+/// Some open session has a callback on an object.
+fn is_watched(sessions: &[OpenSession], object: ObjectId) -> bool
+    ensures { result ≡ is_watched sessions.now object.0 }
+{
+    sessions.iter().any(|open| open.session.watches(object))
+}
+
+/// A change at a time is due to the callbacks of all open sessions. The sessions are looked at only where its object may be watched, and
+/// then it is known whether it is.
+fn notify_of(sessions: &mut [OpenSession], watched: &mut Vec<bool>, change: &Change, time: u64)
+    requires { all_marked watched.old.items sessions.old ≡ true }
+    ensures told { map session_shown sessions.new
+        ≡ noticed (Some change.now) time (map session_shown sessions.old) }
+    ensures marked { all_marked watched.new.items sessions.new ≡ true }
+{
+    if !may_be_watched(watched, change.object) {
+        return;
+    }
+    tell(sessions, change, time);
+    let mark = is_watched(sessions, change.object);
+    set_mark(watched, change.object, mark);
+}
+
+/// A change at a time is due to the callbacks of all open sessions; no change is due to none. Takes no memory.
+pub fn notify(
+    sessions: &mut [OpenSession],
+    watched: &mut Vec<bool>,
+    change: Option<&Change>,
+    time: u64,
+)
+    requires { all_marked watched.old.items sessions.old ≡ true }
+    ensures told { map session_shown sessions.new
+        ≡ noticed (option_copied change.entry) time (map session_shown sessions.old) }
+    ensures marked { all_marked watched.new.items sessions.new ≡ true }
+{
+    match change {
+        None => {}
+        Some(change) => notify_of(sessions, watched, change, time),
+    }
+}
