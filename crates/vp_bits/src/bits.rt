@@ -22,7 +22,8 @@ use std::marker::Model;
 // in s_vpi_vecval (IEEE Std 1364-2005, 27). Above the width both words are 0.
 #[derive(Clone, Copy, Debug)]
 pub struct Bits {
-    width: u8,
+    // As wide as the words, so that a copy of a vector has no padding.
+    width: u64,
     aval: u64,
     bval: u64,
 }
@@ -74,7 +75,7 @@ impl Bits {
             }
         }
         Ok(Bits {
-            width: digits.len() as u8,
+            width: digits.len() as u64,
             aval,
             bval,
         })
@@ -87,7 +88,7 @@ impl Bits {
         ensures err { IsOkUnless result BitsError.NoMemory }
     {
         let mut digits = String::new(alloc);
-        let mut place = self.width;
+        let mut place = self.width as u8;
         while place > 0 {
             place -= 1;
             digits.push(self.bit(place).digit())?;
@@ -102,9 +103,9 @@ impl Bits {
         ensures { result ≡ resized width self }
     {
         Bits {
-            width,
-            aval: lowest(self.aval, width),
-            bval: lowest(self.bval, width),
+            width: width as u64,
+            aval: lowest(self.aval, width as u64),
+            bval: lowest(self.bval, width as u64),
         }
     }
 
@@ -113,7 +114,7 @@ impl Bits {
         ensures length { result ≡ length self.now }
         ensures in_range { IsWidth result }
     {
-        self.width
+        self.width as u8
     }
 
     /// The vector of this width, in bits, whose every bit is x (IEEE Std 1364-2005, 4.1).
@@ -121,9 +122,9 @@ impl Bits {
         requires { IsWidth width }
         ensures { result ≡ replicate width Unknown }
     {
-        let all = ones(width);
+        let all = ones(width as u64);
         Bits {
-            width,
+            width: width as u64,
             aval: all,
             bval: all,
         }
@@ -135,9 +136,9 @@ impl Bits {
         ensures { result ≡ replicate width HighImpedance }
     {
         Bits {
-            width,
+            width: width as u64,
             aval: 0,
-            bval: ones(width),
+            bval: ones(width as u64),
         }
     }
 
@@ -147,7 +148,7 @@ impl Bits {
         ensures { result ≡ replicate width Zero }
     {
         Bits {
-            width,
+            width: width as u64,
             aval: 0,
             bval: 0,
         }
@@ -160,8 +161,8 @@ impl Bits {
         ensures { result ≡ bits_of_number width number }
     {
         Bits {
-            width,
-            aval: lowest(number, width),
+            width: width as u64,
+            aval: lowest(number, width as u64),
             bval: 0,
         }
     }
@@ -172,9 +173,13 @@ impl Bits {
         requires { IsWidth width }
         ensures { result ≡ bits_of_words width aval bval }
     {
-        let all = ones(width);
+        let all = ones(width as u64);
         if aval <= all && bval <= all {
-            Some(Bits { width, aval, bval })
+            Some(Bits {
+                width: width as u64,
+                aval,
+                bval,
+            })
         } else {
             None
         }
@@ -227,7 +232,7 @@ impl Eq for Bits {
 }
 
 // The word whose lowest bits are 1, as many as the width says.
-fn ones(width: u8) -> u64
+fn ones(width: u64) -> u64
     requires { IsWidth width }
     ensures { result ≡ 2 ^ width - 1 }
 {
@@ -235,7 +240,7 @@ fn ones(width: u8) -> u64
 }
 
 // The lowest bits of a word, as many as the width says.
-fn lowest(word: u64, width: u8) -> u64
+fn lowest(word: u64, width: u64) -> u64
     requires { IsWidth width }
     ensures { result ≡ word % 2 ^ width }
 {

@@ -1,5 +1,5 @@
 -- A state of a simulation, and its steps (clause 11.3).
-use Rattle.std.specs.Prelude.{◌≡◌, ℕ, ◌+◌, ◌≤◌, ◌==◌, ◌&&◌, nat_le, Bool, true, false, if◌then◌else◌, List, [], ◌∷◌, ◌++◌, drop, length, map, replicate, slice_get, slice_index_or, slice_set, Option, Some, None, option_and_then}
+use Rattle.std.specs.Prelude.{◌≡◌, ℕ, ◌+◌, ◌≤◌, ◌==◌, ◌&&◌, nat_le, Bool, true, false, if◌then◌else◌, List, [], ◌∷◌, ◌++◌, drop, length, map, replicate, slice_get, slice_index_or, slice_set, Option, Some, None, is_none, option_and_then}
 use Rattle.std.specs.Option.{option_map_or, option_or}
 use Rattle.vp_source.specs.declared.source.Source.{Source}
 use Rattle.vp_bits.specs.declared.bit.Bit.{Bit}
@@ -32,8 +32,8 @@ use Rattle.vp_sim.specs.declared.fault.SimError.TheVariants.{Finished, Idle, Slo
 use Rattle.vp_waking.specs.declared.waiting.Waiting.{Waiting}
 use Rattle.vp_waking.specs.declared.waiting.Waiting.TheVariants as wait
 use Rattle.vp_waking.specs.Changes.{change_of, net_at, set_change, updated_by, values_behind}
-use Rattle.vp_waking.specs.Listening.{AreHeard, IsHeard, count_of}
-use Rattle.vp_waking.specs.Waking.{awaited_by, roused, with_evaluations, woken_by}
+use Rattle.vp_waking.specs.Listening.{AreHeard}
+use Rattle.vp_waking.specs.Waking.{roused, with_evaluations, woken_by}
 
 -- a state: the design, the time, whether $finish was executed, the value of each object, the place of the statement with which each
 -- process goes on, if one remains of it, what each waits for, and the event queue (clause 11.3)
@@ -71,6 +71,10 @@ with_change tables s change = record s {
 abbrev pub without_event : State → (k : ℕ) → State
 without_event s k = record s { queue = taken s.queue k }
 
+-- a state behind the activation that a step begins with (clause 11.4)
+abbrev pub with_activation : State → State
+with_activation s = record s { queue = activated s.queue }
+
 -- an update that makes this change, if it makes one (clause 11.3)
 abbrev pub updated : Tables → State → (k : ℕ) → Option Change → Outcome
 updated tables s k change = Goes (with_change tables (without_event s k) change) change
@@ -99,8 +103,7 @@ goes_on behind effect.Finishes = behind
 abbrev pub is_over : Effect → (rest : Option ℕ) → Bool
 is_over (effect.Pauses amount next) rest = true
 is_over (effect.Awaits place next) rest = true
-is_over e None = true
-is_over e (Some place) = false
+is_over e rest = is_none rest
 
 -- the queue behind the k-th of the eligible events, if that is over
 abbrev pub taken_if : Bool → Queue → (k : ℕ) → Queue
@@ -180,6 +183,10 @@ performed tables s k process rest e =
     then Refuses TimeLimit
     else Goes (with_effect tables (with_remaining s k process rest e) process e) (change_by s.values e)
 
+-- the same, behind the activation with which a step begins
+abbrev pub performs : State → (k : ℕ) → (process : ℕ) → (rest : Option ℕ) → Effect → Outcome
+performs s k process rest e = performed (tables_of s.design) (with_activation s) k process rest e
+
 -- what the event at a place does in an instance
 abbrev pub next_effect : Tables → State → (instance : ObjectId) → (event : ℕ) → Effect
 next_effect tables s instance event = effect_at s.design instance (drop instance.0 s.values) event
@@ -227,10 +234,6 @@ happened tables s k None = Refuses NoSuchChoice
 happened tables s k (Some (Evaluation process)) = evaluated tables s k process (slice_get tables.processes process)
 happened tables s k (Some (NetUpdate process value)) = updated tables s k (updated_by s.values (net_at tables.processes process) value)
 happened tables s k (Some (Nonblocking u)) = updated tables s k (set_change s.values u.object u.place u.value)
-
--- a state behind the activation that a step begins with (clause 11.4)
-abbrev pub with_activation : State → State
-with_activation s = record s { queue = activated s.queue }
 
 -- a step by the tables of the design takes one of the eligible events, unless $finish was executed (clauses 11.3 and 11.4)
 abbrev pub step_by : Tables → State → (k : ℕ) → Outcome
@@ -342,15 +345,3 @@ pub record Running : Type 0 where
   pub state : State
   pub spare : ℕ
   pub lists : List (List ℕ)
-
--- nothing that the event of a procedure does will want memory: there is room for the evaluations of all that may wait for its change, and
--- for one more event, and what it awaits is heard
-abbrev pub IsReady : Tables → (lists : List (List ℕ)) → (spare : ℕ) → (process : ℕ) → Option Change → Effect → Type 0
-IsReady tables lists spare process change effect.Nothing = Unit {0}
-IsReady tables lists spare process change (effect.Assigns object place value) = count_of lists change ≤ spare
-IsReady tables lists spare process change (effect.Defers object place value delay) = 1 ≤ spare
-IsReady tables lists spare process change (effect.Pauses amount next) = 1 ≤ spare
-IsReady tables lists spare process change (effect.Awaits place next) =
-    IsHeard lists (awaited_by tables (wait.Statement place) process) process
-IsReady tables lists spare process change (effect.Proceeds next) = Unit {0}
-IsReady tables lists spare process change effect.Finishes = Unit {0}

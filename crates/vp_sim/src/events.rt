@@ -1,10 +1,9 @@
-ghost use Rattle.std.specs.Prelude.{◌≡◌, ◌<◌, ◌≤◌, ℕ, Bool, ◌++◌, ◌∷◌, [], drop, length, slice_get, slice_index_or, None, Some, IfErr, IfOk, IfSome, OnErr, OnOk, IsOkUnless};
+ghost use Rattle.std.specs.Prelude.{◌≡◌, ◌<◌, ◌≤◌, ℕ, Bool, length, slice_get, slice_index_or, None, Some, IfErr, IfOk, IfSome, OnErr, OnOk, IsOkUnless};
 ghost use Rattle.vp_expr.specs.Tables.{tables_of};
 ghost use Rattle.vp_strata.specs.declared.event.Event.TheVariants.{NetUpdate};
-ghost use Rattle.vp_strata.specs.Queues.{with_active};
 ghost use Rattle.vp_sim.specs.declared.fault.SimError.TheVariants.{NoMemory};
 ghost use Rattle.vp_waking.specs.Changes.{change_of, net_at, updated_by};
-ghost use Rattle.vp_sim.specs.States.{Explains, Goes, IsStep, Refuses, advance, with_activation, driven, evaluated, happened, without_event, step, turn, with_event};
+ghost use Rattle.vp_sim.specs.States.{Explains, Goes, IsStep, Refuses, with_activation, driven, evaluated, happened, without_event, step, turn, with_event};
 
 use crate::fault::SimError;
 use crate::machine::Machine;
@@ -120,13 +119,7 @@ impl Machine {
         };
         let event = self.next_event(next);
         let effect = self.effect(instance, event);
-        if self.is_late(&effect) {
-            return Err(SimError::TimeLimit);
-        }
-        let change = self.change_by(&effect);
-        let rest = self.rest_of(repeats, body, event, &effect);
-        self.perform(k, process, rest, &change, effect)?;
-        Ok(change)
+        self.perform(k, process, repeats, body, event, effect)
     }
 
     /// The evaluation of this process, the k-th of the eligible events, and what it changed; else the refusal (805, 806).

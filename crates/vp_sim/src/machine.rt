@@ -1,11 +1,9 @@
-ghost use Rattle.std.specs.Prelude.{◌≡◌, ◌≤◌, ◌<◌, ◌++◌, ◌∷◌, [], drop, length, slice_get, slice_index_or, slice_set, IfOk, IfSome, OnErr, OnOk, IsOkUnless};
+ghost use Rattle.std.specs.Prelude.{◌≡◌, ◌≤◌, ◌<◌, length, slice_index_or, slice_set, IfSome, OnErr, OnOk, IsOkUnless};
 ghost use Rattle.std.specs.Arc.{arc_value};
 ghost use Rattle.vp_expr.specs.Tables.{tables_of};
-ghost use Rattle.vp_strata.specs.declared.event.Event.TheVariants.{NetUpdate};
-ghost use Rattle.vp_strata.specs.Queues.{activated, advanced, taken, with_active};
 ghost use Rattle.vp_sim.specs.declared.fault.SimError.TheVariants.{NoMemory};
 ghost use Rattle.vp_waking.specs.Listening.{IsHeard, count_of};
-ghost use Rattle.vp_sim.specs.States.{with_activation, with_change, without_event, start};
+ghost use Rattle.vp_sim.specs.States.{with_activation, with_change, without_event};
 ghost use Rattle.vp_waking.specs.Waking.{awaited_by};
 
 use crate::fault::SimError;

@@ -1,9 +1,11 @@
-ghost use Rattle.std.specs.Prelude.{◌≡◌, ◌≤◌, ◌++◌, ◌-◌, ◌==◌, [], ◌∷◌, drop, false, length, slice_get, slice_index_or, slice_set, take, true, option_to_list, None, IfErr, IfOk, IfSome, MatchOption, OnErr, OnOk, IsOkUnless, ◌+◌, ◌<◌};
+ghost use Rattle.std.specs.Prelude.{◌≡◌, ◌≤◌, ◌<◌, ◌+◌, false, is_none, length, slice_index_or, slice_set, None, Some, IfErr, IfOk, IfSome, MatchOption, OnErr, OnOk};
+ghost use Rattle.std.specs.Option.{option_or};
 ghost use Rattle.vp_expr.specs.Tables.{tables_of};
-ghost use Rattle.vp_statement.specs.Walking.{next_event};
-ghost use Rattle.vp_sim.specs.declared.fault.SimError.TheVariants.{NoMemory};
-ghost use Rattle.vp_waking.specs.Changes.{change_of, set_change, set_change_of};
-ghost use Rattle.vp_sim.specs.States.{IsReady, with_activation, again, change_by, deferred, delay_of, delayed, with_effect, goes_on, is_late, is_over, next_effect, with_remaining, paused, rest_of};
+ghost use Rattle.vp_statement.specs.declared.effect.Effect.TheVariants as effect;
+ghost use Rattle.vp_statement.specs.Walking.{behind_at, next_event};
+ghost use Rattle.vp_strata.specs.Queues.{taken};
+ghost use Rattle.vp_waking.specs.Changes.{set_change};
+ghost use Rattle.vp_sim.specs.States.{Explains, Goes, again, deferred, delay_of, delayed, is_late, next_effect, paused, performs, rest_of, taken_if, with_activation};
 
 use crate::fault::SimError;
 use crate::machine::Machine;
@@ -37,32 +39,6 @@ fn is_late(time: u64, delay: u32) -> bool
     delay > 0 && time.saturating_add(u64::from(delay)) >= TIME_LIMIT
 }
 
-/// The event of a procedure that goes on with this is over.
-fn is_over(effect: &Effect, rest: Option<u32>) -> bool
-    ensures { result ≡ is_over effect.now rest }
-{
-    match effect {
-        Effect::Pauses { .. } | Effect::Awaits { .. } => true,
-        Effect::Nothing
-        | Effect::Assigns { .. }
-        | Effect::Defers { .. }
-        | Effect::Proceeds { .. }
-        | Effect::Finishes => rest.is_none(),
-    }
-}
-
-/// The statement with which a procedure goes on behind its event, by the one that comes behind that.
-fn goes_on(behind: Option<u32>, effect: &Effect) -> Option<u32>
-    ensures { result ≡ goes_on behind effect.now }
-{
-    match effect {
-        Effect::Pauses { next, .. } | Effect::Awaits { next, .. } => Some(*next),
-        Effect::Proceeds { next } => next.or(behind),
-        Effect::Nothing | Effect::Assigns { .. } | Effect::Defers { .. } | Effect::Finishes =>
-            behind,
-    }
-}
-
 /// An `always` begins again where nothing remains of it (9.9.2).
 fn again(repeats: bool, body: u32, rest: Option<u32>) -> Option<u32>
     ensures { result ≡ again repeats body rest }
@@ -93,27 +69,6 @@ impl Machine {
         change_of(object, Some(old), set_in(old, place, value))
     }
 
-    /// What the event of a procedure changes at once.
-    pub fn change_by(&self, effect: &Effect) -> Option<Change>
-        ensures change { result ≡ change_by self.now.state.values effect.now }
-        ensures fits { IfSome result (λ c. length
-            (slice_index_or self.now.state.values c.object.0 c.value) ≡ length c.value) }
-    {
-        match effect {
-            Effect::Assigns {
-                object,
-                place,
-                value,
-            } => self.set_change(*object, *place, *value),
-            Effect::Nothing
-            | Effect::Defers { .. }
-            | Effect::Pauses { .. }
-            | Effect::Awaits { .. }
-            | Effect::Proceeds { .. }
-            | Effect::Finishes => None,
-        }
-    }
-
     /// The statement with which a process goes on; none where nothing remains of it.
     pub fn next_of(&self, process: usize) -> Option<u32>
         ensures { result ≡ slice_index_or self.now.state.remaining process None }
@@ -136,12 +91,12 @@ impl Machine {
         effect_of(self.checked(), &self.values, instance, event)
     }
 
-    /// The statement with which a procedure goes on behind the event at a place, which does this.
-    pub fn rest_of(&self, repeats: bool, body: u32, event: u32, effect: &Effect) -> Option<u32>
-        ensures { result ≡ rest_of (tables_of self.now.state.design) self.now.state.design.source
-            repeats body event effect.now }
+    /// The statement with which a procedure goes on behind the event at a place: the one that the event chose, if it chose one.
+    fn rest(&self, repeats: bool, body: u32, event: u32, chosen: Option<u32>) -> Option<u32>
+        ensures { result ≡ again repeats body (option_or chosen (behind_at
+            self.now.state.design.source (tables_of self.now.state.design).actions event)) }
     {
-        again(repeats, body, goes_on(self.flow.behind(event), effect))
+        again(repeats, body, chosen.or(self.flow.behind(event)))
     }
 
     /// What the event of a procedure does would happen at 2^62 or later.
@@ -151,16 +106,34 @@ impl Machine {
         is_late(self.time, delay_of(effect))
     }
 
-    /// A procedure goes on with a statement behind its event, the k-th of the eligible ones, which is over if it is by what it does.
-    fn leave(&mut self, k: usize, process: usize, rest: Option<u32>, effect: &Effect)
-        ensures state { self.new.state ≡ with_remaining self.old.state k process rest effect.now }
+    /// A procedure goes on with a statement behind its event, the k-th of the eligible ones, which is over where it goes on with none.
+    fn proceed(&mut self, k: usize, process: usize, rest: Option<u32>)
+        ensures state { self.new.state ≡ record (with_activation self.old.state) {
+          remaining = slice_set self.old.state.remaining process rest;
+          queue = taken_if (is_none rest) (with_activation self.old.state).queue k;
+        } }
         ensures spare { self.new.spare ≡ self.old.spare }
         ensures lists { self.new.lists ≡ self.old.lists }
     {
+        self.activate();
         set_remaining(&mut self.remaining, process, rest);
-        if is_over(effect, rest) {
+        if rest.is_none() {
             self.queue.take(k);
         }
+    }
+
+    /// A procedure goes on with a statement when it goes on at all; its event, the k-th of the eligible ones, is over.
+    fn suspend(&mut self, k: usize, process: usize, next: u32)
+        ensures state { self.new.state ≡ record (with_activation self.old.state) {
+          remaining = slice_set self.old.state.remaining process (Some next);
+          queue = taken (with_activation self.old.state).queue k;
+        } }
+        ensures spare { self.new.spare ≡ self.old.spare }
+        ensures lists { self.new.lists ≡ self.old.lists }
+    {
+        self.activate();
+        set_remaining(&mut self.remaining, process, Some(next));
+        self.queue.take(k);
     }
 
     /// This happens so much later.
@@ -198,87 +171,145 @@ impl Machine {
         }
     }
 
-    /// Nothing that the event of a procedure does will want memory; or want of memory (806).
-    fn prepare(
+    /// A blocking assignment, the k-th of the eligible events, and what it changes; or want of memory (806).
+    fn assign(
         &mut self,
+        k: usize,
         process: usize,
-        change: &Option<Change>,
-        effect: &Effect,
-    ) -> Result<(), SimError>
-        ensures ready { OnOk result (IsReady (tables_of self.new.state.design) self.new.lists
-            self.new.spare process change.now effect.now) }
-        ensures state { self.new.state ≡ self.old.state }
-        ensures refused { IsOkUnless result NoMemory }
+        rest: Option<u32>,
+        object: usize,
+        place: Option<u32>,
+        value: Bits,
+    ) -> Result<Option<Change>, SimError>
+        ensures ok { IfOk result (λ change. performs self.old.state k process rest
+            (effect.Assigns object place value) ≡ Goes self.new.state change) }
+        ensures refused { IfErr result (λ e. Explains (performs self.old.state k process rest
+            (effect.Assigns object place value)) e) }
+        ensures unchanged { OnErr result (self.new.state ≡ self.old.state) }
     {
-        match effect {
-            Effect::Assigns { .. } => self.room_for(change),
-            Effect::Defers { .. } | Effect::Pauses { .. } => self.room(1),
-            Effect::Awaits { place, .. } => self.listen(process, Waiting::Statement(*place)),
-            Effect::Nothing | Effect::Proceeds { .. } | Effect::Finishes => Ok(()),
-        }
+        let change = self.set_change(object, place, value);
+        self.room_for(&change)?;
+        self.proceed(k, process, rest);
+        self.change(&change);
+        Ok(change)
     }
 
-    /// What the event of a procedure does, which makes this change.
-    fn do_effect(&mut self, process: usize, change: &Option<Change>, effect: Effect)
-        requires ready { IsReady (tables_of self.old.state.design) self.old.lists self.old.spare
-            process change.now effect }
-        requires on_time { is_late self.old.state.time (delay_of effect) ≡ false }
-        requires fits { IfSome change.now
-            (λ c. length (slice_index_or self.old.state.values c.object.0 c.value)
-            ≡ length c.value) }
-        requires of { change.now ≡ change_by self.old.state.values effect }
-        ensures { self.new.state ≡ with_effect (tables_of self.old.state.design) self.old.state process
-            effect }
+    /// A nonblocking assignment, the k-th of the eligible events, whose update is made so much later; else the refusal (805, 806).
+    fn assign_later(
+        &mut self,
+        k: usize,
+        rest: Option<u32>,
+        update: NonblockingUpdate,
+        delay: u32,
+    ) -> Result<(), SimError>
+        ensures ok { OnOk result (performs self.old.state k update.process rest
+            (effect.Defers update.object update.place update.value delay)
+            ≡ Goes self.new.state None) }
+        ensures refused { IfErr result (λ e. Explains (performs self.old.state k update.process rest
+            (effect.Defers update.object update.place update.value delay)) e) }
+        ensures unchanged { OnErr result (self.new.state ≡ self.old.state) }
+    {
+        if is_late(self.time, delay) {
+            return Err(SimError::TimeLimit);
+        }
+        self.room(1)?;
+        self.proceed(k, update.process, rest);
+        self.defer(delay, update);
+        Ok(())
+    }
+
+    /// A delay control, the k-th of the eligible events: the procedure goes on with a statement so much later; else the refusal (805,
+    /// 806).
+    fn delay(&mut self, k: usize, process: usize, amount: u32, next: u32) -> Result<(), SimError>
+        ensures ok { OnOk result (performs self.old.state k process (Some next)
+            (effect.Pauses amount next) ≡ Goes self.new.state None) }
+        ensures refused { IfErr result (λ e. Explains (performs self.old.state k process (Some next)
+            (effect.Pauses amount next)) e) }
+        ensures unchanged { OnErr result (self.new.state ≡ self.old.state) }
+    {
+        if is_late(self.time, amount) {
+            return Err(SimError::TimeLimit);
+        }
+        self.room(1)?;
+        self.suspend(k, process, next);
+        self.pause(process, amount);
+        Ok(())
+    }
+
+    /// An event control, or a wait that goes on waiting, the k-th of the eligible events: the procedure goes on with a statement at a
+    /// change for which the one at a place waits; or want of memory (806).
+    fn control(&mut self, k: usize, process: usize, place: u32, next: u32) -> Result<(), SimError>
+        ensures ok { OnOk result (performs self.old.state k process (Some next)
+            (effect.Awaits place next) ≡ Goes self.new.state None) }
+        ensures refused { IfErr result (λ e. Explains (performs self.old.state k process (Some next)
+            (effect.Awaits place next)) e) }
+        ensures unchanged { OnErr result (self.new.state ≡ self.old.state) }
+    {
+        self.listen(process, Waiting::Statement(place))?;
+        self.suspend(k, process, next);
+        self.wait(process, Waiting::Statement(place));
+        Ok(())
+    }
+
+    /// The event at a place, of a procedure, the k-th of the eligible ones, does this, and what it changes; else the refusal (805, 806).
+    #[tactic(auto, using(crate::proofs::Resting::again_some))]
+    pub fn perform(
+        &mut self,
+        k: usize,
+        process: usize,
+        repeats: bool,
+        body: u32,
+        event: u32,
+        effect: Effect,
+    ) -> Result<Option<Change>, SimError>
+        ensures ok { IfOk result (λ change. performs self.old.state k process
+            (rest_of (tables_of self.old.state.design) self.old.state.design.source repeats body
+            event effect) effect ≡ Goes self.new.state change) }
+        ensures refused { IfErr result (λ e. Explains (performs self.old.state k process
+            (rest_of (tables_of self.old.state.design) self.old.state.design.source repeats body
+            event effect) effect) e) }
+        ensures unchanged { OnErr result (self.new.state ≡ self.old.state) }
     {
         match effect {
-            Effect::Assigns { .. } => self.change(change),
+            Effect::Assigns {
+                object,
+                place,
+                value,
+            } => {
+                let rest = self.rest(repeats, body, event, None);
+                return self.assign(k, process, rest, object, place, value);
+            }
             Effect::Defers {
                 object,
                 place,
                 value,
                 delay,
-            } => self.defer(
-                delay,
-                NonblockingUpdate {
+            } => {
+                let rest = self.rest(repeats, body, event, None);
+                let update = NonblockingUpdate {
                     process,
                     object,
                     place,
                     value,
-                },
-            ),
-            Effect::Pauses { amount, .. } => self.pause(process, amount),
-            Effect::Awaits { place, .. } => self.wait(process, Waiting::Statement(place)),
-            Effect::Finishes => self.finished = true,
-            Effect::Nothing | Effect::Proceeds { .. } => (),
+                };
+                self.assign_later(k, rest, update, delay)?;
+            }
+            Effect::Pauses { amount, next } => self.delay(k, process, amount, next)?,
+            Effect::Awaits { place, next } => self.control(k, process, place, next)?,
+            Effect::Proceeds { next } => {
+                let rest = self.rest(repeats, body, event, next);
+                self.proceed(k, process, rest);
+            }
+            Effect::Nothing => {
+                let rest = self.rest(repeats, body, event, None);
+                self.proceed(k, process, rest);
+            }
+            Effect::Finishes => {
+                let rest = self.rest(repeats, body, event, None);
+                self.proceed(k, process, rest);
+                self.finished = true;
+            }
         }
-    }
-
-    /// The event of a procedure, the k-th of the eligible ones, does this and makes this change, and the procedure goes on with a
-    /// statement; or want of memory (806).
-    pub fn perform(
-        &mut self,
-        k: usize,
-        process: usize,
-        rest: Option<u32>,
-        change: &Option<Change>,
-        effect: Effect,
-    ) -> Result<(), SimError>
-        requires on_time { is_late self.old.state.time (delay_of effect) ≡ false }
-        requires fits { IfSome change.now
-            (λ c. length (slice_index_or self.old.state.values c.object.0 c.value)
-            ≡ length c.value) }
-        requires of { change.now ≡ change_by self.old.state.values effect }
-        ensures ok { OnOk result (self.new.state
-            ≡ with_effect (tables_of self.old.state.design)
-            (with_remaining (with_activation self.old.state) k process rest effect) process
-            effect) }
-        ensures refused { IsOkUnless result NoMemory }
-        ensures unchanged { OnErr result (self.new.state ≡ self.old.state) }
-    {
-        self.prepare(process, change, &effect)?;
-        self.activate();
-        self.leave(k, process, rest, &effect);
-        self.do_effect(process, change, effect);
-        Ok(())
+        Ok(None)
     }
 }

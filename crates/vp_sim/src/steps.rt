@@ -1,4 +1,4 @@
-ghost use Rattle.std.specs.Prelude.{◌≡◌, ◌++◌, length, map, replicate, None, Some, IfErr, IfOk, OnErr, OnOk, IsOkUnless};
+ghost use Rattle.std.specs.Prelude.{◌≡◌, length, map, None, Some, IfErr, IfOk, OnErr, OnOk, IsOkUnless};
 ghost use Rattle.std.specs.Arc.{arc_value};
 ghost use Rattle.vp_elab.specs.Tree.{below};
 ghost use Rattle.vp_strata.specs.declared.event.Event.TheVariants.{Evaluation};

@@ -1,6 +1,5 @@
-ghost use Rattle.std.specs.Prelude.{◌≡◌, ◌∷◌, [], length, map, replicate, slice_index_or, IfOk, None};
-ghost use Rattle.std.specs.List.{flat_map, fold};
-ghost use Rattle.vp_elab.specs.Tree.{below};
+ghost use Rattle.std.specs.Prelude.{◌≡◌, length, map, slice_index_or, IfOk, None};
+ghost use Rattle.std.specs.List.{fold};
 ghost use Rattle.vp_statement.specs.Noting.{noted};
 ghost use Rattle.vp_statement.specs.Walking.{action_at, behind, flow_of, part_if, part_of, parts_by_place, parts_of, step_or};
 

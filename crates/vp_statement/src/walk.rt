@@ -1,4 +1,4 @@
-ghost use Rattle.std.specs.Prelude.{◌≡◌, length};
+ghost use Rattle.std.specs.Prelude.{◌≡◌};
 ghost use Rattle.vp_statement.specs.Walking.{action_at, first_part, is_nothing, next_event};
 
 use vp_expr::Action;

@@ -194,7 +194,12 @@ impl ActiveRegion {
         ensures room { self.new.room ≡ self.old.room + 1 }
         ensures processes { self.new.processes ≡ self.old.processes }
     {
-        if let Some(Event::NetUpdate { process, .. }) = self.events.remove(place) {
+        let event = if place == 0 {
+            self.events.pop_front()
+        } else {
+            self.events.remove(place)
+        };
+        if let Some(Event::NetUpdate { process, .. }) = event {
             let count = counted(&self.updates, process) - 1;
             set_count(&mut self.updates, process, count);
         }

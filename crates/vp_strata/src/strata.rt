@@ -14,6 +14,9 @@ use std::collections::VecDeque;
 use std::marker::Model;
 use vp_bits::Bits;
 
+/// Room is made for at least so many events at once, so that few of the events that follow have to ask for memory.
+const AMPLE: usize = 64;
+
 /// No event is scheduled at this time or later, in time units (profile).
 pub const TIME_LIMIT: u64 = 1 << 62;
 
@@ -86,8 +89,22 @@ impl Strata {
         ensures memory { IfErr result (λ e. e ≡ NoMemory) }
     {
         if count <= self.spare {
-            return Ok(());
+            Ok(())
+        } else {
+            self.grow(count.max(AMPLE))
         }
+    }
+
+    /// Makes room for so many events, which are more than there is room for. An `Err` is want of memory (701). No event changes.
+    #[inline(never)]
+    fn grow(&mut self, count: usize) -> Result<(), StrataError>
+        requires { self.old.spare ≤ count }
+        ensures spare { OnOk result (count ≤ self.new.spare) }
+        ensures no_less { self.old.spare ≤ self.new.spare }
+        ensures queue { self.new.queue ≡ self.old.queue }
+        ensures processes { self.new.processes ≡ self.old.processes }
+        ensures memory { IfErr result (λ e. e ≡ NoMemory) }
+    {
         self.active
             .reserve_all(count, self.inactive.len(), self.nonblocking.len())?;
         self.inactive.reserve(count)?;

@@ -25,7 +25,8 @@ event_in (happening.Open login session) = event.Open (arc_value login).user (arc
 event_in (happening.Ask asked reply) = event.Ask (arc_value asked).session (arc_value asked).request
 event_in (happening.Put asked change) = event.Ask (arc_value asked).session (arc_value asked).request
 event_in (happening.Close session) = event.Close session
-event_in (happening.Step k change) = event.Step k
+event_in (happening.Step k) = event.Step k
+event_in (happening.StepWithChange k change) = event.Step k
 event_in happening.Advance = event.Advance
 
 -- its reply
@@ -34,7 +35,8 @@ reply_in (happening.Open login session) = reply.Opened session
 reply_in (happening.Ask asked reply) = reply
 reply_in (happening.Put asked change) = reply.Done
 reply_in (happening.Close session) = reply.Done
-reply_in (happening.Step k change) = reply.Done
+reply_in (happening.Step k) = reply.Done
+reply_in (happening.StepWithChange k change) = reply.Done
 reply_in happening.Advance = reply.Done
 
 -- what it changed
@@ -43,7 +45,8 @@ change_in (happening.Open login session) = None
 change_in (happening.Ask asked reply) = None
 change_in (happening.Put asked change) = Some change
 change_in (happening.Close session) = None
-change_in (happening.Step k change) = change
+change_in (happening.Step k) = None
+change_in (happening.StepWithChange k change) = Some change
 change_in happening.Advance = None
 
 -- an entry of what happened

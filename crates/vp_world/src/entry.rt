@@ -41,10 +41,14 @@ pub enum Happening {
     Close {
         session: SessionId,
     },
-    /// The simulation took the k-th of the events that a step could take.
+    /// The simulation took the k-th of the events that a step could take, which changed nothing.
     Step {
         k: u32,
-        change: Option<Change>,
+    },
+    /// The same, and this changed.
+    StepWithChange {
+        k: u32,
+        change: Change,
     },
     /// The simulation went on to the time of the next event.
     Advance,
@@ -56,6 +60,18 @@ impl Happening {
     ghost use Rattle.vp_world.specs.declared.event.Event.TheVariants as event;
     ghost use Rattle.vp_world.specs.declared.reply.Reply.TheVariants as reply;
     ghost use Rattle.vp_world.specs.Entries.{change_in, event_in, reply_in};
+
+    /// The simulation took the k-th of the events, and this changed.
+    pub fn of_step(k: u32, change: Option<Change>) -> Happening
+        ensures event { event_in result ≡ event.Step k }
+        ensures reply { reply_in result ≡ reply.Done }
+        ensures change { change_in result ≡ change }
+    {
+        match change {
+            Some(change) => Happening::StepWithChange { k, change },
+            None => Happening::Step { k },
+        }
+    }
 
     /// A session asked, was answered so, and changed this; only what is done changes something.
     pub fn of_asked(asked: Arc<Asked>, answer: Reply, change: Option<Change>) -> Happening
@@ -75,7 +91,7 @@ impl Happening {
     }
 }
 
-/// An entry of the log, of at most 80 bytes. A contract sees the event, its reply, what it changed, and the time and `$finish`
+/// An entry of the log, of at most 64 bytes. A contract sees the event, its reply, what it changed, and the time and `$finish`
 /// after it.
 #[derive(Drop)]
 pub struct Entry {

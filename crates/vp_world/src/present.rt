@@ -271,6 +271,8 @@ impl Present {
     }
 
     /// The simulation does not refuse step k; else its refusal (1308).
+    #[cold]
+    #[inline(never)]
     pub fn check_step(&self, k: u32) -> Result<(), WorldError>
         ensures accepted { OnOk result (refusal_of_outcome (sim.step self.now.state.run k) ≡ None) }
         ensures refused { IfErr result
@@ -280,6 +282,8 @@ impl Present {
     }
 
     /// The simulation does not refuse an advance; else its refusal (1308).
+    #[cold]
+    #[inline(never)]
     pub fn check_advance(&self) -> Result<(), WorldError>
         ensures accepted { OnOk result
             (refusal_of_outcome (sim.advance self.now.state.run) ≡ None) }

@@ -130,7 +130,7 @@ impl World {
         }
         let change = self.present.step(k)?;
         self.log.push_reserved(Entry {
-            happening: Happening::Step { k, change },
+            happening: Happening::of_step(k, change),
             time: self.present.time(),
             finished: self.present.finished(),
         });

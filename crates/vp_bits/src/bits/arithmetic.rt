@@ -11,9 +11,9 @@ impl Bits {
         ensures { result ≡ added self other }
     {
         if self.bval | other.bval != 0 {
-            return Bits::unknown(self.width);
+            return Bits::unknown(self.width as u8);
         }
-        Bits::of_number(self.width, self.aval.wrapping_add(other.aval))
+        Bits::of_number(self.width as u8, self.aval.wrapping_add(other.aval))
     }
 
     /// The difference modulo 2^width of two vectors of one width, as unsigned numbers; all x where any
@@ -23,9 +23,9 @@ impl Bits {
         ensures { result ≡ subtracted self other }
     {
         if self.bval | other.bval != 0 {
-            return Bits::unknown(self.width);
+            return Bits::unknown(self.width as u8);
         }
-        Bits::of_number(self.width, self.aval.wrapping_sub(other.aval))
+        Bits::of_number(self.width as u8, self.aval.wrapping_sub(other.aval))
     }
 
     /// The product modulo 2^width of two vectors of one width, as unsigned numbers; all x where any bit
@@ -35,8 +35,8 @@ impl Bits {
         ensures { result ≡ multiplied self other }
     {
         if self.bval | other.bval != 0 {
-            return Bits::unknown(self.width);
+            return Bits::unknown(self.width as u8);
         }
-        Bits::of_number(self.width, self.aval.wrapping_mul(other.aval))
+        Bits::of_number(self.width as u8, self.aval.wrapping_mul(other.aval))
     }
 }

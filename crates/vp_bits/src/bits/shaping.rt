@@ -13,10 +13,10 @@ impl Bits {
         ensures { result ≡ shifted_left self amount }
     {
         let Some(places) = amount.number() else {
-            return Bits::unknown(self.width);
+            return Bits::unknown(self.width as u8);
         };
         if places >= u64::from(self.width) {
-            return Bits::zeros(self.width);
+            return Bits::zeros(self.width as u8);
         }
         Bits {
             width: self.width,
@@ -31,10 +31,10 @@ impl Bits {
         ensures { result ≡ shifted_right self amount }
     {
         let Some(places) = amount.number() else {
-            return Bits::unknown(self.width);
+            return Bits::unknown(self.width as u8);
         };
         if places >= u64::from(self.width) {
-            return Bits::zeros(self.width);
+            return Bits::zeros(self.width as u8);
         }
         Bits {
             width: self.width,
@@ -74,7 +74,7 @@ impl Bits {
         ensures { result ≡ repeated count self }
     {
         // One in the lowest place of each copy: times it, a word is copied.
-        let width = self.width * count;
+        let width = self.width * count as u64;
         let places = ones(width) / ones(self.width);
         Bits {
             width,
@@ -91,9 +91,9 @@ impl Bits {
         ensures { result ≡ selected self low width }
     {
         Bits {
-            width,
-            aval: lowest(self.aval >> low, width),
-            bval: lowest(self.bval >> low, width),
+            width: width as u64,
+            aval: lowest(self.aval >> low, width as u64),
+            bval: lowest(self.bval >> low, width as u64),
         }
     }
 
