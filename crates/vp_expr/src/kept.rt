@@ -30,6 +30,12 @@ impl KeptValues {
         KeptValues { values }
     }
 
+    pub(crate) fn list(&self) -> &SharedList<Bits>
+        ensures { result.now ≡ self.now }
+    {
+        &self.values
+    }
+
     /// How many values there are.
     pub fn count(&self) -> usize
         ensures { result ≡ length self.now }

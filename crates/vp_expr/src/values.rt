@@ -138,11 +138,14 @@ impl Values {
         }
     }
 
-    /// The same values again; takes memory (604).
-    pub fn try_clone(&self, alloc: Global) -> Result<Values, ExprError>
-        ensures values { IfOk result (λ values. values ≡ self.now) }
+    /// The values of a copy, to be set; takes memory for all of them (604).
+    pub fn of_kept(alloc: Global, kept: &KeptValues) -> Result<Values, ExprError>
+        ensures values { IfOk result (λ values. values ≡ kept.now) }
         ensures err { IsOkUnless result ExprError.NoMemory }
     {
-        Values::from_vec(alloc, Vec::from_slice(alloc, self.values.as_slice())?)
+        match TrackedList::of_kept(alloc, kept.list()) {
+            Ok(values) => Ok(Values { values }),
+            Err(_) => Err(ExprError::NoMemory),
+        }
     }
 }

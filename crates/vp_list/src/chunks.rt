@@ -28,6 +28,10 @@ pub trait Part<T>: Clone + Drop {
         ensures set { OnOk result (items self.new ≡ slice_set (items self.old) place item) }
         ensures kept { OnErr result (items self.new ≡ items self.old) };
 
+    /// Puts the items behind others. May take memory; where there is none, some of them may stand there.
+    fn append_to(&self, list: &mut Vec<T>) -> Result<(), AllocError>
+        ensures { OnOk result (list.new.items ≡ list.old.items ++ items self.now) };
+
     /// A clone stands for the same list.
     ghost copied: { (a b : Self) → Self.is_clone a b → items b ≡ items a };
 }
@@ -104,6 +108,10 @@ impl<T: Copy + Drop> Part<T> for Chunk<T> {
     fn set_item(&mut self, place: usize, item: T) -> Result<(), AllocError> {
         self.set(place, item);
         Ok(())
+    }
+
+    fn append_to(&self, list: &mut Vec<T>) -> Result<(), AllocError> {
+        list.extend_from_slice(self.items.as_slice())
     }
 }
 
@@ -235,6 +243,13 @@ impl<T: Copy + Drop, P: Part<T>, const SIZE: usize> Part<T> for Parts<T, P, SIZE
     fn set_item(&mut self, place: usize, item: T) -> Result<(), AllocError> {
         self.set(place, item)
     }
+
+    fn append_to(&self, list: &mut Vec<T>) -> Result<(), AllocError> {
+        for part in &self.parts {
+            part.append_to(list)?;
+        }
+        Ok(())
+    }
 }
 
 /// A list that several hold at once: one holder more costs a count for each 4096 items and copies none of them, and a write
@@ -298,6 +313,15 @@ impl<T: Copy + Drop> SharedList<T> {
             len: self.len,
             parts: self.parts.clone()?,
         })
+    }
+
+    /// The items, one by one. Takes memory for all of them.
+    pub fn to_vec(&self, alloc: Global) -> Result<Vec<T>, AllocError>
+        ensures { IfOk result (λ v. v.items ≡ self.now) }
+    {
+        let mut items = Vec::with_capacity(alloc, self.len)?;
+        self.parts.append_to(&mut items)?;
+        Ok(items)
     }
 
     /// The chunk of 64 items, or fewer at the end, by its number: those from 64 times the number on.

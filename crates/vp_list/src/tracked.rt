@@ -48,6 +48,19 @@ impl<T: Copy + Drop> TrackedList<T> {
         })
     }
 
+    /// The list of a copy, which shares its chunks with what is kept of it until they are written. Takes memory for all items.
+    pub fn of_kept(alloc: Global, kept: &SharedList<T>) -> Result<TrackedList<T>, AllocError>
+        ensures { IfOk result (λ t. t ≡ kept.now) }
+    {
+        Ok(TrackedList {
+            alloc,
+            items: kept.to_vec(alloc)?,
+            kept: kept.try_clone()?,
+            written: Vec::new(alloc),
+            is_complete: true,
+        })
+    }
+
     /// The items as a slice.
     pub fn as_slice(&self) -> &[T]
         ensures { result.now ≡ self.now }

@@ -1,3 +1,4 @@
 pub mod Resting
+pub mod Scheduling
 pub mod StepRows
 pub mod NetRows

@@ -331,8 +331,14 @@ Explains (Refuses r) e = e ≡ r
 
 -- ---- a state as it is kept
 
--- what comes behind each statement is the design's, there is a value for each object of the design, what each process waits for, and each
--- process that waits is heard
+-- what comes behind each statement is the design's, there is a value for each object of the design, and what each process waits for
+pub record FitsDesign (design : Elaborated) (flow : List (Option ℕ)) (values : List (List Bit)) (count : ℕ) (waiting : List Waiting) : Type 0 where
+  pub flows : flow ≡ flow_of design.source (tables_of design).actions
+  pub objects : length values ≡ length design.tree.nodes
+  pub processes : count ≡ length (tables_of design).processes
+  pub waits : length waiting ≡ length (tables_of design).processes
+
+-- the same, and each process that waits is heard
 pub record IsWhole (design : Elaborated) (flow : List (Option ℕ)) (values : List (List Bit)) (count : ℕ) (waiting : List Waiting) (lists : List (List ℕ)) : Type 0 where
   pub flows : flow ≡ flow_of design.source (tables_of design).actions
   pub objects : length values ≡ length design.tree.nodes

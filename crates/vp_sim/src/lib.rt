@@ -3,6 +3,7 @@
 
 mod events;
 mod fault;
+mod kept;
 mod machine;
 mod procedure;
 mod remaining;
@@ -10,4 +11,5 @@ mod sim;
 mod steps;
 
 pub use fault::SimError;
+pub use kept::KeptSim;
 pub use sim::Sim;

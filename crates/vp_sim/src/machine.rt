@@ -12,9 +12,10 @@ use std::marker::Model;
 use std::sync::Arc;
 use vp_bits::Bits;
 use vp_expr::{Checked, Values};
+use vp_list::TrackedList;
 use vp_statement::Flow;
 use vp_strata::Strata;
-use vp_waking::{Change, Listeners, Waiting, set_wait, wake};
+use vp_waking::{Change, Listeners, Waiting, wake};
 
 /// A simulation while an event happens. What takes memory comes before the first visible change. A contract sees the state, for how
 /// many more events there is room, and the listeners of each object.
@@ -29,8 +30,9 @@ pub struct Machine {
     /// What comes behind each statement of the design.
     pub(crate) flow: Arc<Flow>,
     /// Of each process the statement with which it goes on, if one remains of it.
-    pub(crate) remaining: Vec<Option<u32>>,
-    pub(crate) waiting: Vec<Waiting>,
+    pub(crate) remaining: TrackedList<Option<u32>>,
+    /// Of each process what it waits for.
+    pub(crate) waiting: TrackedList<Waiting>,
     pub(crate) queue: Strata,
 }
 
@@ -40,9 +42,9 @@ impl Model for Machine {
 
     ghost Value = { Running };
 
-    ghost view = { λ m. record { state = record { design = m.listeners.design; time = m.time; finished = m.finished; values = m.values; remaining = m.remaining.items; waiting = m.waiting.items; queue = m.queue.queue }; spare = m.queue.spare; lists = m.listeners.lists } };
+    ghost view = { λ m. record { state = record { design = m.listeners.design; time = m.time; finished = m.finished; values = m.values; remaining = m.remaining; waiting = m.waiting; queue = m.queue.queue }; spare = m.queue.spare; lists = m.listeners.lists } };
 
-    ghost invariant = { λ m. IsWhole m.listeners.design (arc_value m.flow) m.values m.queue.processes m.waiting.items m.listeners.lists };
+    ghost invariant = { λ m. IsWhole m.listeners.design (arc_value m.flow) m.values m.queue.processes m.waiting m.listeners.lists };
 }
 
 impl Machine {
@@ -102,7 +104,7 @@ impl Machine {
         ensures spare { self.new.spare ≡ self.old.spare }
         ensures lists { self.new.lists ≡ self.old.lists }
     {
-        set_wait(&mut self.waiting, process, waiting);
+        self.waiting.set(process, waiting);
     }
 
     /// The activation that a step begins with.

@@ -1,6 +1,7 @@
-ghost use Rattle.std.specs.Prelude.{◌≡◌, ◌≤◌, ◌<◌, ◌+◌, false, is_none, length, slice_index_or, slice_set, None, Some, IfErr, IfOk, IfSome, MatchOption, OnErr, OnOk};
+ghost use Rattle.std.specs.Prelude.{◌≡◌, ◌≤◌, ◌<◌, ◌+◌, false, is_none, length, slice_index_or, slice_set, None, Some, IfErr, IfOk, IfSome, MatchOption, OnErr, OnOk, IsOkUnless};
 ghost use Rattle.std.specs.Option.{option_or};
 ghost use Rattle.vp_expr.specs.Tables.{tables_of};
+ghost use Rattle.vp_sim.specs.declared.fault.SimError.TheVariants.{NoMemory};
 ghost use Rattle.vp_statement.specs.declared.effect.Effect.TheVariants as effect;
 ghost use Rattle.vp_statement.specs.Walking.{behind_at, next_event};
 ghost use Rattle.vp_strata.specs.Queues.{taken};
@@ -9,7 +10,7 @@ ghost use Rattle.vp_sim.specs.States.{Explains, Goes, again, deferred, delay_of,
 
 use crate::fault::SimError;
 use crate::machine::Machine;
-use crate::remaining::{remaining_of, set_remaining};
+use crate::remaining::remaining_of;
 use vp_bits::Bits;
 use vp_elab::ObjectId;
 use vp_operand::set_in;
@@ -73,7 +74,7 @@ impl Machine {
     pub fn next_of(&self, process: usize) -> Option<u32>
         ensures { result ≡ slice_index_or self.now.state.remaining process None }
     {
-        remaining_of(&self.remaining, process)
+        remaining_of(self.remaining.as_slice(), process)
     }
 
     /// The place of the first event of a statement.
@@ -116,7 +117,7 @@ impl Machine {
         ensures lists { self.new.lists ≡ self.old.lists }
     {
         self.activate();
-        set_remaining(&mut self.remaining, process, rest);
+        self.remaining.set(process, rest);
         if rest.is_none() {
             self.queue.take(k);
         }
@@ -132,43 +133,37 @@ impl Machine {
         ensures lists { self.new.lists ≡ self.old.lists }
     {
         self.activate();
-        set_remaining(&mut self.remaining, process, Some(next));
+        self.remaining.set(process, Some(next));
         self.queue.take(k);
     }
 
-    /// This happens so much later.
-    fn schedule(&mut self, delay: u32, event: Delayed)
+    /// This happens so much later; or want of memory (806).
+    fn schedule(&mut self, delay: u32, event: Delayed) -> Result<(), SimError>
         requires on_time { self.old.state.time + delay < TIME_LIMIT }
-        requires room { 1 ≤ self.old.spare }
-        ensures { self.new.state ≡ delayed self.old.state delay event }
+        ensures ok { OnOk result (self.new.state ≡ delayed self.old.state delay event) }
+        ensures refused { IsOkUnless result NoMemory }
+        ensures unchanged { OnErr result (self.new.state ≡ self.old.state) }
     {
-        let _ = self.queue.push_future(self.time + u64::from(delay), event);
-    }
-
-    /// A process pauses.
-    fn pause(&mut self, process: usize, amount: u32)
-        requires on_time { is_late self.old.state.time amount ≡ false }
-        requires room { 1 ≤ self.old.spare }
-        ensures { self.new.state ≡ paused self.old.state process amount }
-    {
-        if amount == 0 {
-            let _ = self.queue.push_inactive(process);
-        } else {
-            self.schedule(amount, Delayed::Evaluation { process });
+        match self.queue.push_future(self.time + u64::from(delay), event) {
+            Ok(()) => Ok(()),
+            Err(_) => Err(SimError::NoMemory),
         }
     }
 
-    /// An update of a nonblocking assignment is made at the end of this time, or of a later one.
-    fn defer(&mut self, delay: u32, update: NonblockingUpdate)
-        requires on_time { is_late self.old.state.time delay ≡ false }
-        requires room { 1 ≤ self.old.spare }
-        ensures { self.new.state ≡ deferred self.old.state delay update }
+    /// A process is inactive.
+    fn push_inactive(&mut self, process: usize)
+        requires { 1 ≤ self.old.spare }
+        ensures { self.new.state ≡ paused self.old.state process 0 }
     {
-        if delay == 0 {
-            let _ = self.queue.push_nba(update);
-        } else {
-            self.schedule(delay, Delayed::Nonblocking { update });
-        }
+        let _ = self.queue.push_inactive(process);
+    }
+
+    /// An update of a nonblocking assignment is made at the end of this time.
+    fn push_nonblocking(&mut self, update: NonblockingUpdate)
+        requires { 1 ≤ self.old.spare }
+        ensures { self.new.state ≡ deferred self.old.state 0 update }
+    {
+        let _ = self.queue.push_nba(update);
     }
 
     /// A blocking assignment, the k-th of the eligible events, and what it changes; or want of memory (806).
@@ -195,6 +190,7 @@ impl Machine {
     }
 
     /// A nonblocking assignment, the k-th of the eligible events, whose update is made so much later; else the refusal (805, 806).
+    #[tactic(auto, using(crate::proofs::Scheduling::delayed_first))]
     fn assign_later(
         &mut self,
         k: usize,
@@ -212,14 +208,21 @@ impl Machine {
         if is_late(self.time, delay) {
             return Err(SimError::TimeLimit);
         }
+        let process = update.process;
+        if delay > 0 {
+            self.schedule(delay, Delayed::Nonblocking { update })?;
+            self.proceed(k, process, rest);
+            return Ok(());
+        }
         self.room(1)?;
-        self.proceed(k, update.process, rest);
-        self.defer(delay, update);
+        self.proceed(k, process, rest);
+        self.push_nonblocking(update);
         Ok(())
     }
 
     /// A delay control, the k-th of the eligible events: the procedure goes on with a statement so much later; else the refusal (805,
     /// 806).
+    #[tactic(auto, using(crate::proofs::Scheduling::delayed_first))]
     fn delay(&mut self, k: usize, process: usize, amount: u32, next: u32) -> Result<(), SimError>
         ensures ok { OnOk result (performs self.old.state k process (Some next)
             (effect.Pauses amount next) ≡ Goes self.new.state None) }
@@ -230,9 +233,14 @@ impl Machine {
         if is_late(self.time, amount) {
             return Err(SimError::TimeLimit);
         }
+        if amount > 0 {
+            self.schedule(amount, Delayed::Evaluation { process })?;
+            self.suspend(k, process, next);
+            return Ok(());
+        }
         self.room(1)?;
         self.suspend(k, process, next);
-        self.pause(process, amount);
+        self.push_inactive(process);
         Ok(())
     }
 

@@ -5,6 +5,7 @@ ghost use Rattle.vp_sim.specs.declared.fault.SimError.TheVariants.{NoMemory};
 ghost use Rattle.vp_sim.specs.States.{Explains, Goes, IsStep, Refuses, advance, eligible, next_time, put, slot_done, source_of, start, step};
 
 use crate::fault::SimError;
+use crate::kept::KeptSim;
 use crate::machine::Machine;
 use std::alloc::Global;
 use std::marker::Model;
@@ -38,13 +39,32 @@ impl Sim {
         Ok(Sim { machine })
     }
 
-    /// The same simulation again; or want of memory (806).
-    pub fn try_clone(&self) -> Result<Sim, SimError>
-        ensures state { IfOk result (λ sim. sim ≡ self.now) }
+    /// A copy of the simulation to be kept, which shares what was not written since the last one; or want of memory (806).
+    pub fn keep(&mut self) -> Result<KeptSim, SimError>
+        ensures copy { IfOk result (λ copy. copy ≡ self.old) }
+        ensures same { self.new ≡ self.old }
         ensures err { IsOkUnless result NoMemory }
     {
-        let machine = self.machine.try_clone()?;
+        self.machine.keep()
+    }
+
+    /// A simulation that goes on from a copy; or want of memory (806).
+    pub fn of_kept(kept: &KeptSim) -> Result<Sim, SimError>
+        ensures state { IfOk result (λ sim. sim ≡ kept.now) }
+        ensures err { IsOkUnless result NoMemory }
+    {
+        let machine = Machine::of_kept(kept)?;
         Ok(Sim { machine })
+    }
+
+    /// The simulation goes on from a copy of one of the same design; or want of memory (806), which leaves it as it was.
+    pub fn restore(&mut self, kept: &KeptSim) -> Result<(), SimError>
+        requires { self.old.design ≡ kept.now.design }
+        ensures ok { OnOk result (self.new ≡ kept.now) }
+        ensures refused { IsOkUnless result NoMemory }
+        ensures unchanged { OnErr result (self.new ≡ self.old) }
+    {
+        self.machine.restore(kept)
     }
 
     /// The design.

@@ -11,7 +11,7 @@ ghost use Rattle.vp_sim.specs.States.{Explains, Goes, IsStep, Refuses, advance, 
 
 use crate::fault::SimError;
 use crate::machine::Machine;
-use crate::remaining::all_whole;
+use crate::remaining::{all_whole, none_waits};
 use std::alloc::{AllocError, Global};
 use std::sync::Arc;
 use vp_bits::Bits;
@@ -19,7 +19,7 @@ use vp_elab::ObjectId;
 use vp_expr::{Checked, Values};
 use vp_statement::Flow;
 use vp_strata::{Event, Strata, StrataError};
-use vp_waking::{Change, Listeners, Waiting, process_at};
+use vp_waking::{Change, Listeners, process_at};
 
 /// The event queue at the start: so many processes are evaluated, in order.
 fn first_queue(alloc: Global, processes: usize) -> Result<Strata, StrataError>
@@ -71,7 +71,7 @@ impl Machine {
         };
         let flow = flow_for(alloc, &checked)?;
         let remaining = all_whole(alloc, checked.tables().processes.as_slice())?;
-        let waiting = vec![in alloc; Waiting::Nothing; count]?;
+        let waiting = none_waits(alloc, count)?;
         let listeners = Listeners::new(alloc, checked)?;
         Ok(Machine {
             alloc,
@@ -80,33 +80,6 @@ impl Machine {
             finished: false,
             values,
             flow,
-            remaining,
-            waiting,
-            queue,
-        })
-    }
-
-    /// The same simulation again; or want of memory (806).
-    pub fn try_clone(&self) -> Result<Machine, SimError>
-        ensures state { IfOk result (λ m. m.state ≡ self.now.state) }
-        ensures err { IsOkUnless result NoMemory }
-    {
-        let Ok(values) = self.values.try_clone(self.alloc) else {
-            return Err(SimError::NoMemory);
-        };
-        let Ok(queue) = self.queue.try_clone(self.alloc) else {
-            return Err(SimError::NoMemory);
-        };
-        let remaining = Vec::from_slice(self.alloc, &self.remaining)?;
-        let waiting = Vec::from_slice(self.alloc, &self.waiting)?;
-        let listeners = self.listeners.try_clone()?;
-        Ok(Machine {
-            alloc: self.alloc,
-            listeners,
-            time: self.time,
-            finished: self.finished,
-            values,
-            flow: Arc::try_clone(&self.flow)?,
             remaining,
             waiting,
             queue,

@@ -1,5 +1,9 @@
 pub mod Choosing
+pub mod Counted
 pub mod Times
 pub mod Moving
 pub mod Ready
 pub mod Rows
+pub mod Halves
+pub mod Chunked
+pub mod Found

@@ -1,5 +1,5 @@
 -- The events of the active region, and which of them are eligible (clauses 11.2 and 11.3).
-use Rattle.std.specs.Prelude.{◌≡◌, ℕ, ◌==◌, Bool, true, false, not, if◌then◌else◌, List, [], ◌∷◌, ◌++◌, length, slice_index_or}
+use Rattle.std.specs.Prelude.{◌≡◌, ℕ, ◌==◌, ◌<◌, Bool, true, false, not, if◌then◌else◌, List, [], ◌∷◌, ◌++◌, length, slice_index_or}
 use Rattle.std.specs.List.{count_by, list_any}
 use Rattle.vp_strata.specs.declared.event.Event.{Event}
 use Rattle.vp_strata.specs.declared.event.Event.TheVariants.{Evaluation, NetUpdate, Nonblocking}
@@ -42,6 +42,12 @@ eligible_places events = eligible_behind [] events
 -- how often the net of each process is updated by these events
 abbrev pub AreCounted : List Event → (updates : List ℕ) → Type 0
 AreCounted events updates = (process : ℕ) → slice_index_or updates process 0 ≡ count_by (drives process) events
+
+-- an update of a net is by one of so many processes
+abbrev pub IsOfProcesses : (processes : ℕ) → Event → Type 0
+IsOfProcesses processes (Evaluation process) = Unit {0}
+IsOfProcesses processes (NetUpdate process value) = process < processes
+IsOfProcesses processes (Nonblocking update) = Unit {0}
 
 -- the active region as it is kept: its events, the oldest first, how many more it has room for, and how many processes there are
 pub record Region : Type 0 where

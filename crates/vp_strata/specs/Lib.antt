@@ -1,3 +1,4 @@
 pub mod Faults
 pub mod Events
 pub mod Queues
+pub mod Chunks

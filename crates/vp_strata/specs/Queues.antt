@@ -131,13 +131,13 @@ advanced q = moved q (first_time q.future)
 abbrev pub AreOrdered : List Timed → Type 0
 AreOrdered future = IsNonDecreasingBy (λ (e : Timed). e.time) future
 
--- the future events as they are kept, and how many more there is room for
-pub record Future : Type 0 where
-  pub events : List Timed
-  pub room : ℕ
-
 -- the queue, how many more events it takes without memory, and how many processes there are
 pub record Regions : Type 0 where
   pub queue : Queue
   pub spare : ℕ
+  pub processes : ℕ
+
+-- the queue as it was when a copy of it was kept, and how many processes there were
+pub record KeptQueue : Type 0 where
+  pub queue : Queue
   pub processes : ℕ

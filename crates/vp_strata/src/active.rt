@@ -1,7 +1,7 @@
-ghost use Rattle.std.specs.Prelude.{◌≡◌, ◌<◌, ◌≤◌, ◌+◌, ◌++◌, ◌∷◌, [], length, not, slice_get, slice_index_or, slice_set, take, true, IfOk, IfSome, OnOk};
-ghost use Rattle.std.specs.List.{list_any, remove};
+ghost use Rattle.std.specs.Prelude.{◌≡◌, ◌<◌, ◌≤◌, ◌+◌, ◌^◌, ◌++◌, ◌∷◌, [], length, not, slice_get, slice_index_or, slice_set, take, true, IfNone, IfOk, IfSome, OnOk};
+ghost use Rattle.std.specs.List.{All, list_any, remove};
 ghost use Rattle.vp_strata.specs.declared.event.Event.TheVariants.{Evaluation, NetUpdate, Nonblocking};
-ghost use Rattle.vp_strata.specs.Events.{drives, eligible_places, is_eligible, is_nonblocking};
+ghost use Rattle.vp_strata.specs.Events.{IsOfProcesses, drives, eligible_places, is_eligible, is_nonblocking};
 
 use crate::copies::copied;
 use crate::event::{Event, NonblockingUpdate};
@@ -97,8 +97,9 @@ fn set_count(updates: &mut Vec<usize>, process: usize, count: usize)
 }
 
 /// The sum of three numbers, if it is one of the machine.
-fn sum(a: usize, b: usize, c: usize) -> Option<usize>
-    ensures { IfSome result (λ total. total ≡ a + b + c) }
+pub fn sum(a: usize, b: usize, c: usize) -> Option<usize>
+    ensures total { IfSome result (λ total. total ≡ a + b + c) }
+    ensures none { IfNone result (2 ^ 64 ≤ a + b + c) }
 {
     a.checked_add(b)?.checked_add(c)
 }
@@ -116,14 +117,19 @@ impl ActiveRegion {
         })
     }
 
-    /// The same events again.
-    pub fn try_clone(&self, alloc: Global) -> Result<ActiveRegion, AllocError>
-        ensures events { IfOk result (λ r. r.events ≡ self.now.events) }
-        ensures processes { IfOk result (λ r. r.processes ≡ self.now.processes) }
+    /// The events again, as a list. Each update of a net is by one of the processes.
+    pub fn copied_events(&self, alloc: Global) -> Result<Vec<Event>, AllocError>
+        ensures events { IfOk result (λ v. v.items ≡ self.now.events) }
+        ensures processes { All (λ e. IsOfProcesses self.now.processes e) self.now.events }
     {
-        let events = copied(alloc, &self.events)?;
-        let updates = Vec::from_slice(alloc, &self.updates)?;
-        Ok(ActiveRegion { events, updates })
+        copied(alloc, &self.events)
+    }
+
+    /// How many processes there are.
+    pub fn processes(&self) -> usize
+        ensures { result ≡ self.now.processes }
+    {
+        self.updates.len()
     }
 
     /// The events.
@@ -185,6 +191,45 @@ impl ActiveRegion {
     {
         self.events
             .push_back_reserved(Event::Nonblocking { update });
+    }
+
+    /// An event becomes active.
+    fn push(&mut self, event: Event)
+        requires room { 1 ≤ self.old.room }
+        requires processes { IsOfProcesses self.old.processes event }
+        ensures events { self.new.events ≡ self.old.events ++ event ∷ [] }
+        ensures room { self.new.room + 1 ≡ self.old.room }
+        ensures processes { self.new.processes ≡ self.old.processes }
+    {
+        match event {
+            Event::Evaluation { process } => self.push_evaluation(process),
+            Event::NetUpdate { process, value } => self.push_net_update(process, value),
+            Event::Nonblocking { update } => self.push_nonblocking(update),
+        }
+    }
+
+    /// Some events become active, one behind another.
+    pub fn push_all(&mut self, events: &[Event])
+        requires room { length events.now ≤ self.old.room }
+        requires processes { All (λ e. IsOfProcesses self.old.processes e) events.now }
+        ensures events { self.new.events ≡ self.old.events ++ events.now }
+        ensures room { self.new.room + length events.now ≡ self.old.room }
+        ensures processes { self.new.processes ≡ self.old.processes }
+    {
+        for event in events {
+            self.push(*event);
+        }
+    }
+
+    /// All events are over.
+    pub fn clear(&mut self)
+        ensures events { self.new.events ≡ [] }
+        ensures room { self.new.room ≡ self.old.room + length self.old.events }
+        ensures processes { self.new.processes ≡ self.old.processes }
+    {
+        for _ in 0..self.events.len() {
+            self.remove(0);
+        }
     }
 
     /// The event at a place is over.

@@ -1,15 +1,28 @@
-ghost use Rattle.std.specs.Prelude.{◌≡◌, IfOk};
+ghost use Rattle.std.specs.Prelude.{◌≡◌, ◌+◌, ◌≤◌, ◌++◌, length, IfOk};
+ghost use Rattle.std.specs.VecDeque.{deque_capacity, deque_len};
 
 use std::alloc::{AllocError, Global};
 use std::collections::VecDeque;
 
-/// The same items again.
-pub fn copied<T: Copy>(alloc: Global, items: &VecDeque<T>) -> Result<VecDeque<T>, AllocError>
+/// The items of a queue again, as a list.
+pub fn copied<T: Copy>(alloc: Global, items: &VecDeque<T>) -> Result<Vec<T>, AllocError>
     ensures { IfOk result (λ copy. copy.items ≡ items.now.items) }
 {
-    let mut copy = VecDeque::new(alloc);
-    for place in 0..items.len() {
-        copy.push_back(items[place])?;
-    }
+    let (first, second) = items.as_slices();
+    let mut copy = Vec::with_capacity(alloc, items.len())?;
+    copy.extend_from_slice(first)?;
+    copy.extend_from_slice(second)?;
     Ok(copy)
+}
+
+/// Items that stand behind those of a queue, which has room for them.
+pub fn append<T: Copy>(queue: &mut VecDeque<T>, items: &[T])
+    requires { deque_len queue.old + length items.now ≤ deque_capacity queue.old }
+    ensures items { queue.new.items ≡ queue.old.items ++ items.now }
+    ensures len { deque_len queue.new ≡ deque_len queue.old + length items.now }
+    ensures capacity { deque_capacity queue.new ≡ deque_capacity queue.old }
+{
+    for item in items {
+        queue.push_back_reserved(*item);
+    }
 }

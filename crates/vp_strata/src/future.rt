@@ -1,114 +1,107 @@
-ghost use Rattle.std.specs.Prelude.{◌≡◌, ◌≤◌, ◌+◌, [], drop, filter, length, not, false, slice_get, take, true, IfNone, IfOk, IfSome, OnOk};
-ghost use Rattle.std.specs.List.Sorted.{IsPartitionPoint};
-ghost use Rattle.vp_strata.specs.Queues.{first_time, is_at, is_by, scheduled};
+ghost use Rattle.std.specs.Prelude.{◌≡◌, ◌≤◌, [], drop, filter, length, not, slice_get, take, IfNone, IfOk, IfSome, OnErr, OnOk};
+ghost use Rattle.vp_strata.specs.Queues.{first_time, is_at, scheduled};
 
-use crate::copies::copied;
+use crate::chunks::FutureChunks;
 use crate::event::{Delayed, Timed};
 use std::alloc::{AllocError, Global};
-use std::collections::VecDeque;
 use std::marker::Model;
 
-/// The future events, in the order of their times, those of one time in the order in which they were scheduled (11.3). A
-/// contract sees them, and for how many more there is room.
+/// The future events, in the order of their times, those of one time in the order in which they were scheduled (11.3). They stand in
+/// chunks that clones share. A contract sees the list of the events.
 #[derive(Drop)]
 pub struct FutureRegion {
-    events: VecDeque<Timed>,
+    chunks: FutureChunks,
+    /// How many events there are.
+    count: usize,
 }
 
 impl Model for FutureRegion {
-    ghost use Rattle.std.specs.Prelude.{◌-◌};
-    ghost use Rattle.std.specs.VecDeque.{deque_capacity, deque_len};
-    ghost use Rattle.vp_strata.specs.Queues.{AreOrdered, Future};
+    ghost use Rattle.std.specs.Prelude.{◌≡◌, List, length};
+    ghost use Rattle.vp_strata.specs.declared.event.Timed.{Timed};
+    ghost use Rattle.vp_strata.specs.Chunks.{joined};
+    ghost use Rattle.vp_strata.specs.Queues.{AreOrdered};
 
-    ghost Value = { Future };
+    ghost Value = { List Timed };
 
-    ghost view = { λ f. record { events = f.events.items; room = deque_capacity f.events - deque_len f.events } };
+    ghost view = { λ f. joined f.chunks };
 
-    ghost invariant = { λ f. AreOrdered f.events.items };
+    ghost invariant = { λ f. (f.count ≡ length (joined f.chunks))
+        × AreOrdered (joined f.chunks) };
 }
 
 impl FutureRegion {
     /// No event.
     pub fn new(alloc: Global) -> FutureRegion
-        ensures events { result.events ≡ [] }
+        ensures { result ≡ [] }
     {
         FutureRegion {
-            events: VecDeque::new(alloc),
+            chunks: FutureChunks::new(alloc),
+            count: 0,
         }
     }
 
-    /// The same events again.
-    pub fn try_clone(&self, alloc: Global) -> Result<FutureRegion, AllocError>
-        ensures events { IfOk result (λ f. f.events ≡ self.now.events) }
+    /// The same events for one holder more, which shares them; or an error where there is no memory, or the holders can't be counted.
+    /// Takes memory for a pointer to each chunk of 64 events, or fewer.
+    pub fn try_clone(&self) -> Result<FutureRegion, AllocError>
+        ensures { IfOk result (λ f. f ≡ self.now) }
     {
-        let events = copied(alloc, &self.events)?;
-        Ok(FutureRegion { events })
+        Ok(FutureRegion {
+            chunks: self.chunks.try_clone()?,
+            count: self.count,
+        })
     }
 
-    /// Makes room for so many more events.
-    pub fn reserve(&mut self, count: usize) -> Result<(), AllocError>
-        ensures room { OnOk result (count ≤ self.new.room) }
-        ensures no_less { self.old.room ≤ self.new.room }
-        ensures events { self.new.events ≡ self.old.events }
+    /// One more event, at its time. What is shared there is copied first, and where there is no memory for that nothing changes.
+    pub fn schedule(&mut self, time: u64, event: Delayed) -> Result<(), AllocError>
+        ensures scheduled { OnOk result
+            (self.new ≡ scheduled (record { time = time; event = event }) self.old) }
+        ensures kept { OnErr result (self.new ≡ self.old) }
     {
-        self.events.reserve(count)
-    }
-
-    /// How many events come no later than a time.
-    fn count_by(&self, time: u64) -> usize
-        ensures parted { IsPartitionPoint (λ e. is_by time e ≡ true) (λ e. is_by time e ≡ false)
-            self.now.events result }
-        ensures within { result ≤ length self.now.events }
-    {
-        self.events.partition_point(|e| e.time <= time)
-    }
-
-    /// One more event, at its time.
-    pub fn schedule(&mut self, time: u64, event: Delayed)
-        requires { 1 ≤ self.old.room }
-        ensures events { self.new.events
-            ≡ scheduled (record { time = time; event = event }) self.old.events }
-        ensures room { self.old.room ≤ self.new.room + 1 }
-    {
-        let place = self.count_by(time);
-        match self.events.insert(place, Timed { time, event }) {
-            Ok(()) => {}
-            Err(_) => unreachable!(),
+        let Some(count) = self.count.checked_add(1) else {
+            return Err(AllocError);
+        };
+        let event = Timed { time, event };
+        let (number, place) = self.chunks.find(time);
+        if number < self.chunks.len() {
+            self.chunks.insert(number, place, event)?;
+        } else {
+            self.chunks.push(event)?;
         }
+        self.count = count;
+        Ok(())
     }
 
     /// The time of the first event, in time units; none where there is none.
     pub fn first_time(&self) -> Option<u64>
-        ensures { result ≡ first_time self.now.events }
+        ensures { result ≡ first_time self.now }
     {
-        match self.events.front() {
-            Some(event) => Some(event.time),
-            None => None,
-        }
+        self.chunks.first_time()
     }
 
     /// How many events come at the time of the first.
     pub fn count_first(&self) -> usize
-        ensures first { IfSome (first_time self.now.events)
-            (λ time. take result self.now.events ≡ filter (is_at time) self.now.events) }
-        ensures last { IfSome (first_time self.now.events)
-            (λ time. drop result self.now.events
-            ≡ filter (λ e. not (is_at time e)) self.now.events) }
-        ensures none { IfNone (first_time self.now.events) (result ≡ 0) }
-        ensures within { result ≤ length self.now.events }
+        ensures first { IfSome (first_time self.now)
+            (λ time. take result self.now ≡ filter (is_at time) self.now) }
+        ensures last { IfSome (first_time self.now)
+            (λ time. drop result self.now ≡ filter (λ e. not (is_at time e)) self.now) }
+        ensures none { IfNone (first_time self.now) (result ≡ 0) }
+        ensures within { result ≤ length self.now }
     {
-        match self.events.front() {
-            Some(event) => self.count_by(event.time),
-            None => 0,
-        }
+        let _count = self.count;
+        let Some(first) = self.chunks.first_time() else {
+            return 0;
+        };
+        let (number, place) = self.chunks.find(first);
+        self.chunks.position(number, place)
     }
 
-    /// Takes the first event.
+    /// Takes the first event. No memory is needed, and no event is copied.
     pub fn pop(&mut self) -> Option<Timed>
-        ensures first { result ≡ slice_get self.old.events 0 }
-        ensures rest { self.new.events ≡ drop 1 self.old.events }
-        ensures room { self.old.room ≤ self.new.room }
+        ensures first { result ≡ slice_get self.old 0 }
+        ensures rest { self.new ≡ drop 1 self.old }
     {
-        self.events.pop_front()
+        let event = self.chunks.pop()?;
+        self.count -= 1;
+        Some(event)
     }
 }

@@ -5,12 +5,16 @@
 #![tactic(auto)]
 
 mod active;
+mod chunk;
+mod chunks;
 mod copies;
 mod event;
 mod fault;
 mod future;
+mod kept;
 mod strata;
 
 pub use event::{Delayed, Event, NonblockingUpdate};
 pub use fault::StrataError;
+pub use kept::KeptStrata;
 pub use strata::{Strata, TIME_LIMIT};

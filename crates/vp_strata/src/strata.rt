@@ -4,11 +4,12 @@ ghost use Rattle.vp_strata.specs.declared.event.Event.TheVariants.{Evaluation, N
 ghost use Rattle.vp_strata.specs.Events.{eligible_places};
 ghost use Rattle.vp_strata.specs.Queues.{activated, advanced, first_time, inactive_activated, is_done, no_events, nonblocking_activated, peeked, put_in, ready, scheduled, taken, with_active, with_future, with_inactive, with_nonblocking};
 
-use crate::active::ActiveRegion;
-use crate::copies::copied;
+use crate::active::{ActiveRegion, sum};
+use crate::copies::{append, copied};
 use crate::event::{Delayed, Event, NonblockingUpdate, Timed};
 use crate::fault::StrataError;
 use crate::future::FutureRegion;
+use crate::kept::KeptStrata;
 use std::alloc::{AllocError, Global};
 use std::collections::VecDeque;
 use std::marker::Model;
@@ -20,15 +21,15 @@ const AMPLE: usize = 64;
 /// No event is scheduled at this time or later, in time units (profile).
 pub const TIME_LIMIT: u64 = 1 << 62;
 
-/// The event queue (IEEE Std 1364-2005, 11.3). A contract sees its four lists, how many more events it takes without memory, and the
-/// number of processes, by which events name them.
+/// The event queue (IEEE Std 1364-2005, 11.3). A contract sees its four lists, how many more active, inactive and nonblocking events it
+/// takes without memory, and the number of processes, by which events name them.
 #[derive(Drop)]
 pub struct Strata {
     active: ActiveRegion,
     inactive: VecDeque<usize>,
     nonblocking: VecDeque<NonblockingUpdate>,
     future: FutureRegion,
-    /// So many events can be pushed without memory.
+    /// So many events can be pushed to the active, the inactive and the nonblocking ones without memory.
     spare: usize,
 }
 
@@ -39,9 +40,9 @@ impl Model for Strata {
 
     ghost Value = { Regions };
 
-    ghost view = { λ s. record { queue = record { active = s.active.events; inactive = s.inactive.items; nonblocking = s.nonblocking.items; future = s.future.events }; spare = s.spare; processes = s.active.processes } };
+    ghost view = { λ s. record { queue = record { active = s.active.events; inactive = s.inactive.items; nonblocking = s.nonblocking.items; future = s.future }; spare = s.spare; processes = s.active.processes } };
 
-    ghost invariant = { λ s. (s.spare + deque_len s.inactive + deque_len s.nonblocking ≤ s.active.room) × (deque_len s.inactive + s.spare ≤ deque_capacity s.inactive) × (deque_len s.nonblocking + s.spare ≤ deque_capacity s.nonblocking) × (s.spare ≤ s.future.room) };
+    ghost invariant = { λ s. (s.spare + deque_len s.inactive + deque_len s.nonblocking ≤ s.active.room) × (deque_len s.inactive + s.spare ≤ deque_capacity s.inactive) × (deque_len s.nonblocking + s.spare ≤ deque_capacity s.nonblocking) };
 }
 
 impl Strata {
@@ -60,24 +61,61 @@ impl Strata {
         })
     }
 
-    /// The same events again. An `Err` is want of memory (701).
-    pub fn try_clone(&self, alloc: Global) -> Result<Strata, StrataError>
-        ensures queue { IfOk result (λ s. s.queue ≡ self.now.queue) }
-        ensures processes { IfOk result (λ s. s.processes ≡ self.now.processes) }
+    /// A copy of the events as they are, which shares the future ones. An `Err` is want of memory (701). It costs what is active, inactive
+    /// and nonblocking, and a count for each chunk of 64 future events, or fewer.
+    pub fn keep(&self, alloc: Global) -> Result<KeptStrata, StrataError>
+        ensures queue { IfOk result (λ k. k.queue ≡ self.now.queue) }
+        ensures processes { IfOk result (λ k. k.processes ≡ self.now.processes) }
         ensures memory { IfErr result (λ e. e ≡ NoMemory) }
     {
-        let mut active = self.active.try_clone(alloc)?;
-        let inactive = copied(alloc, &self.inactive)?;
-        let nonblocking = copied(alloc, &self.nonblocking)?;
-        active.reserve_all(0, inactive.len(), nonblocking.len())?;
-        let future = self.future.try_clone(alloc)?;
-        Ok(Strata {
-            active,
-            inactive,
-            nonblocking,
-            future,
-            spare: 0,
+        Ok(KeptStrata {
+            active: self.active.copied_events(alloc)?,
+            inactive: copied(alloc, &self.inactive)?,
+            nonblocking: copied(alloc, &self.nonblocking)?,
+            future: self.future.try_clone()?,
+            processes: self.active.processes(),
         })
+    }
+
+    /// The events are again those that were kept, of a queue of as many processes. An `Err` is want of memory (701), and changes no event.
+    /// It costs what the events do that were and are active, inactive and nonblocking, and a count for each chunk of future events.
+    pub fn restore(&mut self, kept: &KeptStrata) -> Result<(), StrataError>
+        requires { self.old.processes ≡ kept.now.processes }
+        ensures queue { OnOk result (self.new.queue ≡ kept.now.queue) }
+        ensures unchanged { OnErr result (self.new.queue ≡ self.old.queue) }
+        ensures processes { self.new.processes ≡ self.old.processes }
+        ensures memory { IfErr result (λ e. e ≡ NoMemory) }
+    {
+        let Some(count) = sum(
+            kept.active.len(),
+            kept.inactive.len(),
+            kept.nonblocking.len(),
+        ) else {
+            return Err(StrataError::NoMemory);
+        };
+        let future = kept.future.try_clone()?;
+        self.room(count)?;
+        self.put_back(kept, count, future);
+        Ok(())
+    }
+
+    /// The events are again those that were kept, so many of them active, inactive or nonblocking; the future ones are given.
+    fn put_back(&mut self, kept: &KeptStrata, count: usize, future: FutureRegion)
+        requires processes { self.old.processes ≡ kept.now.processes }
+        requires count { count ≡ length kept.now.queue.active + length kept.now.queue.inactive
+            + length kept.now.queue.nonblocking }
+        requires room { count ≤ self.old.spare }
+        ensures queue { self.new.queue ≡ with_future kept.now.queue future }
+        ensures processes { self.new.processes ≡ self.old.processes }
+    {
+        self.active.clear();
+        self.active.push_all(&kept.active);
+        self.inactive.clear();
+        append(&mut self.inactive, &kept.inactive);
+        self.nonblocking.clear();
+        append(&mut self.nonblocking, &kept.nonblocking);
+        self.future = future;
+        self.spare -= count;
     }
 
     /// Makes room: the next `count` events that are pushed need no memory. An `Err` is want of memory (701). No event changes.
@@ -109,7 +147,6 @@ impl Strata {
             .reserve_all(count, self.inactive.len(), self.nonblocking.len())?;
         self.inactive.reserve(count)?;
         self.nonblocking.reserve(count)?;
-        self.future.reserve(count)?;
         self.spare = count;
         Ok(())
     }
@@ -204,16 +241,13 @@ impl Strata {
             ≡ with_future self.old.queue (scheduled (record { time = time; event = event })
             self.old.queue.future)) }
         ensures unchanged { OnErr result (self.new.queue ≡ self.old.queue) }
-        ensures spare { self.old.spare ≤ self.new.spare + 1 }
-        ensures sure { 1 ≤ self.old.spare → time < TIME_LIMIT → IsOk result }
+        ensures spare { self.new.spare ≡ self.old.spare }
         ensures processes { self.new.processes ≡ self.old.processes }
     {
         if time >= TIME_LIMIT {
             return Err(StrataError::TimeLimit);
         }
-        self.room_for_one()?;
-        self.future.schedule(time, event);
-        self.spare -= 1;
+        self.future.schedule(time, event)?;
         Ok(())
     }
 

@@ -158,6 +158,13 @@ none_waits n process = elim (cases_lt process n) [
 pub all_nothing : (tables : Tables) (lists : List (List ℕ)) (n : ℕ) → AreHeard tables lists (replicate n wait.Nothing)
 all_nothing tables lists n process = heard_nothing tables lists (wait_of (replicate n wait.Nothing) process) process (none_waits n process)
 
+-- all are heard where each of those that are there is
+pub all_heard : (tables : Tables) (lists : List (List ℕ)) (waiting : List Waiting) → ((p : ℕ) → p < length waiting → IsHeard lists (awaited_by tables (wait_of waiting p) p) p) → AreHeard tables lists waiting
+all_heard tables lists waiting heard process = elim (cases_lt process (length waiting)) [
+  | inl within ↦ heard process within
+  | inr past ↦ heard_nothing tables lists (wait_of waiting process) process (get_or_past waiting process wait.Nothing past)
+]
+
 -- no listeners
 pub no_listeners : (tables : Tables) → AreAllListeners tables []
 no_listeners tables object = record {

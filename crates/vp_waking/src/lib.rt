@@ -10,5 +10,5 @@ mod waking;
 pub use change::{Change, change_of};
 pub use listeners::Listeners;
 pub use processes::{net_at, process_at};
-pub use waiting::{Waiting, set_wait};
+pub use waiting::Waiting;
 pub use waking::wake;

@@ -2,7 +2,7 @@ ghost use Rattle.std.specs.Prelude.{◌≡◌, ◌==◌, ◌<◌, ℕ, [], All, 
 ghost use Rattle.std.specs.List.{AllPairs};
 ghost use Rattle.std.specs.Arc.{arc_value};
 ghost use Rattle.vp_expr.specs.Tables.{awaited_of, tables_of};
-ghost use Rattle.vp_waking.specs.Listening.{AreKept, AreListeners, IsHeard, has, listeners_of, may_listen, with_number, with_number_at};
+ghost use Rattle.vp_waking.specs.Listening.{AreHeard, AreKept, AreListeners, IsHeard, has, listeners_of, may_listen, with_number, with_number_at};
 ghost use Rattle.vp_operand.specs.Arena.{term_at};
 ghost use Rattle.vp_operand.specs.Reads.{reads};
 ghost use Rattle.vp_waking.specs.Waking.{any_of, awaited_by, located, object_at, operand_terms, statement_terms, terms_of};
@@ -57,17 +57,6 @@ fn grow(alloc: Global, lists: &mut Vec<Vec<usize>>, object: usize) -> Result<(),
     Ok(())
 }
 
-/// The same lists again.
-fn copied(alloc: Global, lists: &[Vec<usize>]) -> Result<Vec<Vec<usize>>, AllocError>
-    ensures { IfOk result (λ copy. map (λ v. v.items) copy.items ≡ map (λ v. v.items) lists.now) }
-{
-    let mut copy = Vec::new(alloc);
-    for list in lists {
-        copy.push(Vec::from_slice(alloc, list)?)?;
-    }
-    Ok(copy)
-}
-
 /// A number stands among others, which rise.
 fn add_number(numbers: &mut Vec<usize>, number: usize) -> Result<(), AllocError>
     requires { AllPairs (λ x y. x < y) numbers.old.items }
@@ -115,25 +104,18 @@ impl Listeners {
         })
     }
 
-    /// The same listeners again.
-    pub fn try_clone(&self) -> Result<Listeners, AllocError>
-        ensures { IfOk result (λ l. l ≡ self.now) }
-    {
-        let lists = copied(self.alloc, &self.lists)?;
-        let known = Vec::from_slice(self.alloc, &self.known)?;
-        Ok(Listeners {
-            alloc: self.alloc,
-            checked: Arc::try_clone(&self.checked)?,
-            lists,
-            known,
-        })
-    }
-
     /// The design, checked.
     pub fn checked(&self) -> &Checked
         ensures { result.now ≡ self.now.design }
     {
         &self.checked
+    }
+
+    /// The design, checked, for one holder more; or an error where they can't be counted.
+    pub fn share(&self) -> Result<Arc<Checked>, AllocError>
+        ensures { IfOk result (λ checked. arc_value checked ≡ self.now.design) }
+    {
+        Arc::try_clone(&self.checked)
     }
 
     /// The listeners of an object, to which each of them may listen.
@@ -302,6 +284,19 @@ impl Listeners {
             self.add_process(process, kind, waiting)?;
         }
         self.set_known(process, waiting);
+        Ok(())
+    }
+
+    /// All processes stand among the listeners of the objects that they await when they wait so. Takes memory.
+    pub fn listen_all(&mut self, waiting: &[Waiting]) -> Result<(), AllocError>
+        ensures design { self.new.design ≡ self.old.design }
+        ensures kept { AreKept self.old.lists self.new.lists }
+        ensures heard { OnOk result (AreHeard (tables_of self.old.design) self.new.lists
+            waiting.now) }
+    {
+        for process in 0..waiting.len() {
+            self.listen(process, waiting[process])?;
+        }
         Ok(())
     }
 }

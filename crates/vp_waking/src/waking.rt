@@ -7,10 +7,11 @@ ghost use Rattle.vp_waking.specs.Waking.{counts, first_bit, is_continuous, is_ne
 use crate::change::Change;
 use crate::listeners::Listeners;
 use crate::processes::process_at;
-use crate::waiting::{Waiting, set_wait, wait_of};
+use crate::waiting::{Waiting, wait_of};
 use vp_bits::{Bit, Bits};
 use vp_elab::ObjectId;
 use vp_expr::{Awaited, Checked, Process};
+use vp_list::TrackedList;
 use vp_source::Edge;
 use vp_strata::Strata;
 
@@ -125,24 +126,30 @@ fn wakes(checked: &Checked, old: Bits, change: &Change, waiting: Waiting, proces
 fn wake_one(
     checked: &Checked,
     queue: &mut Strata,
-    waiting: &mut Vec<Waiting>,
+    waiting: &mut TrackedList<Waiting>,
     old: Bits,
     change: &Change,
     process: usize,
 )
     requires listens { may_listen (tables_of checked.now) change.now.object.0 process ≡ true }
     requires room { 1 ≤ queue.old.spare }
-    ensures waiting { waiting.new.items
-        ≡ roused waiting.old.items (woken_alone (tables_of checked.now) old change.now
-        waiting.old.items process) }
+    ensures waiting { waiting.new
+        ≡ roused waiting.old (woken_alone (tables_of checked.now) old change.now
+        waiting.old process) }
     ensures queue { queue.new.queue
         ≡ with_evaluations queue.old.queue
-        (woken_alone (tables_of checked.now) old change.now waiting.old.items process) }
+        (woken_alone (tables_of checked.now) old change.now waiting.old process) }
     ensures spare { queue.old.spare ≤ queue.new.spare + 1 }
     ensures processes { queue.new.processes ≡ queue.old.processes }
 {
-    if wakes(checked, old, change, wait_of(waiting, process), process) {
-        set_wait(waiting, process, Waiting::Nothing);
+    if wakes(
+        checked,
+        old,
+        change,
+        wait_of(waiting.as_slice(), process),
+        process,
+    ) {
+        waiting.set(process, Waiting::Nothing);
         let _ = queue.push_active(process);
     }
 }
@@ -151,21 +158,21 @@ fn wake_one(
 pub fn wake(
     listeners: &Listeners,
     queue: &mut Strata,
-    waiting: &mut Vec<Waiting>,
+    waiting: &mut TrackedList<Waiting>,
     old: Bits,
     change: &Change,
 )
     requires room { length (listeners_of listeners.now.lists change.now.object.0)
         ≤ queue.old.spare }
     requires heard { AreHeard (tables_of listeners.now.design) listeners.now.lists
-        waiting.old.items }
-    requires whole { length waiting.old.items ≡ length (tables_of listeners.now.design).processes }
-    ensures waiting { waiting.new.items
-        ≡ roused waiting.old.items (woken_by (tables_of listeners.now.design) old change.now
-        waiting.old.items) }
+        waiting.old }
+    requires whole { length waiting.old ≡ length (tables_of listeners.now.design).processes }
+    ensures waiting { waiting.new
+        ≡ roused waiting.old (woken_by (tables_of listeners.now.design) old change.now
+        waiting.old) }
     ensures queue { queue.new.queue
         ≡ with_evaluations queue.old.queue
-        (woken_by (tables_of listeners.now.design) old change.now waiting.old.items) }
+        (woken_by (tables_of listeners.now.design) old change.now waiting.old) }
     ensures processes { queue.new.processes ≡ queue.old.processes }
 {
     for process in listeners.of(change.object.0 as usize) {

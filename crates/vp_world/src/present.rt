@@ -134,13 +134,13 @@ impl Present {
         ensures state { IfOk result (λ world. world.state ≡ start world.opening) }
         ensures refused { IsOkUnless result world_error.NoMemory }
     {
+        let opens = vec![in alloc; 0u64; policy.count()]?;
+        let watched = vec![in alloc; false; checked.design().count() as usize]?;
+        let first_policy = Arc::new(alloc, policy)?;
+        let policy = Arc::try_clone(&first_policy)?;
         let Ok(sim) = Sim::new(alloc, checked) else {
             return Err(WorldError::NoMemory);
         };
-        let opens = vec![in alloc; 0u64; policy.count()]?;
-        let watched = vec![in alloc; false; sim.design().count() as usize]?;
-        let first_policy = Arc::new(alloc, policy)?;
-        let policy = Arc::try_clone(&first_policy)?;
         Ok(Present {
             alloc,
             sim,

@@ -5,7 +5,7 @@ use Rattle.std.proofs.Math.Nat.{mod-lt, mod-eq_of_lt, eq-or-lt_of_le, mul-mod_le
 use Rattle.std.proofs.Math.Seq.{map-set_same, take-add, drop-append-add}
 use Rattle.std.proofs.lemmas.Nat.{div-add-mod'}
 use Rattle.std.proofs.lemmas.Option.{slice_get_past, slice_get_read, slice_get-map}
-use Rattle.std.proofs.lemmas.List.{length-take, drop-take, take-take, drop-drop, take_more, take_all, take-append-le, length-take-le, length-drop, take_rest, take-append-drop, map-append, length-map, length-set, get_or-map, map-set, set_past, append-nil, set-append_left, set-append_right}
+use Rattle.std.proofs.lemmas.List.{length-take, drop-take, take-take, drop-drop, take_more, take_all, take-append-le, length-take-le, length-drop, take_rest, take-append-drop, map-append, length-map, length-set, get_or-map, map-set, set_past, append-nil, flat_map_more, set-append_left, set-append_right}
 use Rattle.vp_list.specs.Chunks.{joined, AreChunks}
 
 -- the item at a place in the first of two lists
@@ -259,6 +259,17 @@ copied_more f bs made more i p new h l e same by =
     ∙ ap (λ front. front ++ f new ∷ []) h
     ∙ ap (λ c. take i (map f bs) ++ c ∷ []) (sym at)
     ∙ sym (take_more (map f bs) i (f p) (omega (arith, length-map bs f)))
+
+-- one part more stands behind other items
+pub appended_more : {X P : Type 0} (f : P → List X) (bs : List P) (xs ys zs : List X) (i : ℕ) (p : P)
+    → ys ≡ xs ++ joined (take i (map f bs)) → i < length bs → p ≡ get_or bs i p → zs ≡ ys ++ f p
+    → zs ≡ xs ++ joined (take (i + 1) (map f bs))
+appended_more f bs xs ys zs i p h l e more =
+    let at : get_or (map f bs) i (f p) ≡ f p = get_or-map f bs i p (f p) l ∙ ap f (sym e) in
+    more ∙ ap (λ front. front ++ f p) h
+    ∙ flat_map_more (λ c. c) xs (take i (map f bs)) (f p)
+    ∙ ap (λ c. xs ++ joined (take i (map f bs) ++ c ∷ [])) (sym at)
+    ∙ ap (λ cs. xs ++ joined cs) (sym (take_more (map f bs) i (f p) (omega (arith, length-map bs f))))
 
 -- a piece of a piece of a list is a piece of the list
 pub part_of_part : {X : Type 0} (size small skip left from place : ℕ) (xs : List X) → size ≡ skip + left → small ≤ left

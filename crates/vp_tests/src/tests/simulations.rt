@@ -128,21 +128,64 @@ fn source_of_the_first_event(rt: HostRuntime) {
     assert_eq!(rt; first_source(rt.alloc()), Some(ObjectId(2)));
 }
 
-/// The value of `top.a` in a copy of a simulation that takes a step.
-fn value_in_copy(simulation: &Sim) -> Option<Bits> {
-    let mut copy = simulation.try_clone().ok()?;
-    let _changed = stepped(&mut copy, 0);
-    Some(copy.value(ObjectId(1)))
+/// Two processes, the second of which waits for a time and for a change, a net and a nonblocking assignment.
+const MIXED: &str = "module top; reg a, b; wire w; assign w = ~a; \
+    initial begin a = 1; b <= 1; #3 a = 0; end always @(negedge w) b = 0; endmodule";
+
+/// The simulation takes the first of its events until its time slot is done.
+fn finish_slot(simulation: &mut Sim) {
+    for _step in 0..100 {
+        let _changed = stepped(simulation, 0);
+    }
 }
 
-/// The value of `top.a` in a copy of a new simulation that takes a step, and then in the simulation itself.
-fn values_of_both(alloc: Global) -> Option<(Bits, Bits)> {
-    let simulation = simulation(alloc, TWICE)?;
-    Some((value_in_copy(&simulation)?, simulation.value(ObjectId(1))))
+/// The values of `top.a` and `top.b`, how many events can be taken, and the time of the next future event.
+fn seen(simulation: &Sim) -> (Bits, Bits, usize, Option<u64>) {
+    (
+        simulation.value(ObjectId(1)),
+        simulation.value(ObjectId(2)),
+        simulation.eligible(),
+        simulation.next_time(),
+    )
+}
+
+/// What is seen at the start.
+fn at_start() -> (Bits, Bits, usize, Option<u64>) {
+    (Bits::unknown(1), Bits::unknown(1), 3, None)
+}
+
+/// What is seen at the end of the first time slot.
+fn at_end() -> (Bits, Bits, usize, Option<u64>) {
+    (Bits::of_number(1, 1), Bits::of_number(1, 1), 0, Some(3))
+}
+
+/// A simulation that goes on from a copy is what the copied one was; it runs to the end of its slot, and the copied one is as before.
+fn copy_runs_alone(alloc: Global) -> Option<bool> {
+    let mut simulation = simulation(alloc, MIXED)?;
+    let mut other = Sim::of_kept(&simulation.keep().ok()?).ok()?;
+    let same = seen(&other) == at_start();
+    finish_slot(&mut other);
+    Some(same && seen(&other) == at_end() && seen(&simulation) == at_start())
+}
+
+/// A simulation that runs to the end of its slot goes on from a copy that was made before, and from one that was made behind it.
+fn copies_stay(alloc: Global) -> Option<bool> {
+    let mut simulation = simulation(alloc, MIXED)?;
+    let first = simulation.keep().ok()?;
+    finish_slot(&mut simulation);
+    let second = simulation.keep().ok()?;
+    simulation.restore(&first).ok()?;
+    let is_first = seen(&simulation) == at_start();
+    simulation.restore(&second).ok()?;
+    Some(is_first && seen(&simulation) == at_end())
 }
 
 #[test]
 fn copy_of_a_simulation(rt: HostRuntime) {
-    let both = (Bits::of_number(1, 1), Bits::unknown(1));
-    assert_eq!(rt; values_of_both(rt.alloc()), Some(both));
+    assert_eq!(rt; copy_runs_alone(rt.alloc()), Some(true));
+}
+
+#[test]
+fn simulation_that_goes_on_from_copies(rt: HostRuntime) {
+    assert_eq!(rt; copies_stay(rt.alloc()), Some(true));
 }

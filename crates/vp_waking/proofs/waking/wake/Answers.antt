@@ -11,8 +11,8 @@ loop-process-preserved c =
     let t = tables_of c.checked.result.now in
     let old = c.args.old in
     let change = c.args.change.now in
-    let waiting = c.args.waiting.now.items in
-    let now = c.loop-process.waiting.items in
+    let waiting = c.args.waiting.now in
+    let now = c.loop-process.waiting in
     let items = c.of-process-items.result.now in
     let ns = listeners_of c.args.listeners.now.lists change.object.0 in
     let i = c.loop-process.process-index in
@@ -21,7 +21,7 @@ loop-process-preserved c =
     let one = woken_alone t old change now (get_or items i 0) in
     let alone = alone_is t tables old change waiting now items ns i (ap tables_of c.checked.ensures) same c.of-process-items.ensures.fit.rise c.loop-process-test.true c.loop-process.invariant.waiting in
     record {
-      waiting = waiting_more tables old change waiting now c.wake_one.new.waiting.items ns one i within alone c.loop-process.invariant.waiting c.wake_one.ensures.waiting;
+      waiting = waiting_more tables old change waiting now c.wake_one.new.waiting ns one i within alone c.loop-process.invariant.waiting c.wake_one.ensures.waiting;
       queue = queue_more tables old change waiting now c.args.queue.now.queue c.loop-process.queue.queue c.wake_one.new.queue.queue ns one i within alone c.loop-process.invariant.queue c.wake_one.ensures.queue;
       room = (let before = c.loop-process.invariant.room in let spare = c.wake_one.ensures.spare in omega (arith, before, spare));
       processes = c.wake_one.ensures.processes ∙ c.loop-process.invariant.processes;
@@ -33,7 +33,7 @@ returns-clause-waiting c =
     let ns = listeners_of c.args.listeners.now.lists change.object.0 in
     let i = c.loop-process.process-index in
     let end : length ns ≤ i = subst (λ (l : List ℕ). length l ≤ i) c.of-process-items.ensures.listeners c.loop-process-test.false in
-    all_woken (roused c.args.waiting.now.items) (tables_of c.args.listeners.now.design) c.args.listeners.now.lists c.args.old change c.args.waiting.now.items i c.loop-process.waiting.items end c.of-process-items.ensures.fit c.requires.heard c.loop-process.invariant.waiting
+    all_woken (roused c.args.waiting.now) (tables_of c.args.listeners.now.design) c.args.listeners.now.lists c.args.old change c.args.waiting.now i c.loop-process.waiting end c.of-process-items.ensures.fit c.requires.heard c.loop-process.invariant.waiting
 
 pub returns-clause-queue : goal.returns-clause-queue
 returns-clause-queue c =
@@ -41,4 +41,4 @@ returns-clause-queue c =
     let ns = listeners_of c.args.listeners.now.lists change.object.0 in
     let i = c.loop-process.process-index in
     let end : length ns ≤ i = subst (λ (l : List ℕ). length l ≤ i) c.of-process-items.ensures.listeners c.loop-process-test.false in
-    all_woken (with_evaluations c.args.queue.now.queue) (tables_of c.args.listeners.now.design) c.args.listeners.now.lists c.args.old change c.args.waiting.now.items i c.loop-process.queue.queue end c.of-process-items.ensures.fit c.requires.heard c.loop-process.invariant.queue
+    all_woken (with_evaluations c.args.queue.now.queue) (tables_of c.args.listeners.now.design) c.args.listeners.now.lists c.args.old change c.args.waiting.now i c.loop-process.queue.queue end c.of-process-items.ensures.fit c.requires.heard c.loop-process.invariant.queue

@@ -7,8 +7,8 @@ use Rattle.vp_waking.proofs.waking.wake.Given as goal
 -- those of the listeners so far that wait for the change are woken, and there is room for those that are left
 abbrev pub invariant-loop-process : goal.invariant-loop-process
 invariant-loop-process l = record {
-  waiting : l.waiting.items ≡ roused l.fn.waiting.items (filter (wakes_at (tables_of l.listeners.design) l.old l.change l.fn.waiting.items) (take l.process-index (listeners_of l.listeners.lists l.change.object.0)));
-  queue : l.queue.queue ≡ with_evaluations l.fn.queue.queue (filter (wakes_at (tables_of l.listeners.design) l.old l.change l.fn.waiting.items) (take l.process-index (listeners_of l.listeners.lists l.change.object.0)));
+  waiting : l.waiting ≡ roused l.fn.waiting (filter (wakes_at (tables_of l.listeners.design) l.old l.change l.fn.waiting) (take l.process-index (listeners_of l.listeners.lists l.change.object.0)));
+  queue : l.queue.queue ≡ with_evaluations l.fn.queue.queue (filter (wakes_at (tables_of l.listeners.design) l.old l.change l.fn.waiting) (take l.process-index (listeners_of l.listeners.lists l.change.object.0)));
   room : length (listeners_of l.listeners.lists l.change.object.0) - l.process-index ≤ l.queue.spare;
   processes : l.queue.processes ≡ l.fn.queue.processes;
 }

@@ -18,6 +18,6 @@ invariant_of-self c =
       flows = c.self.invariant.flows;
       objects = c.self.invariant.objects;
       processes = c.self.invariant.processes;
-      waits = ap (λ (l : List Waiting). length l) c.set_wait.ensures ∙ length-set c.self.inside.waiting.items process c.args.waiting ∙ c.self.invariant.waits;
-      heard = subst (λ (l : List Waiting). AreHeard tables lists l) (sym c.set_wait.ensures) (heard_set tables lists c.self.inside.waiting.items process c.args.waiting c.self.invariant.heard heard);
+      waits = ap (λ (l : List Waiting). length l) c.set.ensures ∙ length-set c.self.inside.waiting process c.args.waiting ∙ c.self.invariant.waits;
+      heard = subst (λ (l : List Waiting). AreHeard tables lists l) (sym c.set.ensures) (heard_set tables lists c.self.inside.waiting process c.args.waiting c.self.invariant.heard heard);
     }

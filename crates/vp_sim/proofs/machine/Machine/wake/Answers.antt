@@ -12,7 +12,7 @@ pub invariant_of-self : goal.invariant_of-self
 invariant_of-self c =
     let tables = tables_of c.self.inside.listeners.design in
     let lists = c.self.inside.listeners.lists in
-    let waiting = c.self.inside.waiting.items in
+    let waiting = c.self.inside.waiting in
     let change = c.args.change.now in
     let woken = woken_by tables c.get-old.result change waiting in
     record {

@@ -1,19 +1,34 @@
-use Rattle.std.proofs.Common.{rules, ◌≡◌, Some, ap}
-use Rattle.vp_strata.specs.Queues.{AreOrdered, Future, first_time}
+use Rattle.std.proofs.Common.{◌≡◌, Some, ap, arith, length, sym}
+use Rattle.vp_strata.specs.Chunks.{joined, position}
+use Rattle.vp_strata.specs.Queues.{first_time}
+use Rattle.vp_strata.proofs.Found.{position_fits}
 use Rattle.vp_strata.proofs.Times.{at_first}
 use Rattle.vp_strata.proofs.future.FutureRegion.count_first.Goals as goal
 
-pub returns-in-Some : goal.returns-in-Some
-returns-in-Some c =
-    let events = c.args.self.now.events in
-    let time = c.in-Some.event.now.time in
-    let ordered : AreOrdered events = (rw (ap (λ (f : Future). f.events) c.self.view_is) at c.self.invariant) in
-    let first : first_time events ≡ Some time = search rules in
-    let parted = c.count_by.ensures.parted in
-    let kept = at_first events time c.count_by.result ordered first parted.0 parted.1 c.count_by.ensures.within in
-    record {
-      first = rw first kept.0;
-      last = rw first kept.1;
-      none = rw first (search rules);
-      within = c.count_by.ensures.within;
-    }
+pub position-requires-clause-fits : goal.position-requires-clause-fits
+position-requires-clause-fits c =
+    let found = c.find-number.ensures in
+    let fits = position_fits c.self.inside.chunks c.find-number.result.0 c.find-number.result.1 found.number found.within found.last in
+    omega (arith, fits, c.self.invariant.0)
+
+pub returns-clause-first : goal.returns-clause-first
+returns-clause-first c =
+    let found = c.find-number.ensures in
+    let fits = position_fits c.self.inside.chunks c.find-number.result.0 c.find-number.result.1 found.number found.within found.last in
+    let first : first_time (joined c.self.inside.chunks) ≡ Some c.in-Some.first = sym (c.in-Some.ensures {u = tt}) in
+    let kept = at_first (joined c.self.inside.chunks) c.in-Some.first (position c.self.inside.chunks c.find-number.result.0 c.find-number.result.1) c.self.invariant.1 first found.parted.0 found.parted.1 fits in
+    rw (← c.self.view_is, first, c.position.ensures) kept.0
+
+pub returns-clause-last : goal.returns-clause-last
+returns-clause-last c =
+    let found = c.find-number.ensures in
+    let fits = position_fits c.self.inside.chunks c.find-number.result.0 c.find-number.result.1 found.number found.within found.last in
+    let first : first_time (joined c.self.inside.chunks) ≡ Some c.in-Some.first = sym (c.in-Some.ensures {u = tt}) in
+    let kept = at_first (joined c.self.inside.chunks) c.in-Some.first (position c.self.inside.chunks c.find-number.result.0 c.find-number.result.1) c.self.invariant.1 first found.parted.0 found.parted.1 fits in
+    rw (← c.self.view_is, first, c.position.ensures) kept.1
+
+pub returns-clause-within : goal.returns-clause-within
+returns-clause-within c =
+    let found = c.find-number.ensures in
+    let fits = position_fits c.self.inside.chunks c.find-number.result.0 c.find-number.result.1 found.number found.within found.last in
+    omega (arith, fits, c.position.ensures, ap length c.self.view_is)

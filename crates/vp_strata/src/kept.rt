@@ -1,0 +1,45 @@
+ghost use Rattle.std.specs.Prelude.{◌≡◌, IfErr, IfOk};
+ghost use Rattle.vp_strata.specs.declared.fault.StrataError.TheVariants.{NoMemory};
+
+use crate::event::{Event, NonblockingUpdate};
+use crate::fault::StrataError;
+use crate::future::FutureRegion;
+use crate::strata::Strata;
+use std::alloc::Global;
+use std::marker::Model;
+
+/// The events of a queue as they were when a copy of it was kept. Its future events are shared with the queue, chunk by chunk. A contract
+/// sees the queue and the number of processes.
+#[derive(Drop)]
+pub struct KeptStrata {
+    pub(crate) active: Vec<Event>,
+    pub(crate) inactive: Vec<usize>,
+    pub(crate) nonblocking: Vec<NonblockingUpdate>,
+    pub(crate) future: FutureRegion,
+    pub(crate) processes: usize,
+}
+
+impl Model for KeptStrata {
+    ghost use Rattle.std.specs.List.{All};
+    ghost use Rattle.vp_strata.specs.Events.{IsOfProcesses};
+    ghost use Rattle.vp_strata.specs.Queues.{KeptQueue};
+
+    ghost Value = { KeptQueue };
+
+    ghost view = { λ k. record { queue = record { active = k.active.items; inactive = k.inactive.items; nonblocking = k.nonblocking.items; future = k.future }; processes = k.processes } };
+
+    ghost invariant = { λ k. All (λ e. IsOfProcesses k.processes e) k.active.items };
+}
+
+impl KeptStrata {
+    /// A queue with these events. An `Err` is want of memory (701).
+    pub fn to_strata(&self, alloc: Global) -> Result<Strata, StrataError>
+        ensures queue { IfOk result (λ s. s.queue ≡ self.now.queue) }
+        ensures processes { IfOk result (λ s. s.processes ≡ self.now.processes) }
+        ensures memory { IfErr result (λ e. e ≡ NoMemory) }
+    {
+        let mut strata = Strata::new(alloc, self.processes)?;
+        strata.restore(self)?;
+        Ok(strata)
+    }
+}
