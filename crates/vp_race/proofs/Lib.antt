@@ -1,0 +1,5 @@
+pub mod Explaining
+pub mod Designs
+pub mod Apart
+pub mod Refused
+pub mod Trying

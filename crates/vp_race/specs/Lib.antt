@@ -1,0 +1,4 @@
+pub mod Faults
+pub mod Orders
+pub mod Search
+pub mod Segments

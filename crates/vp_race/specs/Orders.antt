@@ -1,0 +1,71 @@
+-- Orders of the events of a time slot, and races between them (clause 11.4.2: of the active events any may be next).
+use Rattle.std.specs.Prelude.{◌≡◌, ◌≢◌, ℕ, ◌||◌, Bool, true, false, List, [], ◌∷◌, Option, Some, None, slice_get, slice_index_or}
+use Rattle.std.specs.Option.{option_map_or}
+use Rattle.vp_elab.specs.declared.object.Kind.{Kind}
+use Rattle.vp_elab.specs.declared.object.Kind.TheVariants as kind
+use Rattle.vp_elab.specs.Tree.{Node}
+use Rattle.vp_elab.specs.declared.object.ObjectId.{ObjectId}
+use Rattle.vp_bits.specs.declared.bit.Bit.{Bit}
+use Rattle.vp_operand.specs.Values.{no_value}
+use Rattle.vp_sim.specs.States.{Outcome, Goes, Refuses, State, slot_done, source_of, step}
+
+-- ---- orders
+
+-- the state that a step leads to, if it is one
+abbrev pub reached : Outcome → Option State
+reached (Goes s change) = Some s
+reached (Refuses e) = None
+
+-- the state that the steps of these choices lead to, one after another, from a state on that was reached
+abbrev pub followed : Option State → (choices : List ℕ) → Option State
+followed None choices = None
+followed (Some s) [] = Some s
+followed (Some s) (k ∷ ks) = followed (reached (step s k)) ks
+
+-- the state that these choices lead to, if each is that of a step
+abbrev pub behind : State → (choices : List ℕ) → Option State
+behind s choices = followed (Some s) choices
+
+-- nothing is left to do in the time slot: $finish was executed, or no event is left at the current time
+abbrev pub is_over : State → Bool
+is_over s = s.finished || slot_done s
+
+-- an order of the events of a time slot from a state on: choices of steps that lead to a state in which nothing is left to do
+pub record IsOrder (start : State) (choices : List ℕ) (end : State) : Type 0 where
+  pub leads : behind start choices ≡ Some end
+  pub over : is_over end ≡ true
+
+-- the processes whose events an order takes, by their objects, from a state on that was reached
+abbrev pub sources_from : Option State → (choices : List ℕ) → List ObjectId
+sources_from None choices = []
+sources_from (Some s) [] = []
+sources_from (Some s) (k ∷ ks) = source_of s k ∷ sources_from (reached (step s k)) ks
+
+-- the processes whose events an order takes, by their objects
+abbrev pub sources_of : State → (choices : List ℕ) → List ObjectId
+sources_of s choices = sources_from (Some s) choices
+
+-- ---- races
+
+-- the value of an object in a state
+abbrev pub value_of : State → (object : ℕ) → List Bit
+value_of s object = slice_index_or s.values object no_value
+
+-- an object of a kind holds a value that events change: it is a net or a reg
+abbrev pub is_variable : Kind → Bool
+is_variable kind.Net = true
+is_variable kind.Reg = true
+is_variable other = false
+
+-- the object of a number is a net or a reg
+abbrev pub is_signal : State → (object : ℕ) → Bool
+is_signal s object = option_map_or (λ (n : Node). is_variable n.kind) (slice_get s.design.tree.nodes object) false
+
+-- a race of a time slot: two orders from its start, behind which a net or a reg has different values (clause 11.5)
+pub record IsRace (start : State) (first second : List ℕ) (object : ℕ) : Type 0 where
+  pub first_end : State
+  pub second_end : State
+  pub first_order : IsOrder start first first_end
+  pub second_order : IsOrder start second second_end
+  pub signal : is_signal start object ≡ true
+  pub differ : value_of first_end object ≢ value_of second_end object

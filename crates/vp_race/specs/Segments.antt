@@ -1,0 +1,71 @@
+-- What the run did in a time slot, and what it is told beside another order.
+use Rattle.std.specs.Prelude.{◌≡◌, ◌⊎◌, ℕ, not, if◌then◌else◌, List, Option, Some, None}
+use Rattle.std.specs.Option.{option_map_or}
+use Rattle.vp_bits.specs.declared.bit.Bit.{Bit}
+use Rattle.vp_elab.specs.declared.object.ObjectId.{ObjectId}
+use Rattle.vp_operand.specs.Values.{no_value}
+use Rattle.vp_sim.specs.States.{State}
+use Rattle.vp_race.specs.declared.fault.RaceError.{RaceError}
+use Rattle.vp_race.specs.declared.fault.RaceError.TheVariants.{NotAnOrder, NotComplete, SameValue, NoMemory}
+use Rattle.vp_race.specs.Orders.{IsOrder, IsRace, behind, is_over, sources_of, value_of}
+use Rattle.vp_race.specs.Search.{differs}
+
+-- a segment: its number, the state with which it began, and the order that the run took from there (profile)
+pub record Run : Type 0 where
+  pub number : ℕ
+  pub start : State
+  pub order : List ℕ
+
+-- the run took an order from a state, and left these values
+pub record Leaves (start : State) (order : List ℕ) (values : List (List Bit)) : Type 0 where
+  pub end : State
+  pub is_order : IsOrder start order end
+  pub has_values : end.values ≡ values
+
+-- a finding: a segment, an object, and the order beside the run's
+pub record Told : Type 0 where
+  pub segment : Run
+  pub object : ObjectId
+  pub second : List ℕ
+
+-- a finding is a race of its segment
+abbrev pub IsRaceOf : Told → Type 0
+IsRaceOf f = IsRace f.segment.start f.segment.order f.second f.object.0
+
+-- the value of an object behind an order
+abbrev pub value_behind : State → (order : List ℕ) → (object : ℕ) → List Bit
+value_behind start order object = option_map_or (λ s. value_of s object) (behind start order) no_value
+
+-- the values of a net or reg in two states, if they are different
+abbrev pub apart : (first second : State) → (object : ℕ) → Option (List Bit × List Bit)
+apart first second object =
+    if differs first second object then Some (value_of first object, value_of second object) else None
+
+-- why choices beside the run's are no race at an object, if they are none (profile)
+abbrev pub refusal_behind : (first second : Option State) → (object : ℕ) → Option RaceError
+refusal_behind first None object = Some NotAnOrder
+refusal_behind None (Some end) object = Some NotAnOrder
+refusal_behind (Some first) (Some end) object =
+    if not (is_over end) then Some NotComplete else if differs first end object then None else Some SameValue
+
+-- why choices are no race of a segment at an object, if they are none
+abbrev pub check_refusal : Run → (choices : List ℕ) → (object : ℕ) → Option RaceError
+check_refusal segment choices object = refusal_behind (behind segment.start segment.order) (behind segment.start choices) object
+
+-- an error is the refusal, or want of memory
+abbrev pub Explains : Option RaceError → RaceError → Type 0
+Explains None e = e ≡ NoMemory
+Explains (Some r) e = (e ≡ r) ⊎ (e ≡ NoMemory)
+
+-- an error says that choices are not those of steps, or want of memory
+abbrev pub ExplainsChoices : Option State → RaceError → Type 0
+ExplainsChoices None e = (e ≡ NotAnOrder) ⊎ (e ≡ NoMemory)
+ExplainsChoices (Some s) e = e ≡ NoMemory
+
+-- what is kept of a finding: it is a race, and these are the sources of both orders and both values
+pub record IsTold (f : Told) (first_sources second_sources : List ObjectId) (values : List Bit × List Bit) : Type 0 where
+  pub race : IsRaceOf f
+  pub of_first : first_sources ≡ sources_of f.segment.start f.segment.order
+  pub of_second : second_sources ≡ sources_of f.segment.start f.second
+  pub first_value : values.0 ≡ value_behind f.segment.start f.segment.order f.object.0
+  pub second_value : values.1 ≡ value_behind f.segment.start f.second f.object.0

@@ -1,0 +1,81 @@
+ghost use Rattle.std.specs.Prelude.{◌≡◌, ◌++◌, Some, IfErr, IfOk, OnOk, IsOkUnless};
+ghost use Rattle.vp_race.specs.declared.fault.RaceError.TheVariants.{NoMemory};
+ghost use Rattle.vp_race.specs.Orders.{behind, is_over, is_signal, reached, sources_of};
+ghost use Rattle.vp_sim.specs.States.{step};
+ghost use Rattle.vp_race.specs.Segments.{ExplainsChoices};
+
+use crate::fault::RaceError;
+use crate::segment::Segment;
+use std::alloc::Global;
+use vp_elab::{Kind, ObjectId};
+use vp_sim::{Sim, SimError};
+
+/// An order of a segment's events: its choices, and whose events they take.
+#[derive(Drop)]
+pub struct Order {
+    pub choices: Vec<u32>,
+    pub sources: Vec<ObjectId>,
+}
+
+/// Nothing is left to do in the time slot of a simulation.
+pub fn is_over(simulation: &Sim) -> bool
+    ensures { result ≡ is_over simulation.now }
+{
+    simulation.finished() || simulation.slot_done()
+}
+
+/// An object is a net or a reg of a simulation's design.
+pub fn is_signal(simulation: &Sim, object: ObjectId) -> bool
+    ensures { result ≡ is_signal simulation.now object.0 }
+{
+    match simulation.design().kind(object) {
+        Some(Kind::Net | Kind::Reg) => true,
+        _ => false,
+    }
+}
+
+/// Takes the event of a choice. Refused where the choice is no step's (1201), or for want of memory (1207).
+fn take(simulation: &mut Sim, choice: u32) -> Result<(), RaceError>
+    ensures ok { OnOk result (reached (step simulation.old choice) ≡ Some simulation.new) }
+    ensures refused { IfErr result (λ e. ExplainsChoices (reached (step simulation.old choice)) e) }
+{
+    match simulation.step(choice as usize) {
+        Ok(_) => Ok(()),
+        Err(SimError::NoMemory) => Err(RaceError::NoMemory),
+        Err(_) => Err(RaceError::NotAnOrder),
+    }
+}
+
+/// Takes the events of these choices, one after another, and appends whose they are. Refused where a choice is no step's (1201), or for want of
+/// memory (1207).
+pub fn follow(
+    simulation: &mut Sim,
+    choices: &[u32],
+    sources: &mut Vec<ObjectId>,
+) -> Result<(), RaceError>
+    ensures leads { OnOk result (behind simulation.old choices.now ≡ Some simulation.new) }
+    ensures sources { OnOk result (sources.new.items
+        ≡ sources.old.items ++ sources_of simulation.old choices.now) }
+    ensures refused { IfErr result (λ e. ExplainsChoices (behind simulation.old choices.now) e) }
+{
+    for choice in choices {
+        sources.push(simulation.source(*choice as usize))?;
+        take(simulation, *choice)?;
+    }
+    Ok(())
+}
+
+/// The order that the run took in a segment, with its sources, by a simulation that stands at the segment's start; or want of memory (1207).
+pub fn run_order(alloc: Global, segment: &Segment, simulation: &mut Sim) -> Result<Order, RaceError>
+    requires { simulation.old ≡ segment.now.start }
+    ensures choices { IfOk result (λ o. o.choices.items ≡ segment.now.order) }
+    ensures sources { IfOk result (λ o. o.sources.items
+        ≡ sources_of segment.now.start segment.now.order) }
+    ensures refused { IsOkUnless result NoMemory }
+{
+    let _end = segment.end();
+    let choices = Vec::from_slice(alloc, segment.order())?;
+    let mut sources = Vec::new(alloc);
+    follow(simulation, segment.order(), &mut sources)?;
+    Ok(Order { choices, sources })
+}

@@ -1,0 +1,86 @@
+ghost use Rattle.std.specs.Prelude.{◌≡◌, ◌++◌, ◌∷◌, [], if◌then◌else◌, false, true, None, Some, IfOk, IsOkUnless};
+ghost use Rattle.vp_race.specs.declared.fault.RaceError.TheVariants.{NoMemory};
+ghost use Rattle.vp_race.specs.Orders.{IsOrder, reached, sources_of};
+ghost use Rattle.vp_race.specs.Search.{choice, next_number, tried};
+ghost use Rattle.vp_sim.specs.States.{source_of, step};
+
+use crate::fault::RaceError;
+use crate::follow::{Order, is_over};
+use std::alloc::Global;
+use vp_sim::{Sim, SimError};
+
+/// The number behind one, in the sequence that a seed begins (docs/FORMATS.md, "Races").
+fn next_number(number: u64) -> u64
+    ensures { result ≡ next_number number }
+{
+    number
+        .wrapping_mul(6_364_136_223_846_793_005)
+        .wrapping_add(1_442_695_040_888_963_407)
+}
+
+/// Which of so many events is taken, by the seed and its next number.
+fn choice(seed: u64, number: u64, count: usize) -> u32
+    ensures { result ≡ choice seed number count }
+{
+    if seed == 0 {
+        u32::try_from(count.saturating_sub(1)).unwrap_or(u32::MAX)
+    } else if count == 0 {
+        // No step takes it.
+        (number >> 33) as u32
+    } else {
+        ((number >> 33) % count as u64) as u32
+    }
+}
+
+/// Takes the event of a choice, whose process and number are appended to an order; or tells that it is no step's, or want of memory (1207).
+fn take_into(simulation: &mut Sim, order: &mut Order, choice: u32) -> Result<bool, RaceError>
+    ensures taken { IfOk result (λ taken. taken ≡ true
+        → reached (step simulation.old choice) ≡ Some simulation.new) }
+    ensures choices { IfOk result (λ taken. taken ≡ true
+        → order.new.choices.items ≡ order.old.choices.items ++ choice ∷ []) }
+    ensures sources { IfOk result (λ taken. taken ≡ true
+        → order.new.sources.items ≡ order.old.sources.items ++ source_of simulation.old choice ∷ []) }
+    ensures refused { IfOk result (λ taken. taken ≡ false
+        → reached (step simulation.old choice) ≡ None) }
+    ensures memory { IsOkUnless result NoMemory }
+{
+    order.sources.push(simulation.source(choice as usize))?;
+    order.choices.push(choice)?;
+    match simulation.step(choice as usize) {
+        Ok(_) => Ok(true),
+        Err(SimError::NoMemory) => Err(RaceError::NoMemory),
+        Err(_) => Ok(false),
+    }
+}
+
+/// Whether a simulation ends its time slot by at most so many steps, chosen by a seed; the order is appended to one that is empty. Else a step was refused, or
+/// something is left to do behind the last; or there was want of memory (1207).
+fn try_into(
+    simulation: &mut Sim,
+    order: &mut Order,
+    limit: u64,
+    seed: u64,
+) -> Result<bool, RaceError>
+    requires choices { order.old.choices.items ≡ [] }
+    requires sources { order.old.sources.items ≡ [] }
+    ensures tried { IfOk result (λ ended. tried simulation.old limit seed
+        ≡ (if ended then Some order.new.choices.items else None)) }
+    ensures order { IfOk result (λ ended. ended ≡ true
+        → IsOrder simulation.old order.new.choices.items simulation.new) }
+    ensures sources { IfOk result (λ ended. ended ≡ true
+        → order.new.sources.items ≡ sources_of simulation.old order.new.choices.items) }
+    ensures memory { IsOkUnless result NoMemory }
+{
+    let mut number = seed;
+    for _turn in 0..limit {
+        if is_over(simulation) {
+            return Ok(true);
+        }
+        number = next_number(number);
+        let choice = choice(seed, number, simulation.eligible());
+        if !take_into(simulation, order, choice)? {
+            return Ok(false);
+        }
+    }
+    Ok(is_over(simulation))
+}
