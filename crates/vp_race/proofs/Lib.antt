@@ -3,3 +3,7 @@ pub mod Designs
 pub mod Apart
 pub mod Refused
 pub mod Trying
+pub mod Alone
+pub mod Found
+pub mod Numbering
+pub mod Standing

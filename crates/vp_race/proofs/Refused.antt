@@ -1,5 +1,5 @@
 -- What choices beside the run's are refused for, and where they are a race.
-use Rattle.std.proofs.Common.{◌≡◌, ◌≢◌, ◌∙◌, ℕ, ◌&&◌, Bool, true, false, not, if◌then◌else◌, List, Option, Some, None, inl, refl, sym, ap, subst}
+use Rattle.std.proofs.Common.{◌≡◌, ◌≢◌, ◌∙◌, ℕ, ◌&&◌, Bool, true, false, not, if◌then◌else◌, List, Option, Some, None, inl, inr, refl, sym, ap, subst}
 use Rattle.vp_bits.specs.declared.bit.Bit.{Bit}
 use Rattle.std.specs.Option.{option_map_or}
 use Rattle.vp_bits.specs.Vector.{same_bits}
@@ -7,12 +7,11 @@ use Rattle.vp_bits.specs.laws.Words.{same_bits-Decides}
 use Rattle.vp_elab.specs.declared.object.ObjectId.{ObjectId}
 use Rattle.vp_operand.specs.Values.{no_value}
 use Rattle.vp_race.specs.declared.fault.RaceError.{RaceError}
-use Rattle.vp_race.specs.declared.fault.RaceError.TheVariants.{NotComplete, SameValue}
-use Rattle.vp_race.specs.Orders.{IsOrder, behind, is_over, is_signal, sources_of, value_of}
-use Rattle.vp_race.specs.Search.{differs}
-use Rattle.vp_race.specs.Segments.{Run, Explains, IsTold, apart, check_refusal, refusal_behind}
+use Rattle.vp_race.specs.declared.fault.RaceError.TheVariants.{NoMemory, NotComplete, SameValue}
+use Rattle.vp_race.specs.Orders.{HasEnd, IsOrder, behind, differs, is_over, is_signal, value_of}
+use Rattle.vp_race.specs.Segments.{AreApart, Beside, Run, Explains, ExplainsChoices, apart, check_refusal, order_refusal, refusal_behind, value_behind}
 use Rattle.vp_race.proofs.Apart.{signal_as}
-use Rattle.vp_race.proofs.Designs.{behind_design}
+use Rattle.vp_race.proofs.Designs.{behind_design, one_end}
 use Rattle.vp_sim.specs.States.{State}
 
 -- the refusal behind two orders that lead to states
@@ -77,25 +76,56 @@ differ_by first end object values h = (
 unequal : (bits others : List Bit) → same_bits bits others ≡ false → bits ≢ others
 unequal bits others h e = let k = (same_bits-Decides bits others).1 e in cc
 
+as_order : (start : State) (choices : List ℕ) (end : State) → HasEnd start choices → behind start choices ≡ Some end → IsOrder start choices end
+as_order start choices end has leads =
+    subst (λ (s : State). IsOrder start choices s) (one_end (behind start choices) has.end end has.is_order.leads leads) has.is_order
+
+value_at : (start : State) (choices : List ℕ) (end : State) (object : ℕ) → behind start choices ≡ Some end → value_of end object ≡ value_behind start choices object
+value_at start choices end object leads = sym (ap (λ (o : Option State). option_map_or (λ s. value_of s object) o no_value) leads)
+
 -- two orders of a segment behind which a net or reg has these values are a race of it
-pub told :
-    (segment : Run) (choices : List ℕ) (object : ObjectId) (first end : State) (values : List Bit × List Bit) (ones others : List ObjectId)
-    → IsOrder segment.start segment.order first → IsOrder segment.start choices end → apart first end object.0 ≡ Some values
-    → ones ≡ sources_of segment.start segment.order → others ≡ sources_of segment.start choices
-    → IsTold (record { segment = segment; object = object; second = choices }) ones others values
-told segment choices object first end values ones others one other h s t =
+pub apart_race :
+    (b : Beside) (object : ObjectId) (first end : State) (values : List Bit × List Bit)
+    → HasEnd b.segment.start b.segment.order → HasEnd b.segment.start b.second
+    → behind b.segment.start b.segment.order ≡ Some first → behind b.segment.start b.second ≡ Some end → apart first end object.0 ≡ Some values
+    → AreApart b object values
+apart_race b object first end values one other leads led h =
     let d = differ_by first end object.0 values h in
     record {
       race = record {
         first_end = first;
         second_end = end;
-        first_order = one;
-        second_order = other;
-        signal = signal_as segment.start first object.0 (sym (behind_design segment.start segment.order first one.leads)) ∙ d.0.0;
+        first_order = as_order b.segment.start b.segment.order first one leads;
+        second_order = as_order b.segment.start b.second end other led;
+        signal = signal_as b.segment.start first object.0 (sym (behind_design b.segment.start b.segment.order first leads)) ∙ d.0.0;
         differ = unequal (value_of first object.0) (value_of end object.0) d.0.1;
       };
-      of_first = s;
-      of_second = t;
-      first_value = ap (λ (v : List Bit × List Bit). v.0) (sym d.1) ∙ sym (ap (λ o. option_map_or (λ x. value_of x object.0) o no_value) one.leads);
-      second_value = ap (λ (v : List Bit × List Bit). v.1) (sym d.1) ∙ sym (ap (λ o. option_map_or (λ x. value_of x object.0) o no_value) other.leads);
+      first_value = sym (ap (λ (v : List Bit × List Bit). v.0) d.1) ∙ value_at b.segment.start b.segment.order first object.0 leads;
+      second_value = sym (ap (λ (v : List Bit × List Bit). v.1) d.1) ∙ value_at b.segment.start b.second end object.0 led;
     }
+
+-- ---- errors
+
+-- want of memory explains everything
+pub memory_refused : (o : Option RaceError) (e : RaceError) → e ≡ NoMemory → Explains o e
+memory_refused None e h = h
+memory_refused (Some r) e h = inr h
+
+-- choices that are not those of steps are no order
+pub choices_refused : (o : Option State) (e : RaceError) → ExplainsChoices o e → Explains (order_refusal o) e
+choices_refused None e h = h
+choices_refused (Some s) e h = memory_refused (order_refusal (Some s)) e h
+
+-- why choices are no order is why they are no race
+order_refused_at : (over differ : Bool) (e : RaceError) → Explains (if over then None else Some NotComplete) e → Explains (if not over then Some NotComplete else if differ then None else Some SameValue) e
+order_refused_at true differ e h = memory_refused (if differ then None else Some SameValue) e h
+order_refused_at false differ e h = h
+
+order_refused_by : (first : State) (o : Option State) (object : ℕ) (e : RaceError) → Explains (order_refusal o) e → Explains (refusal_behind (Some first) o object) e
+order_refused_by first None object e h = h
+order_refused_by first (Some end) object e h = order_refused_at (is_over end) (differs first end object) e h
+
+pub order_refused : (segment : Run) (choices : List ℕ) (object : ℕ) (first : State) (e : RaceError) → behind segment.start segment.order ≡ Some first → Explains (order_refusal (behind segment.start choices)) e → Explains (check_refusal segment choices object) e
+order_refused segment choices object first e leads h =
+    subst (λ (o : Option State). Explains (refusal_behind o (behind segment.start choices) object) e) (sym leads)
+    (order_refused_by first (behind segment.start choices) object e h)

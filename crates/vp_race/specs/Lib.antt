@@ -1,4 +1,5 @@
 pub mod Faults
 pub mod Orders
+pub mod Recording
 pub mod Search
 pub mod Segments

@@ -1,13 +1,14 @@
 -- Orders of the events of a time slot, and races between them (clause 11.4.2: of the active events any may be next).
-use Rattle.std.specs.Prelude.{◌≡◌, ◌≢◌, ℕ, ◌||◌, Bool, true, false, List, [], ◌∷◌, Option, Some, None, slice_get, slice_index_or}
+use Rattle.std.specs.Prelude.{◌≡◌, ◌≢◌, ℕ, ◌&&◌, ◌||◌, nat_lt, Bool, true, false, not, List, [], ◌∷◌, length, Option, Some, None, slice_get, slice_index_or}
 use Rattle.std.specs.Option.{option_map_or}
 use Rattle.vp_elab.specs.declared.object.Kind.{Kind}
 use Rattle.vp_elab.specs.declared.object.Kind.TheVariants as kind
 use Rattle.vp_elab.specs.Tree.{Node}
 use Rattle.vp_elab.specs.declared.object.ObjectId.{ObjectId}
 use Rattle.vp_bits.specs.declared.bit.Bit.{Bit}
+use Rattle.vp_bits.specs.Vector.{same_bits}
 use Rattle.vp_operand.specs.Values.{no_value}
-use Rattle.vp_sim.specs.States.{Outcome, Goes, Refuses, State, slot_done, source_of, step}
+use Rattle.vp_sim.specs.States.{Outcome, Goes, Refuses, State, eligible, slot_done, source_of, step}
 
 -- ---- orders
 
@@ -35,6 +36,26 @@ pub record IsOrder (start : State) (choices : List ℕ) (end : State) : Type 0 w
   pub leads : behind start choices ≡ Some end
   pub over : is_over end ≡ true
 
+-- choices are an order of the time slot of a state
+pub record HasEnd (start : State) (choices : List ℕ) : Type 0 where
+  pub end : State
+  pub is_order : IsOrder start choices end
+
+-- at one of the steps of these choices another event could have been taken, from a state on that was reached
+abbrev pub chose_from : Option State → (choices : List ℕ) → Bool
+chose_from None choices = false
+chose_from (Some s) [] = false
+chose_from (Some s) (k ∷ ks) = nat_lt 1 (length (eligible s)) || chose_from (reached (step s k)) ks
+
+-- at one of the steps of these choices another event could have been taken
+abbrev pub has_choice : State → (choices : List ℕ) → Bool
+has_choice start choices = chose_from (Some start) choices
+
+-- choices are an order of the time slot of a state, and so much is known of whether there was ever another choice
+pub record IsRun (start : State) (choices : List ℕ) (several : Bool) : Type 0 where
+  pub has_end : HasEnd start choices
+  pub choice : several ≡ has_choice start choices
+
 -- the processes whose events an order takes, by their objects, from a state on that was reached
 abbrev pub sources_from : Option State → (choices : List ℕ) → List ObjectId
 sources_from None choices = []
@@ -60,6 +81,10 @@ is_variable other = false
 -- the object of a number is a net or a reg
 abbrev pub is_signal : State → (object : ℕ) → Bool
 is_signal s object = option_map_or (λ (n : Node). is_variable n.kind) (slice_get s.design.tree.nodes object) false
+
+-- a net or reg has different values in two states
+abbrev pub differs : (first second : State) → (object : ℕ) → Bool
+differs first second object = is_signal first object && not (same_bits (value_of first object) (value_of second object))
 
 -- a race of a time slot: two orders from its start, behind which a net or a reg has different values (clause 11.5)
 pub record IsRace (start : State) (first second : List ℕ) (object : ℕ) : Type 0 where

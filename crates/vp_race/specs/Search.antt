@@ -1,10 +1,10 @@
 -- The search for races of a time slot: orders by numbers that a seed begins, and the objects whose values differ behind them (profile).
-use Rattle.std.specs.Prelude.{ℕ, ◌+◌, ◌-◌, ◌*◌, ◌/◌, ◌%◌, ◌^◌, ◌==◌, ◌&&◌, zero, suc, Bool, not, if◌then◌else◌, List, [], ◌∷◌, ◌++◌, filter, length, map, min, Option, Some, None, option_map}
+use Rattle.std.specs.Prelude.{◌≡◌, ℕ, ◌+◌, ◌-◌, ◌*◌, ◌/◌, ◌%◌, ◌^◌, ◌==◌, ◌<◌, ◌&&◌, zero, suc, Bool, false, not, if◌then◌else◌, List, [], ◌∷◌, ◌++◌, filter, length, map, min, Option, Some, None, option_map, slice_index_or}
 use Rattle.std.specs.List.{list_any}
-use Rattle.vp_bits.specs.Vector.{same_bits}
 use Rattle.vp_elab.specs.Tree.{below}
 use Rattle.vp_sim.specs.States.{State, eligible, step}
-use Rattle.vp_race.specs.Orders.{behind, is_over, is_signal, reached, value_of}
+use Rattle.vp_race.specs.Orders.{behind, differs, is_over, reached}
+use Rattle.vp_race.specs.Segments.{Run, Told}
 
 -- the number behind one, in the sequence that a seed begins
 abbrev pub next_number : ℕ → ℕ
@@ -29,10 +29,6 @@ tried_from (suc limit) seed number (Some s) =
 abbrev pub tried : (start : State) → (limit : ℕ) → (seed : ℕ) → Option (List ℕ)
 tried start limit seed = tried_from limit seed seed (Some start)
 
--- a net or reg has different values in two states
-abbrev pub differs : (first second : State) → (object : ℕ) → Bool
-differs first second object = is_signal first object && not (same_bits (value_of first object) (value_of second object))
-
 -- a number stands among others
 abbrev pub is_among : List ℕ → (number : ℕ) → Bool
 is_among numbers number = list_any (λ n. n == number) numbers
@@ -42,28 +38,44 @@ abbrev pub differing : (known : List ℕ) → (first second : State) → List �
 differing known first second =
     filter (λ o. differs first second o && not (is_among known o)) (below (length first.design.tree.nodes))
 
--- a race that is found: its object, and the order beside the run's
-pub record Found : Type 0 where
-  pub object : ℕ
-  pub second : List ℕ
+-- the objects of some findings
+abbrev pub objects_of : List Told → List ℕ
+objects_of findings = map (λ f. f.object.0) findings
 
--- what is found behind an order
-abbrev pub found_behind : (known : List ℕ) → (first : State) → (second : List ℕ) → Option State → List Found
-found_behind known first second None = []
-found_behind known first second (Some end) = map (λ o. record { object = o; second = second }) (differing known first end)
+-- the finding of an object, in a segment with an order beside the run's
+abbrev pub finding_of : Run → (second : List ℕ) → (object : ℕ) → Told
+finding_of segment second object = record { segment = segment; object = record { 0 = object }; second = second }
+
+-- what is found behind an order, where the run's order leads to the first state, beside what is known
+abbrev pub found_behind : Run → (known : List ℕ) → (first : State) → (second : List ℕ) → Option State → List Told
+found_behind segment known first second None = []
+found_behind segment known first second (Some end) = map (finding_of segment second) (differing known first end)
 
 -- what is found behind the order of a seed, if it has one
-abbrev pub found_by : (start first : State) → (known : List ℕ) → Option (List ℕ) → List Found
-found_by start first known None = []
-found_by start first known (Some second) = found_behind known first second (behind start second)
+abbrev pub found_by : Run → (first : State) → (already : List Told) → Option (List ℕ) → List Told
+found_by segment first already None = []
+found_by segment first already (Some second) = found_behind segment (objects_of already) first second (behind segment.start second)
 
 -- what is found by seeds, one after another, beside what is found already: each object once
-abbrev pub found_from : (start first : State) → (limit : ℕ) → (already : List Found) → (seeds : List ℕ) → List Found
-found_from start first limit already [] = already
-found_from start first limit already (seed ∷ seeds) =
-    found_from start first limit
-    (already ++ found_by start first (map (λ (f : Found). f.object) already) (tried start limit seed)) seeds
+abbrev pub found_from : Run → (first : State) → (limit : ℕ) → (already : List Told) → (seeds : List ℕ) → List Told
+found_from segment first limit already [] = already
+found_from segment first limit already (seed ∷ seeds) =
+    found_from segment first limit (already ++ found_by segment first already (tried segment.start limit seed)) seeds
 
--- what is found by the seeds below a number, in a time slot that begins with a state and that the run left with another
-abbrev pub found : (start first : State) → (limit : ℕ) → (seeds : ℕ) → List Found
-found start first limit seeds = found_from start first limit [] (below seeds)
+-- what is found in a segment by the seeds below a number, beside the state behind the run's order
+abbrev pub found_beside : Run → Option State → (limit : ℕ) → (seeds : ℕ) → List Told
+found_beside segment None limit seeds = []
+found_beside segment (Some first) limit seeds = found_from segment first limit [] (below seeds)
+
+-- what is found in a segment by the seeds below a number, by orders of at most so many steps
+abbrev pub found : Run → (limit : ℕ) → (seeds : ℕ) → List Told
+found segment limit seeds = found_beside segment (behind segment.start segment.order) limit seeds
+
+-- what is found, and among so many objects
+pub record Listed : Type 0 where
+  pub findings : List Told
+  pub objects : ℕ
+
+-- the objects of these findings are marked among all
+abbrev pub AreMarked : List Told → (marks : List Bool) → Type 0
+AreMarked findings marks = (object : ℕ) → object < length marks → slice_index_or marks object false ≡ is_among (objects_of findings) object

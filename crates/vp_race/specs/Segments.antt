@@ -7,8 +7,7 @@ use Rattle.vp_operand.specs.Values.{no_value}
 use Rattle.vp_sim.specs.States.{State}
 use Rattle.vp_race.specs.declared.fault.RaceError.{RaceError}
 use Rattle.vp_race.specs.declared.fault.RaceError.TheVariants.{NotAnOrder, NotComplete, SameValue, NoMemory}
-use Rattle.vp_race.specs.Orders.{IsOrder, IsRace, behind, is_over, sources_of, value_of}
-use Rattle.vp_race.specs.Search.{differs}
+use Rattle.vp_race.specs.Orders.{HasEnd, IsRace, behind, differs, is_over, sources_of, value_of}
 
 -- a segment: its number, the state with which it began, and the order that the run took from there (profile)
 pub record Run : Type 0 where
@@ -16,11 +15,10 @@ pub record Run : Type 0 where
   pub start : State
   pub order : List ℕ
 
--- the run took an order from a state, and left these values
-pub record Leaves (start : State) (order : List ℕ) (values : List (List Bit)) : Type 0 where
-  pub end : State
-  pub is_order : IsOrder start order end
-  pub has_values : end.values ≡ values
+-- an order beside that of a segment
+pub record Beside : Type 0 where
+  pub segment : Run
+  pub second : List ℕ
 
 -- a finding: a segment, an object, and the order beside the run's
 pub record Told : Type 0 where
@@ -40,6 +38,11 @@ value_behind start order object = option_map_or (λ s. value_of s object) (behin
 abbrev pub apart : (first second : State) → (object : ℕ) → Option (List Bit × List Bit)
 apart first second object =
     if differs first second object then Some (value_of first object, value_of second object) else None
+
+-- why choices are no order, if they are none: one is no step's, then that something is left to do behind the last (profile)
+abbrev pub order_refusal : Option State → Option RaceError
+order_refusal None = Some NotAnOrder
+order_refusal (Some end) = if is_over end then None else Some NotComplete
 
 -- why choices beside the run's are no race at an object, if they are none (profile)
 abbrev pub refusal_behind : (first second : Option State) → (object : ℕ) → Option RaceError
@@ -62,10 +65,15 @@ abbrev pub ExplainsChoices : Option State → RaceError → Type 0
 ExplainsChoices None e = (e ≡ NotAnOrder) ⊎ (e ≡ NoMemory)
 ExplainsChoices (Some s) e = e ≡ NoMemory
 
--- what is kept of a finding: it is a race, and these are the sources of both orders and both values
-pub record IsTold (f : Told) (first_sources second_sources : List ObjectId) (values : List Bit × List Bit) : Type 0 where
-  pub race : IsRaceOf f
-  pub of_first : first_sources ≡ sources_of f.segment.start f.segment.order
-  pub of_second : second_sources ≡ sources_of f.segment.start f.second
-  pub first_value : values.0 ≡ value_behind f.segment.start f.segment.order f.object.0
-  pub second_value : values.1 ≡ value_behind f.segment.start f.second f.object.0
+-- both are orders of the segment's time slot, and these are the sources of their steps
+pub record AreOrders (b : Beside) (first_sources second_sources : List ObjectId) : Type 0 where
+  pub first : HasEnd b.segment.start b.segment.order
+  pub second : HasEnd b.segment.start b.second
+  pub of_first : first_sources ≡ sources_of b.segment.start b.segment.order
+  pub of_second : second_sources ≡ sources_of b.segment.start b.second
+
+-- an object has these values behind both orders, and they are a race
+pub record AreApart (b : Beside) (object : ObjectId) (values : List Bit × List Bit) : Type 0 where
+  pub race : IsRaceOf (record { segment = b.segment; object = object; second = b.second })
+  pub first_value : values.0 ≡ value_behind b.segment.start b.segment.order object.0
+  pub second_value : values.1 ≡ value_behind b.segment.start b.second object.0

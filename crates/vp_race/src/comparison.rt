@@ -1,108 +1,168 @@
-ghost use Rattle.std.specs.Prelude.{◌≡◌, None, Some, slice_index_or, IfErr, IfOk, OnOk};
+ghost use Rattle.std.specs.Prelude.{◌≡◌, if◌then◌else◌, true, None, Some, IfErr, IfOk, OnOk, IsOkUnless};
 ghost use Rattle.std.specs.Arc.{arc_value};
-ghost use Rattle.vp_operand.specs.Values.{no_value};
-ghost use Rattle.vp_sim.specs.States.{State};
-ghost use Rattle.vp_race.specs.Orders.{behind};
-ghost use Rattle.vp_race.specs.Segments.{Explains, IsRaceOf, apart, check_refusal};
+ghost use Rattle.vp_race.specs.declared.fault.RaceError.TheVariants.{NoMemory};
+ghost use Rattle.vp_race.specs.Orders.{behind, differs, is_over};
+ghost use Rattle.vp_race.specs.Search.{finding_of};
+ghost use Rattle.vp_race.specs.Segments.{Explains, apart, check_refusal, order_refusal};
 
 use crate::fault::RaceError;
 use crate::finding::Finding;
 use crate::follow::{Order, follow, is_over, is_signal, run_order};
+use crate::pair::OrderPair;
 use crate::segment::Segment;
 use std::alloc::Global;
 use std::sync::Arc;
 use vp_bits::Bits;
 use vp_elab::ObjectId;
-use vp_expr::KeptValues;
 use vp_sim::Sim;
 
-/// The value of an object among those that are kept; one unknown bit for a number that is not there.
-fn kept_value(values: &KeptValues, object: ObjectId) -> Bits
-    ensures { result ≡ slice_index_or values.now object.0 no_value }
+/// The values of a net or reg in two simulations of one design, if they are different.
+fn values_apart(first: &Sim, second: &Sim, object: ObjectId) -> Option<(Bits, Bits)>
+    ensures { result ≡ apart first.now second.now object.0 }
 {
-    values.find(object).unwrap_or(Bits::unknown(1))
-}
-
-/// The values of a net or reg behind the run's order of a segment and in a simulation of the same design, if they are different.
-pub fn values_apart(segment: &Segment, simulation: &Sim, object: ObjectId) -> Option<(Bits, Bits)>
-    requires { simulation.now.design ≡ segment.now.start.design }
-    ensures { (first : State) → behind segment.now.start segment.now.order ≡ Some first
-        → result ≡ apart first simulation.now object.0 }
-{
-    if !is_signal(simulation, object) {
+    if !is_signal(first, object) {
         return None;
     }
-    let first = kept_value(segment.end(), object);
-    let second = simulation.value(object);
-    if first == second {
+    let value = first.value(object);
+    let other = second.value(object);
+    if value == other {
         return None;
     }
-    Some((first, second))
+    Some((value, other))
 }
 
-/// The same as `check`, by a simulation that stands at the segment's start.
+/// The finding of an object, if it is a net or reg that has different values in the simulations behind two orders; or want of memory
+/// (1207).
+pub fn finding_at(
+    orders: &OrderPair,
+    first: &Sim,
+    second: &Sim,
+    object: ObjectId,
+) -> Result<Option<Finding>, RaceError>
+    requires first { behind orders.now.segment.start orders.now.segment.order ≡ Some first.now }
+    requires second { behind orders.now.segment.start orders.now.second ≡ Some second.now }
+    ensures found { IfOk result (λ f. f ≡ (if differs first.now second.now object.0
+        then Some (finding_of orders.now.segment orders.now.second object.0) else None)) }
+    ensures memory { IsOkUnless result NoMemory }
+{
+    let _run = orders.segment();
+    let _other = orders.second();
+    let Some(values) = values_apart(first, second, object) else {
+        return Ok(None);
+    };
+    let orders = orders.try_clone()?;
+    Ok(Some(Finding {
+        orders,
+        object,
+        values,
+    }))
+}
+
+/// A segment with an order beside the run's, where these choices are one, by two simulations that stand at the segment's start: the first takes the run's
+/// order, and the second the other. Refused where a choice is no step's (1201), where something is left to do behind the last (1202), or
+/// for want of memory (1207).
+#[tactic(auto, using(crate::proofs::Refused::memory_refused, crate::proofs::Refused::choices_refused))]
+fn pair_of(
+    alloc: Global,
+    segment: &Arc<Segment>,
+    first: &mut Sim,
+    second: &mut Sim,
+    choices: Vec<u32>,
+) -> Result<OrderPair, RaceError>
+    requires first { first.old ≡ (arc_value segment.now).start }
+    requires second { second.old ≡ (arc_value segment.now).start }
+    ensures pair { IfOk result (λ p. p ≡ record {
+      segment = arc_value segment.now;
+      second = choices.items;
+    }) }
+    ensures first { OnOk result
+        (behind (arc_value segment.now).start (arc_value segment.now).order ≡ Some first.new) }
+    ensures second { OnOk result
+        (behind (arc_value segment.now).start choices.items ≡ Some second.new) }
+    ensures over { OnOk result (is_over second.new ≡ true) }
+    ensures refused { IfErr result (λ e.
+        Explains (order_refusal (behind (arc_value segment.now).start choices.items)) e) }
+{
+    let _order = segment.order();
+    let run = run_order(alloc, segment, first)?;
+    let mut sources = Vec::new(alloc);
+    follow(second, &choices, &mut sources)?;
+    if !is_over(second) {
+        return Err(RaceError::NotComplete);
+    }
+    Ok(OrderPair {
+        segment: Arc::try_clone(segment)?,
+        first: Arc::new(alloc, run)?,
+        second: Arc::new(alloc, Order { choices, sources })?,
+    })
+}
+
+/// The same as `check`, by two simulations that stand at the segment's start.
 fn check_by(
     alloc: Global,
     segment: &Arc<Segment>,
-    simulation: &mut Sim,
+    first: &mut Sim,
+    second: &mut Sim,
     choices: Vec<u32>,
     object: ObjectId,
 ) -> Result<Finding, RaceError>
-    requires { simulation.old ≡ (arc_value segment.now).start }
-    ensures found { IfOk result (λ f. f ≡ record {
-      segment = arc_value segment.now;
-      object = object;
-      second = choices.items;
-    }) }
+    requires first { first.old ≡ (arc_value segment.now).start }
+    requires second { second.old ≡ (arc_value segment.now).start }
+    ensures found { IfOk result (λ f. f
+        ≡ finding_of (arc_value segment.now) choices.items object.0) }
     ensures accepted { OnOk result
         (check_refusal (arc_value segment.now) choices.items object.0 ≡ None) }
     ensures refused { IfErr result (λ e.
         Explains (check_refusal (arc_value segment.now) choices.items object.0) e) }
 {
-    let _end = segment.end();
-    let mut sources = Vec::new(alloc);
-    follow(simulation, &choices, &mut sources)?;
-    if !is_over(simulation) {
-        return Err(RaceError::NotComplete);
+    let _order = segment.order();
+    let orders = pair_of(alloc, segment, first, second, choices)?;
+    match finding_at(&orders, first, second, object)? {
+        Some(finding) => Ok(finding),
+        None => Err(RaceError::SameValue),
     }
-    let Some(values) = values_apart(segment, simulation, object) else {
-        return Err(RaceError::SameValue);
-    };
-    if simulation.restore(segment.start()).is_err() {
-        return Err(RaceError::NoMemory);
-    }
-    let first = Arc::new(alloc, run_order(alloc, segment, simulation)?)?;
-    let second = Arc::new(alloc, Order { choices, sources })?;
-    Ok(Finding {
-        segment: Arc::try_clone(segment)?,
-        object,
-        first,
-        second,
-        values,
-    })
 }
 
-/// Whether choices beside the run's are an order of a segment behind which an object has another value: the finding that says so. Refused where they are
-/// no order of the segment (1201), where something is left to do behind them (1202), where the object is no net or reg or has the same value (1203), or
-/// for want of memory (1207).
+/// The same as `check`, by a simulation that stands at the segment's start.
+fn check_beside(
+    alloc: Global,
+    segment: &Arc<Segment>,
+    first: &mut Sim,
+    choices: Vec<u32>,
+    object: ObjectId,
+) -> Result<Finding, RaceError>
+    requires { first.old ≡ (arc_value segment.now).start }
+    ensures found { IfOk result (λ f. f
+        ≡ finding_of (arc_value segment.now) choices.items object.0) }
+    ensures accepted { OnOk result
+        (check_refusal (arc_value segment.now) choices.items object.0 ≡ None) }
+    ensures refused { IfErr result (λ e.
+        Explains (check_refusal (arc_value segment.now) choices.items object.0) e) }
+{
+    let Ok(mut second) = Sim::of_kept(segment.start()) else {
+        return Err(RaceError::NoMemory);
+    };
+    check_by(alloc, segment, first, &mut second, choices, object)
+}
+
+/// The finding of an object, where these choices are an order of the segment's time slot behind which it has another value than behind the
+/// run's. Refused where a choice is no step's (1201), where something is left to do behind the last (1202), where the object is no net or reg or has
+/// the same value (1203), or for want of memory (1207).
 pub fn check(
     alloc: Global,
     segment: &Arc<Segment>,
     choices: Vec<u32>,
     object: ObjectId,
 ) -> Result<Finding, RaceError>
-    ensures found { IfOk result (λ f. f ≡ record {
-      segment = arc_value segment.now;
-      object = object;
-      second = choices.items;
-    }) }
+    ensures found { IfOk result (λ f. f
+        ≡ finding_of (arc_value segment.now) choices.items object.0) }
     ensures accepted { OnOk result
         (check_refusal (arc_value segment.now) choices.items object.0 ≡ None) }
     ensures refused { IfErr result (λ e.
         Explains (check_refusal (arc_value segment.now) choices.items object.0) e) }
 {
-    let Ok(mut simulation) = Sim::of_kept(segment.start()) else {
+    let Ok(mut first) = Sim::of_kept(segment.start()) else {
         return Err(RaceError::NoMemory);
     };
-    check_by(alloc, segment, &mut simulation, choices, object)
+    check_beside(alloc, segment, &mut first, choices, object)
 }

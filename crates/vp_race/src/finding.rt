@@ -2,10 +2,9 @@ ghost use Rattle.std.specs.Prelude.{◌≡◌};
 ghost use Rattle.vp_race.specs.Orders.{sources_of};
 ghost use Rattle.vp_race.specs.Segments.{IsRaceOf, value_behind};
 
-use crate::follow::Order;
+use crate::pair::OrderPair;
 use crate::segment::Segment;
 use std::marker::Model;
-use std::sync::Arc;
 use vp_bits::Bits;
 use vp_elab::ObjectId;
 
@@ -13,25 +12,20 @@ use vp_elab::ObjectId;
 /// which are a race.
 #[derive(Drop)]
 pub struct Finding {
-    pub(crate) segment: Arc<Segment>,
+    pub(crate) orders: OrderPair,
     pub(crate) object: ObjectId,
-    /// The run's order, with its sources, shared by the findings of a search.
-    pub(crate) first: Arc<Order>,
-    /// The order beside it, shared by the findings behind it.
-    pub(crate) second: Arc<Order>,
     /// The object's values behind the run's order and behind the other.
     pub(crate) values: (Bits, Bits),
 }
 
 impl Model for Finding {
-    ghost use Rattle.std.specs.Arc.{arc_value};
-    ghost use Rattle.vp_race.specs.Segments.{IsTold, Told};
+    ghost use Rattle.vp_race.specs.Segments.{AreApart, Told};
 
     ghost Value = { Told };
 
-    ghost view = { λ f. record { segment = arc_value f.segment; object = f.object; second = (arc_value f.second).choices.items } };
+    ghost view = { λ f. record { segment = f.orders.segment; object = f.object; second = f.orders.second } };
 
-    ghost invariant = { λ f. IsTold (record { segment = arc_value f.segment; object = f.object; second = (arc_value f.second).choices.items }) (arc_value f.first).sources.items (arc_value f.second).sources.items f.values };
+    ghost invariant = { λ f. AreApart f.orders f.object f.values };
 }
 
 impl Finding {
@@ -40,7 +34,7 @@ impl Finding {
         ensures segment { result.now ≡ self.now.segment }
         ensures race { IsRaceOf self.now }
     {
-        &self.segment
+        self.orders.segment()
     }
 
     /// The net or reg.
@@ -54,7 +48,7 @@ impl Finding {
     pub fn second(&self) -> &[u32]
         ensures { result.now ≡ self.now.second }
     {
-        self.second.choices.as_slice()
+        self.orders.second()
     }
 
     /// Its values behind the run's order and behind the other.
@@ -71,13 +65,13 @@ impl Finding {
     pub fn first_sources(&self) -> &[ObjectId]
         ensures { result.now ≡ sources_of self.now.segment.start self.now.segment.order }
     {
-        self.first.sources.as_slice()
+        self.orders.first_sources()
     }
 
     /// The same of the order beside the run's.
     pub fn second_sources(&self) -> &[ObjectId]
         ensures { result.now ≡ sources_of self.now.segment.start self.now.second }
     {
-        self.second.sources.as_slice()
+        self.orders.second_sources()
     }
 }

@@ -65,17 +65,20 @@ pub fn follow(
     Ok(())
 }
 
-/// The order that the run took in a segment, with its sources, by a simulation that stands at the segment's start; or want of memory (1207).
+/// The order that the run took in a segment, with its sources, taken by a simulation that stands at the segment's start; or want of memory
+/// (1207).
 pub fn run_order(alloc: Global, segment: &Segment, simulation: &mut Sim) -> Result<Order, RaceError>
     requires { simulation.old ≡ segment.now.start }
+    ensures leads { OnOk result
+        (behind segment.now.start segment.now.order ≡ Some simulation.new) }
     ensures choices { IfOk result (λ o. o.choices.items ≡ segment.now.order) }
     ensures sources { IfOk result (λ o. o.sources.items
         ≡ sources_of segment.now.start segment.now.order) }
     ensures refused { IsOkUnless result NoMemory }
 {
-    let _end = segment.end();
-    let choices = Vec::from_slice(alloc, segment.order())?;
+    let order = segment.order();
+    let choices = Vec::from_slice(alloc, order)?;
     let mut sources = Vec::new(alloc);
-    follow(simulation, segment.order(), &mut sources)?;
+    follow(simulation, order, &mut sources)?;
     Ok(Order { choices, sources })
 }

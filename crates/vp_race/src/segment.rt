@@ -1,8 +1,10 @@
-ghost use Rattle.std.specs.Prelude.{◌≡◌};
-ghost use Rattle.vp_race.specs.Segments.{Leaves};
+ghost use Rattle.std.specs.Prelude.{◌≡◌, IfOk};
+ghost use Rattle.std.specs.Arc.{arc_value};
+ghost use Rattle.vp_race.specs.Orders.{HasEnd, IsRun, has_choice};
 
+use std::alloc::{AllocError, Global};
 use std::marker::Model;
-use vp_expr::KeptValues;
+use std::sync::Arc;
 use vp_sim::KeptSim;
 
 /// A segment of a run: what it did in a time slot, from the slot's beginning or from a put on, to the step behind which nothing was left to do. A
@@ -10,34 +12,53 @@ use vp_sim::KeptSim;
 #[derive(Drop)]
 pub struct Segment {
     number: u64,
-    start: KeptSim,
+    start: Arc<KeptSim>,
     order: Vec<u32>,
-    /// The values behind the order.
-    end: KeptValues,
+    /// At one of its steps another event could have been taken.
+    several: bool,
 }
 
 impl Model for Segment {
-    ghost use Rattle.vp_race.specs.Segments.{Leaves, Run};
+    ghost use Rattle.std.specs.Arc.{arc_value};
+    ghost use Rattle.vp_race.specs.Orders.{IsRun};
+    ghost use Rattle.vp_race.specs.Segments.{Run};
 
     ghost Value = { Run };
 
-    ghost view = { λ s. record { number = s.number; start = s.start; order = s.order.items } };
+    ghost view = { λ s. record { number = s.number; start = arc_value s.start; order = s.order.items } };
 
-    ghost invariant = { λ s. Leaves s.start s.order.items s.end };
+    ghost invariant = { λ s. IsRun (arc_value s.start) s.order.items s.several };
 }
 
 impl Segment {
-    /// The segment of a number, which began with a kept simulation; the run took this order from there, and left these values.
-    pub fn new(number: u64, start: KeptSim, order: Vec<u32>, end: KeptValues) -> Segment
-        requires { Leaves start order.items end }
-        ensures { result ≡ record { number = number; start = start; order = order.items } }
+    /// The segment of a number, which began with a kept simulation; the run took this order from there, and had a choice or none there.
+    pub fn new(number: u64, start: Arc<KeptSim>, order: Vec<u32>, several: bool) -> Segment
+        requires { IsRun (arc_value start) order.items several }
+        ensures { result ≡ record {
+          number = number;
+          start = arc_value start;
+          order = order.items;
+        } }
     {
         Segment {
             number,
             start,
             order,
-            end,
+            several,
         }
+    }
+
+    /// The same segment again, which shares its start. Takes memory for its order.
+    pub fn try_clone(&self, alloc: Global) -> Result<Segment, AllocError>
+        ensures { IfOk result (λ s. s ≡ self.now) }
+    {
+        let order = Vec::from_slice(alloc, self.order.as_slice())?;
+        Ok(Segment {
+            number: self.number,
+            start: Arc::try_clone(&self.start)?,
+            order,
+            several: self.several,
+        })
     }
 
     /// Its number.
@@ -56,15 +77,16 @@ impl Segment {
 
     /// The order that the run took.
     pub fn order(&self) -> &[u32]
-        ensures { result.now ≡ self.now.order }
+        ensures order { result.now ≡ self.now.order }
+        ensures end { HasEnd self.now.start self.now.order }
     {
         self.order.as_slice()
     }
 
-    /// The values behind that order.
-    pub fn end(&self) -> &KeptValues
-        ensures { Leaves self.now.start self.now.order result.now }
+    /// At one of its steps another event could have been taken.
+    pub fn has_choice(&self) -> bool
+        ensures { result ≡ has_choice self.now.start self.now.order }
     {
-        &self.end
+        self.several
     }
 }

@@ -42,6 +42,7 @@ fn take_into(simulation: &mut Sim, order: &mut Order, choice: u32) -> Result<boo
         → order.new.sources.items ≡ order.old.sources.items ++ source_of simulation.old choice ∷ []) }
     ensures refused { IfOk result (λ taken. taken ≡ false
         → reached (step simulation.old choice) ≡ None) }
+    ensures design { simulation.new.design ≡ simulation.old.design }
     ensures memory { IsOkUnless result NoMemory }
 {
     order.sources.push(simulation.source(choice as usize))?;
@@ -55,7 +56,7 @@ fn take_into(simulation: &mut Sim, order: &mut Order, choice: u32) -> Result<boo
 
 /// Whether a simulation ends its time slot by at most so many steps, chosen by a seed; the order is appended to one that is empty. Else a step was refused, or
 /// something is left to do behind the last; or there was want of memory (1207).
-fn try_into(
+pub fn try_into(
     simulation: &mut Sim,
     order: &mut Order,
     limit: u64,
@@ -69,6 +70,7 @@ fn try_into(
         → IsOrder simulation.old order.new.choices.items simulation.new) }
     ensures sources { IfOk result (λ ended. ended ≡ true
         → order.new.sources.items ≡ sources_of simulation.old order.new.choices.items) }
+    ensures design { simulation.new.design ≡ simulation.old.design }
     ensures memory { IsOkUnless result NoMemory }
 {
     let mut number = seed;

@@ -7,5 +7,5 @@ use Rattle.vp_race.proofs.follow.run_order.Goals as goal
 pub returns-in_err-follow-clause-refused : goal.returns-in_err-follow-clause-refused
 returns-in_err-follow-clause-refused c =
     let p = err_from_is_err_and c.from_residual-in_err-follow.result c.from_residual-in_err-follow.ensures.1 in
-    let there = ap (λ s. behind s c.order-2.result.now) c.requires ∙ ap (behind c.args.segment.now.start) c.order-2.ensures ∙ c.end-end.ensures.is_order.leads in
-    rw (p.1, p.2) (whole_explains (behind c.args.simulation.now c.order-2.result.now) c.end-end.ensures.end c.in_err-follow.field-0.0 there (c.in_err-follow.ensures {u = tt}).refused)
+    let there = ap (λ s. behind s c.order-order.result.now) c.requires ∙ ap (behind c.args.segment.now.start) c.order-order.ensures.order ∙ c.order-order.ensures.end.is_order.leads in
+    rw (p.1, p.2) (whole_explains (behind c.args.simulation.now c.order-order.result.now) c.order-order.ensures.end.end c.in_err-follow.field-0.0 there (c.in_err-follow.ensures {u = tt}).refused)

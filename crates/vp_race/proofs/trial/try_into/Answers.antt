@@ -55,6 +55,7 @@ loop-turn-preserved c =
           ∙ ap (λ (l : List ObjectId). l ++ source_of s k ∷ []) c.loop-turn.invariant.sources
           ∙ sym (sources_more (Some start) choices s k c.loop-turn.invariant.leads)
           ∙ ap (sources_of start) (sym chose);
+      design = c.take_into.ensures.design ∙ c.loop-turn.invariant.design;
     }
 
 pub returns-clause-tried : goal.returns-clause-tried

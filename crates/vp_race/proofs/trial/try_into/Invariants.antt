@@ -10,4 +10,5 @@ invariant-loop-turn l = record {
   tried : tried l.fn.simulation l.limit l.seed ≡ option_map (λ ks. l.order.choices.items ++ ks) (tried_from (l.limit - l._turn) l.seed l.number (Some l.simulation));
   leads : behind l.fn.simulation l.order.choices.items ≡ Some l.simulation;
   sources : l.order.sources.items ≡ sources_of l.fn.simulation l.order.choices.items;
+  design : l.simulation.design ≡ l.fn.simulation.design;
 }

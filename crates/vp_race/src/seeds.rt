@@ -1,0 +1,166 @@
+ghost use Rattle.std.specs.Prelude.{◌≡◌, ◌++◌, length, Some, IfOk, OnOk, IsOkUnless};
+ghost use Rattle.std.specs.Arc.{arc_value};
+ghost use Rattle.std.specs.List.{All};
+ghost use Rattle.vp_race.specs.declared.fault.RaceError.TheVariants.{NoMemory};
+ghost use Rattle.vp_race.specs.Orders.{behind, sources_of};
+ghost use Rattle.vp_race.specs.Search.{found, found_by, tried};
+
+use crate::fault::RaceError;
+use crate::finding::Finding;
+use crate::findings::Findings;
+use crate::follow::{Order, run_order};
+use crate::gate::Gate;
+use crate::pair::OrderPair;
+use crate::segment::Segment;
+use crate::trial::try_into;
+use std::alloc::Global;
+use std::sync::Arc;
+use vp_sim::Sim;
+
+/// Tries the order of a seed by a simulation, and finds what differs behind it from another that stands behind the run's order; or want of memory
+/// (1207).
+fn try_seed(
+    alloc: Global,
+    segment: &Arc<Segment>,
+    run: &Arc<Order>,
+    first: &Sim,
+    simulation: &mut Sim,
+    limit: u64,
+    seed: u64,
+    findings: &mut Findings,
+) -> Result<(), RaceError>
+    requires choices { (arc_value run.now).choices.items ≡ (arc_value segment.now).order }
+    requires sources { (arc_value run.now).sources.items
+        ≡ sources_of (arc_value segment.now).start (arc_value segment.now).order }
+    requires first { behind (arc_value segment.now).start (arc_value segment.now).order
+        ≡ Some first.now }
+    requires design { simulation.old.design ≡ (arc_value segment.now).start.design }
+    requires objects { findings.old.objects ≡ length first.now.design.tree.nodes }
+    ensures found { OnOk result (findings.new.findings ≡ findings.old.findings
+        ++ found_by (arc_value segment.now) first.now findings.old.findings
+        (tried (arc_value segment.now).start limit seed)) }
+    ensures objects { findings.new.objects ≡ findings.old.objects }
+    ensures design { simulation.new.design ≡ simulation.old.design }
+    ensures memory { IsOkUnless result NoMemory }
+{
+    let _order = segment.order();
+    if simulation.restore(segment.start()).is_err() {
+        return Err(RaceError::NoMemory);
+    }
+    let mut order = Order {
+        choices: Vec::new(alloc),
+        sources: Vec::new(alloc),
+    };
+    if !try_into(simulation, &mut order, limit, seed)? {
+        return Ok(());
+    }
+    let orders = OrderPair {
+        segment: Arc::try_clone(segment)?,
+        first: Arc::try_clone(run)?,
+        second: Arc::new(alloc, order)?,
+    };
+    findings.find_behind(&orders, first, simulation)
+}
+
+/// The same as `search`, by a simulation behind the run's order, which is given, and by one of the same design.
+fn search_by<G: Gate>(
+    alloc: Global,
+    segment: &Arc<Segment>,
+    run: &Arc<Order>,
+    first: &Sim,
+    simulation: &mut Sim,
+    seeds: u64,
+    limit: u64,
+    gate: &G,
+) -> Result<Vec<Finding>, RaceError>
+    requires choices { (arc_value run.now).choices.items ≡ (arc_value segment.now).order }
+    requires sources { (arc_value run.now).sources.items
+        ≡ sources_of (arc_value segment.now).start (arc_value segment.now).order }
+    requires first { behind (arc_value segment.now).start (arc_value segment.now).order
+        ≡ Some first.now }
+    requires design { simulation.old.design ≡ (arc_value segment.now).start.design }
+    ensures found { G.stays_open gate.now → IfOk result (λ findings. findings.items
+        ≡ found (arc_value segment.now) limit seeds) }
+    ensures segment { IfOk result (λ findings. All (λ f. f.segment ≡ arc_value segment.now)
+        findings.items) }
+    ensures memory { IsOkUnless result NoMemory }
+{
+    let mut findings = Findings::new(alloc, first.design().count())?;
+    let mut is_open = gate.turn();
+    for seed in 0..seeds {
+        if !is_open {
+            break;
+        }
+        try_seed(
+            alloc,
+            segment,
+            run,
+            first,
+            simulation,
+            limit,
+            seed,
+            &mut findings,
+        )?;
+        is_open = gate.turn();
+    }
+    Ok(findings.into_vec())
+}
+
+/// The same as `search`, by a simulation that stands at the segment's start.
+fn search_beside<G: Gate>(
+    alloc: Global,
+    segment: &Arc<Segment>,
+    first: &mut Sim,
+    seeds: u64,
+    limit: u64,
+    gate: &G,
+) -> Result<Vec<Finding>, RaceError>
+    requires { first.old ≡ (arc_value segment.now).start }
+    ensures found { G.stays_open gate.now → IfOk result (λ findings. findings.items
+        ≡ found (arc_value segment.now) limit seeds) }
+    ensures segment { IfOk result (λ findings. All (λ f. f.segment ≡ arc_value segment.now)
+        findings.items) }
+    ensures memory { IsOkUnless result NoMemory }
+{
+    let run = Arc::new(alloc, run_order(alloc, segment, first)?)?;
+    let Ok(mut simulation) = Sim::of_kept(segment.start()) else {
+        return Err(RaceError::NoMemory);
+    };
+    search_by(
+        alloc,
+        segment,
+        &run,
+        first,
+        &mut simulation,
+        seeds,
+        limit,
+        gate,
+    )
+}
+
+/// The races of a segment that the orders of so many seeds show, each of at most so many steps: each net and reg once, by seed and then by number. The gate
+/// is asked once before, and once behind each order that was tried; where it answers no, what was found till then is the answer. A segment in
+/// which the run never had a choice has one order, and none is tried. The only refusal is want of memory (1207).
+pub fn search<G: Gate>(
+    alloc: Global,
+    segment: &Arc<Segment>,
+    seeds: u64,
+    limit: u64,
+    gate: &G,
+) -> Result<Vec<Finding>, RaceError>
+    ensures found { G.stays_open gate.now → IfOk result (λ findings. findings.items
+        ≡ found (arc_value segment.now) limit seeds) }
+    ensures segment { IfOk result (λ findings. All (λ f. f.segment ≡ arc_value segment.now)
+        findings.items) }
+    ensures memory { IsOkUnless result NoMemory }
+{
+    let _order = segment.order();
+    if !segment.has_choice() {
+        gate.turn();
+        return Ok(Vec::new(alloc));
+    }
+    let Ok(mut first) = Sim::of_kept(segment.start()) else {
+        return Err(RaceError::NoMemory);
+    };
+    search_beside(alloc, segment, &mut first, seeds, limit, gate)
+}
