@@ -168,24 +168,7 @@ fn copy_runs_alone(alloc: Global) -> Option<bool> {
     Some(same && seen(&other) == at_end() && seen(&simulation) == at_start())
 }
 
-/// A simulation that runs to the end of its slot goes on from a copy that was made before, and from one that was made behind it.
-fn copies_stay(alloc: Global) -> Option<bool> {
-    let mut simulation = simulation(alloc, MIXED)?;
-    let first = simulation.keep().ok()?;
-    finish_slot(&mut simulation);
-    let second = simulation.keep().ok()?;
-    simulation.restore(&first).ok()?;
-    let is_first = seen(&simulation) == at_start();
-    simulation.restore(&second).ok()?;
-    Some(is_first && seen(&simulation) == at_end())
-}
-
 #[test]
 fn copy_of_a_simulation(rt: HostRuntime) {
     assert_eq!(rt; copy_runs_alone(rt.alloc()), Some(true));
-}
-
-#[test]
-fn simulation_that_goes_on_from_copies(rt: HostRuntime) {
-    assert_eq!(rt; copies_stay(rt.alloc()), Some(true));
 }
