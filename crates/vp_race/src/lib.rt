@@ -5,6 +5,7 @@
 #![tactic(auto)]
 
 mod begun;
+mod book;
 mod comparison;
 mod fault;
 mod finding;
@@ -16,8 +17,10 @@ mod pair;
 mod recording;
 mod seeds;
 mod segment;
+mod shared;
 mod trial;
 
+pub use book::Book;
 pub use comparison::check;
 pub use fault::RaceError;
 pub use finding::Finding;
@@ -26,3 +29,4 @@ pub use pair::OrderPair;
 pub use recording::Recording;
 pub use seeds::search;
 pub use segment::Segment;
+pub use shared::Shared;

@@ -1,6 +1,7 @@
 ghost use Rattle.std.specs.Prelude.{◌≡◌, IfOk};
 ghost use Rattle.std.specs.Arc.{arc_value};
 ghost use Rattle.vp_race.specs.Orders.{HasEnd, IsRun, has_choice};
+ghost use Rattle.vp_race.specs.Same.{same_run};
 
 use std::alloc::{AllocError, Global};
 use std::marker::Model;
@@ -75,12 +76,30 @@ impl Segment {
         &self.start
     }
 
+    /// The time of its slot, in time units.
+    pub fn time(&self) -> u64
+        ensures { result ≡ self.now.start.time }
+    {
+        self.start.time()
+    }
+
     /// The order that the run took.
     pub fn order(&self) -> &[u32]
         ensures order { result.now ≡ self.now.order }
         ensures end { HasEnd self.now.start self.now.order }
     {
         self.order.as_slice()
+    }
+
+    /// Two segments of one design are the same. It takes time for each object and each event of their starts, and for each choice.
+    pub fn is_same(&self, other: &Segment) -> bool
+        requires { self.now.start.design ≡ other.now.start.design }
+        ensures { result ≡ same_run self.now other.now }
+    {
+        if self.number != other.number || self.order.as_slice() != other.order.as_slice() {
+            return false;
+        }
+        self.start.is_same(&other.start)
     }
 
     /// At one of its steps another event could have been taken.

@@ -2,3 +2,4 @@ pub mod Resting
 pub mod Scheduling
 pub mod StepRows
 pub mod NetRows
+pub mod Keeping

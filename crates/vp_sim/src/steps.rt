@@ -10,8 +10,8 @@ ghost use Rattle.vp_sim.specs.declared.fault.SimError.TheVariants.{NoMemory};
 ghost use Rattle.vp_sim.specs.States.{Explains, Goes, IsStep, Refuses, advance, advanced_to, eligible, next_time, put, slot_done, source_of, start, step};
 
 use crate::fault::SimError;
+use crate::lists::first_lists;
 use crate::machine::Machine;
-use crate::remaining::{all_whole, none_waits};
 use std::alloc::{AllocError, Global};
 use std::sync::Arc;
 use vp_bits::Bits;
@@ -62,26 +62,21 @@ impl Machine {
         ensures state { IfOk result (λ m. m.state ≡ start (arc_value checked)) }
         ensures err { IsOkUnless result NoMemory }
     {
-        let Ok(values) = Values::new(alloc, &checked) else {
-            return Err(SimError::NoMemory);
-        };
-        let count = checked.tables().processes.len();
-        let Ok(queue) = first_queue(alloc, count) else {
-            return Err(SimError::NoMemory);
-        };
+        let lists = first_lists(alloc, &checked)?;
         let flow = flow_for(alloc, &checked)?;
-        let remaining = all_whole(alloc, checked.tables().processes.as_slice())?;
-        let waiting = none_waits(alloc, count)?;
+        let Ok(queue) = first_queue(alloc, checked.tables().processes.len()) else {
+            return Err(SimError::NoMemory);
+        };
         let listeners = Listeners::new(alloc, checked)?;
         Ok(Machine {
             alloc,
             listeners,
             time: 0,
             finished: false,
-            values,
+            values: lists.values,
             flow,
-            remaining,
-            waiting,
+            remaining: lists.remaining,
+            waiting: lists.waiting,
             queue,
         })
     }

@@ -7,3 +7,4 @@ pub mod Rows
 pub mod Halves
 pub mod Chunked
 pub mod Found
+pub mod Walks

@@ -82,6 +82,14 @@ impl FutureChunk {
         self.events.len() >= MOST
     }
 
+    /// The events from a place on.
+    pub fn from(&self, place: usize) -> &[Timed]
+        requires { place ≤ length self.now }
+        ensures { result.now ≡ drop place self.now }
+    {
+        &self.events[place..]
+    }
+
     /// The event at a place, if there is one.
     pub fn get(&self, place: usize) -> Option<Timed>
         ensures { result ≡ slice_get self.now place }

@@ -6,6 +6,7 @@ ghost use Rattle.vp_strata.specs.Chunks.{first_place, joined, position};
 ghost use Rattle.vp_strata.specs.Queues.{AreOrdered, first_time, is_by};
 
 use crate::chunk::FutureChunk;
+use crate::comparison::Same;
 use crate::event::Timed;
 use std::alloc::{AllocError, Global};
 use std::collections::VecDeque;
@@ -217,6 +218,55 @@ impl FutureChunks {
         let chunk = chunk_of(self.alloc, self.spare.take(), event)?;
         self.chunks.push_back(chunk)?;
         Ok(())
+    }
+
+    /// The events that remain in a chunk, which is given by its number.
+    fn events(&self, number: usize) -> &[Timed]
+        requires { number < length self.now }
+        ensures { result.now ≡ slice_index_or self.now number [] }
+    {
+        self.chunks[number].from(first_place(self.taken, number))
+    }
+
+    /// Where the event stands that comes behind one of a chunk: behind the last of a chunk comes the first of the next.
+    fn behind(&self, number: usize, place: usize) -> (usize, usize)
+        requires number { number < length self.now }
+        requires within { place < length (slice_index_or self.now number []) }
+        ensures position { position self.now result.0 result.1
+            ≡ position self.now number place + 1 }
+        ensures within { result.0 < length self.now
+            → result.1 < length (slice_index_or self.now result.0 []) }
+    {
+        // Read, so that the check knows that no chunk is empty.
+        let _taken = self.taken;
+        let count = self.events(number).len();
+        if place + 1 < count {
+            (number, place + 1)
+        } else {
+            (number + 1, 0)
+        }
+    }
+
+    /// The events are the same as others, of which there are as many. The chunks may be others.
+    #[tactic(auto, using(crate::proofs::Walks::number_within))]
+    pub fn is_same(&self, other: &FutureChunks, count: usize) -> bool
+        requires count { length (joined self.now) ≡ count }
+        requires other { length (joined other.now) ≡ count }
+        ensures same { result ≡ true → joined self.now ≡ joined other.now }
+        ensures differs { joined self.now ≡ joined other.now → result ≡ true }
+    {
+        // Read, so that the check knows what holds of both.
+        let (_taken, _other) = (self.taken, other.taken);
+        let mut first = (0, 0);
+        let mut second = (0, 0);
+        for _index in 0..count {
+            if !self.events(first.0)[first.1].is_same(&other.events(second.0)[second.1]) {
+                return false;
+            }
+            first = self.behind(first.0, first.1);
+            second = other.behind(second.0, second.1);
+        }
+        true
     }
 
     /// The time of the first event, in time units; none where there is none.

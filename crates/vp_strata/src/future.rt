@@ -1,4 +1,4 @@
-ghost use Rattle.std.specs.Prelude.{◌≡◌, ◌≤◌, [], drop, filter, length, not, slice_get, take, IfNone, IfOk, IfSome, OnErr, OnOk};
+ghost use Rattle.std.specs.Prelude.{◌≡◌, ◌≤◌, [], drop, filter, length, not, slice_get, take, true, IfNone, IfOk, IfSome, OnErr, OnOk};
 ghost use Rattle.vp_strata.specs.Queues.{first_time, is_at, scheduled};
 
 use crate::chunks::FutureChunks;
@@ -93,6 +93,14 @@ impl FutureRegion {
         };
         let (number, place) = self.chunks.find(first);
         self.chunks.position(number, place)
+    }
+
+    /// The events are the same as those of another region.
+    pub fn is_same(&self, other: &FutureRegion) -> bool
+        ensures same { result ≡ true → self.now ≡ other.now }
+        ensures differs { self.now ≡ other.now → result ≡ true }
+    {
+        self.count == other.count && self.chunks.is_same(&other.chunks, self.count)
     }
 
     /// Takes the first event. No memory is needed, and no event is copied.

@@ -1,6 +1,7 @@
-ghost use Rattle.std.specs.Prelude.{◌≡◌, IfErr, IfOk};
+ghost use Rattle.std.specs.Prelude.{◌≡◌, true, IfErr, IfOk};
 ghost use Rattle.vp_strata.specs.declared.fault.StrataError.TheVariants.{NoMemory};
 
+use crate::comparison::are_same;
 use crate::event::{Event, NonblockingUpdate};
 use crate::fault::StrataError;
 use crate::future::FutureRegion;
@@ -32,6 +33,19 @@ impl Model for KeptStrata {
 }
 
 impl KeptStrata {
+    /// Whether two copies are the same: of as many processes, with the same events in the same order. It takes time for each event of one of
+    /// them, and no memory.
+    pub fn is_same(&self, other: &KeptStrata) -> bool
+        ensures same { result ≡ true → self.now ≡ other.now }
+        ensures differs { self.now ≡ other.now → result ≡ true }
+    {
+        self.processes == other.processes
+            && are_same(&self.active, &other.active)
+            && are_same(&self.inactive, &other.inactive)
+            && are_same(&self.nonblocking, &other.nonblocking)
+            && self.future.is_same(&other.future)
+    }
+
     /// A queue with these events. An `Err` is want of memory (701).
     pub fn to_strata(&self, alloc: Global) -> Result<Strata, StrataError>
         ensures queue { IfOk result (λ s. s.queue ≡ self.now.queue) }

@@ -7,6 +7,7 @@
 mod active;
 mod chunk;
 mod chunks;
+mod comparison;
 mod copies;
 mod event;
 mod fault;
