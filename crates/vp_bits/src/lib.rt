@@ -4,6 +4,7 @@
 mod bit;
 mod bits;
 mod error;
+mod same;
 
 pub use bit::Bit;
 pub use bits::Bits;

@@ -5,4 +5,3 @@ pub mod Start
 pub mod Evaluation
 pub mod Derived
 pub mod Resolved
-pub mod laws

@@ -23,25 +23,6 @@ impl Model for KeptValues {
     ghost view = { λ v. v.values };
 }
 
-/// Two chunks have the same values.
-fn are_same(first: &Chunk<Bits>, second: &Chunk<Bits>) -> bool
-    ensures same { result ≡ true → first.now ≡ second.now }
-    ensures differs { first.now ≡ second.now → result ≡ true }
-{
-    if first.len() != second.len() {
-        return false;
-    }
-    for place in 0..first.len() {
-        let (Some(one), Some(other)) = (first.get(place), second.get(place)) else {
-            return false;
-        };
-        if one != other {
-            return false;
-        }
-    }
-    true
-}
-
 impl KeptValues {
     pub(crate) fn new(values: SharedList<Bits>) -> KeptValues
         ensures { result ≡ values }
@@ -80,19 +61,10 @@ impl KeptValues {
 
     /// Whether two copies are the same: of as many values, each the same. It takes time for each value at most, chunk by chunk, and no
     /// memory.
-    #[tactic(auto, using(crate::specs::laws::Copies::chunk_within, crate::specs::laws::Copies::next_same, crate::specs::laws::Copies::all_same))]
     pub fn is_same(&self, other: &KeptValues) -> bool
         ensures same { result ≡ true → self.now ≡ other.now }
         ensures differs { self.now ≡ other.now → result ≡ true }
     {
-        if self.count() != other.count() {
-            return false;
-        }
-        for number in 0..self.count().div_ceil(64) {
-            if !are_same(self.chunk(number), other.chunk(number)) {
-                return false;
-            }
-        }
-        true
+        self.values.is_same(&other.values)
     }
 }

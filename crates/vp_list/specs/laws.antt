@@ -2,3 +2,4 @@ pub mod Texts
 pub mod Searches
 pub mod Chunks
 pub mod Tracked
+pub mod Copies

@@ -1,6 +1,7 @@
-ghost use Rattle.std.specs.Prelude.{◌≡◌, ◌<◌, ◌≤◌, ◌*◌, ◌%◌, ◌++◌, ℕ, List, length, slice_get, slice_set, take, drop, IfOk, OnOk, OnErr};
+ghost use Rattle.std.specs.Prelude.{◌≡◌, ◌<◌, ◌≤◌, ◌*◌, ◌%◌, ◌++◌, ℕ, List, drop, length, slice_get, slice_set, take, true, IfOk, OnErr, OnOk};
 ghost use Rattle.std.specs.Arc.{arc_value};
 
+use crate::same::{Same, are_same};
 use std::alloc::{AllocError, Global};
 use std::marker::{Model, PhantomData};
 use std::sync::Arc;
@@ -252,22 +253,23 @@ impl<T: Copy + Drop, P: Part<T>, const SIZE: usize> Part<T> for Parts<T, P, SIZE
     }
 }
 
-/// A list that several hold at once: one holder more costs a count for each 4096 items and copies none of them, and a write
-/// copies at most a chunk of 64 items and the pointers to 64 chunks. A contract sees its items, in order.
+/// A list that several hold at once: one holder more costs one count, and a write copies at most a chunk of 64 items, the
+/// pointers to 16 chunks and to 16 times 16 of them, and those to all of these. A contract sees its items, in order.
 #[derive(Drop)]
 pub struct SharedList<T: Copy + Drop> {
     len: usize,
-    parts: Parts<T, Parts<T, Chunk<T>, 64>, 4096>,
+    parts: Arc<Parts<T, Parts<T, Parts<T, Chunk<T>, 64>, 1024>, 16384>>,
 }
 
 impl<T: Copy + Drop> Model for SharedList<T> {
+    ghost use Rattle.std.specs.Arc.{arc_value};
     ghost use Rattle.std.specs.Prelude.{◌≡◌, List, length};
 
     ghost Value = { List T };
 
-    ghost view = { λ s. s.parts };
+    ghost view = { λ s. arc_value s.parts };
 
-    ghost invariant = { λ s. s.len ≡ length s.parts };
+    ghost invariant = { λ s. s.len ≡ length (arc_value s.parts) };
 }
 
 impl<T: Copy + Drop> SharedList<T> {
@@ -277,7 +279,7 @@ impl<T: Copy + Drop> SharedList<T> {
     {
         Ok(SharedList {
             len: list.len(),
-            parts: Parts::cut(alloc, list)?,
+            parts: Arc::new(alloc, Parts::cut(alloc, list)?)?,
         })
     }
 
@@ -301,17 +303,18 @@ impl<T: Copy + Drop> SharedList<T> {
         ensures set { OnOk result (self.new ≡ slice_set self.old place item) }
         ensures kept { OnErr result (self.new ≡ self.old) }
     {
-        self.parts.set(place, item)
+        let _len = self.len;
+        let parts = Arc::make_mut(&mut self.parts)?;
+        parts.set(place, item)
     }
 
-    /// The same list for one holder more, which shares the items; or an error where there is no memory, or the holders can't
-    /// be counted. Takes memory for a pointer to each 4096 items.
+    /// The same list for one holder more, which shares the items; or an error where the holders can't be counted.
     pub fn try_clone(&self) -> Result<SharedList<T>, AllocError>
         ensures { IfOk result (λ s. s ≡ self.now) }
     {
         Ok(SharedList {
             len: self.len,
-            parts: self.parts.clone()?,
+            parts: Arc::try_clone(&self.parts)?,
         })
     }
 
@@ -329,13 +332,21 @@ impl<T: Copy + Drop> SharedList<T> {
         requires { 64 * number < length self.now }
         ensures { arc_value result.now ≡ take 64 (drop (64 * number) self.now) }
     {
-        chunk_in(self.chunks_from(number / 64), number % 64)
+        chunk_in(self.chunks_from(number / 16), number % 16)
     }
 
-    /// The part of 64 chunks, or fewer at the end, by its number.
+    /// The part of 16 chunks, or fewer at the end, by its number.
     fn chunks_from(&self, number: usize) -> &Parts<T, Chunk<T>, 64>
-        requires { 4096 * number < length self.now }
-        ensures { result.now ≡ take 4096 (drop (4096 * number) self.now) }
+        requires { 1024 * number < length self.now }
+        ensures { result.now ≡ take 1024 (drop (1024 * number) self.now) }
+    {
+        part_in(self.parts_from(number / 16), number % 16)
+    }
+
+    /// The part of 16 parts of 16 chunks, or fewer at the end, by its number.
+    fn parts_from(&self, number: usize) -> &Parts<T, Parts<T, Chunk<T>, 64>, 1024>
+        requires { 16384 * number < length self.now }
+        ensures { result.now ≡ take 16384 (drop (16384 * number) self.now) }
     {
         self.parts.part(number)
     }
@@ -347,4 +358,42 @@ fn chunk_in<T: Copy + Drop>(part: &Parts<T, Chunk<T>, 64>, number: usize) -> &Ar
     ensures { arc_value result.now ≡ take 64 (drop (64 * number) part.now) }
 {
     part.part(number)
+}
+
+/// A part of 16 chunks by its number in a greater part.
+fn part_in<T: Copy + Drop>(
+    part: &Parts<T, Parts<T, Chunk<T>, 64>, 1024>,
+    number: usize,
+) -> &Parts<T, Chunk<T>, 64>
+    requires { 1024 * number < length part.now }
+    ensures { result.now ≡ take 1024 (drop (1024 * number) part.now) }
+{
+    part.part(number)
+}
+
+impl<T: Copy + Drop + Same> SharedList<T> {
+    /// Two lists have the same items. It takes time for each item at most, chunk by chunk, and no memory.
+    #[tactic(auto, using(crate::specs::laws::Copies::chunk_within, crate::specs::laws::Copies::next_same, crate::specs::laws::Copies::all_same))]
+    pub fn is_same(&self, other: &SharedList<T>) -> bool
+        ensures same { result ≡ true → self.now ≡ other.now }
+        ensures differs { self.now ≡ other.now → result ≡ true }
+    {
+        if self.len() != other.len() {
+            return false;
+        }
+        for number in 0..self.len().div_ceil(64) {
+            if !chunks_are_same(self.chunk(number), other.chunk(number)) {
+                return false;
+            }
+        }
+        true
+    }
+}
+
+/// Two chunks have the same items.
+fn chunks_are_same<T: Copy + Drop + Same>(first: &Chunk<T>, second: &Chunk<T>) -> bool
+    ensures same { result ≡ true → first.now ≡ second.now }
+    ensures differs { first.now ≡ second.now → result ≡ true }
+{
+    are_same(first.items.as_slice(), second.items.as_slice())
 }

@@ -3,6 +3,7 @@
 
 mod chunks;
 mod part;
+mod same;
 mod sequence;
 mod shared;
 mod text;
@@ -10,6 +11,7 @@ mod tracked;
 
 pub use chunks::{Chunk, SharedList};
 pub use part::{first_part, first_piece};
+pub use same::{Same, are_same};
 pub use sequence::Sequence;
 pub use shared::SharedText;
 pub use text::Text;

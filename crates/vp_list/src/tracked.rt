@@ -2,6 +2,7 @@ ghost use Rattle.std.specs.Prelude.{◌≡◌, ◌++◌, ◌∷◌, [], length, 
 ghost use Rattle.vp_list.specs.Tracked.{AreKept, taken_over};
 
 use crate::chunks::SharedList;
+use crate::same::Same;
 use std::alloc::{AllocError, Global};
 use std::marker::Model;
 
@@ -11,7 +12,7 @@ const REMEMBERED: usize = 65_536;
 /// A list that is written in place, and of which copies are kept: a copy shares its chunks with the one before it, but for those that were
 /// written since. A contract sees its items, in order.
 #[derive(Drop)]
-pub struct TrackedList<T: Copy + Drop> {
+pub struct TrackedList<T: Copy + Drop + Same> {
     alloc: Global,
     items: Vec<T>,
     /// The items as they were when the last copy was made; empty before the first.
@@ -22,7 +23,7 @@ pub struct TrackedList<T: Copy + Drop> {
     is_complete: bool,
 }
 
-impl<T: Copy + Drop> Model for TrackedList<T> {
+impl<T: Copy + Drop + Same> Model for TrackedList<T> {
     ghost use Rattle.std.specs.Prelude.{◌≡◌, List, length, true};
     ghost use Rattle.vp_list.specs.Tracked.{AreKept};
 
@@ -34,7 +35,7 @@ impl<T: Copy + Drop> Model for TrackedList<T> {
         → (length t.kept ≡ length t.items.items) × AreKept t.kept t.items.items t.written.items };
 }
 
-impl<T: Copy + Drop> TrackedList<T> {
+impl<T: Copy + Drop + Same> TrackedList<T> {
     /// The items of a vector, which is moved in. Takes memory.
     pub fn from_vec(alloc: Global, items: Vec<T>) -> Result<TrackedList<T>, AllocError>
         ensures { IfOk result (λ t. t ≡ items.items) }
@@ -109,7 +110,8 @@ fn remember(is_complete: bool, written: &mut Vec<usize>, place: usize) -> bool
 }
 
 /// Takes the item at a place of a list into a copy of it, if there is one.
-fn take_over<T: Copy + Drop>(
+#[tactic(auto, using(crate::specs::laws::Tracked::taken_same, crate::specs::laws::Tracked::taken_past, crate::specs::laws::Tracked::taken_none))]
+fn take_over<T: Copy + Drop + Same>(
     kept: &mut SharedList<T>,
     items: &[T],
     place: usize,
@@ -117,14 +119,18 @@ fn take_over<T: Copy + Drop>(
     ensures there { OnOk result (kept.new ≡ taken_over kept.old items.now place) }
     ensures same { OnErr result (kept.new ≡ kept.old) }
 {
-    match items.get(place) {
-        Some(item) => kept.set(place, *item),
-        None => Ok(()),
+    let (Some(item), Some(was)) = (items.get(place), kept.get(place)) else {
+        return Ok(());
+    };
+    // What is the same again needs no copy of its chunk.
+    if was.is_same(item) {
+        return Ok(());
     }
+    kept.set(place, *item)
 }
 
 /// Takes the items at these places of a list into a copy, which has the others; or as many as there is memory for.
-fn renew<T: Copy + Drop>(
+fn renew<T: Copy + Drop + Same>(
     kept: &mut SharedList<T>,
     items: &[T],
     written: &[usize],

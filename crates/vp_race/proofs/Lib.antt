@@ -5,7 +5,6 @@ pub mod Refused
 pub mod Trying
 pub mod Alone
 pub mod Found
-pub mod Sameness
 pub mod Numbering
 pub mod Standing
 pub mod Naming

@@ -5,3 +5,4 @@ pub mod Recording
 pub mod Same
 pub mod Search
 pub mod Segments
+pub mod laws

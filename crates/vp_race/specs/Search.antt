@@ -1,10 +1,12 @@
 -- The search for races of a time slot: orders by numbers that a seed begins, and the objects whose values differ behind them (profile).
-use Rattle.std.specs.Prelude.{◌≡◌, ℕ, ◌+◌, ◌-◌, ◌*◌, ◌/◌, ◌%◌, ◌^◌, ◌==◌, ◌<◌, ◌&&◌, zero, suc, Bool, false, not, if◌then◌else◌, List, [], ◌∷◌, ◌++◌, filter, length, map, min, Option, Some, None, option_map, slice_index_or}
+use Rattle.std.specs.Prelude.{◌≡◌, ℕ, ◌+◌, ◌-◌, ◌*◌, ◌/◌, ◌%◌, ◌^◌, ◌==◌, ◌<◌, ◌&&◌, zero, suc, Bool, false, not, if◌then◌else◌, List, [], ◌∷◌, ◌++◌, filter, length, map, min, Option, Some, None, option_map, Result, IfErr, IfOk, OnOk, slice_index_or}
 use Rattle.std.specs.List.{list_any}
 use Rattle.vp_elab.specs.Tree.{below}
+use Rattle.vp_elab.specs.declared.object.ObjectId.{ObjectId}
 use Rattle.vp_sim.specs.States.{State, eligible, step}
-use Rattle.vp_race.specs.Orders.{behind, differs, is_over, reached}
-use Rattle.vp_race.specs.Segments.{Run, Told}
+use Rattle.vp_race.specs.declared.fault.RaceError.{RaceError}
+use Rattle.vp_race.specs.Orders.{behind, differs, is_over, reached, sources_of}
+use Rattle.vp_race.specs.Segments.{Explains, Run, Told, check_refusal}
 
 -- the number behind one, in the sequence that a seed begins
 abbrev pub next_number : ℕ → ℕ
@@ -46,6 +48,12 @@ objects_of findings = map (λ f. f.object.0) findings
 abbrev pub finding_of : Run → (second : List ℕ) → (object : ℕ) → Told
 finding_of segment second object = record { segment = segment; object = record { 0 = object }; second = second }
 
+-- what a check of choices at an object answers: the finding where they are a race, and else the refusal
+pub record IsChecked (segment : Run) (choices : List ℕ) (object : ℕ) (r : Result Told RaceError) : Type 0 where
+  pub found : IfOk r (λ f. f ≡ finding_of segment choices object)
+  pub accepted : OnOk r (check_refusal segment choices object ≡ None)
+  pub refused : IfErr r (λ e. Explains (check_refusal segment choices object) e)
+
 -- what is found behind an order, where the run's order leads to the first state, beside what is known
 abbrev pub found_behind : Run → (known : List ℕ) → (first : State) → (second : List ℕ) → Option State → List Told
 found_behind segment known first second None = []
@@ -70,6 +78,12 @@ found_beside segment (Some first) limit seeds = found_from segment first limit [
 -- what is found in a segment by the seeds below a number, by orders of at most so many steps
 abbrev pub found : Run → (limit : ℕ) → (seeds : ℕ) → List Told
 found segment limit seeds = found_beside segment (behind segment.start segment.order) limit seeds
+
+-- these are the run's choices in a segment and their sources, and the state to which they lead
+pub record IsRunOf (segment : Run) (choices : List ℕ) (sources : List ObjectId) (end : State) : Type 0 where
+  pub choices_are : choices ≡ segment.order
+  pub sources_are : sources ≡ sources_of segment.start segment.order
+  pub leads : behind segment.start segment.order ≡ Some end
 
 -- what is found, and among so many objects
 pub record Listed : Type 0 where

@@ -2,7 +2,7 @@ ghost use Rattle.std.specs.Prelude.{◌≡◌, if◌then◌else◌, true, None, 
 ghost use Rattle.std.specs.Arc.{arc_value};
 ghost use Rattle.vp_race.specs.declared.fault.RaceError.TheVariants.{NoMemory};
 ghost use Rattle.vp_race.specs.Orders.{behind, differs, is_over};
-ghost use Rattle.vp_race.specs.Search.{finding_of};
+ghost use Rattle.vp_race.specs.Search.{IsChecked, finding_of};
 ghost use Rattle.vp_race.specs.Segments.{Explains, apart, check_refusal, order_refusal};
 
 use crate::fault::RaceError;
@@ -132,12 +132,7 @@ fn check_beside(
     object: ObjectId,
 ) -> Result<Finding, RaceError>
     requires { first.old ≡ (arc_value segment.now).start }
-    ensures found { IfOk result (λ f. f
-        ≡ finding_of (arc_value segment.now) choices.items object.0) }
-    ensures accepted { OnOk result
-        (check_refusal (arc_value segment.now) choices.items object.0 ≡ None) }
-    ensures refused { IfErr result (λ e.
-        Explains (check_refusal (arc_value segment.now) choices.items object.0) e) }
+    ensures { IsChecked (arc_value segment.now) choices.items object.0 result }
 {
     let Ok(mut second) = Sim::of_kept(segment.start()) else {
         return Err(RaceError::NoMemory);
@@ -154,12 +149,7 @@ pub fn check(
     choices: Vec<u32>,
     object: ObjectId,
 ) -> Result<Finding, RaceError>
-    ensures found { IfOk result (λ f. f
-        ≡ finding_of (arc_value segment.now) choices.items object.0) }
-    ensures accepted { OnOk result
-        (check_refusal (arc_value segment.now) choices.items object.0 ≡ None) }
-    ensures refused { IfErr result (λ e.
-        Explains (check_refusal (arc_value segment.now) choices.items object.0) e) }
+    ensures { IsChecked (arc_value segment.now) choices.items object.0 result }
 {
     let Ok(mut first) = Sim::of_kept(segment.start()) else {
         return Err(RaceError::NoMemory);

@@ -1,9 +1,8 @@
-ghost use Rattle.std.specs.Prelude.{◌≡◌, ◌++◌, length, Some, IfOk, OnOk, IsOkUnless};
+ghost use Rattle.std.specs.Prelude.{◌≡◌, ◌++◌, length, IfOk, OnOk, IsOkUnless};
 ghost use Rattle.std.specs.Arc.{arc_value};
 ghost use Rattle.std.specs.List.{All};
 ghost use Rattle.vp_race.specs.declared.fault.RaceError.TheVariants.{NoMemory};
-ghost use Rattle.vp_race.specs.Orders.{behind, sources_of};
-ghost use Rattle.vp_race.specs.Search.{found, found_by, tried};
+ghost use Rattle.vp_race.specs.Search.{IsRunOf, found, found_by, tried};
 
 use crate::fault::RaceError;
 use crate::finding::Finding;
@@ -29,11 +28,8 @@ fn try_seed(
     seed: u64,
     findings: &mut Findings,
 ) -> Result<(), RaceError>
-    requires choices { (arc_value run.now).choices.items ≡ (arc_value segment.now).order }
-    requires sources { (arc_value run.now).sources.items
-        ≡ sources_of (arc_value segment.now).start (arc_value segment.now).order }
-    requires first { behind (arc_value segment.now).start (arc_value segment.now).order
-        ≡ Some first.now }
+    requires run { let order = arc_value run.now in
+        IsRunOf (arc_value segment.now) order.choices.items order.sources.items first.now }
     requires design { simulation.old.design ≡ (arc_value segment.now).start.design }
     requires objects { findings.old.objects ≡ length first.now.design.tree.nodes }
     ensures found { OnOk result (findings.new.findings ≡ findings.old.findings
@@ -73,11 +69,8 @@ fn search_by<G: Gate>(
     limit: u64,
     gate: &G,
 ) -> Result<Vec<Finding>, RaceError>
-    requires choices { (arc_value run.now).choices.items ≡ (arc_value segment.now).order }
-    requires sources { (arc_value run.now).sources.items
-        ≡ sources_of (arc_value segment.now).start (arc_value segment.now).order }
-    requires first { behind (arc_value segment.now).start (arc_value segment.now).order
-        ≡ Some first.now }
+    requires run { let order = arc_value run.now in
+        IsRunOf (arc_value segment.now) order.choices.items order.sources.items first.now }
     requires design { simulation.old.design ≡ (arc_value segment.now).start.design }
     ensures found { G.stays_open gate.now → IfOk result (λ findings. findings.items
         ≡ found (arc_value segment.now) limit seeds) }

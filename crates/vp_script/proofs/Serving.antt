@@ -14,7 +14,7 @@ use Rattle.vp_script.specs.Scripts.{IsAnswered, IsStopped, Runs, Script, Serves}
 
 -- a run in which memory was not lacking is one in which it may have been
 pub runs_more : (a b : Bool) (w v : Logged) → (a ≡ true → b ≡ true) → Runs a w v → Runs b w v
-runs_more a b w v up (n, happened, ends) = (n, happened, elim ends [ inl starved ↦ inl (up starved) | inr refused ↦ inr refused ])
+runs_more a b w v up (n, rest, happened, ends) = (n, rest, happened, elim ends [ inl starved ↦ inl (up starved) | inr refused ↦ inr refused ])
 
 serves_more : (a b : Bool) (before after : Script) (r : Request) (told : Reply) → (a ≡ true → b ≡ true) → Serves a before r told after → Serves b before r told after
 serves_more a b before after r told up s = record {

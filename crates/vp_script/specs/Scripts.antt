@@ -1,9 +1,13 @@
 -- A script: the lines of one session with a world, in which the simulation runs behind each request (profile).
-use Rattle.std.specs.Prelude.{◌≡◌, ◌⊎◌, ◌<◌, ◌≤◌, IsUtf8, length, ℕ, zero, suc, Bool, true, List, [], Option, Some, None, IsSome, Ok}
+use Rattle.std.specs.Prelude.{◌≡◌, ◌⊎◌, ◌<◌, ◌≤◌, IsUtf8, length, ℕ, zero, suc, Bool, true, if◌then◌else◌, List, [], ◌∷◌, Option, Some, None, is_none, Ok}
+use Rattle.std.specs.Option.{option_map_or}
 use Rattle.vp_elab.specs.Built.{Elaborated}
 use Rattle.vp_policy.specs.Faults.{Explains}
 use Rattle.vp_policy.specs.File.{file_of}
 use Rattle.vp_policy.specs.Users.{Member}
+use Rattle.vp_race.specs.Recording.{next_job}
+use Rattle.vp_race.specs.Search.{found}
+use Rattle.vp_race.specs.Segments.{Told}
 use Rattle.vp_sim.specs.declared.fault.SimError.TheVariants.{Idle}
 use Rattle.vp_world.specs.declared.event.Event.{Event}
 use Rattle.vp_world.specs.declared.event.Event.TheVariants as event
@@ -16,7 +20,7 @@ use Rattle.vp_world.specs.declared.limits.Limits.{Limits}
 use Rattle.vp_world.specs.declared.reply.Refusal.TheVariants as refusal
 use Rattle.vp_world.specs.declared.reply.Reply.{Reply}
 use Rattle.vp_world.specs.declared.reply.Reply.TheVariants as reply
-use Rattle.vp_world.specs.History.{answered_by, refused_by, with_entry}
+use Rattle.vp_world.specs.History.{answered_by, refused_by, state_behind, with_entry}
 use Rattle.vp_world.specs.Refusals.{refusal_of_error}
 use Rattle.vp_world.specs.Worlds.{Logged, Opening}
 use Rattle.vp_wire.specs.declared.fault.WireError.{WireError}
@@ -52,15 +56,52 @@ next_event_by stepped = event.Step 0
 abbrev pub next_event : Logged → Event
 next_event w = next_event_by (refused_by w (event.Step 0))
 
--- so many events of the simulation happen, each the next
-abbrev pub Happen : ℕ → Logged → Logged → Type 0
-Happen zero w v = v ≡ w
-Happen (suc n) w v = (u : Logged) × Happen n w u × (refused_by u (next_event u) ≡ None) × (v ≡ with_entry u (next_event u))
+-- a search tries so many seeds, by orders of at most so many steps (profile)
+abbrev pub seed_count : ℕ
+seed_count = 16
 
--- the simulation runs until the world refuses its next event; or, where memory may have been lacking, up to an event for which
--- there was none
+abbrev pub step_limit : ℕ
+step_limit = 10000
+
+-- a world, and the races that were found and are still to be booked
+pub record Running : Type 0 where
+  pub world : Logged
+  pub found : List Told
+
+-- a world with an event, if it does not refuse it
+abbrev pub with_event_if : Logged → Event → Logged
+with_event_if w e = if is_none (refused_by w e) then with_entry w e else w
+
+-- what is found in the segment that is the next job of a world, if there is one
+abbrev pub searched : Logged → List Told
+searched w =
+    option_map_or (λ run. found run step_limit seed_count) (next_job (state_behind w.opening w.log).segments) []
+
+-- what happens next: a race that was found is booked, unless the world refuses it; else, if there is a job, it is taken and its segment is
+-- searched; else the next event of the simulation happens; nothing, where the world refuses that
+abbrev pub turned_by : Logged → (found : List Told) → Option Running
+turned_by w (f ∷ fs) = Some (record { world = with_event_if w (event.Book f); found = fs })
+turned_by w [] =
+    if is_none (refused_by w event.TakeJob)
+    then Some (record { world = with_entry w event.TakeJob; found = searched w })
+    else
+    if is_none (refused_by w (next_event w)) then Some (record { world = with_entry w (next_event w); found = [] }) else None
+
+-- the same of a world that runs
+abbrev pub turned : Running → Option Running
+turned r = turned_by r.world r.found
+
+-- so much happens, each the next
+abbrev pub Happen : ℕ → Running → Running → Type 0
+Happen zero r q = q ≡ r
+Happen (suc n) r q = (p : Running) × Happen n r p × (turned p ≡ Some q)
+
+-- the simulation runs, and what it does is searched for races, until nothing happens next; or, where memory may have been lacking, up to what
+-- there was none for
 abbrev pub Runs : (starved : Bool) → Logged → Logged → Type 0
-Runs starved w v = (n : ℕ) × Happen n w v × ((starved ≡ true) ⊎ IsSome (refused_by v (next_event v)))
+Runs starved w v =
+    (n : ℕ) × (rest : List Told) × Happen n (record { world = w; found = [] }) (record { world = v; found = rest })
+    × ((starved ≡ true) ⊎ (turned (record { world = v; found = rest }) ≡ None))
 
 -- ---- a script
 

@@ -67,7 +67,7 @@ fn opened(alloc: Global, design: &str, policy: &[u8]) -> Result<Keeper, ServeFau
     let checked = Arc::new(alloc, checked(alloc, design)?)?;
     let policy = policy_of(alloc, policy, checked.design())?;
     let world = World::new(alloc, checked, policy, Limits::GREATEST)?;
-    Ok(Keeper::new(world))
+    Ok(Keeper::new(alloc, world))
 }
 
 /// Answers the lines of a reader by a script, up to the end of the input; or the fault of the reader or the writer.

@@ -4,7 +4,6 @@ ghost use Rattle.vp_operand.specs.Values.{no_value};
 ghost use Rattle.vp_sim.specs.declared.fault.SimError.TheVariants.{NoMemory};
 ghost use Rattle.vp_waking.specs.Listening.{AreHeard};
 
-use crate::comparison::are_same;
 use crate::fault::SimError;
 use crate::lists::{KeptLists, Lists};
 use crate::machine::Machine;
@@ -71,8 +70,8 @@ impl KeptSim {
         self.time == other.time
             && self.finished == other.finished
             && self.queue.is_same(&other.queue)
-            && are_same(&self.remaining, &other.remaining)
-            && are_same(&self.waiting, &other.waiting)
+            && self.remaining.is_same(&other.remaining)
+            && self.waiting.is_same(&other.waiting)
             && self.values.is_same(&other.values)
     }
 

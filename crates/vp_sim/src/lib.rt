@@ -1,7 +1,6 @@
 //! A simulation: the processes of a design run, one event at a time, by any legal choice.
 #![tactic(auto)]
 
-mod comparison;
 mod events;
 mod fault;
 mod kept;

@@ -4,7 +4,8 @@ use Rattle.std.proofs.lemmas.Bool.{cases_lt}
 use Rattle.std.proofs.lemmas.List.{get_or_read, take_all}
 use Rattle.std.proofs.lemmas.List.Concat.{get_or-flat_map}
 use Rattle.vp_strata.specs.declared.event.Timed.{Timed}
-use Rattle.vp_strata.specs.Chunks.{joined, position}
+use Rattle.vp_list.specs.Chunks.{joined}
+use Rattle.vp_strata.specs.Chunks.{position}
 
 -- a place that stands behind fewer events than there are is in a chunk
 pub number_within : (ls : List (List Timed)) (number place index : ℕ) → position ls number place ≡ index → index < length (joined ls) → number < length ls

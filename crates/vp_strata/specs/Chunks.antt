@@ -1,12 +1,9 @@
 -- Future events in chunks.
 use Rattle.std.specs.Prelude.{◌≡◌, ℕ, zero, suc, ◌+◌, ◌-◌, ◌<◌, Bool, true, List, [], ◌∷◌, length, drop, take, option_map, slice_get, unwrap_or}
-use Rattle.std.specs.List.{All, flat_map}
+use Rattle.std.specs.List.{All}
+use Rattle.vp_list.specs.Chunks.{joined}
 use Rattle.vp_strata.specs.declared.event.Timed.{Timed}
 use Rattle.vp_strata.specs.Queues.{is_by}
-
--- the chunks as one list
-abbrev pub joined : List (List Timed) → List Timed
-joined chunks = flat_map (λ c. c) chunks
 
 -- the chunks without the first events of the first, so many
 abbrev pub remaining : ℕ → List (List Timed) → List (List Timed)

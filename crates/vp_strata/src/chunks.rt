@@ -2,16 +2,17 @@ ghost use Rattle.std.specs.Prelude.{◌≡◌, ◌+◌, ◌^◌, ◌<◌, ◌≤
 ghost use Rattle.std.specs.Arc.{arc_value};
 ghost use Rattle.std.specs.List.{insert};
 ghost use Rattle.std.specs.List.Sorted.{IsPartitionPoint};
-ghost use Rattle.vp_strata.specs.Chunks.{first_place, joined, position};
+ghost use Rattle.vp_list.specs.Chunks.{joined};
+ghost use Rattle.vp_strata.specs.Chunks.{first_place, position};
 ghost use Rattle.vp_strata.specs.Queues.{AreOrdered, first_time, is_by};
 
 use crate::chunk::FutureChunk;
-use crate::comparison::Same;
 use crate::event::Timed;
 use std::alloc::{AllocError, Global};
 use std::collections::VecDeque;
 use std::marker::Model;
 use std::sync::Arc;
+use vp_list::Same;
 
 /// Future events in chunks that clones share. A contract sees the events of each chunk, but those that are over.
 #[derive(Drop)]

@@ -1,20 +1,5 @@
-ghost use Rattle.std.specs.Prelude.{◌≡◌, true};
-
 use crate::event::{Delayed, Event, NonblockingUpdate, Timed};
-
-/// What is compared by its contents.
-pub trait Same {
-    /// The contents are the same.
-    fn is_same(&self, other: &Self) -> bool
-        ensures same { result ≡ true → self.now ≡ other.now }
-        ensures differs { self.now ≡ other.now → result ≡ true };
-}
-
-impl Same for usize {
-    fn is_same(&self, other: &usize) -> bool {
-        self == other
-    }
-}
+use vp_list::Same;
 
 impl Same for NonblockingUpdate {
     fn is_same(&self, other: &NonblockingUpdate) -> bool {
@@ -67,20 +52,4 @@ impl Same for Timed {
     fn is_same(&self, other: &Timed) -> bool {
         self.time == other.time && self.event.is_same(&other.event)
     }
-}
-
-/// Two lists have the same items.
-pub fn are_same<T: Same>(first: &[T], second: &[T]) -> bool
-    ensures same { result ≡ true → first.now ≡ second.now }
-    ensures differs { first.now ≡ second.now → result ≡ true }
-{
-    if first.len() != second.len() {
-        return false;
-    }
-    for place in 0..first.len() {
-        if !first[place].is_same(&second[place]) {
-            return false;
-        }
-    }
-    true
 }

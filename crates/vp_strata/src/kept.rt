@@ -1,13 +1,13 @@
 ghost use Rattle.std.specs.Prelude.{◌≡◌, true, IfErr, IfOk};
 ghost use Rattle.vp_strata.specs.declared.fault.StrataError.TheVariants.{NoMemory};
 
-use crate::comparison::are_same;
 use crate::event::{Event, NonblockingUpdate};
 use crate::fault::StrataError;
 use crate::future::FutureRegion;
 use crate::strata::Strata;
 use std::alloc::Global;
 use std::marker::Model;
+use vp_list::are_same;
 
 /// The events of a queue as they were when a copy of it was kept. Its future events are shared with the queue, chunk by chunk. A contract
 /// sees the queue and the number of processes.

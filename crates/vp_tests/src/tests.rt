@@ -1,10 +1,8 @@
 mod building;
 mod callbacks;
-mod copies;
 mod designs;
 mod dialogues;
 mod notices;
-mod simulations;
 mod tokens;
 mod views;
 mod worlds;

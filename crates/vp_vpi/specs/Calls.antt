@@ -1,5 +1,5 @@
 -- What a session's calls are answered: the first refusal that holds, else the value.
-use Rattle.std.specs.Prelude.{◌≡◌, ℕ, suc, ◌+◌, ◌*◌, ◌/◌, ◌^◌, ◌==◌, ◌&&◌, ◌⊎◌, nat_le, Bool, true, false, if◌then◌else◌, List, [], ◌∷◌, filter, length, map, reverse, Option, Some, None, option_map, Result, Ok, Err}
+use Rattle.std.specs.Prelude.{◌≡◌, ℕ, zero, suc, ◌+◌, ◌-◌, ◌*◌, ◌/◌, ◌^◌, ◌==◌, ◌&&◌, ◌⊎◌, nat_le, Bool, true, false, if◌then◌else◌, List, [], ◌∷◌, drop, filter, length, map, max, reverse, slice_get, take, Option, Some, None, option_map, Result, Ok, Err}
 use Rattle.vp_bits.specs.declared.bit.Bit.{Bit}
 use Rattle.vp_bits.specs.Digits.{digits_bits}
 use Rattle.vp_bits.specs.Vector.{bits_of_words}
@@ -22,7 +22,9 @@ use Rattle.vp_vpi.specs.declared.property.TextProperty.TheVariants as text
 use Rattle.vp_vpi.specs.declared.property.VectorWord.{VectorWord}
 use Rattle.vp_vpi.specs.declared.property.PutValue.{PutValue}
 use Rattle.vp_vpi.specs.declared.property.PutValue.TheVariants as put
-use Rattle.vp_vpi.specs.Observers.{Absent, Denied, Found, Lookup, Observer, is_readable}
+use Rattle.vp_vpi.specs.declared.races.RaceLine.{RaceLine}
+use Rattle.vp_vpi.specs.declared.races.RaceTold.{RaceTold}
+use Rattle.vp_vpi.specs.Observers.{Absent, Denied, Found, Lookup, Observer, RaceSeen, is_readable}
 use Rattle.vp_vpi.specs.Seats.{handle_to, has_room, is_full, next_handle, object_of}
 
 -- what comes next of a value; a refusal stays
@@ -225,6 +227,38 @@ watchable_of eyes found =
 abbrev pub watched_of : Observer → registry.RegistryState → Option ℕ → Result ℕ VpiError
 watched_of eyes r found =
     then_by (watchable_of eyes found) (λ o. if registry.is_full r then Err error.TooManyCallbacks else Ok o)
+
+-- ---- races
+
+-- a race in a list, by its number there
+abbrev pub line_of : (number : ℕ) → RaceSeen → RaceLine
+line_of number seen = record { name = seen.name; number = number; time = seen.time; values = seen.values }
+
+-- races in a list, by their numbers from one on
+abbrev pub lines_from : (number : ℕ) → List RaceSeen → List RaceLine
+lines_from number [] = []
+lines_from number (seen ∷ rest) = line_of number seen ∷ lines_from (suc number) rest
+
+-- at most so many races are told in one list (profile)
+abbrev pub race_limit : ℕ
+race_limit = 100
+
+-- the races that are told from a number on, of those that are shown, which are numbered from 1; from 0 on is from 1 on (profile)
+abbrev pub lines_of : Observer → (from : ℕ) → List RaceLine
+lines_of eyes from = take race_limit (lines_from (max 1 from) (drop (from - 1) eyes.races))
+
+-- the race of a number among those that are shown, if there is one
+abbrev pub shown_at : {A : Type 0} → List A → (number : ℕ) → Option A
+shown_at races zero = None
+shown_at races (suc n) = slice_get races n
+
+-- a race with its steps, by its number
+abbrev pub race_told : (number : ℕ) → RaceSeen → RaceTold
+race_told number seen = record { line = line_of number seen; first_steps = seen.first_steps; second_steps = seen.second_steps }
+
+-- the race of a number; or that there is none (profile)
+abbrev pub race_of : Observer → (number : ℕ) → Result RaceTold VpiError
+race_of eyes number = or_refusal (option_map (race_told number) (shown_at eyes.races number)) error.NoSuchRace
 
 -- ---- handles
 

@@ -3,7 +3,7 @@ use Rattle.std.specs.Prelude.{ℕ}
 use Rattle.vp_notify.specs.declared.fault.NotifyError.{NotifyError}
 use Rattle.vp_notify.specs.declared.fault.NotifyError.TheVariants as notify
 use Rattle.vp_vpi.specs.declared.fault.VpiError.{VpiError}
-use Rattle.vp_vpi.specs.declared.fault.VpiError.TheVariants.{BadHandle, Denied, WrongKind, BadValue, Finished, TooManyHandles, NoSuchName, TooManyCallbacks, NoSuchCallback, NoMemory}
+use Rattle.vp_vpi.specs.declared.fault.VpiError.TheVariants.{BadHandle, Denied, WrongKind, BadValue, Finished, TooManyHandles, NoSuchName, TooManyCallbacks, NoSuchCallback, NoSuchRace, NoMemory}
 
 -- the number of a refusal (profile)
 abbrev pub code_of : VpiError → ℕ
@@ -16,6 +16,7 @@ code_of TooManyHandles = 1105
 code_of NoSuchName = 1106
 code_of TooManyCallbacks = 1001
 code_of NoSuchCallback = 1002
+code_of NoSuchRace = 1108
 code_of NoMemory = 1107
 
 -- the refusal by an error of the callbacks

@@ -1,4 +1,5 @@
 pub mod Faults
 pub mod Observers
+pub mod Races
 pub mod Calls
 pub mod Seats

@@ -21,11 +21,20 @@ pub data Lookup : Type 0 where
   Denied : DenialWords → Lookup
   Absent : Lookup
 
+-- a race as a user is shown it: the full name of its object, the time of its segment, the object's values behind the run's order and behind the
+-- other, and of the steps of both orders the names of those that he may list
+pub record RaceSeen : Type 0 where
+  pub name : List ℕ
+  pub time : ℕ
+  pub values : List Bit × List Bit
+  pub first_steps : List (List ℕ)
+  pub second_steps : List (List ℕ)
+
 -- what a session can look up: what is found under a dotted name in a scope, which is an object or contains the top modules; the
 -- objects that are listed there, rising, and the numbers of the envelopes that are closed there, rising; why a right on an object
 -- is denied; the kind, width, line, name, full name and definition of an object; the value of an object that
--- may be read; whether the design may be run; the time, and whether $finish was executed. A world gives it from a simulation and a
--- user of its policy; what a user sees gives it from that alone
+-- may be read; whether the design may be run; the time, and whether $finish was executed; the races that are shown, in the order in which they
+-- were booked. A world gives it from a simulation, a book of races and a user of its policy; what a user sees gives it from that alone
 pub record Observer : Type 0 where
   pub named : (scope : Option ℕ) → List ℕ → Lookup
   pub listed : (scope : Option ℕ) → List ℕ
@@ -41,6 +50,7 @@ pub record Observer : Type 0 where
   pub may_run : Bool
   pub time : ℕ
   pub finished : Bool
+  pub races : List RaceSeen
 
 -- what the filter finds under a name, in words
 abbrev pub lookup_of : Tree → Look → Lookup
@@ -71,7 +81,7 @@ value_read run u o =
     if is_readable (kind_at run.design.tree o) && is_none (denial_at run.design.tree u right.Read o)
     then Some (slice_index_or run.values o (Unknown ∷ [])) else None
 
--- a simulation, as a user looks into it
+-- a simulation, as a user looks into it; without races
 abbrev pub observer_of : sim.State → Member → Observer
 observer_of run u = record {
   named = λ scope name. lookup_of run.design.tree (look_in run.design.tree u scope (parts 46 name));
@@ -88,4 +98,9 @@ observer_of run u = record {
   may_run = u.run;
   time = run.time;
   finished = run.finished;
+  races = [];
 }
+
+-- the same with the races that are shown
+abbrev pub with_races : List RaceSeen → Observer → Observer
+with_races races eyes = record eyes { races = races }

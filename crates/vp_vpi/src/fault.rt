@@ -26,6 +26,8 @@ pub enum VpiError {
     TooManyCallbacks,
     /// A number that is no callback of the session (1002).
     NoSuchCallback,
+    /// No race of this number is shown (1108).
+    NoSuchRace,
     /// Want of memory (1107).
     NoMemory,
 }
@@ -47,6 +49,7 @@ impl VpiError {
             VpiError::NoSuchName => 1106,
             VpiError::TooManyCallbacks => 1001,
             VpiError::NoSuchCallback => 1002,
+            VpiError::NoSuchRace => 1108,
             VpiError::NoMemory => 1107,
         }
     }

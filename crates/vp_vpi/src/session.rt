@@ -2,12 +2,13 @@ ghost use Rattle.std.specs.Option.{option_flatten};
 ghost use Rattle.std.specs.Prelude.{◌≡◌, [], count_by, is_some, length, map, None, option_map, slice_get, slice_set, Ok, IfErr, IfOk, IsOkAnd, IsOkUnless, IsSome, IsTrue, OnErr, OnOk};
 ghost use Rattle.vp_policy.specs.Filter.{words_of};
 ghost use Rattle.vp_policy.specs.Users.{Member, member_at};
-ghost use Rattle.vp_sim.specs.States.{Goes, State, put};
+ghost use Rattle.vp_sim.specs.States.{State};
 ghost use Rattle.vp_vpi.specs.Observers.{lookup_of, observer_of};
 ghost use Rattle.vp_vpi.specs.Calls.{Explains, ExplainsIteration, Refuses, Tells, allowed, handle_of, iterated, iteration, listed_of, number_of, object_found, put_of, same_of, scope_of, text_at, text_of, value_of};
 ghost use Rattle.vp_vpi.specs.Seats.{has_room, new_seat, next_handle, object_of, with_handle, with_handles, without_handle};
 
 mod callbacks;
+mod races;
 
 use crate::fault::VpiError;
 use crate::iteration::{Iteration, of_kind};
@@ -22,7 +23,6 @@ use vp_notify::Registry;
 use vp_policy::{Denial, Look, Policy, UserId};
 use vp_pragma::Right;
 use vp_sim::Sim;
-use vp_waking::Change;
 
 /// How many handles a session has at most at once.
 pub const HANDLE_LIMIT: usize = 65_536;
@@ -404,8 +404,10 @@ impl Session {
         }
     }
 
-    /// What a put sets: its object and the bits; the refusals are those of the put.
-    fn put_due(
+    /// What a put of a value on a handle's object sets: the object, and the bits that it is given. Refused where the number is no handle (1101), the
+    /// user lacks the right to put (1109), the object is no reg (1102), the value does not have its width (1103), or `$finish` was
+    /// executed (1104), or for want of memory (1107).
+    pub fn put_value(
         &self,
         policy: &Policy,
         sim: &Sim,
@@ -431,31 +433,6 @@ impl Session {
             return Err(VpiError::Finished);
         }
         Ok((object, bits))
-    }
-
-    /// Puts a value on a handle's object at once, and tells what changed. Refused where the number is no handle (1101), the user lacks the
-    /// right to put (1109), the object is no reg (1102), the value does not have its width (1103), or `$finish` was executed (1104), or
-    /// for want of memory (1107). A refusal leaves the simulation as it was.
-    pub fn put_value(
-        &self,
-        policy: &Policy,
-        sim: &mut Sim,
-        handle: u32,
-        value: &PutValue,
-    ) -> Result<Option<Change>, VpiError>
-        ensures put { IfOk result (λ change.
-            IsOkAnd (put_of (observer_of sim.old (member_at policy.now self.now.user)) value.now
-            (object_of self.now.handles handle)) (λ p. put sim.old p.0 p.1 ≡ Goes sim.new change)) }
-        ensures refused { IfErr result
-            (λ e. Explains (put_of (observer_of sim.old (member_at policy.now self.now.user))
-            value.now (object_of self.now.handles handle)) e) }
-        ensures unchanged { OnErr result (sim.new ≡ sim.old) }
-    {
-        let (object, bits) = self.put_due(policy, sim, handle, value)?;
-        match sim.put(object, bits) {
-            Ok(change) => Ok(change),
-            Err(_) => Err(VpiError::NoMemory),
-        }
     }
 
     /// Two handles are of one object. Refused where one of the numbers is no handle (1101).

@@ -14,6 +14,7 @@ use std::marker::Model;
 use std::sync::Arc;
 use vp_elab::ObjectId;
 use vp_expr::{Checked, Process, add_reads};
+use vp_list::Same;
 use vp_operand::{ExprId, Slot};
 
 /// A design, and of each object its listeners: the processes that have waited for its changes, rising. A process that waits for an
@@ -267,7 +268,7 @@ impl Listeners {
         ensures { result ≡ true → IsHeard self.now.lists
             (awaited_by (tables_of self.now.design) waiting process) process }
     {
-        wait_of(&self.known, process).is_same(waiting)
+        wait_of(&self.known, process).is_same(&waiting)
     }
 
     /// A process begins to wait so: it stands among the listeners of the objects that it awaits. Takes memory the first time.

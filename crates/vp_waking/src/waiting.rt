@@ -1,5 +1,7 @@
-ghost use Rattle.std.specs.Prelude.{◌≡◌, slice_set, true};
+ghost use Rattle.std.specs.Prelude.{◌≡◌, slice_set};
 ghost use Rattle.vp_waking.specs.Waking.{wait_of};
+
+use vp_list::Same;
 
 /// What a process waits for.
 #[derive(Clone, Copy)]
@@ -12,12 +14,9 @@ pub enum Waiting {
     Operands,
 }
 
-impl Waiting {
+impl Same for Waiting {
     /// What is waited for is the same.
-    pub fn is_same(self, other: Waiting) -> bool
-        ensures same { result ≡ true → self ≡ other }
-        ensures differs { self ≡ other → result ≡ true }
-    {
+    fn is_same(&self, other: &Waiting) -> bool {
         match (self, other) {
             (Waiting::Nothing, Waiting::Nothing) | (Waiting::Operands, Waiting::Operands) => true,
             (Waiting::Statement(first), Waiting::Statement(second)) => first == second,

@@ -1,16 +1,17 @@
 -- No number of a line has a fraction.
 use Rattle.std.proofs.Common.{◌≡◌, ◌∙◌, ◌||◌, ℕ, ◌/◌, ◌%◌, ◌^◌, Bool, true, false, List, [], ◌∷◌, length, map, Option, Some, None, refl, ap}
 use Rattle.std.specs.Prelude.{nat_le, if◌then◌else◌}
-use Rattle.serde_json.specs.Data.{unsigned, Items, item, no_items, number}
+use Rattle.serde_json.specs.Data.{unsigned, Items, item, no_items, number, string}
 use Rattle.serde_json.specs.View.{items_of}
 use Rattle.serde_json.specs.Written.{has_float, items_have_float, members_have_float}
 use Rattle.vp_bits.specs.Vector.{aval_of, bval_of}
 use Rattle.vp_pragma.specs.Rights.{name_of}
 use Rattle.vp_notify.specs.declared.notice.Notice.{Notice}
 use Rattle.vp_vpi.specs.declared.iteration.ListedObject.{ListedObject}
+use Rattle.vp_vpi.specs.declared.races.RaceLine.{RaceLine}
 use Rattle.vp_world.specs.declared.reply.Reply.{Reply}
 use Rattle.vp_world.specs.declared.reply.Reply.TheVariants as reply
-use Rattle.vp_wire.specs.Lines.{by_text, data_of, denial_members, listed_data, notice_data, pair_data, words_of}
+use Rattle.vp_wire.specs.Lines.{by_text, data_of, denial_members, listed_data, notice_data, pair_data, race_line_data, words_of}
 
 -- lists of numbers
 numbers_whole : (ns : List ℕ) → items_have_float (items_of (map (λ n. number (unsigned n)) ns)) ≡ false
@@ -26,6 +27,16 @@ listed_whole (o ∷ os) = listed_whole os
 notices_whole : (ns : List Notice) → items_have_float (items_of (map notice_data ns)) ≡ false
 notices_whole [] = refl
 notices_whole (n ∷ ns) = notices_whole ns
+
+-- races in a list
+lines_whole : (ls : List RaceLine) → items_have_float (items_of (map race_line_data ls)) ≡ false
+lines_whole [] = refl
+lines_whole (l ∷ ls) = lines_whole ls
+
+-- the steps of an order
+steps_whole : (steps : List (List ℕ)) → items_have_float (items_of (map string steps)) ≡ false
+steps_whole [] = refl
+steps_whole (s ∷ steps) = steps_whole steps
 
 -- one list or another
 either_whole : (first : Bool) (xs ys : Items) → items_have_float xs ≡ false → items_have_float ys ≡ false → items_have_float (if first then xs else ys) ≡ false
@@ -64,6 +75,9 @@ reply_whole (reply.Vector bits) = or_false_one (words_whole (length bits) (aval_
 reply_whole (reply.Same same) = refl
 reply_whole (reply.Callback callback) = refl
 reply_whole (reply.Notices p) = or_false_one (notices_whole p.notices)
+reply_whole (reply.Races lines) = or_false_one (lines_whole lines)
+reply_whole (reply.Race r) = or_false_one (or_false (steps_whole r.first_steps) (steps_whole r.second_steps))
+reply_whole (reply.Job job) = refl
 reply_whole (reply.Denied words) = or_false_one (denial_whole words.author (by_text words.by) words.envelope words.object (name_of words.right))
 reply_whole reply.RunDenied = refl
 reply_whole (reply.Time time finished) = refl

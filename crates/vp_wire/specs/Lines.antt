@@ -26,6 +26,8 @@ use Rattle.vp_vpi.specs.declared.property.TextProperty.{TextProperty}
 use Rattle.vp_vpi.specs.declared.property.TextProperty.TheVariants as text
 use Rattle.vp_vpi.specs.declared.property.VectorWord.{VectorWord}
 use Rattle.vp_vpi.specs.declared.property.PutValue.TheVariants as put
+use Rattle.vp_vpi.specs.declared.races.RaceLine.{RaceLine}
+use Rattle.vp_vpi.specs.declared.races.RaceTold.{RaceTold}
 use Rattle.vp_vpi.specs.Seats.{Polled}
 use Rattle.vp_world.specs.declared.event.ValueFormat.{ValueFormat}
 use Rattle.vp_world.specs.declared.event.ValueFormat.TheVariants as format
@@ -149,6 +151,41 @@ polled_data p =
     object (member (codes "lost") (number (unsigned p.lost))
     (member (codes "notices") (array (items_of (map notice_data p.notices))) no_members))
 
+-- two values as JSON, in binary digits
+abbrev pub values_data : List Bit × List Bit → Data
+values_data values = array (item (digits_data values.0) (item (digits_data values.1) no_items))
+
+-- a race in a list as JSON, its keys in the order of their bytes (profile)
+abbrev pub race_line_data : RaceLine → Data
+race_line_data l =
+    object (member (codes "name") (string l.name)
+    (member (codes "no") (number (unsigned l.number))
+    (member (codes "time") (number (unsigned l.time)) (member (codes "values") (values_data l.values) no_members))))
+
+-- races as JSON (profile)
+abbrev pub races_data : List RaceLine → Data
+races_data lines = only (codes "races") (array (items_of (map race_line_data lines)))
+
+-- the steps of an order as JSON, by the names of their processes (profile)
+abbrev pub steps_data : List (List ℕ) → Data
+steps_data steps = array (items_of (map string steps))
+
+-- the steps of both orders of a race as JSON
+abbrev pub both_steps_data : RaceTold → Data
+both_steps_data r = array (item (steps_data r.first_steps) (item (steps_data r.second_steps) no_items))
+
+-- a race with its steps as JSON, its keys in the order of their bytes (profile)
+abbrev pub race_data : RaceTold → Data
+race_data r =
+    object (member (codes "name") (string r.line.name)
+    (member (codes "no") (number (unsigned r.line.number))
+    (member (codes "steps") (both_steps_data r)
+    (member (codes "time") (number (unsigned r.line.time)) (member (codes "values") (values_data r.line.values) no_members)))))
+
+-- the number of a segment that is handed out as JSON (profile)
+abbrev pub job_data : ℕ → Data
+job_data job = only (codes "job") (number (unsigned job))
+
 -- a refusal as JSON (profile)
 abbrev pub error_data : Refusal → Data
 error_data refusal = only (codes "error") (string (text_of refusal))
@@ -166,6 +203,9 @@ data_of (reply.Vector bits) = words_data bits
 data_of (reply.Same same) = same_data same
 data_of (reply.Callback callback) = callback_data callback
 data_of (reply.Notices p) = polled_data p
+data_of (reply.Races lines) = races_data lines
+data_of (reply.Race r) = race_data r
+data_of (reply.Job job) = job_data job
 data_of (reply.Denied words) = denial_data words
 data_of reply.RunDenied = run_denial_data
 data_of (reply.Time time finished) = time_data time finished
@@ -193,11 +233,15 @@ number_at key d = option_and_then word_of (option_and_then as_u64 (option_and_th
 abbrev pub number_if : List ℕ → Data → Option (Option ℕ)
 number_if key d = if is_some (get key d) then option_map Some (number_at key d) else Some None
 
+-- the number of 64 bits under a key
+abbrev pub long_at : List ℕ → Data → Option ℕ
+long_at key d = option_and_then as_u64 (option_and_then as_number (get key d))
+
 -- the time under a key: a number below 2^62
 abbrev pub time_at : List ℕ → Data → Option ℕ
 time_at key d =
     option_and_then (λ n. if nat_lt n (2 ^ 62) then Some n else None)
-    (option_and_then as_u64 (option_and_then as_number (get key d)))
+    (long_at key d)
 
 -- a request, of an object with exactly these keys beside op
 abbrev pub of_keys : List (List ℕ) → Data → Option Request → Option Request
@@ -335,6 +379,18 @@ unwatch_request d = of_keys (codes "cb" ∷ []) d (option_map request.Unwatch (n
 abbrev pub poll_request : Data → Option Request
 poll_request d = of_keys [] d (Some request.Poll)
 
+-- the number of 64 bits under a key, by default 1
+abbrev pub from_at : List ℕ → Data → Option ℕ
+from_at key d = if is_some (get key d) then long_at key d else Some 1
+
+-- the request of the races that are shown
+abbrev pub races_request : Data → Option Request
+races_request d = of_keys_or [] (codes "from") d (option_map request.Races (from_at (codes "from") d))
+
+-- the request of a race that is shown
+abbrev pub race_request : Data → Option Request
+race_request d = of_keys (codes "no" ∷ []) d (option_map request.Race (long_at (codes "no") d))
+
 -- the request to let the design run
 abbrev pub run_request : Data → Option Request
 run_request d = of_keys (codes "until" ∷ []) d (option_map request.Run (time_at (codes "until") d))
@@ -359,9 +415,11 @@ request_of_op op d =
     else (if bytes_eq op (codes "watch") then watch_request d
     else (if bytes_eq op (codes "unwatch") then unwatch_request d
     else (if bytes_eq op (codes "poll") then poll_request d
+    else (if bytes_eq op (codes "races") then races_request d
+    else (if bytes_eq op (codes "race") then race_request d
     else (if bytes_eq op (codes "run") then run_request d
     else (if bytes_eq op (codes "time") then time_request d
-    else None))))))))))))))
+    else None))))))))))))))))
 
 -- the request of a JSON value; none where it is no request
 abbrev pub request_of : Data → Option Request

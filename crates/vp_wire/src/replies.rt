@@ -2,15 +2,16 @@
 ghost use Rattle.std.specs.Prelude.{◌≡◌, None, map, IfOk, IsOkUnless, OnOk};
 ghost use Rattle.serde_json.specs.Data.{array, put as with_member, string};
 ghost use Rattle.serde_json.specs.View.{items_of, members_view, view};
-ghost use Rattle.vp_wire.specs.Lines.{by_text, callback_data, data_of, denial_data, denial_members, digits_data, done_data, error_data, handle_data, line_of, listed_data, listing_data, notice_data, number_data, numbers_data, only, pair_data, polled_data, run_denial_data, same_data, text_data, time_data, vector_data, words_data, words_of};
+ghost use Rattle.vp_wire.specs.Lines.{both_steps_data, by_text, callback_data, data_of, denial_data, denial_members, digits_data, done_data, error_data, handle_data, job_data, line_of, listed_data, listing_data, notice_data, number_data, numbers_data, only, pair_data, polled_data, race_data, race_line_data, races_data, run_denial_data, same_data, steps_data, text_data, time_data, values_data, vector_data, words_data, words_of};
 
 use crate::fault::WireError;
 use serde_json::{Map, Value, put};
 use std::alloc::{AllocError, Global};
 use vp_bits::Bits;
+use vp_list::Text;
 use vp_notify::Notice;
 use vp_policy::{Barrier, DenialWords};
-use vp_vpi::{ListedObject, Listing, SharedNotices};
+use vp_vpi::{ListedObject, Listing, RaceLine, RaceTold, SharedNotices};
 use vp_world::{Refusal, Reply};
 
 /// An object of one member.
@@ -199,6 +200,90 @@ fn polled_value(alloc: Global, polled: &SharedNotices) -> Result<Value, AllocErr
     Ok(Value::Object(members))
 }
 
+/// Two values, in binary digits.
+fn values_value(alloc: Global, values: (Bits, Bits)) -> Result<Value, AllocError>
+    ensures { IfOk result (λ v. view v ≡ values_data values) }
+{
+    let mut items = Vec::new(alloc);
+    items.push(digits_value(alloc, values.0)?)?;
+    items.push(digits_value(alloc, values.1)?)?;
+    Ok(Value::Array(items))
+}
+
+/// A race in a list.
+fn race_line_value(alloc: Global, line: &RaceLine) -> Result<Value, AllocError>
+    ensures { IfOk result (λ v. view v ≡ race_line_data line.now) }
+{
+    let mut members = Map::new(alloc);
+    put_text(alloc, &mut members, "name", line.name.as_str())?;
+    put(&mut members, alloc, "no", Value::from(line.number))?;
+    put(&mut members, alloc, "time", Value::from(line.time))?;
+    let values = values_value(alloc, line.values)?;
+    put(&mut members, alloc, "values", values)?;
+    Ok(Value::Object(members))
+}
+
+/// Races in a list.
+fn race_lines_value(alloc: Global, lines: &[RaceLine]) -> Result<Value, AllocError>
+    ensures { IfOk result (λ v. view v ≡ array (items_of (map race_line_data lines.now))) }
+{
+    let mut items = Vec::new(alloc);
+    for line in lines {
+        items.push(race_line_value(alloc, line)?)?;
+    }
+    Ok(Value::Array(items))
+}
+
+/// Races.
+fn races_value(alloc: Global, lines: &[RaceLine]) -> Result<Value, AllocError>
+    ensures { IfOk result (λ v. view v ≡ races_data lines.now) }
+{
+    only(alloc, "races", race_lines_value(alloc, lines)?)
+}
+
+/// The steps of an order, by the names of their processes.
+fn steps_value(alloc: Global, steps: &[Text]) -> Result<Value, AllocError>
+    ensures { IfOk result (λ v. view v ≡ steps_data steps.now) }
+{
+    let mut items = Vec::new(alloc);
+    for step in steps {
+        items.push(Value::try_from_str(alloc, step.as_str())?)?;
+    }
+    Ok(Value::Array(items))
+}
+
+/// The steps of both orders of a race.
+fn both_steps(alloc: Global, race: &RaceTold) -> Result<Value, AllocError>
+    ensures { IfOk result (λ v. view v ≡ both_steps_data race.now) }
+{
+    let mut items = Vec::new(alloc);
+    items.push(steps_value(alloc, race.first_steps.as_slice())?)?;
+    items.push(steps_value(alloc, race.second_steps.as_slice())?)?;
+    Ok(Value::Array(items))
+}
+
+/// A race with its steps.
+fn race_value(alloc: Global, race: &RaceTold) -> Result<Value, AllocError>
+    ensures { IfOk result (λ v. view v ≡ race_data race.now) }
+{
+    let mut members = Map::new(alloc);
+    put_text(alloc, &mut members, "name", race.line.name.as_str())?;
+    put(&mut members, alloc, "no", Value::from(race.line.number))?;
+    let steps = both_steps(alloc, race)?;
+    put(&mut members, alloc, "steps", steps)?;
+    put(&mut members, alloc, "time", Value::from(race.line.time))?;
+    let values = values_value(alloc, race.line.values)?;
+    put(&mut members, alloc, "values", values)?;
+    Ok(Value::Object(members))
+}
+
+/// The number of a segment that is handed out.
+fn job_value(alloc: Global, job: u64) -> Result<Value, AllocError>
+    ensures { IfOk result (λ v. view v ≡ job_data job) }
+{
+    only(alloc, "job", Value::from(job))
+}
+
 /// What keeps a user out, in a line.
 fn by_text(by: Barrier) -> &'static str
     ensures { result.now ≡ by_text by }
@@ -296,6 +381,9 @@ fn value_of(alloc: Global, reply: &Reply) -> Result<Value, AllocError>
         Reply::Same(same) => same_value(alloc, *same),
         Reply::Callback(callback) => callback_value(alloc, *callback),
         Reply::Notices(polled) => polled_value(alloc, polled),
+        Reply::Races(races) => races_value(alloc, races.value().as_slice()),
+        Reply::Race(race) => race_value(alloc, race.value()),
+        Reply::Job(job) => job_value(alloc, *job),
         Reply::Denied(words) => denied(alloc, words),
         Reply::RunDenied => run_denied(alloc),
         Reply::Time { time, finished } => time_value(alloc, *time, *finished),

@@ -3,7 +3,7 @@ ghost use Rattle.std.specs.Prelude.{◌≡◌, ◌⊎◌, [], ◌∷◌, None, S
 ghost use Rattle.serde_json.specs.View.{items_view, view};
 ghost use Rattle.vp_json.specs.Keys.{has_keys};
 ghost use Rattle.vp_policy.specs.File.{each_of};
-ghost use Rattle.vp_wire.specs.Lines.{close_request, compare_request, digits_request, format_at, format_of, free_request, get_request, get_str_request, handle_request, iterate_request, meaning_of, number_at, number_if, number_in, number_property, open_request, poll_request, put_request, request_of, request_of_op, run_request, text_property, time_at, time_request, unwatch_request, value_request, vector_request, watch_request, word_in, words_at, Asks, NotJson, NotRequest};
+ghost use Rattle.vp_wire.specs.Lines.{close_request, compare_request, digits_request, format_at, format_of, free_request, from_at, get_request, get_str_request, handle_request, iterate_request, meaning_of, number_at, number_if, number_in, number_property, open_request, poll_request, put_request, race_request, races_request, request_of, request_of_op, run_request, text_property, time_at, time_request, unwatch_request, value_request, vector_request, watch_request, word_in, words_at, Asks, NotJson, NotRequest};
 
 use crate::fault::WireError;
 use serde_json::Value;
@@ -351,6 +351,43 @@ fn poll_request(value: &Value) -> Option<Request>
     }
 }
 
+/// The number of 64 bits under a key; 1 where there is none.
+fn from_under(value: &Value, key: &str) -> Option<u64>
+    ensures { result ≡ from_at key.now (view value.now) }
+{
+    if value.get(key).is_some() {
+        number(value, key)
+    } else {
+        Some(1)
+    }
+}
+
+/// The request of the races that are shown.
+fn races_request(value: &Value) -> Option<Request>
+    ensures { result ≡ races_request (view value.now) }
+{
+    if has_keys(value, [].as_slice(), ["op", "from"].as_slice()) {
+        Some(Request::Races {
+            from: from_under(value, "from")?,
+        })
+    } else {
+        None
+    }
+}
+
+/// The request of a race that is shown.
+fn race_request(value: &Value) -> Option<Request>
+    ensures { result ≡ race_request (view value.now) }
+{
+    if has_request_keys(value, ["no"].as_slice()) {
+        Some(Request::Race {
+            number: number(value, "no")?,
+        })
+    } else {
+        None
+    }
+}
+
 /// The request to let the design run.
 fn run_request(value: &Value) -> Option<Request>
     ensures { result ≡ run_request (view value.now) }
@@ -393,6 +430,8 @@ fn request_of_op(alloc: Global, op: &str, value: &Value) -> Result<Option<Reques
         "watch" => Ok(watch_request(value)),
         "unwatch" => Ok(unwatch_request(value)),
         "poll" => Ok(poll_request(value)),
+        "races" => Ok(races_request(value)),
+        "race" => Ok(race_request(value)),
         "run" => Ok(run_request(value)),
         "time" => Ok(time_request(value)),
         _ => Ok(None),

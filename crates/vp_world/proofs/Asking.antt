@@ -5,10 +5,12 @@ use Rattle.std.proofs.lemmas.List.{length-map, map-set, set-get_or}
 use Rattle.std.proofs.lemmas.Option.{slice_get-map, slice_get-get_or}
 use Rattle.vp_bits.specs.declared.bit.Bit.{Bit}
 use Rattle.vp_elab.specs.Built.{Elaborated}
-use Rattle.vp_policy.specs.Users.{Member, member_at}
+use Rattle.vp_policy.specs.Users.{Member}
+use Rattle.vp_race.specs.Booking.{BookState}
+use Rattle.vp_race.specs.Recording.{Recorded, Segments}
+use Rattle.vp_race.specs.Segments.{Told}
 use Rattle.vp_sim.specs.declared.fault.SimError.{SimError}
 use Rattle.vp_sim.specs.States as sim
-use Rattle.vp_vpi.specs.Observers.{observer_of}
 use Rattle.vp_vpi.specs.Seats.{Seat}
 use Rattle.vp_waking.specs.declared.change.Change.{Change}
 use Rattle.vp_world.specs.declared.answering.Answer.{Answer}
@@ -16,8 +18,8 @@ use Rattle.vp_world.specs.declared.event.Request.{Request}
 use Rattle.vp_world.specs.declared.limits.Limits.{Limits}
 use Rattle.vp_world.specs.declared.session.OpenSession.{OpenSession}
 use Rattle.vp_world.specs.Answers.{Response, respond}
-use Rattle.vp_world.specs.Given.{Gives}
-use Rattle.vp_world.specs.History.{asked, asked_at, asked_in, change_of, changed_by, changed_in, noticed, outcome_of_put, raised, state_asked, stepped, with_state}
+use Rattle.vp_world.specs.Given.{Gives, eyes_in, races_in}
+use Rattle.vp_world.specs.History.{asked, asked_at, asked_in, change_of, changed_by, changed_in, noticed, outcome_of_put, raised, segments_of_put, state_asked, stepped, with_state}
 use Rattle.vp_world.specs.Shown.{session_shown, shown}
 use Rattle.vp_world.specs.Worlds.{SessionState, Standing, State}
 
@@ -30,9 +32,9 @@ session_found sessions place session within is =
 
 -- the place of a session that is shown is one of the list
 pub within_shown :
-    (run : sim.State) (first policy : List Member) (limits : Limits) (sessions : List OpenSession) (opens : List ℕ) (goal : Option ℕ) (place : ℕ) (w : Standing)
-    → shown run first policy limits sessions opens goal ≡ w → place < length w.state.sessions → place < length sessions
-within_shown run first policy limits sessions opens goal place w is within =
+    (run : Recorded) (book : List Told) (first policy : List Member) (limits : Limits) (sessions : List OpenSession) (opens : List ℕ) (goal : Option ℕ) (place : ℕ) (w : Standing)
+    → shown run book first policy limits sessions opens goal ≡ w → place < length w.state.sessions → place < length sessions
+within_shown run book first policy limits sessions opens goal place w is within =
     subst (λ n. place < n) (length-map sessions session_shown) (subst (λ v. place < length v.state.sessions) (sym is) within)
 
 -- an open session with another seat
@@ -60,46 +62,48 @@ put_design : (run : sim.State) (p : Option (ℕ × List Bit)) → design_in run 
 put_design run None = refl
 put_design run (Some p) = chosen_design run _ _ _ run.finished refl
 
+-- what comes of a request of a session of this seat
+abbrev pub due_of : Recorded → BookState → (policy : List Member) → Seat → Request → Response
+due_of run book policy seat r = respond (eyes_in (races_in run book policy seat.user) run policy seat.user) seat r
+
 -- what an answer gives by a policy it gives by the same policy
 pub gives_by :
-    (run next : sim.State) (asked policy : List Member) (seat : Seat) (r : Request) (new : Seat) (a : Answer) → asked ≡ policy
-    → Gives (respond (observer_of run (member_at asked seat.user)) seat r) run next new a
-    → Gives (respond (observer_of run (member_at policy seat.user)) seat r) run next new a
-gives_by run next asked policy seat r new a same given =
-    subst (λ p. Gives (respond (observer_of run (member_at p seat.user)) seat r) run next new a) same given
+    (run next : Recorded) (book : BookState) (asked policy : List Member) (seat : Seat) (r : Request) (new : Seat) (a : Answer) → asked ≡ policy
+    → Gives (due_of run book asked seat r) run next new a → Gives (due_of run book policy seat r) run next new a
+gives_by run next book asked policy seat r new a same given = subst (λ p. Gives (due_of run book p seat r) run next new a) same given
 
--- a world with this design, simulation and sessions
-abbrev pub with_run : Standing → Elaborated → sim.State → List SessionState → Standing
-with_run w design run sessions = record {
+-- a world with this design, simulation, segments and sessions
+abbrev pub with_run : Standing → Elaborated → sim.State → Segments → List SessionState → Standing
+with_run w design run segments sessions = record {
   opening = record w.opening { design = design };
-  state = record w.state { run = run; sessions = sessions };
+  state = record w.state { run = run; segments = segments; sessions = sessions };
 }
 
 -- what is known of the fields of a world in which a session of a place is asked
 module _
-    (run : sim.State) (first policy : List Member) (limits : Limits) (sessions : List OpenSession) (opens : List ℕ) (goal : Option ℕ)
+    (run : Recorded) (book : BookState) (first policy : List Member) (limits : Limits) (sessions : List OpenSession) (opens : List ℕ) (goal : Option ℕ)
     (place : ℕ) (session : OpenSession) (r : Request) (w : Standing)
-    (is : shown run first policy limits sessions opens goal ≡ w) (inside : place < length w.state.sessions)
+    (is : shown run book.races first policy limits sessions opens goal ≡ w) (inside : place < length w.state.sessions)
     (at : session ≡ slice_index_or sessions place session)
   where
     abbrev old : Standing
-    old = shown run first policy limits sessions opens goal
+    old = shown run book.races first policy limits sessions opens goal
 
     abbrev pub due : Response
-    due = respond (observer_of run (member_at policy session.session.user)) session.session r
+    due = due_of run book policy session.session r
 
     found : slice_get (map session_shown sessions) place ≡ Some (session_shown session)
-    found = session_found sessions place session (within_shown run first policy limits sessions opens goal place w is inside) at
+    found = session_found sessions place session (within_shown run book.races first policy limits sessions opens goal place w is inside) at
 
-    pub told_given : (run' : sim.State) (new : Seat) (a : Answer) → Gives due run run' new a → a.told ≡ asked_in w place r
+    pub told_given : (run' : Recorded) (new : Seat) (a : Answer) → Gives due run run' new a → a.told ≡ asked_in w place r
     told_given run' new a given =
         given.told ∙ ap (λ there. asked old.state there r) (sym found) ∙ ap (λ (v : Standing). asked_in v place r) is
 
-    pub kept_given : (run' : sim.State) (new : Seat) (a : Answer) → Gives due run run' new a → a.kept ≡ asked_in w place r
+    pub kept_given : (run' : Recorded) (new : Seat) (a : Answer) → Gives due run run' new a → a.kept ≡ asked_in w place r
     kept_given run' new a given =
         given.kept ∙ ap (λ there. asked old.state there r) (sym found) ∙ ap (λ (v : Standing). asked_in v place r) is
 
-    pub changed_given : (run' : sim.State) (new : Seat) (a : Answer) → Gives due run run' new a → a.change ≡ changed_in w place r
+    pub changed_given : (run' : Recorded) (new : Seat) (a : Answer) → Gives due run run' new a → a.change ≡ changed_in w place r
     changed_given run' new a given =
         sym (ap change_of given.put) ∙ ap (λ there. changed_by old.state there r) (sym found) ∙ ap (λ (v : Standing). changed_in v place r) is
 
@@ -111,16 +115,19 @@ module _
     }
 
     pub state_given :
-        (run' : sim.State) (new : Seat) (told : List OpenSession) (goal' : Option ℕ) (a : Answer) → Gives due run run' new a → goal' ≡ raised goal a.goal
-        → map session_shown told ≡ noticed a.change run'.time (map session_shown (slice_set sessions place (seated session new)))
-        → shown run' first policy limits told opens goal' ≡ with_state w (asked_at w.state (Some place) r)
+        (run' : Recorded) (new : Seat) (told : List OpenSession) (goal' : Option ℕ) (a : Answer) → Gives due run run' new a → goal' ≡ raised goal a.goal
+        → map session_shown told ≡ noticed a.change run'.simulation.time (map session_shown (slice_set sessions place (seated session new)))
+        → shown run' book.races first policy limits told opens goal' ≡ with_state w (asked_at w.state (Some place) r)
     state_given run' new told goal' a given raises tells =
+        let next = run'.simulation in
+        let segments : sim.State → Segments = segments_of_put run.segments due.put in
         let between : Seat → Option ℕ → Standing = λ seat goal'. record old { state = with_seat seat goal' } in
-        let behind : Seat → Option ℕ → sim.Outcome → Standing = λ seat goal' o. with_state old (stepped (with_seat seat goal') o) in
-        ap (with_run (between new goal') run'.design run') (tells ∙ ap (noticed a.change run'.time) (map-set session_shown sessions place (seated session new)))
-        ∙ ap (λ d. with_run (between new goal') d run' (noticed a.change run'.time (with_seat new goal').sessions)) (ap (design_in run) (sym given.put) ∙ put_design run due.put)
+        let behind : Seat → Option ℕ → sim.Outcome → Standing = λ seat goal' o. with_state old (stepped (with_seat seat goal') segments o) in
+        ap (with_run (between new goal') next.design next run'.segments) (tells ∙ ap (noticed a.change next.time) (map-set session_shown sessions place (seated session new)))
+        ∙ ap (λ d. with_run (between new goal') d next run'.segments (noticed a.change next.time (with_seat new goal').sessions)) (ap (design_in run.simulation) (sym given.put) ∙ put_design run.simulation due.put)
+        ∙ ap (λ (s : Segments). with_run (between new goal') run.simulation.design next s (noticed a.change next.time (with_seat new goal').sessions)) given.segments
         ∙ ap (behind new goal') (sym given.put)
-        ∙ ap (λ seat. behind seat goal' (outcome_of_put run due.put)) given.seat
-        ∙ ap (λ goal'. behind due.seat goal' (outcome_of_put run due.put)) (raises ∙ ap (raised goal) given.goal)
+        ∙ ap (λ seat. behind seat goal' (outcome_of_put run.simulation due.put)) given.seat
+        ∙ ap (λ goal'. behind due.seat goal' (outcome_of_put run.simulation due.put)) (raises ∙ ap (raised goal) given.goal)
         ∙ ap (λ there. with_state old (state_asked old.state place there r)) (sym found)
         ∙ ap (λ v. with_state v (asked_at v.state (Some place) r)) is

@@ -1,4 +1,6 @@
 pub mod Lists
+pub mod Designs
+pub mod Counting
 pub mod Standings
 pub mod Noticing
 pub mod Marks
@@ -8,3 +10,6 @@ pub mod Asking
 pub mod WorldRows
 pub mod Logs
 pub mod Outcomes
+pub mod Jobs
+pub mod Booking
+pub mod Reached

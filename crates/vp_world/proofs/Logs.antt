@@ -19,7 +19,7 @@ pub state_more : (opening : Opening) (log : List Entry) (e : Entry) → state_be
 state_more opening log e = fold_more (λ s (x : Entry). after opening s x.event) (start opening) log e
 
 -- it is legal, if the entry is
-pub legal_more : (opening : Opening) (before log : List Entry) (e : Entry) → IsLegal opening before log → IsWellFormed e.event → refusal_behind opening (before ++ log) e.event ≡ None → e ≡ entry_of opening (state_behind opening (before ++ log)) e.event → IsLegal opening before (log ++ e ∷ [])
+pub legal_more : (opening : Opening) (before log : List Entry) (e : Entry) → IsLegal opening before log → IsWellFormed opening.design e.event → refusal_behind opening (before ++ log) e.event ≡ None → e ≡ entry_of opening (state_behind opening (before ++ log)) e.event → IsLegal opening before (log ++ e ∷ [])
 legal_more opening before [] e legal formed accepted is = (
   formed,
   subst (λ l. refusal_behind opening l e.event ≡ None) (append-nil before) accepted,
@@ -46,7 +46,7 @@ entry_is opening s behind e is reply change time finished =
     ∙ ap (λ (b : State). entry_of opening b e.event) is
 
 -- a world keeps its log with one entry more
-pub keeps_more : (w next : Standing) (log more : List Entry) (e : Entry) → Keeps w log → next ≡ record { opening = w.opening; state = after w.opening w.state e.event } → more ≡ log ++ e ∷ [] → IsWellFormed e.event → refusal_behind w.opening log e.event ≡ None → e ≡ entry_of w.opening (state_behind w.opening log) e.event → Keeps next more
+pub keeps_more : (w next : Standing) (log more : List Entry) (e : Entry) → Keeps w log → next ≡ record { opening = w.opening; state = after w.opening w.state e.event } → more ≡ log ++ e ∷ [] → IsWellFormed w.opening.design e.event → refusal_behind w.opening log e.event ≡ None → e ≡ entry_of w.opening (state_behind w.opening log) e.event → Keeps next more
 keeps_more w next log more e keeps is added formed accepted entry =
     subst (λ n. Keeps n more) (sym is)
     (subst (λ l. Keeps (record { opening = w.opening; state = after w.opening w.state e.event }) l) (sym added)

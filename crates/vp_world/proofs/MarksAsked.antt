@@ -4,7 +4,7 @@ use Rattle.std.specs.Prelude.{not, if◌then◌else◌}
 use Rattle.vp_notify.specs.Registry.{has_number, is_numbered}
 use Rattle.vp_vpi.specs.declared.fault.VpiError.{VpiError}
 use Rattle.vp_vpi.specs.declared.fault.VpiError.TheVariants as vpi
-use Rattle.vp_vpi.specs.Calls.{handle_of, iterated, number_of, or_refusal, put_of, same_of, text_of, value_of}
+use Rattle.vp_vpi.specs.Calls.{handle_of, iterated, number_of, or_refusal, put_of, race_of, same_of, text_of, value_of}
 use Rattle.vp_vpi.specs.Observers.{Observer}
 use Rattle.vp_vpi.specs.Seats.{Seat, object_of}
 use Rattle.vp_world.specs.declared.event.Request.{Request}
@@ -44,5 +44,7 @@ respond_keeps watched eyes seat (request.Unwatch callback) other marked =
     unwatched watched seat callback (has_number seat.registry callback) _ _
     (are_marked_filter watched (λ c. not (is_numbered callback c)) seat.registry.callbacks marked) marked
 respond_keeps watched eyes seat request.Poll other marked = marked
+respond_keeps watched eyes seat (request.Races from) other marked = marked
+respond_keeps watched eyes seat (request.Race number) other marked = by_answer watched seat _ (race_of eyes number) marked (λ x. marked)
 respond_keeps watched eyes seat (request.Run until) other marked = marked
 respond_keeps watched eyes seat request.Time other marked = marked

@@ -1,16 +1,17 @@
 -- What comes of a request that a session refuses.
-use Rattle.std.proofs.Common.{◌≡◌, ◌≢◌, Result, Ok, Err, inl, inr, sym, ap, subst}
+use Rattle.std.proofs.Common.{◌≡◌, ◌≢◌, Result, Ok, Err, inl, inr, refl, sym, ap, subst}
 use Rattle.std.specs.Prelude.{IfOk, IfSome, OnOk}
+use Rattle.vp_race.specs.Recording.{Recorded}
 use Rattle.vp_sim.specs.States as sim
 use Rattle.vp_vpi.specs.declared.fault.VpiError.{VpiError}
 use Rattle.vp_vpi.specs.declared.fault.VpiError.TheVariants as vpi
-use Rattle.vp_vpi.specs.Calls.{Explains}
-use Rattle.vp_vpi.specs.Seats.{Seat}
+use Rattle.vp_vpi.specs.Calls.{Explains, ExplainsIteration, Iterated, Refuses}
+use Rattle.vp_vpi.specs.Seats.{Seat, with_handles}
 use Rattle.vp_world.specs.declared.answering.Answer.{Answer}
 use Rattle.vp_world.specs.declared.fault.WorldError.{WorldError}
 use Rattle.vp_world.specs.declared.reply.Reply.{Reply}
 use Rattle.vp_world.specs.declared.reply.Reply.TheVariants as reply
-use Rattle.vp_world.specs.Answers.{Response, only_told, refused, response_by}
+use Rattle.vp_world.specs.Answers.{Response, only_told, refused, response_by, scanned}
 use Rattle.vp_world.specs.Given.{Gives, plain}
 
 -- an error that explains an answer, and is no want of memory, is its refusal
@@ -26,25 +27,74 @@ refusal_given seat given (Err vpi.TooManyHandles) e told other = ap (λ r. only_
 refusal_given seat given (Err vpi.NoSuchName) e told other = ap (λ r. only_told seat (refused r)) (sym told)
 refusal_given seat given (Err vpi.TooManyCallbacks) e told other = ap (λ r. only_told seat (refused r)) (sym told)
 refusal_given seat given (Err vpi.NoSuchCallback) e told other = ap (λ r. only_told seat (refused r)) (sym told)
+refusal_given seat given (Err vpi.NoSuchRace) e told other = ap (λ r. only_told seat (refused r)) (sym told)
 refusal_given seat given (Err vpi.NoMemory) e told other = absurd (other told)
 
 -- a reply from which nothing else comes is given by it
-plain_gives : (run : sim.State) (seat new : Seat) (r : Reply) (a : Answer) → new ≡ seat → a ≡ plain r → Gives (only_told seat r) run run new a
+plain_gives : (run : Recorded) (seat new : Seat) (r : Reply) (a : Answer) → new ≡ seat → a ≡ plain r → Gives (only_told seat r) run run new a
 plain_gives run seat new r a same is = record {
   told = ap (λ (x : Answer). x.told) is;
   kept = ap (λ (x : Answer). x.kept) is;
   goal = ap (λ (x : Answer). x.goal) is;
   seat = same;
-  put = ap (λ (x : Answer). sim.Goes run x.change) (sym is);
+  put = ap (λ (x : Answer). sim.Goes run.simulation x.change) (sym is);
+  segments = refl;
   done = subst (λ (x : Answer). IfSome x.change (λ c. x.told ≡ reply.Done)) (sym is) tt;
 }
 
 -- the answer to a request that a session refuses is given by the refusal
 pub refusal_gives :
-    {A : Type 0} (run : sim.State) (seat new : Seat) (given : A → Response) (due : Result A VpiError) (e : VpiError) (r : Result Answer WorldError)
+    {A : Type 0} (run : Recorded) (seat new : Seat) (given : A → Response) (due : Result A VpiError) (e : VpiError) (r : Result Answer WorldError)
     → new ≡ seat → Explains due e → IfOk r (λ a. a ≡ plain (refused e)) → OnOk r (e ≢ vpi.NoMemory)
     → IfOk r (Gives (response_by seat given due) run run new)
 refusal_gives run seat new given due e (Err lacking) same told answer reason = tt
 refusal_gives run seat new given due e (Ok a) same told answer reason =
     subst (λ response. Gives response run run new a) (sym (refusal_given seat given due e told reason))
     (plain_gives run seat new (refused e) a same answer)
+
+-- an error that refuses an answer explains it
+refused_explains : {A : Type 0} (due : Result A VpiError) (e : VpiError) → Refuses due e → Explains due e
+refused_explains (Ok x) e told = absurd told
+refused_explains (Err refusal) e told = told
+
+-- the same of an error that refuses an answer
+pub refused_gives :
+    {A : Type 0} (run : Recorded) (seat new : Seat) (given : A → Response) (due : Result A VpiError) (e : VpiError) (r : Result Answer WorldError)
+    → new ≡ seat → Refuses due e → IfOk r (λ a. a ≡ plain (refused e)) → OnOk r (e ≢ vpi.NoMemory)
+    → IfOk r (Gives (response_by seat given due) run run new)
+refused_gives run seat new given due e r same told answer reason =
+    refusal_gives run seat new given due e r same (refused_explains due e told) answer reason
+
+-- ---- iterations
+
+-- an error that explains an iteration, and is no want of memory, explains it as an answer
+iteration_explains : (due : Result Iterated VpiError) (e : VpiError) → ExplainsIteration due e → e ≢ vpi.NoMemory → Explains due e
+iteration_explains (Err vpi.TooManyHandles) e told other = elim told [ inl is ↦ is | inr lacking ↦ absurd (other lacking) ]
+iteration_explains due e told other = told
+
+-- the answer to an iteration that a session refuses is given by the refusal
+pub iteration_refused_gives :
+    (run : Recorded) (seat new : Seat) (given : Iterated → Response) (due : Result Iterated VpiError) (e : VpiError) (r : Result Answer WorldError)
+    → new ≡ seat → ExplainsIteration due e → IfOk r (λ a. a ≡ plain (refused e)) → OnOk r (e ≢ vpi.NoMemory)
+    → IfOk r (Gives (response_by seat given due) run run new)
+iteration_refused_gives run seat new given due e (Err lacking) same told answer reason = tt
+iteration_refused_gives run seat new given due e (Ok a) same told answer reason =
+    refusal_gives run seat new given due e (Ok a) same (iteration_explains due e told reason) answer reason
+
+-- the answer to an iteration that is found is given by it
+pub iteration_gives :
+    (run : Recorded) (seat new : Seat) (due : Result Iterated VpiError) (found : Iterated) (r : Result Answer WorldError)
+    → due ≡ Ok found → IfOk r (λ a. a ≡ plain (reply.Listing found.listing)) → OnOk r (new ≡ with_handles found.handles seat)
+    → IfOk r (Gives (response_by seat (scanned seat) due) run run new)
+iteration_gives run seat new due found (Err lacking) is answer made = tt
+iteration_gives run seat new due found (Ok a) is answer made =
+    subst (λ (d : Result Iterated VpiError). Gives (response_by seat (scanned seat) d) run run new a) (sym is)
+    (record {
+      told = ap (λ (x : Answer). x.told) answer;
+      kept = ap (λ (x : Answer). x.kept) answer;
+      goal = ap (λ (x : Answer). x.goal) answer;
+      seat = made;
+      put = ap (λ (x : Answer). sim.Goes run.simulation x.change) (sym answer);
+      segments = refl;
+      done = subst (λ (x : Answer). IfSome x.change (λ c. x.told ≡ reply.Done)) (sym answer) tt;
+    })

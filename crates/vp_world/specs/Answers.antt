@@ -4,7 +4,7 @@ use Rattle.vp_bits.specs.declared.bit.Bit.{Bit}
 use Rattle.vp_notify.specs.Registry.{has_number}
 use Rattle.vp_vpi.specs.declared.fault.VpiError.{VpiError}
 use Rattle.vp_vpi.specs.declared.fault.VpiError.TheVariants as vpi
-use Rattle.vp_vpi.specs.Calls.{Iterated, handle_of, iterated, number_of, or_refusal, put_of, same_of, text_of, value_of, watched_of}
+use Rattle.vp_vpi.specs.Calls.{Iterated, handle_of, iterated, lines_of, number_of, or_refusal, put_of, race_of, same_of, text_of, value_of, watched_of}
 use Rattle.vp_vpi.specs.Observers.{Observer}
 use Rattle.vp_vpi.specs.Seats.{Seat, drained, next_handle, object_of, polled, with_callback, with_handle, with_handles, without_callback, without_handle}
 use Rattle.vp_world.specs.declared.event.Request.{Request}
@@ -38,6 +38,7 @@ refused vpi.TooManyHandles = reply.Error refusal.TooManyHandles
 refused vpi.NoSuchName = reply.Error refusal.NoSuchName
 refused vpi.TooManyCallbacks = reply.Error refusal.TooManyCallbacks
 refused vpi.NoSuchCallback = reply.Error refusal.NoSuchCallback
+refused vpi.NoSuchRace = reply.Error refusal.NoSuchRace
 refused vpi.NoMemory = reply.Error refusal.NoMemory
 
 -- what comes of an answer, if there is one; else only the refusal is told
@@ -127,5 +128,7 @@ respond eyes seat (request.Watch handle) =
     response_by seat (watching seat) (watched_of eyes seat.registry (object_of seat.handles handle))
 respond eyes seat (request.Unwatch callback) = unwatch_response seat callback
 respond eyes seat request.Poll = polling seat
+respond eyes seat (request.Races from) = only_told seat (reply.Races (lines_of eyes from))
+respond eyes seat (request.Race number) = told_by seat reply.Race (race_of eyes number)
 respond eyes seat (request.Run until) = run_response eyes seat until
 respond eyes seat request.Time = only_told seat (reply.Time eyes.time eyes.finished)

@@ -28,6 +28,8 @@ event_in (happening.Close session) = event.Close session
 event_in (happening.Step k) = event.Step k
 event_in (happening.StepWithChange k change) = event.Step k
 event_in happening.Advance = event.Advance
+event_in (happening.TakeJob number) = event.TakeJob
+event_in (happening.Book finding) = event.Book finding
 
 -- its reply
 abbrev pub reply_in : Happening → Reply
@@ -38,6 +40,8 @@ reply_in (happening.Close session) = reply.Done
 reply_in (happening.Step k) = reply.Done
 reply_in (happening.StepWithChange k change) = reply.Done
 reply_in happening.Advance = reply.Done
+reply_in (happening.TakeJob number) = reply.Job number
+reply_in (happening.Book finding) = reply.Done
 
 -- what it changed
 abbrev pub change_in : Happening → Option Change
@@ -48,6 +52,8 @@ change_in (happening.Close session) = None
 change_in (happening.Step k) = None
 change_in (happening.StepWithChange k change) = Some change
 change_in happening.Advance = None
+change_in (happening.TakeJob number) = None
+change_in (happening.Book finding) = None
 
 -- an entry of what happened
 abbrev pub entry_shown : Happening → (time : ℕ) → (finished : Bool) → Entry

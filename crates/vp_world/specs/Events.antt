@@ -1,4 +1,7 @@
 -- Requests and events.
+use Rattle.std.specs.Prelude.{◌≡◌}
+use Rattle.vp_elab.specs.Built.{Elaborated}
+use Rattle.vp_race.specs.Segments.{IsRaceOf}
 use Rattle.vp_world.specs.declared.event.Request.{Request}
 use Rattle.vp_world.specs.declared.event.Request.TheVariants.{Open, Close}
 use Rattle.vp_world.specs.declared.event.Event.{Event}
@@ -10,10 +13,12 @@ IsAsked (Open user token) = ⊥
 IsAsked Close = ⊥
 IsAsked r = Unit {0}
 
--- an event whose request, if it has one, is asked
-abbrev pub IsWellFormed : Event → Type 0
-IsWellFormed (event.Open user token) = Unit {0}
-IsWellFormed (event.Ask session request) = IsAsked request
-IsWellFormed (event.Close session) = Unit {0}
-IsWellFormed (event.Step k) = Unit {0}
-IsWellFormed event.Advance = Unit {0}
+-- an event of a world of a design: its request, if it has one, is asked, and its finding, if it has one, is a race of a segment of that design
+abbrev pub IsWellFormed : Elaborated → Event → Type 0
+IsWellFormed design (event.Open user token) = Unit {0}
+IsWellFormed design (event.Ask session request) = IsAsked request
+IsWellFormed design (event.Close session) = Unit {0}
+IsWellFormed design (event.Step k) = Unit {0}
+IsWellFormed design event.Advance = Unit {0}
+IsWellFormed design event.TakeJob = Unit {0}
+IsWellFormed design (event.Book finding) = (finding.segment.start.design ≡ design) × IsRaceOf finding

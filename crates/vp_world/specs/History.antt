@@ -1,12 +1,18 @@
 -- The world as a function of its events.
-use Rattle.std.specs.Prelude.{◌≡◌, ℕ, ◌+◌, ◌||◌, nat_le, nat_lt, max, Bool, true, false, if◌then◌else◌, List, [], ◌∷◌, ◌++◌, length, fold, map, slice_get, slice_index, slice_set, Option, Some, None, option_and_then}
+use Rattle.std.specs.Prelude.{◌≡◌, ℕ, ◌+◌, ◌||◌, nat_le, nat_lt, max, Bool, true, false, if◌then◌else◌, List, [], ◌∷◌, ◌++◌, length, fold, map, slice_get, slice_index, slice_set, Option, Some, None, is_none, option_and_then, option_map}
 use Rattle.std.specs.List.{remove}
 use Rattle.std.specs.Option.{option_map_or}
 use Rattle.vp_bits.specs.declared.bit.Bit.{Bit}
-use Rattle.vp_policy.specs.Users.{login_of, member_at}
+use Rattle.vp_policy.specs.Users.{Member, login_of, member_at}
 use Rattle.vp_waking.specs.declared.change.Change.{Change}
+use Rattle.vp_race.specs.declared.fault.RaceError.{RaceError}
+use Rattle.vp_race.specs.Booking.{refusal_of_finding}
+use Rattle.vp_race.specs.Recording.{Segments, kept_of, next_job, with_anew, with_job, with_step}
+use Rattle.vp_race.specs.Same.{same_run}
+use Rattle.vp_race.specs.Segments.{IsRaceOf, Run, Told}
 use Rattle.vp_sim.specs.States as sim
-use Rattle.vp_vpi.specs.Observers.{observer_of}
+use Rattle.vp_vpi.specs.Observers.{Observer, observer_of, with_races}
+use Rattle.vp_vpi.specs.Races.{races_seen}
 use Rattle.vp_vpi.specs.Seats.{Seat, new_seat, with_due}
 use Rattle.vp_world.specs.Entries.{Entry}
 use Rattle.vp_world.specs.declared.event.SessionId.{SessionId}
@@ -65,6 +71,19 @@ refusal_of_step full beyond outcome =
     (if full then Some error.LogFull else
     (if beyond then Some error.BeyondGoal else refusal_of_outcome outcome))
 
+-- why a job is refused: a full log, then that no kept segment is left to be handed out (profile)
+abbrev pub refusal_of_job : Bool → Option Run → Option WorldError
+refusal_of_job full job = if full then Some error.LogFull else if is_none job then Some error.NoJob else None
+
+-- why the book refuses a finding, if it does: beside the kept segment of its number (profile)
+abbrev pub book_refusal : Opening → State → Told → Option RaceError
+book_refusal opening s f =
+    refusal_of_finding (record { races = s.book; limit = opening.limits.book }) (kept_of s.segments f.segment.number) f
+
+-- why a booking is refused: a full log, then the book's refusal (profile)
+abbrev pub refusal_of_booking : Bool → Option RaceError → Option WorldError
+refusal_of_booking full refusal = if full then Some error.LogFull else option_map error.Race refusal
+
 -- the first refusal of an event that holds, in a state, behind a log that is full or not; none where the event is accepted.
 -- Want of memory is no part of it (profile)
 abbrev pub refusal_of : Opening → Bool → State → Event → Option WorldError
@@ -74,6 +93,8 @@ refusal_of opening full s (event.Close id) = refusal_of_session full (index_of s
 refusal_of opening full s (event.Step k) = refusal_of_step full (is_beyond s.goal s.run.time) (sim.step s.run k)
 refusal_of opening full s event.Advance =
     refusal_of_step full (is_next_beyond s.goal (sim.next_time s.run)) (sim.advance s.run)
+refusal_of opening full s event.TakeJob = refusal_of_job full (next_job s.segments)
+refusal_of opening full s (event.Book finding) = refusal_of_booking full (book_refusal opening s finding)
 
 -- an error is the refusal; where there is none, it is want of memory
 abbrev pub Explains : Option WorldError → WorldError → Type 0
@@ -86,9 +107,13 @@ Explains None e = e ≡ error.NoMemory
 abbrev pub next_session : State → ℕ → SessionId
 next_session s u = record { user = record { 0 = u }; opens = slice_index s.opens u + 1 }
 
+-- what a user can look up: the simulation, and the races of the book that he is shown
+abbrev pub eyes_of : State → Member → Observer
+eyes_of s u = with_races (races_seen s.run.design.tree u s.book) (observer_of s.run u)
+
 -- what comes of a request of a session: its user looks into the simulation, and the policy in force says what he sees
 abbrev pub response_of : State → Seat → Request → Response
-response_of s seat r = respond (observer_of s.run (member_at s.policy seat.user)) seat r
+response_of s seat r = respond (eyes_of s (member_at s.policy seat.user)) seat r
 
 -- the open session of a name
 abbrev pub session_of : List SessionState → SessionId → Option SessionState
@@ -107,6 +132,8 @@ answer opening s (event.Ask id request) = asked s (session_of s.sessions id) req
 answer opening s (event.Close id) = reply.Done
 answer opening s (event.Step k) = reply.Done
 answer opening s event.Advance = reply.Done
+answer opening s event.TakeJob = option_map_or (λ run. reply.Job run.number) (next_job s.segments) (reply.Error refusal.NoJob)
+answer opening s (event.Book finding) = reply.Done
 
 -- what a step of the simulation changes
 abbrev pub change_of : sim.Outcome → Option Change
@@ -117,6 +144,11 @@ change_of (sim.Refuses e) = None
 abbrev pub outcome_of_put : sim.State → Option (ℕ × List Bit) → sim.Outcome
 outcome_of_put run None = sim.Goes run None
 outcome_of_put run (Some p) = sim.put run p.0 p.1
+
+-- the segments behind a put, to a state: the open one begins anew; without a put they stay (profile)
+abbrev pub segments_of_put : Segments → Option (ℕ × List Bit) → sim.State → Segments
+segments_of_put segments None run = segments
+segments_of_put segments (Some p) run = with_anew segments run
 
 -- what a request of an open session changes
 abbrev pub changed_by : State → Option SessionState → Request → Option Change
@@ -130,6 +162,8 @@ changed s (event.Ask id request) = changed_by s (session_of s.sessions id) reque
 changed s (event.Close id) = None
 changed s (event.Step k) = change_of (sim.step s.run k)
 changed s event.Advance = change_of (sim.advance s.run)
+changed s event.TakeJob = None
+changed s (event.Book finding) = None
 
 -- ---- the state that an event that is accepted leaves
 
@@ -158,17 +192,22 @@ told change time s = record s { seat = with_due change time s.seat }
 abbrev pub noticed : Option Change → (time : ℕ) → List SessionState → List SessionState
 noticed change time sessions = map (told change time) sessions
 
--- the state behind what the simulation does, of whose change the open sessions are told; a refusal changes nothing
-abbrev pub stepped : State → sim.Outcome → State
-stepped s (sim.Goes run change) = record s { run = run; sessions = noticed change run.time s.sessions }
-stepped s (sim.Refuses e) = s
+-- the state behind what the simulation does, of whose change the open sessions are told; the segments behind it are a matter of what it did. A refusal
+-- changes nothing
+abbrev pub stepped : State → (segments : sim.State → Segments) → sim.Outcome → State
+stepped s segments (sim.Goes run change) = record s {
+  run = run;
+  segments = segments run;
+  sessions = noticed change run.time s.sessions;
+}
+stepped s segments (sim.Refuses e) = s
 
 -- the state behind what comes of a request of the session in a place: the session is as the request leaves it, and then the put is made
 abbrev pub with_response : State → ℕ → SessionState → Response → State
 with_response s place session given =
     stepped
     (record s { sessions = slice_set s.sessions place (record session { seat = given.seat }); goal = raised s.goal given.goal })
-    (outcome_of_put s.run given.put)
+    (segments_of_put s.segments given.put) (outcome_of_put s.run given.put)
 
 -- the state behind a request of the session in a place
 abbrev pub state_asked : State → ℕ → Option SessionState → Request → State
@@ -185,13 +224,23 @@ abbrev pub closed_at : State → Option ℕ → State
 closed_at s None = s
 closed_at s (Some place) = record s { sessions = remove s.sessions place }
 
+-- the state behind a job: the oldest kept segment that was not handed out is handed out
+abbrev pub with_job_taken : State → State
+with_job_taken s = record s { segments = option_map_or (with_job s.segments) (next_job s.segments) s.segments }
+
+-- the state behind a booking
+abbrev pub with_booked : State → Told → State
+with_booked s finding = record s { book = s.book ++ finding ∷ [] }
+
 -- the state behind an event that is accepted
 abbrev pub after : Opening → State → Event → State
 after opening s (event.Open name token) = option_map_or (opened_by s) (login_of s.policy name token) s
 after opening s (event.Ask id request) = asked_at s (index_of s.sessions id) request
 after opening s (event.Close id) = closed_at s (index_of s.sessions id)
-after opening s (event.Step k) = stepped s (sim.step s.run k)
-after opening s event.Advance = stepped s (sim.advance s.run)
+after opening s (event.Step k) = stepped s (with_step s.segments k) (sim.step s.run k)
+after opening s event.Advance = stepped s (with_anew s.segments) (sim.advance s.run)
+after opening s event.TakeJob = with_job_taken s
+after opening s (event.Book finding) = with_booked s finding
 
 -- ---- logs
 
@@ -217,8 +266,18 @@ entry_of opening s e =
 abbrev pub IsLegal : Opening → List Entry → List Entry → Type 0
 IsLegal opening before [] = Unit {0}
 IsLegal opening before (e ∷ log) =
-    IsWellFormed e.event × (refusal_behind opening before e.event ≡ None)
+    IsWellFormed opening.design e.event × (refusal_behind opening before e.event ≡ None)
     × (e ≡ entry_of opening (state_behind opening before) e.event) × IsLegal opening (before ++ e ∷ []) log
+
+-- a race that is booked in a log: a race of its segment, which was kept behind the first entries of the log
+pub record IsReached (opening : Opening) (log : List Entry) (f : Told) : Type 0 where
+  pub race : IsRaceOf f
+  pub before : List Entry
+  pub rest : List Entry
+  pub cut : log ≡ before ++ rest
+  pub run : Run
+  pub kept : kept_of (state_behind opening before).segments f.segment.number ≡ Some run
+  pub same : same_run run f.segment ≡ true
 
 -- a world that stands so has this log: its state is that which the log leads to, and the log is legal
 pub record Keeps (w : Standing) (log : List Entry) : Type 0 where

@@ -1,7 +1,8 @@
 -- What a contract sees of the fields of a world.
-use Rattle.std.specs.Prelude.{ℕ, List, map, Option}
+use Rattle.std.specs.Prelude.{◌≡◌, ℕ, List, map, All, Option}
 use Rattle.vp_policy.specs.Users.{Member}
-use Rattle.vp_sim.specs.States as sim
+use Rattle.vp_race.specs.Recording.{Recorded}
+use Rattle.vp_race.specs.Segments.{Run, Told}
 use Rattle.vp_vpi.specs.Seats.{with_due}
 use Rattle.vp_waking.specs.declared.change.Change.{Change}
 use Rattle.vp_world.specs.declared.limits.Limits.{Limits}
@@ -17,8 +18,21 @@ abbrev pub told_open : Option Change → (time : ℕ) → OpenSession → OpenSe
 told_open change time s = record { id = s.id; session = with_due change time s.session }
 
 -- how a world of these fields began, and its state: of the two policies, the first opened it and the second is in force
-abbrev pub shown : sim.State → (first policy : List Member) → Limits → List OpenSession → List ℕ → Option ℕ → Standing
-shown run first policy limits sessions opens goal = record {
-  opening = record { design = run.design; policy = first; limits = limits };
-  state = record { run = run; policy = policy; sessions = map session_shown sessions; opens = opens; goal = goal };
+abbrev pub shown : Recorded → (book : List Told) → (first policy : List Member) → Limits → List OpenSession → List ℕ → Option ℕ → Standing
+shown r book first policy limits sessions opens goal = record {
+  opening = record { design = r.simulation.design; policy = first; limits = limits };
+  state = record {
+    run = r.simulation;
+    segments = r.segments;
+    book = book;
+    policy = policy;
+    sessions = map session_shown sessions;
+    opens = opens;
+    goal = goal;
+  };
 }
+
+-- the segments of a run are of its design: the one that is open, and each that is kept
+pub record AreOfDesign (r : Recorded) : Type 0 where
+  pub opened : r.segments.opened.start.design ≡ r.simulation.design
+  pub kept : All (λ (run : Run). run.start.design ≡ r.simulation.design) r.segments.kept

@@ -3,6 +3,8 @@ use Rattle.std.specs.Prelude.{ℕ, ◌==◌, ◌&&◌, Bool, List, [], map, Opti
 use Rattle.std.specs.List.{position}
 use Rattle.vp_elab.specs.Built.{Elaborated}
 use Rattle.vp_policy.specs.Users.{Member}
+use Rattle.vp_race.specs.Recording.{Segments, first_segments}
+use Rattle.vp_race.specs.Segments.{Told}
 use Rattle.vp_sim.specs.States as sim
 use Rattle.vp_vpi.specs.Seats.{Seat}
 use Rattle.vp_world.specs.Entries.{Entry}
@@ -20,10 +22,12 @@ pub record SessionState : Type 0 where
   pub id : SessionId
   pub seat : Seat
 
--- the state of a world: the state of its simulation, the policy in force, its open sessions, how often each user has opened one,
--- and the goal, the time until which the simulation may run, if there is one (profile)
+-- the state of a world: the state of its simulation, the segments of its run, the races in its book, the policy in force, its open sessions, how
+-- often each user has opened one, and the goal, the time until which the simulation may run, if there is one (profile)
 pub record State : Type 0 where
   pub run : sim.State
+  pub segments : Segments
+  pub book : List Told
   pub policy : List Member
   pub sessions : List SessionState
   pub opens : List ℕ
@@ -51,6 +55,8 @@ index_of sessions id = position (λ s. same_session s.id id) sessions
 abbrev pub start : Opening → State
 start opening = record {
   run = sim.start opening.design;
+  segments = first_segments (sim.start opening.design);
+  book = [];
   policy = opening.policy;
   sessions = [];
   opens = map (λ u. 0) opening.policy;

@@ -1,7 +1,8 @@
 // What a session's request is answered, and what comes of it (docs/FORMATS.md, "Lines").
-ghost use Rattle.std.specs.Prelude.{◌≡◌, ◌≢◌, None, length, option_map, string_bytes, IfOk, IsOkUnless, IsTrue, OnErr, OnOk};
-ghost use Rattle.vp_policy.specs.Users.{member_at};
-ghost use Rattle.vp_vpi.specs.Observers.{observer_of};
+ghost use Rattle.std.specs.Prelude.{◌≡◌, ◌≢◌, List, None, length, option_map, string_bytes, IfOk, IsOkUnless, IsTrue, OnErr, OnOk};
+ghost use Rattle.vp_race.specs.Recording.{with_anew};
+ghost use Rattle.vp_sim.specs.States as sim;
+ghost use Rattle.vp_vpi.specs.Observers.{RaceSeen};
 ghost use Rattle.vp_vpi.specs.declared.fault.VpiError.TheVariants as vpi_error;
 ghost use Rattle.vp_vpi.specs.Seats.{has_room, with_handles};
 ghost use Rattle.vp_world.specs.declared.event.Request.TheVariants as request;
@@ -9,15 +10,15 @@ ghost use Rattle.vp_world.specs.declared.reply.Reply.TheVariants as reply;
 ghost use Rattle.vp_world.specs.declared.fault.WorldError.TheVariants as world_error;
 ghost use Rattle.vp_world.specs.Answers.{refused, respond, value_in};
 ghost use Rattle.vp_world.specs.Events.{IsAsked};
-ghost use Rattle.vp_world.specs.Given.{Gives, plain};
+ghost use Rattle.vp_world.specs.Given.{Gives, eyes_in, plain, races_in};
 
 use crate::event::{Request, ValueFormat};
 use crate::fault::WorldError;
 use crate::reply::{Refusal, Reply};
 use vp_bits::Bits;
-use vp_elab::Kind;
+use vp_elab::{Kind, ObjectId};
 use vp_policy::Policy;
-use vp_sim::Sim;
+use vp_race::{Book, Recording};
 use vp_vpi::{Iteration, NumberProperty, PutValue, Session, TextProperty, VpiError};
 use vp_waking::Change;
 
@@ -64,6 +65,7 @@ fn refusal_reply(error: VpiError) -> Result<Reply, WorldError>
         VpiError::NoSuchName => Reply::Error(Refusal::NoSuchName),
         VpiError::TooManyCallbacks => Reply::Error(Refusal::TooManyCallbacks),
         VpiError::NoSuchCallback => Reply::Error(Refusal::NoSuchCallback),
+        VpiError::NoSuchRace => Reply::Error(Refusal::NoSuchRace),
         VpiError::NoMemory => return Err(WorldError::NoMemory),
     })
 }
@@ -82,17 +84,17 @@ fn refusal(error: VpiError) -> Result<Answer, WorldError>
 fn handle(
     session: &mut Session,
     policy: &Policy,
-    simulation: &Sim,
+    run: &Recording,
     name: &str,
     scope: Option<u32>,
 ) -> Result<Answer, WorldError>
-    ensures given { IfOk result
-        (Gives (respond (observer_of simulation.now (member_at policy.now session.old.user))
-        session.old (request.Handle name.now scope)) simulation.now simulation.now session.new) }
+    ensures given { (races : List RaceSeen) → IfOk result
+        (Gives (respond (eyes_in races run.now policy.now session.old.user)
+        session.old (request.Handle name.now scope)) run.now run.now session.new) }
     ensures refused { IsOkUnless result world_error.NoMemory }
     ensures unchanged { OnErr result (session.new ≡ session.old) }
 {
-    match session.handle_by_name(policy, simulation, scope, name) {
+    match session.handle_by_name(policy, run.simulation(), scope, name) {
         Ok(handle) => Ok(Answer {
             told: Reply::Handle(handle),
             kept: Reply::Handle(handle),
@@ -121,17 +123,17 @@ fn scan(session: &mut Session, found: &Iteration) -> Result<Answer, WorldError>
 fn iterate(
     session: &mut Session,
     policy: &Policy,
-    simulation: &Sim,
+    run: &Recording,
     kind: Kind,
     scope: Option<u32>,
 ) -> Result<Answer, WorldError>
-    ensures given { IfOk result
-        (Gives (respond (observer_of simulation.now (member_at policy.now session.old.user))
-        session.old (request.Iterate kind scope)) simulation.now simulation.now session.new) }
+    ensures given { (races : List RaceSeen) → IfOk result
+        (Gives (respond (eyes_in races run.now policy.now session.old.user)
+        session.old (request.Iterate kind scope)) run.now run.now session.new) }
     ensures refused { IsOkUnless result world_error.NoMemory }
     ensures unchanged { OnErr result (session.new ≡ session.old) }
 {
-    match session.iterate(policy, simulation, kind, scope) {
+    match session.iterate(policy, run.simulation(), kind, scope) {
         Ok(found) => scan(session, &found),
         Err(error) => refusal(error),
     }
@@ -141,16 +143,16 @@ fn iterate(
 fn get(
     session: &Session,
     policy: &Policy,
-    simulation: &Sim,
+    run: &Recording,
     handle: u32,
     property: NumberProperty,
 ) -> Result<Answer, WorldError>
-    ensures given { IfOk result
-        (Gives (respond (observer_of simulation.now (member_at policy.now session.now.user))
-        session.now (request.Get handle property)) simulation.now simulation.now session.now) }
+    ensures given { (races : List RaceSeen) → IfOk result
+        (Gives (respond (eyes_in races run.now policy.now session.now.user)
+        session.now (request.Get handle property)) run.now run.now session.now) }
     ensures refused { IsOkUnless result world_error.NoMemory }
 {
-    match session.get(policy, simulation, handle, property) {
+    match session.get(policy, run.simulation(), handle, property) {
         Ok(number) => plain(Reply::Number(number)),
         Err(error) => refusal(error),
     }
@@ -160,16 +162,16 @@ fn get(
 fn get_str(
     session: &Session,
     policy: &Policy,
-    simulation: &Sim,
+    run: &Recording,
     handle: u32,
     property: TextProperty,
 ) -> Result<Answer, WorldError>
-    ensures given { IfOk result
-        (Gives (respond (observer_of simulation.now (member_at policy.now session.now.user))
-        session.now (request.GetStr handle property)) simulation.now simulation.now session.now) }
+    ensures given { (races : List RaceSeen) → IfOk result
+        (Gives (respond (eyes_in races run.now policy.now session.now.user)
+        session.now (request.GetStr handle property)) run.now run.now session.now) }
     ensures refused { IsOkUnless result world_error.NoMemory }
 {
-    match session.get_str(policy, simulation, handle, property) {
+    match session.get_str(policy, run.simulation(), handle, property) {
         Ok(text) => plain(Reply::Text(text)),
         Err(error) => refusal(error),
     }
@@ -189,18 +191,41 @@ fn value_in(format: ValueFormat, bits: Bits) -> Reply
 fn value(
     session: &Session,
     policy: &Policy,
-    simulation: &Sim,
+    run: &Recording,
     handle: u32,
     format: ValueFormat,
 ) -> Result<Answer, WorldError>
-    ensures given { IfOk result
-        (Gives (respond (observer_of simulation.now (member_at policy.now session.now.user))
-        session.now (request.Value handle format)) simulation.now simulation.now session.now) }
+    ensures given { (races : List RaceSeen) → IfOk result
+        (Gives (respond (eyes_in races run.now policy.now session.now.user)
+        session.now (request.Value handle format)) run.now run.now session.now) }
     ensures refused { IsOkUnless result world_error.NoMemory }
 {
-    match session.get_value(policy, simulation, handle) {
+    match session.get_value(policy, run.simulation(), handle) {
         Ok(bits) => plain(value_in(format, bits)),
         Err(error) => refusal(error),
+    }
+}
+
+/// Gives an object a value, where `$finish` was not executed; or want of memory.
+fn set(run: &mut Recording, object: ObjectId, value: Bits) -> Result<Answer, WorldError>
+    ensures told { IfOk result (λ a. a.told ≡ reply.Done) }
+    ensures kept { IfOk result (λ a. a.kept ≡ reply.Done) }
+    ensures goal { IfOk result (λ a. a.goal ≡ None) }
+    ensures put { IfOk result (λ a.
+        sim.put run.old.simulation object.0 value ≡ sim.Goes run.new.simulation a.change) }
+    ensures segments { OnOk result
+        (run.new.segments ≡ with_anew run.old.segments run.new.simulation) }
+    ensures refused { IsOkUnless result world_error.NoMemory }
+    ensures unchanged { OnErr result (run.new ≡ run.old) }
+{
+    match run.put(object, value) {
+        Ok(change) => Ok(Answer {
+            told: Reply::Done,
+            kept: Reply::Done,
+            goal: None,
+            change,
+        }),
+        Err(_) => Err(WorldError::NoMemory),
     }
 }
 
@@ -208,23 +233,18 @@ fn value(
 fn put(
     session: &Session,
     policy: &Policy,
-    simulation: &mut Sim,
+    run: &mut Recording,
     handle: u32,
     value: &PutValue,
 ) -> Result<Answer, WorldError>
-    ensures given { IfOk result
-        (Gives (respond (observer_of simulation.old (member_at policy.now session.now.user))
-        session.now (request.Put handle value.now)) simulation.old simulation.new session.now) }
+    ensures given { (races : List RaceSeen) → IfOk result
+        (Gives (respond (eyes_in races run.old policy.now session.now.user)
+        session.now (request.Put handle value.now)) run.old run.new session.now) }
     ensures refused { IsOkUnless result world_error.NoMemory }
-    ensures unchanged { OnErr result (simulation.new ≡ simulation.old) }
+    ensures unchanged { OnErr result (run.new ≡ run.old) }
 {
-    match session.put_value(policy, simulation, handle, value) {
-        Ok(change) => Ok(Answer {
-            told: Reply::Done,
-            kept: Reply::Done,
-            goal: None,
-            change,
-        }),
+    match session.put_value(policy, run.simulation(), handle, value) {
+        Ok((object, bits)) => set(run, object, bits),
         Err(error) => refusal(error),
     }
 }
@@ -233,13 +253,13 @@ fn put(
 fn compare(
     session: &Session,
     policy: &Policy,
-    simulation: &Sim,
+    run: &Recording,
     first: u32,
     second: u32,
 ) -> Result<Answer, WorldError>
-    ensures given { IfOk result
-        (Gives (respond (observer_of simulation.now (member_at policy.now session.now.user))
-        session.now (request.Compare first second)) simulation.now simulation.now session.now) }
+    ensures given { (races : List RaceSeen) → IfOk result
+        (Gives (respond (eyes_in races run.now policy.now session.now.user)
+        session.now (request.Compare first second)) run.now run.now session.now) }
     ensures refused { IsOkUnless result world_error.NoMemory }
 {
     match session.compare_objects(first, second) {
@@ -252,12 +272,12 @@ fn compare(
 fn free(
     session: &mut Session,
     policy: &Policy,
-    simulation: &Sim,
+    run: &Recording,
     handle: u32,
 ) -> Result<Answer, WorldError>
-    ensures given { IfOk result
-        (Gives (respond (observer_of simulation.now (member_at policy.now session.old.user))
-        session.old (request.Free handle)) simulation.now simulation.now session.new) }
+    ensures given { (races : List RaceSeen) → IfOk result
+        (Gives (respond (eyes_in races run.now policy.now session.old.user)
+        session.old (request.Free handle)) run.now run.now session.new) }
     ensures refused { IsOkUnless result world_error.NoMemory }
     ensures unchanged { OnErr result (session.new ≡ session.old) }
 {
@@ -276,16 +296,16 @@ fn free(
 fn watch(
     session: &mut Session,
     policy: &Policy,
-    simulation: &Sim,
+    run: &Recording,
     handle: u32,
 ) -> Result<Answer, WorldError>
-    ensures given { IfOk result
-        (Gives (respond (observer_of simulation.now (member_at policy.now session.old.user))
-        session.old (request.Watch handle)) simulation.now simulation.now session.new) }
+    ensures given { (races : List RaceSeen) → IfOk result
+        (Gives (respond (eyes_in races run.now policy.now session.old.user)
+        session.old (request.Watch handle)) run.now run.now session.new) }
     ensures refused { IsOkUnless result world_error.NoMemory }
     ensures unchanged { OnErr result (session.new ≡ session.old) }
 {
-    match session.register_cb(policy, simulation, handle) {
+    match session.register_cb(policy, run.simulation(), handle) {
         Ok(callback) => Ok(Answer {
             told: Reply::Callback(callback),
             kept: Reply::Callback(callback),
@@ -300,12 +320,12 @@ fn watch(
 fn unwatch(
     session: &mut Session,
     policy: &Policy,
-    simulation: &Sim,
+    run: &Recording,
     callback: u32,
 ) -> Result<Answer, WorldError>
-    ensures given { IfOk result
-        (Gives (respond (observer_of simulation.now (member_at policy.now session.old.user))
-        session.old (request.Unwatch callback)) simulation.now simulation.now session.new) }
+    ensures given { (races : List RaceSeen) → IfOk result
+        (Gives (respond (eyes_in races run.now policy.now session.old.user)
+        session.old (request.Unwatch callback)) run.now run.now session.new) }
     ensures refused { IsOkUnless result world_error.NoMemory }
     ensures unchanged { OnErr result (session.new ≡ session.old) }
 {
@@ -321,10 +341,10 @@ fn unwatch(
 }
 
 /// Tells the notices that wait, which wait no more.
-fn poll(session: &mut Session, policy: &Policy, simulation: &Sim) -> Result<Answer, WorldError>
-    ensures given { IfOk result
-        (Gives (respond (observer_of simulation.now (member_at policy.now session.old.user))
-        session.old request.Poll) simulation.now simulation.now session.new) }
+fn poll(session: &mut Session, policy: &Policy, run: &Recording) -> Result<Answer, WorldError>
+    ensures given { (races : List RaceSeen) → IfOk result
+        (Gives (respond (eyes_in races run.now policy.now session.old.user)
+        session.old request.Poll) run.now run.now session.new) }
     ensures refused { IsOkUnless result world_error.NoMemory }
     ensures unchanged { OnErr result (session.new ≡ session.old) }
 {
@@ -336,10 +356,49 @@ fn poll(session: &mut Session, policy: &Policy, simulation: &Sim) -> Result<Answ
     Ok(answer)
 }
 
+/// Tells the races that the user is shown, from a number on.
+fn races(
+    session: &Session,
+    policy: &Policy,
+    run: &Recording,
+    book: &Book,
+    from: u64,
+) -> Result<Answer, WorldError>
+    ensures given { let shown = races_in run.now book.now policy.now session.now.user in IfOk result
+        (Gives (respond (eyes_in shown run.now policy.now session.now.user)
+        session.now (request.Races from)) run.now run.now session.now) }
+    ensures refused { IsOkUnless result world_error.NoMemory }
+{
+    match session.races(policy, run.simulation(), book, from) {
+        Ok(races) => plain(Reply::Races(races)),
+        Err(_) => Err(WorldError::NoMemory),
+    }
+}
+
+/// Tells a race that the user is shown, by its number.
+fn race(
+    session: &Session,
+    policy: &Policy,
+    run: &Recording,
+    book: &Book,
+    number: u64,
+) -> Result<Answer, WorldError>
+    ensures given { let shown = races_in run.now book.now policy.now session.now.user in IfOk result
+        (Gives (respond (eyes_in shown run.now policy.now session.now.user)
+        session.now (request.Race number)) run.now run.now session.now) }
+    ensures refused { IsOkUnless result world_error.NoMemory }
+{
+    match session.race(policy, run.simulation(), book, number) {
+        Ok(race) => plain(Reply::Race(race)),
+        Err(error) => refusal(error),
+    }
+}
+
 /// Lets the design run until a time, if the user may.
-fn run(session: &Session, policy: &Policy, simulation: &Sim, until: u64) -> Answer
-    ensures { Gives (respond (observer_of simulation.now (member_at policy.now session.now.user))
-        session.now (request.Run until)) simulation.now simulation.now session.now result }
+fn let_run(session: &Session, policy: &Policy, run: &Recording, until: u64) -> Answer
+    ensures { (races : List RaceSeen) → Gives
+        (respond (eyes_in races run.now policy.now session.now.user)
+        session.now (request.Run until)) run.now run.now session.now result }
 {
     if policy.may_run(session.user()) {
         Answer {
@@ -359,12 +418,13 @@ fn run(session: &Session, policy: &Policy, simulation: &Sim, until: u64) -> Answ
 }
 
 /// Tells the time.
-fn time(session: &Session, policy: &Policy, simulation: &Sim) -> Answer
-    ensures { Gives (respond (observer_of simulation.now (member_at policy.now session.now.user))
-        session.now request.Time) simulation.now simulation.now session.now result }
+fn time(session: &Session, policy: &Policy, run: &Recording) -> Answer
+    ensures { (races : List RaceSeen) → Gives
+        (respond (eyes_in races run.now policy.now session.now.user)
+        session.now request.Time) run.now run.now session.now result }
 {
-    let time = simulation.time();
-    let finished = simulation.finished();
+    let time = run.simulation().time();
+    let finished = run.simulation().finished();
     Answer {
         told: Reply::Time { time, finished },
         kept: Reply::Time { time, finished },
@@ -377,39 +437,34 @@ fn time(session: &Session, policy: &Policy, simulation: &Sim) -> Answer
 pub fn respond(
     session: &mut Session,
     policy: &Policy,
-    simulation: &mut Sim,
+    run: &mut Recording,
+    book: &Book,
     request: &Request,
 ) -> Result<Answer, WorldError>
     requires { IsAsked request.now }
-    ensures given { IfOk result
-        (Gives (respond (observer_of simulation.old (member_at policy.now session.old.user))
-        session.old request.now) simulation.old simulation.new session.new) }
+    ensures given { let shown = races_in run.old book.now policy.now session.old.user in IfOk result
+        (Gives (respond (eyes_in shown run.old policy.now session.old.user)
+        session.old request.now) run.old run.new session.new) }
     ensures refused { IsOkUnless result world_error.NoMemory }
     ensures session { OnErr result (session.new ≡ session.old) }
-    ensures simulation { OnErr result (simulation.new ≡ simulation.old) }
+    ensures run { OnErr result (run.new ≡ run.old) }
 {
     match request {
-        Request::Handle { name, scope } => handle(
-            session,
-            policy,
-            simulation,
-            name.as_str(),
-            *scope,
-        ),
-        Request::Iterate { kind, scope } => iterate(session, policy, simulation, *kind, *scope),
-        Request::Get { handle, property } => get(session, policy, simulation, *handle, *property),
-        Request::GetStr { handle, property } => get_str(
-            session, policy, simulation, *handle, *property,
-        ),
-        Request::Value { handle, format } => value(session, policy, simulation, *handle, *format),
-        Request::Put { handle, value } => put(session, policy, simulation, *handle, value),
-        Request::Compare { first, second } => compare(session, policy, simulation, *first, *second),
-        Request::Free { handle } => free(session, policy, simulation, *handle),
-        Request::Watch { handle } => watch(session, policy, simulation, *handle),
-        Request::Unwatch { callback } => unwatch(session, policy, simulation, *callback),
-        Request::Poll => poll(session, policy, simulation),
-        Request::Run { until } => Ok(run(session, policy, simulation, *until)),
-        Request::Time => Ok(time(session, policy, simulation)),
+        Request::Handle { name, scope } => handle(session, policy, run, name.as_str(), *scope),
+        Request::Iterate { kind, scope } => iterate(session, policy, run, *kind, *scope),
+        Request::Get { handle, property } => get(session, policy, run, *handle, *property),
+        Request::GetStr { handle, property } => get_str(session, policy, run, *handle, *property),
+        Request::Value { handle, format } => value(session, policy, run, *handle, *format),
+        Request::Put { handle, value } => put(session, policy, run, *handle, value),
+        Request::Compare { first, second } => compare(session, policy, run, *first, *second),
+        Request::Free { handle } => free(session, policy, run, *handle),
+        Request::Watch { handle } => watch(session, policy, run, *handle),
+        Request::Unwatch { callback } => unwatch(session, policy, run, *callback),
+        Request::Poll => poll(session, policy, run),
+        Request::Races { from } => races(session, policy, run, book, *from),
+        Request::Race { number } => race(session, policy, run, book, *number),
+        Request::Run { until } => Ok(let_run(session, policy, run, *until)),
+        Request::Time => Ok(time(session, policy, run)),
         Request::Open { .. } | Request::Close => unreachable!(),
     }
 }

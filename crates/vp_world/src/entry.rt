@@ -3,6 +3,7 @@ use crate::reply::Reply;
 use std::marker::Model;
 use std::sync::Arc;
 use vp_list::Text;
+use vp_race::{Finding, Shared};
 use vp_waking::Change;
 
 /// The name and the token with which a user opens a session.
@@ -52,6 +53,14 @@ pub enum Happening {
     },
     /// The simulation went on to the time of the next event.
     Advance,
+    /// The segment of a number was handed out.
+    TakeJob {
+        number: u64,
+    },
+    /// A race was booked.
+    Book {
+        finding: Shared<Finding>,
+    },
 }
 
 impl Happening {

@@ -1,6 +1,7 @@
 use vp_elab::Kind;
 use vp_list::Text;
 use vp_policy::UserId;
+use vp_race::{Finding, Shared};
 use vp_vpi::{NumberProperty, PutValue, TextProperty};
 
 /// A session: its user, and the how-many-th of his it is, from 1.
@@ -78,6 +79,14 @@ pub enum Request {
     },
     /// What was to be told of changes since the last poll.
     Poll,
+    /// The races that the user is shown, from a number on.
+    Races {
+        from: u64,
+    },
+    /// The race of a number among those that the user is shown.
+    Race {
+        number: u64,
+    },
     /// To let the design run until a time, in time units.
     Run {
         until: u64,
@@ -107,4 +116,8 @@ pub enum Event {
     Step(u32),
     /// The simulation goes on to the time of the next event.
     Advance,
+    /// The oldest kept segment that was not handed out is handed out, to be searched for races.
+    TakeJob,
+    /// A race that was found is booked.
+    Book(Shared<Finding>),
 }

@@ -5,6 +5,7 @@ use crate::reply::Refusal;
 use std::alloc::{AllocError, AllocFailed};
 use std::error::Error;
 use std::fmt;
+use vp_race::RaceError;
 use vp_sim::SimError;
 
 /// Why an event is refused. Those of an event are tested in the order in which they stand here, but that a step and an advance
@@ -21,8 +22,12 @@ pub enum WorldError {
     LogFull,
     /// No run reaches so far (1305).
     BeyondGoal,
+    /// No kept segment is left to be handed out (1306).
+    NoJob,
     /// The simulation refuses it (1308).
     Sim(SimError),
+    /// The book refuses it (1309).
+    Race(RaceError),
     /// Want of memory (1307).
     NoMemory,
 }
@@ -30,7 +35,7 @@ pub enum WorldError {
 impl WorldError {
     ghost use Rattle.vp_world.specs.Faults.{code_of};
 
-    /// The number of the refusal, 1301 to 1308.
+    /// The number of the refusal, 1301 to 1309.
     pub fn code(&self) -> u32
         ensures { result ≡ code_of self.now }
     {
@@ -40,7 +45,9 @@ impl WorldError {
             WorldError::NotOpen => 1303,
             WorldError::LogFull => 1304,
             WorldError::BeyondGoal => 1305,
+            WorldError::NoJob => 1306,
             WorldError::Sim(_) => 1308,
+            WorldError::Race(_) => 1309,
             WorldError::NoMemory => 1307,
         }
     }
@@ -51,6 +58,7 @@ impl fmt::Display for WorldError {
         let text = Refusal::from(*self).text();
         match self {
             WorldError::Sim(error) => write!(f, "{text}: {error}"),
+            WorldError::Race(error) => write!(f, "{text}: {error}"),
             _ => f.write_str(text),
         }
     }
@@ -67,6 +75,19 @@ impl From<SimError> for WorldError {
         match error {
             SimError::NoMemory => WorldError::NoMemory,
             other => WorldError::Sim(other),
+        }
+    }
+}
+
+impl From<RaceError> for WorldError {
+    ghost use Rattle.vp_world.specs.Faults.{error_of_race};
+
+    ghost from_gives = { λ error refusal. refusal ≡ error_of_race error };
+
+    fn from(error: RaceError) -> WorldError {
+        match error {
+            RaceError::NoMemory => WorldError::NoMemory,
+            other => WorldError::Race(other),
         }
     }
 }

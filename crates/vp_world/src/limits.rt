@@ -3,7 +3,7 @@
 pub struct Limits {
     /// Entries of the log.
     pub log: usize,
-    /// Races in the book; not obeyed yet, since there is no book yet.
+    /// Races in the book.
     pub book: usize,
     /// Sessions that are open at once.
     pub sessions: usize,

@@ -1,12 +1,13 @@
-ghost use Rattle.std.specs.Prelude.{◌≡◌, ◌<◌, false, true, length, slice_index, slice_set, None, Some, IfErr, IfOk, IfSome, IsOkUnless, OnErr, OnOk};
+ghost use Rattle.std.specs.Prelude.{◌≡◌, ◌<◌, ◌+◌, ◌^◌, false, true, length, slice_index, slice_set, None, Some, option_copied, option_map, IfErr, IfOk, IfSome, IsOkUnless, OnErr, OnOk};
 ghost use Rattle.std.specs.Arc.{arc_value};
 ghost use Rattle.vp_policy.specs.Users.{login_of};
+ghost use Rattle.vp_race.specs.Recording.{kept_of, next_job, with_anew, with_step};
 ghost use Rattle.vp_sim.specs.States as sim;
 ghost use Rattle.vp_world.specs.declared.event.Event.TheVariants as event;
 ghost use Rattle.vp_world.specs.declared.fault.WorldError.TheVariants as world_error;
 ghost use Rattle.vp_world.specs.declared.reply.Reply.TheVariants as reply;
 ghost use Rattle.vp_world.specs.Events.{IsAsked};
-ghost use Rattle.vp_world.specs.History.{Explains, asked_at, asked_in, change_of, changed_in, closed_at, is_beyond, is_full, is_next_beyond, later, next_session, raised, opened_by, refusal_in, refusal_of_log, refusal_of_outcome, refusal_of_session, refusal_of_step, due_advance, due_step, stepped, with_state};
+ghost use Rattle.vp_world.specs.History.{Explains, asked_at, asked_in, book_refusal, change_of, changed_in, closed_at, is_beyond, is_full, is_next_beyond, later, next_session, raised, opened_by, refusal_in, refusal_of_job, refusal_of_log, refusal_of_outcome, refusal_of_session, refusal_of_step, due_advance, due_step, stepped, with_booked, with_job_taken, with_state};
 ghost use Rattle.vp_world.specs.Worlds.{index_of, start};
 
 use crate::answering::{Answer, respond};
@@ -20,7 +21,7 @@ use std::marker::Model;
 use std::sync::Arc;
 use vp_expr::Checked;
 use vp_policy::{Policy, UserId};
-use vp_sim::Sim;
+use vp_race::{Book, Finding, Recording, Segment, Shared};
 use vp_vpi::Session;
 use vp_waking::Change;
 
@@ -29,7 +30,8 @@ use vp_waking::Change;
 #[derive(Drop)]
 pub struct Present {
     alloc: Global,
-    sim: Sim,
+    run: Recording,
+    book: Book,
     /// The policy with which it opened.
     first_policy: Arc<Policy>,
     /// The policy in force.
@@ -48,15 +50,16 @@ pub struct Present {
 impl Model for Present {
     ghost use Rattle.std.specs.Arc.{arc_value};
     ghost use Rattle.std.specs.Prelude.{◌≡◌, true};
-    ghost use Rattle.vp_world.specs.Shown.{shown};
+    ghost use Rattle.vp_world.specs.Shown.{AreOfDesign, shown};
     ghost use Rattle.vp_world.specs.Marks.{all_marked};
     ghost use Rattle.vp_world.specs.Worlds.{Standing};
 
     ghost Value = { Standing };
 
-    ghost view = { λ w. shown w.sim (arc_value w.first_policy) (arc_value w.policy) w.limits w.sessions.items w.opens.items w.goal };
+    ghost view = { λ w. shown w.run w.book.races (arc_value w.first_policy) (arc_value w.policy) w.limits w.sessions.items w.opens.items w.goal };
 
-    ghost invariant = { λ w. all_marked w.watched.items w.sessions.items ≡ true };
+    ghost invariant = { λ w. (all_marked w.watched.items w.sessions.items ≡ true)
+        × (w.book.limit ≡ w.limits.book) × AreOfDesign w.run };
 }
 
 /// The later of a goal, if there is one, and a time.
@@ -138,12 +141,13 @@ impl Present {
         let watched = vec![in alloc; false; checked.design().count() as usize]?;
         let first_policy = Arc::new(alloc, policy)?;
         let policy = Arc::try_clone(&first_policy)?;
-        let Ok(sim) = Sim::new(alloc, checked) else {
+        let Ok(run) = Recording::new(alloc, checked) else {
             return Err(WorldError::NoMemory);
         };
         Ok(Present {
             alloc,
-            sim,
+            run,
+            book: Book::new(alloc, limits.book),
             first_policy,
             policy,
             limits,
@@ -165,14 +169,14 @@ impl Present {
     pub fn time(&self) -> u64
         ensures { result ≡ self.now.state.run.time }
     {
-        self.sim.time()
+        self.run.simulation().time()
     }
 
     /// `$finish` was executed.
     pub fn finished(&self) -> bool
         ensures { result ≡ self.now.state.run.finished }
     {
-        self.sim.finished()
+        self.run.simulation().finished()
     }
 
     /// How often a user has opened a session.
@@ -197,7 +201,7 @@ impl Present {
         ensures { result ≡ is_beyond self.now.state.goal self.now.state.run.time }
     {
         match self.goal {
-            Some(goal) => goal < self.sim.time(),
+            Some(goal) => goal < self.run.simulation().time(),
             None => true,
         }
     }
@@ -209,7 +213,7 @@ impl Present {
         let Some(goal) = self.goal else {
             return true;
         };
-        match self.sim.next_time() {
+        match self.run.simulation().next_time() {
             Some(next) => goal < next,
             None => false,
         }
@@ -278,7 +282,10 @@ impl Present {
         ensures refused { IfErr result
             (λ e. refusal_of_outcome (sim.step self.now.state.run k) ≡ Some e) }
     {
-        self.sim.check_step(k as usize).map_err(WorldError::Sim)
+        self.run
+            .simulation()
+            .check_step(k as usize)
+            .map_err(WorldError::Sim)
     }
 
     /// The simulation does not refuse an advance; else its refusal (1308).
@@ -290,7 +297,10 @@ impl Present {
         ensures refused { IfErr result
             (λ e. refusal_of_outcome (sim.advance self.now.state.run) ≡ Some e) }
     {
-        self.sim.check_advance().map_err(WorldError::Sim)
+        self.run
+            .simulation()
+            .check_advance()
+            .map_err(WorldError::Sim)
     }
 
     /// Opens a session of a user, for which there is room; or want of memory (1307), which leaves the world as it was.
@@ -322,23 +332,25 @@ impl Present {
         self.sessions.remove(place);
     }
 
-    /// Takes the k-th of the events that a step can take, and tells what it changes, which is due to the callbacks on it; else the simulation's refusal (1308), or want of
-    /// memory (1307). A refusal leaves the world as it was.
+    /// Takes the k-th of the events that a step can take, and tells what it changes, which is due to the callbacks on it; else the
+    /// simulation's refusal (1308), or want of memory (1307). A refusal leaves the world as it was.
     #[tactic(auto, using(crate::proofs::Outcomes::step_explained))]
     pub fn step(&mut self, k: u32) -> Result<Option<Change>, WorldError>
+        requires { self.old.state.segments.count + 1 < 2 ^ 64 }
         ensures accepted { OnOk result (refusal_of_outcome (sim.step self.old.state.run k) ≡ None) }
         ensures change { IfOk result
             (λ change. change ≡ change_of (sim.step self.old.state.run k)) }
         ensures after { OnOk result
             (self.new ≡ with_state self.old
-            (stepped self.old.state (sim.step self.old.state.run k))) }
+            (stepped self.old.state (with_step self.old.state.segments k)
+            (sim.step self.old.state.run k))) }
         ensures refused { IfErr result
             (λ e. Explains (refusal_of_outcome (sim.step self.old.state.run k)) e) }
         ensures unchanged { OnErr result (self.new ≡ self.old) }
     {
-        match self.sim.step(k as usize) {
+        match self.run.step(k) {
             Ok(change) => {
-                let time = self.sim.time();
+                let time = self.run.simulation().time();
                 notify(&mut self.sessions, &mut self.watched, change.as_ref(), time);
                 Ok(change)
             }
@@ -355,15 +367,92 @@ impl Present {
         ensures change { OnOk result (change_of (sim.advance self.old.state.run) ≡ None) }
         ensures after { OnOk result
             (self.new ≡ with_state self.old
-            (stepped self.old.state (sim.advance self.old.state.run))) }
+            (stepped self.old.state (with_anew self.old.state.segments)
+            (sim.advance self.old.state.run))) }
         ensures refused { IfErr result
             (λ e. Explains (refusal_of_outcome (sim.advance self.old.state.run)) e) }
         ensures unchanged { OnErr result (self.new ≡ self.old) }
     {
-        match self.sim.advance() {
+        match self.run.advance() {
             Ok(()) => Ok(()),
             Err(error) => Err(WorldError::from(error)),
         }
+    }
+
+    /// The kept segment of a number; none where it is not kept.
+    pub fn kept(&self, number: u64) -> Option<&Segment>
+        ensures { option_copied result ≡ kept_of self.now.state.segments number }
+    {
+        self.run.kept(number)
+    }
+
+    /// The oldest kept segment that was not handed out, if there is one: it is of the world's design.
+    pub fn next_job(&self) -> Option<&Segment>
+        ensures job { option_copied result ≡ next_job self.now.state.segments }
+        ensures design { IfSome result (λ s. s.now.start.design ≡ self.now.opening.design) }
+    {
+        self.run.next_job()
+    }
+
+    /// The races in the book, in the order in which they were booked.
+    pub fn races(&self) -> &[Shared<Finding>]
+        ensures { result.now ≡ self.now.state.book }
+    {
+        self.book.races()
+    }
+
+    /// Neither a log that is full or not nor the want of a kept segment that was not handed out refuses a job; else the refusal
+    /// (1304, 1306).
+    pub fn check_job(&self, full: bool) -> Result<(), WorldError>
+        ensures accepted { OnOk result
+            (refusal_of_job full (next_job self.now.state.segments) ≡ None) }
+        ensures refused { IfErr result
+            (λ e. refusal_of_job full (next_job self.now.state.segments) ≡ Some e) }
+    {
+        check_log(full)?;
+        match self.run.next_job() {
+            Some(_) => Ok(()),
+            None => Err(WorldError::NoJob),
+        }
+    }
+
+    /// Hands out the oldest kept segment that was not handed out, and tells its number.
+    pub fn take_job(&mut self) -> Option<u64>
+        ensures number { result
+            ≡ option_map (λ run. run.number) (next_job self.old.state.segments) }
+        ensures after { self.new ≡ with_state self.old (with_job_taken self.old.state) }
+    {
+        self.run.take_job()
+    }
+
+    /// The book does not refuse a finding; else its refusal (1309).
+    #[cold]
+    #[inline(never)]
+    pub fn check_booking(&self, finding: &Finding) -> Result<(), WorldError>
+        requires { finding.now.segment.start.design ≡ self.now.opening.design }
+        ensures accepted { OnOk result
+            (book_refusal self.now.opening self.now.state finding.now ≡ None) }
+        ensures refused { IfErr result (λ e. option_map world_error.Race
+            (book_refusal self.now.opening self.now.state finding.now) ≡ Some e) }
+    {
+        let kept = self.run.kept(finding.segment().number());
+        self.book.check(kept, finding).map_err(WorldError::Race)
+    }
+
+    /// Books a finding; else the book's refusal (1309), or want of memory (1307), which leaves the world as it was.
+    pub fn book(&mut self, finding: Shared<Finding>) -> Result<(), WorldError>
+        requires { finding.segment.start.design ≡ self.old.opening.design }
+        ensures accepted { OnOk result
+            (book_refusal self.old.opening self.old.state finding ≡ None) }
+        ensures after { OnOk result
+            (self.new ≡ with_state self.old (with_booked self.old.state finding)) }
+        ensures refused { IfErr result (λ e. Explains (option_map world_error.Race
+            (book_refusal self.old.opening self.old.state finding)) e) }
+        ensures unchanged { OnErr result (self.new ≡ self.old) }
+    {
+        let kept = self.run.kept(finding.value().segment().number());
+        self.book.add(kept, finding)?;
+        Ok(())
     }
 
     /// Answers a request of the session in a place, whose change is due to the callbacks on it; or want of memory (1307), which leaves
@@ -382,11 +471,11 @@ impl Present {
         ensures unchanged { OnErr result (self.new ≡ self.old) }
     {
         let session = &mut self.sessions[place].session;
-        let answer = respond(session, &self.policy, &mut self.sim, request)?;
+        let answer = respond(session, &self.policy, &mut self.run, &self.book, request)?;
         mark_asked(&mut self.watched, session, request);
         self.goal = raised(self.goal, answer.goal);
         let change = answer.change.as_ref();
-        let time = self.sim.time();
+        let time = self.run.simulation().time();
         notify(&mut self.sessions, &mut self.watched, change, time);
         Ok(answer)
     }

@@ -4,9 +4,10 @@ use crate::event::SessionId;
 use crate::fault::WorldError;
 use std::alloc::AllocError;
 use vp_bits::Bits;
-use vp_list::SharedText;
+use vp_list::{Sequence, SharedText};
 use vp_policy::DenialWords;
-use vp_vpi::{SharedListing, SharedNotices};
+use vp_race::Shared;
+use vp_vpi::{RaceLine, RaceTold, SharedListing, SharedNotices};
 
 /// What a line is told where it is refused.
 #[derive(Clone, Copy, Debug, PartialEq, Eq)]
@@ -19,12 +20,15 @@ pub enum Refusal {
     NoSuchName,
     TooManyCallbacks,
     NoSuchCallback,
+    NoSuchRace,
     SessionsFull,
     BadToken,
     NotOpen,
     LogFull,
     BeyondGoal,
+    NoJob,
     Simulation,
+    Race,
     NoMemory,
 }
 
@@ -44,12 +48,15 @@ impl Refusal {
             Refusal::NoSuchName => "no such name",
             Refusal::TooManyCallbacks => "too many callbacks",
             Refusal::NoSuchCallback => "no such callback",
+            Refusal::NoSuchRace => "no such race",
             Refusal::SessionsFull => "sessions full",
             Refusal::BadToken => "bad token",
             Refusal::NotOpen => "not open",
             Refusal::LogFull => "log full",
             Refusal::BeyondGoal => "beyond the goal",
+            Refusal::NoJob => "no job",
             Refusal::Simulation => "simulation",
+            Refusal::Race => "race",
             Refusal::NoMemory => "no memory",
         }
     }
@@ -67,7 +74,9 @@ impl From<WorldError> for Refusal {
             WorldError::NotOpen => Refusal::NotOpen,
             WorldError::LogFull => Refusal::LogFull,
             WorldError::BeyondGoal => Refusal::BeyondGoal,
+            WorldError::NoJob => Refusal::NoJob,
             WorldError::Sim(_) => Refusal::Simulation,
+            WorldError::Race(_) => Refusal::Race,
             WorldError::NoMemory => Refusal::NoMemory,
         }
     }
@@ -98,6 +107,12 @@ pub enum Reply {
     Callback(u32),
     /// The notices that waited.
     Notices(SharedNotices),
+    /// Races that the user is shown.
+    Races(Shared<Sequence<RaceLine>>),
+    /// A race that the user is shown, with its steps.
+    Race(Shared<RaceTold>),
+    /// A closed segment is handed out, by its number.
+    Job(u64),
     /// A right is lacking, in the words that the user is told.
     Denied(DenialWords),
     /// The user may not let the design run.
@@ -125,6 +140,9 @@ impl Reply {
             Reply::Same(same) => Reply::Same(*same),
             Reply::Callback(callback) => Reply::Callback(*callback),
             Reply::Notices(notices) => Reply::Notices(notices.try_clone()?),
+            Reply::Races(races) => Reply::Races(races.try_clone()?),
+            Reply::Race(race) => Reply::Race(race.try_clone()?),
+            Reply::Job(number) => Reply::Job(*number),
             Reply::Denied(words) => Reply::Denied(words.try_clone()?),
             Reply::RunDenied => Reply::RunDenied,
             Reply::Time { time, finished } => Reply::Time {

@@ -1,9 +1,11 @@
-ghost use Rattle.std.specs.Prelude.{◌≡◌, [], None, IfErr, IfOk, IsOkUnless, OnErr, OnOk};
+ghost use Rattle.std.specs.Prelude.{◌≡◌, [], None, option_copied, IfErr, IfOk, IfSome, IsOkUnless, OnErr, OnOk};
 ghost use Rattle.std.specs.Arc.{arc_value};
+ghost use Rattle.std.specs.List.{All};
 ghost use Rattle.vp_world.specs.declared.event.Event.TheVariants as event;
 ghost use Rattle.vp_world.specs.declared.fault.WorldError.TheVariants.{NoMemory};
+ghost use Rattle.vp_race.specs.Recording.{kept_of, next_job};
 ghost use Rattle.vp_world.specs.Events.{IsAsked, IsWellFormed};
-ghost use Rattle.vp_world.specs.History.{Explains, IsLegal, answered_by, is_log_full, refused_by, with_entry};
+ghost use Rattle.vp_world.specs.History.{Explains, IsLegal, IsReached, answered_by, is_log_full, refused_by, state_behind, with_entry};
 
 use crate::entry::{Asked, Entry, Happening, Login};
 use crate::event::{Event, Request, SessionId};
@@ -17,6 +19,7 @@ use std::sync::Arc;
 use vp_expr::Checked;
 use vp_list::Text;
 use vp_policy::Policy;
+use vp_race::{Finding, Segment, Shared};
 
 /// A design with a policy, its simulation, the sessions of its users, and the log of what has happened. A contract sees how it
 /// began and its log, of which its state is a function.
@@ -82,10 +85,11 @@ impl World {
 
     /// Lets an event happen, answers it, and adds it to the log. An Open is refused by a wrong name or token (1302), too many
     /// sessions (1301) or a full log (1304); an Ask and a Close by a session that is not open (1303) or a full log; a Step and an
-    /// Advance by a full log, by a goal that does not reach so far (1305) or by the simulation (1308); and each for want of
+    /// Advance by a full log, by a goal that does not reach so far (1305) or by the simulation (1308); a TakeJob by a full log or
+    /// where no kept segment is left to be handed out (1306); a Book by a full log or by the book (1309); and each for want of
     /// memory (1307). A refusal leaves the world as it was.
     pub fn apply(&mut self, event: Event) -> Result<Reply, WorldError>
-        requires { IsWellFormed event }
+        requires { IsWellFormed self.old.opening.design event }
         ensures accepted { OnOk result (refused_by self.old event ≡ None) }
         ensures reply { IfOk result (λ reply. reply ≡ answered_by self.old event) }
         ensures logged { OnOk result (self.new ≡ with_entry self.old event) }
@@ -98,6 +102,8 @@ impl World {
             Event::Close { session } => self.apply_close(session),
             Event::Step(k) => self.apply_step(k),
             Event::Advance => self.apply_advance(),
+            Event::TakeJob => self.apply_job(),
+            Event::Book(finding) => self.apply_booking(finding),
         }
     }
 
@@ -135,6 +141,83 @@ impl World {
             finished: self.present.finished(),
         });
         Ok(())
+    }
+
+    /// The same of a TakeJob.
+    fn apply_job(&mut self) -> Result<Reply, WorldError>
+        ensures accepted { OnOk result (refused_by self.old event.TakeJob ≡ None) }
+        ensures reply { IfOk result (λ reply. reply ≡ answered_by self.old event.TakeJob) }
+        ensures logged { OnOk result (self.new ≡ with_entry self.old event.TakeJob) }
+        ensures refused { IfErr result (λ e. Explains (refused_by self.old event.TakeJob) e) }
+        ensures unchanged { OnErr result (self.new ≡ self.old) }
+    {
+        let full = self.is_full();
+        self.present.check_job(full)?;
+        self.log.reserve(1)?;
+        let Some(number) = self.present.take_job() else {
+            unreachable!()
+        };
+        self.log.push_reserved(Entry {
+            happening: Happening::TakeJob { number },
+            time: self.present.time(),
+            finished: self.present.finished(),
+        });
+        Ok(Reply::Job(number))
+    }
+
+    /// The same of a Book.
+    fn apply_booking(&mut self, finding: Shared<Finding>) -> Result<Reply, WorldError>
+        requires { IsWellFormed self.old.opening.design (event.Book finding) }
+        ensures accepted { OnOk result (refused_by self.old (event.Book finding) ≡ None) }
+        ensures reply { IfOk result (λ reply. reply ≡ answered_by self.old (event.Book finding)) }
+        ensures logged { OnOk result (self.new ≡ with_entry self.old (event.Book finding)) }
+        ensures refused { IfErr result
+            (λ e. Explains (refused_by self.old (event.Book finding)) e) }
+        ensures unchanged { OnErr result (self.new ≡ self.old) }
+    {
+        if self.is_full() {
+            return Err(WorldError::LogFull);
+        }
+        if let Err(lacking) = self.log.reserve(1) {
+            self.present.check_booking(finding.value())?;
+            return Err(WorldError::from(lacking));
+        }
+        let Ok(logged) = finding.try_clone() else {
+            self.present.check_booking(finding.value())?;
+            return Err(WorldError::NoMemory);
+        };
+        self.present.book(finding)?;
+        self.log.push_reserved(Entry {
+            happening: Happening::Book { finding: logged },
+            time: self.present.time(),
+            finished: self.present.finished(),
+        });
+        Ok(Reply::Done)
+    }
+
+    /// The kept segment of a number; none where no segment of that number closed, or it is no longer kept.
+    pub fn kept(&self, number: u64) -> Option<&Segment>
+        ensures { option_copied result ≡ kept_of
+            (state_behind self.now.opening self.now.log).segments number }
+    {
+        self.present.kept(number)
+    }
+
+    /// The segment that the next TakeJob hands out; none where it is refused but for a full log. It is of the world's design.
+    pub fn next_job(&self) -> Option<&Segment>
+        ensures job { option_copied result ≡ next_job
+            (state_behind self.now.opening self.now.log).segments }
+        ensures design { IfSome result (λ s. s.now.start.design ≡ self.now.opening.design) }
+    {
+        self.present.next_job()
+    }
+
+    /// The races in the book, in the order in which they were booked. Each is a race of a segment that was kept when it was booked.
+    pub fn book(&self) -> &[Shared<Finding>]
+        ensures races { result.now ≡ (state_behind self.now.opening self.now.log).book }
+        ensures reached { All (λ f. IsReached self.now.opening self.now.log f) result.now }
+    {
+        self.present.races()
     }
 
     /// The same of an Advance.

@@ -1,5 +1,5 @@
 -- Laws of lists of which copies are kept.
-use Rattle.std.proofs.Common.{◌≡◌, ℕ, zero, suc, ◌+◌, ◌<◌, ◌≤◌, List, [], ◌∷◌, ◌++◌, length, get_or, drop, Option, Some, None, refl, ap, sym, subst, inl, inr, ◌∙◌, arith}
+use Rattle.std.proofs.Common.{◌≡◌, ℕ, zero, suc, ◌+◌, ◌<◌, ◌≤◌, List, [], ◌∷◌, ◌++◌, length, Some, None, refl, ap, sym, subst, inl, inr, ◌∙◌, arith}
 use Rattle.std.specs.Prelude.{◌⊎◌, slice_get, slice_index_or, slice_set}
 use Rattle.std.specs.List.{Contains}
 use Rattle.std.proofs.lemmas.Bool.{cases_eq}
@@ -32,6 +32,18 @@ get_other (y ∷ ys) zero zero x h = absurd (h refl)
 get_other (y ∷ ys) zero (suc k) x h = refl
 get_other (y ∷ ys) (suc p) zero x h = refl
 get_other (y ∷ ys) (suc p) (suc k) x h = get_other ys p k x (λ e. h (ap suc e))
+
+-- an item that is exchanged for itself
+set_same : {X : Type 0} (xs : List X) (p : ℕ) (x : X) → slice_get xs p ≡ Some x → slice_set xs p x ≡ xs
+set_same [] p x h = refl
+set_same (y ∷ ys) zero x h = let e : y ≡ x = cc in ap (λ z. z ∷ ys) (sym e)
+set_same (y ∷ ys) (suc p) x h = ap (λ zs. y ∷ zs) (set_same ys p x h)
+
+-- nothing is exchanged where there is no item
+set_none : {X : Type 0} (xs : List X) (p : ℕ) (x : X) → slice_get xs p ≡ None → slice_set xs p x ≡ xs
+set_none [] p x h = refl
+set_none (y ∷ ys) zero x h = cc
+set_none (y ∷ ys) (suc p) x h = ap (λ zs. y ∷ zs) (set_none ys p x h)
 
 -- a place is written
 pub kept_written : {X : Type 0} (kept items : List X) (written : List ℕ) (p : ℕ) (x : X) → AreKept kept items written → AreKept kept (slice_set items p x) (written ++ p ∷ [])
@@ -125,3 +137,19 @@ taken_length kept items p =
       | inl (x, within, there, e) ↦ subst (λ o. length (option_map_or (slice_set kept p) o kept) ≡ length kept) (sym there) (length-set kept p x)
       | inr (past, there) ↦ subst (λ o. length (option_map_or (slice_set kept p) o kept) ≡ length kept) (sym there) refl
     ]
+
+-- an item that is the same is taken over as it is
+pub taken_same : {X : Type 0} (kept items : List X) (p : ℕ) (x y : X) → slice_get items p ≡ Some x → slice_get kept p ≡ Some y → y ≡ x → kept ≡ taken_over kept items p
+taken_same kept items p x y there was same =
+    sym (ap (λ o. option_map_or (slice_set kept p) o kept) there
+    ∙ ap (slice_set kept p) (sym same)
+    ∙ set_same kept p y was)
+
+-- no item is taken over where the copy has none
+pub taken_past : {X : Type 0} (kept items : List X) (p : ℕ) (x : X) → slice_get items p ≡ Some x → slice_get kept p ≡ None → kept ≡ taken_over kept items p
+taken_past kept items p x there none =
+    sym (ap (λ o. option_map_or (slice_set kept p) o kept) there ∙ set_none kept p x none)
+
+-- nor where the list has none
+pub taken_none : {X : Type 0} (kept items : List X) (p : ℕ) → slice_get items p ≡ None → kept ≡ taken_over kept items p
+taken_none kept items p none = sym (ap (λ o. option_map_or (slice_set kept p) o kept) none)

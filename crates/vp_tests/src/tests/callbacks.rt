@@ -1,10 +1,10 @@
 //! Two sessions of one world, each told of the changes that the other makes.
 ghost use Rattle.vp_world.specs.Events.{IsAsked};
 
-use crate::tests::building::shared_of;
 use std::alloc::Global;
 use vp_list::Text;
 use vp_policy::{Policy, UserId, read_policy};
+use vp_samples::shared_of;
 use vp_vpi::PutValue;
 use vp_world::{Event, Limits, Reply, Request, SessionId, World};
 

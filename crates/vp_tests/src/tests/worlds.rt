@@ -1,13 +1,15 @@
 //! What a design with a policy answers beside the program: closed envelopes, and a world's limits and log.
 //! The helpers are short and give plain answers, which keeps each test's proof short.
 ghost use Rattle.std.specs.Prelude.{IfSome};
+ghost use Rattle.vp_elab.specs.Built.{Elaborated};
 ghost use Rattle.vp_world.specs.Events.{IsWellFormed};
 
-use crate::tests::building::{policy_for, shared_of};
+use crate::tests::building::policy_for;
 use std::alloc::Global;
 use vp_elab::{Design, ObjectId};
 use vp_list::{Sequence, Text};
 use vp_policy::{Policy, UserId};
+use vp_samples::shared_of;
 use vp_world::{Event, Limits, Reply, Request, SessionId, World, WorldError};
 
 /// The README's design. Its objects are `top` (0), `a` (1), `k` (2) and the process (3).
@@ -79,11 +81,13 @@ enum Deed {
     Step(u32),
     /// The simulation goes on.
     Advance,
+    /// The next segment is handed out.
+    Job,
 }
 
 /// Ann's opening with a token.
 fn opening(alloc: Global, token: &str) -> Option<Event>
-    ensures { IfSome result IsWellFormed }
+    ensures { (design : Elaborated) → IfSome result (IsWellFormed design) }
 {
     let user = Text::copy(alloc, "ann").ok()?;
     let token = Text::copy(alloc, token).ok()?;
@@ -92,7 +96,7 @@ fn opening(alloc: Global, token: &str) -> Option<Event>
 
 /// The event of a deed.
 fn event(alloc: Global, deed: Deed) -> Option<Event>
-    ensures { IfSome result IsWellFormed }
+    ensures { (design : Elaborated) → IfSome result (IsWellFormed design) }
 {
     let session = ANN;
     match deed {
@@ -109,16 +113,18 @@ fn event(alloc: Global, deed: Deed) -> Option<Event>
         }),
         Deed::Step(k) => Some(Event::Step(k)),
         Deed::Advance => Some(Event::Advance),
+        Deed::Job => Some(Event::TakeJob),
     }
 }
 
-/// What comes of an event: the how-many-th of its user's a session is, 0 for another reply, or a refusal's number, which is the
-/// simulation's where that refuses it.
+/// What comes of an event: the how-many-th of its user's a session is, the number of a segment that is handed out, 0 for another reply, or a
+/// refusal's number, which is the simulation's where that refuses it.
 fn outcome(world: &mut World, event: Event) -> u64
-    requires { IsWellFormed event }
+    requires { IsWellFormed world.old.opening.design event }
 {
     match world.apply(event) {
         Ok(Reply::Opened(session)) => session.opens,
+        Ok(Reply::Job(number)) => number,
         Ok(_) => 0,
         Err(WorldError::Sim(error)) => u64::from(error.code()),
         Err(error) => u64::from(error.code()),
@@ -156,6 +162,7 @@ fn history(alloc: Global, limits: Limits, deeds: &[Deed]) -> Option<(Vec<u64>, u
 fn run_of_a_world(rt: HostRuntime) {
     let deeds = [
         Deed::Time,
+        Deed::Job,
         Deed::Mistake,
         Deed::Open,
         Deed::Open,
@@ -167,6 +174,8 @@ fn run_of_a_world(rt: HostRuntime) {
         Deed::Step(0),
         Deed::Step(0),
         Deed::Step(0),
+        Deed::Job,
+        Deed::Job,
         Deed::Advance,
         Deed::Time,
         Deed::Close,
@@ -174,11 +183,11 @@ fn run_of_a_world(rt: HostRuntime) {
         Deed::Time,
     ];
     let want = [
-        1303, 1302, 1, 2, 1305, 1305, 0, 802, 803, 0, 0, 801, 801, 0, 0, 1303, 1303,
+        1303, 1306, 1302, 1, 2, 1305, 1305, 0, 802, 803, 0, 0, 801, 1, 1306, 801, 0, 0, 1303, 1303,
     ];
     let (outcomes, entries) = history(rt.alloc(), Limits::GREATEST, &deeds).expect(&rt, "a world");
     assert_eq!(rt; outcomes.as_slice(), want.as_slice());
-    assert_eq!(rt; entries, 7);
+    assert_eq!(rt; entries, 8);
 }
 
 #[test]

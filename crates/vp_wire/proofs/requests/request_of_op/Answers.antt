@@ -36,3 +36,9 @@ returns-in-compare c = c.compare_request.ensures ∙ ap (λ op. request_of_op op
 
 pub returns-in-free : goal.returns-in-free
 returns-in-free c = c.free_request.ensures ∙ ap (λ op. request_of_op op (view c.args.value.now)) (sym c.in-free.is)
+
+pub returns-in-races : goal.returns-in-races
+returns-in-races c = c.races_request.ensures ∙ ap (λ op. request_of_op op (view c.args.value.now)) (sym c.in-races.is)
+
+pub returns-in-race : goal.returns-in-race
+returns-in-race c = c.race_request.ensures ∙ ap (λ op. request_of_op op (view c.args.value.now)) (sym c.in-race.is)

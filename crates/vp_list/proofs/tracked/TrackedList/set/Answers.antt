@@ -1,4 +1,3 @@
-use Rattle.std.proofs.Common.{◌≡◌}
 use Rattle.vp_list.specs.laws.Tracked.{kept_set}
 use Rattle.vp_list.proofs.tracked.TrackedList.set.Goals as goal
 

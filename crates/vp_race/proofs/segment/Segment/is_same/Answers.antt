@@ -6,7 +6,7 @@ use Rattle.std.proofs.lemmas.Bool.{eq-eqb, not-false}
 use Rattle.vp_sim.specs.States.{State}
 use Rattle.vp_race.specs.Same.{same_run}
 use Rattle.vp_race.specs.Segments.{Run}
-use Rattle.vp_race.proofs.Sameness.{runs_same}
+use Rattle.vp_race.specs.laws.Sameness.{runs_same}
 use Rattle.vp_race.proofs.segment.Segment.is_same.Goals as goal
 
 pub returns : goal.returns

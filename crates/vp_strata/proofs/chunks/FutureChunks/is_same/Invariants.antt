@@ -1,6 +1,7 @@
 use Rattle.std.proofs.Common.{◌≡◌, ◌<◌, [], length, take}
 use Rattle.std.specs.Prelude.{slice_index_or}
-use Rattle.vp_strata.specs.Chunks.{joined, position}
+use Rattle.vp_list.specs.Chunks.{joined}
+use Rattle.vp_strata.specs.Chunks.{position}
 use Rattle.vp_strata.proofs.chunks.FutureChunks.is_same.Given as goal
 
 -- so many events are the same, and both places are behind these

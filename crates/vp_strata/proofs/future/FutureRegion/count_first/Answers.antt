@@ -1,5 +1,6 @@
 use Rattle.std.proofs.Common.{◌≡◌, Some, ap, arith, length, sym}
-use Rattle.vp_strata.specs.Chunks.{joined, position}
+use Rattle.vp_list.specs.Chunks.{joined}
+use Rattle.vp_strata.specs.Chunks.{position}
 use Rattle.vp_strata.specs.Queues.{first_time}
 use Rattle.vp_strata.proofs.Found.{position_fits}
 use Rattle.vp_strata.proofs.Times.{at_first}

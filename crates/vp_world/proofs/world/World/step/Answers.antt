@@ -1,10 +1,19 @@
-use Rattle.std.proofs.Common.{rules, ◌≡◌, ◌++◌, ◌∷◌, [], None, refl}
+use Rattle.std.proofs.Common.{rules, ◌≡◌, ◌++◌, ◌∷◌, [], None, refl, ap, arith}
 use Rattle.vp_world.specs.Entries.{Entry}
 use Rattle.vp_world.specs.declared.event.Event.TheVariants as event
 use Rattle.vp_world.specs.declared.reply.Reply.TheVariants as reply
 use Rattle.vp_world.specs.History.{refusal_behind, state_behind}
+use Rattle.vp_world.specs.Worlds.{State}
+use Rattle.vp_world.proofs.Counting.{count_within}
 use Rattle.vp_world.proofs.Logs.{entry_is, keeps_more}
 use Rattle.vp_world.proofs.world.World.step.Goals as goal
+
+pub step-requires : goal.step-requires
+step-requires c =
+    let w = c.self.inside.present in
+    let log = c.self.inside.log in
+    let same : w.state.segments.count ≡ (state_behind w.opening log.items).segments.count = ap (λ (s : State). s.segments.count) c.self.invariant.state in
+    omega (arith, same, count_within w.opening log.items, log.ok.0, log.ok.1, log.small)
 
 pub invariant_of-self-2 : goal.invariant_of-self-2
 invariant_of-self-2 c =

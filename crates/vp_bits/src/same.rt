@@ -1,0 +1,8 @@
+use crate::bits::Bits;
+use vp_list::Same;
+
+impl Same for Bits {
+    fn is_same(&self, other: &Bits) -> bool {
+        *self == *other
+    }
+}

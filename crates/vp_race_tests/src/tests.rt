@@ -1,0 +1,4 @@
+mod copies;
+mod races;
+mod recordings;
+mod simulations;

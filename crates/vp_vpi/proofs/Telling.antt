@@ -1,0 +1,86 @@
+-- Races in a list, one behind another.
+use Rattle.std.proofs.Common.{◌≡◌, ◌∙◌, ◌≤◌, ◌<◌, ◌-◌, ◌++◌, ℕ, zero, suc, Bool, true, false, if◌then◌else◌, List, [], ◌∷◌, Option, Some, None, Ok, drop, filter, length, map, refl, sym, ap, arith, ◌⊎◌, inl, inr}
+use Rattle.std.specs.Prelude.{max, nat_le, option_map, slice_get, take}
+use Rattle.std.proofs.lemmas.Bool.{leb-true, leb-false}
+use Rattle.std.proofs.Math.ListN.{drop_of_length-le}
+use Rattle.std.proofs.lemmas.List.{append-nil, take-append-le, take_all}
+use Rattle.vp_vpi.specs.declared.races.RaceLine.{RaceLine}
+use Rattle.vp_vpi.specs.declared.races.RaceTold.{RaceTold}
+use Rattle.vp_elab.specs.declared.object.ObjectId.{ObjectId}
+use Rattle.vp_elab.specs.Tree.{Tree}
+use Rattle.vp_policy.specs.Users.{Member}
+use Rattle.vp_race.specs.Orders.{sources_of}
+use Rattle.vp_race.specs.Segments.{Told}
+use Rattle.vp_vpi.specs.declared.fault.VpiError.TheVariants.{NoSuchRace}
+use Rattle.vp_vpi.specs.Calls.{line_of, lines_from, or_refusal, race_of, race_told, shown_at}
+use Rattle.vp_vpi.specs.Observers.{Observer, RaceSeen, with_races}
+use Rattle.vp_vpi.specs.Races.{is_shown, race_seen, races_seen, steps_seen}
+
+-- the races that are told from a number on, of those behind so many
+abbrev pub told_from : (from number : ℕ) → List RaceSeen → List RaceLine
+told_from from number [] = []
+told_from from number (s ∷ ss) = (if nat_le from (suc number) then line_of (suc number) s ∷ [] else []) ++ told_from from (suc number) ss
+
+drop_nil : (n : ℕ) (ss : List RaceSeen) → ss ≡ [] → drop n ss ≡ []
+drop_nil n [] h = drop_of_length-le [] (omega arith)
+drop_nil n (s ∷ ss) h = cc
+
+told_by :
+    (b : Bool) (from number : ℕ) (s : RaceSeen) (ss : List RaceSeen) → nat_le from (suc number) ≡ b
+    → told_from from (suc number) ss ≡ lines_from (max (suc (suc number)) from) (drop (from - suc (suc number)) ss)
+    → (if b then line_of (suc number) s ∷ [] else []) ++ told_from from (suc number) ss ≡ lines_from (max (suc number) from) (drop (from - suc number) (s ∷ ss))
+told_by true from number s ss is h =
+    let small : from ≤ suc number = leb-true from (suc number) is in
+    let next : max (suc (suc number)) from ≡ suc (suc number) = omega (arith, small) in
+    let here : max (suc number) from ≡ suc number = omega (arith, small) in
+    let none : from - suc (suc number) ≡ 0 = omega (arith, small) in
+    let no : from - suc number ≡ 0 = omega (arith, small) in
+    ap (λ ls. line_of (suc number) s ∷ ls) (h ∙ ap (λ n. lines_from n (drop (from - suc (suc number)) ss)) next ∙ ap (λ n. lines_from (suc (suc number)) (drop n ss)) none)
+    ∙ sym (ap (λ n. lines_from n (drop (from - suc number) (s ∷ ss))) here ∙ ap (λ n. lines_from (suc number) (drop n (s ∷ ss))) no)
+told_by false from number s ss is h =
+    let large : suc number < from = leb-false from (suc number) is in
+    let next : max (suc (suc number)) from ≡ max (suc number) from = omega (arith, large) in
+    let more : from - suc number ≡ suc (from - suc (suc number)) = omega (arith, large) in
+    h ∙ ap (λ n. lines_from n (drop (from - suc (suc number)) ss)) next
+    ∙ sym (ap (λ n. lines_from (max (suc number) from) (drop n (s ∷ ss))) more)
+
+-- told one by one they are those from a number on
+pub told_all : (from number : ℕ) (races : List RaceSeen) → told_from from number races ≡ lines_from (max (suc number) from) (drop (from - suc number) races)
+told_all from number [] = sym (ap (lines_from (max (suc number) from)) (drop_nil (from - suc number) [] refl))
+told_all from number (s ∷ ss) = told_by (nat_le from (suc number)) from number s ss refl (told_all from (suc number) ss)
+
+-- the race of a number, as it is shown
+pub shown_map : {A B : Type 0} (f : A → B) (xs : List A) (number : ℕ) → shown_at (map f xs) number ≡ option_map f (shown_at xs number)
+shown_map f xs zero = refl
+shown_map f [] (suc n) = refl
+shown_map f (x ∷ xs) (suc zero) = refl
+shown_map f (x ∷ xs) (suc (suc n)) = shown_map f xs (suc n)
+
+-- so many lines at most are all, where nothing is left or as many are told
+pub whole : (n : ℕ) (all lines rest : List RaceLine) → all ≡ lines ++ rest → length lines ≤ n → (rest ≡ []) ⊎ (n ≤ length lines) → take n all ≡ lines
+whole n all lines rest h few (inl none) = ap (take n) (h ∙ ap (λ r. lines ++ r) none ∙ append-nil lines) ∙ take_all n lines few
+whole n all lines rest h few (inr many) = ap (take n) h ∙ take-append-le n lines rest many ∙ take_all n lines few
+
+-- the race of a number, which is shown
+pub race_at :
+    (tree : Tree) (u : Member) (book : List Told) (eyes : Observer) (number : ℕ) (f : Told)
+    → shown_at (filter (is_shown tree u) book) number ≡ Some f
+    → race_of (with_races (races_seen tree u book) eyes) number ≡ Ok (race_told number (race_seen tree u f))
+race_at tree u book eyes number f h =
+    ap (λ o. or_refusal (option_map (race_told number) o) NoSuchRace)
+    (shown_map (race_seen tree u) (filter (is_shown tree u) book) number ∙ ap (option_map (race_seen tree u)) h)
+
+abbrev pub told_of : RaceLine → (first second : List (List ℕ)) → RaceTold
+told_of line first second = record { line = line; first_steps = first; second_steps = second }
+
+-- a race that is put together is the one that is shown
+pub told_same :
+    (number : ℕ) (tree other : Tree) (u : Member) (f : Told) (line : RaceLine) (first second : List (List ℕ)) (sources others : List ObjectId)
+    → other ≡ tree → line ≡ line_of number (race_seen other u f) → first ≡ steps_seen other u sources → second ≡ steps_seen other u others
+    → sources ≡ sources_of f.segment.start f.segment.order → others ≡ sources_of f.segment.start f.second
+    → told_of line first second ≡ race_told number (race_seen tree u f)
+told_same number tree other u f line first second sources others same l s t p q =
+    let seen = race_seen tree u f in
+    ap (λ x. told_of x first second) (l ∙ ap (λ d. line_of number (race_seen d u f)) same)
+    ∙ ap (λ x. told_of (line_of number seen) x second) (s ∙ ap (λ d. steps_seen d u sources) same ∙ ap (steps_seen tree u) p)
+    ∙ ap (λ x. told_of (line_of number seen) seen.first_steps x) (t ∙ ap (λ d. steps_seen d u others) same ∙ ap (steps_seen tree u) q)

@@ -1,0 +1,28 @@
+// What a user is told of races (docs/FORMATS.md, "Lines").
+ghost use Rattle.std.specs.Prelude.{◌≡◌, IfOk};
+
+use vp_bits::Bits;
+use vp_list::{Sequence, Text};
+
+/// A race in the list that a user is told.
+#[derive(Drop)]
+pub struct RaceLine {
+    /// The full name of its net or reg.
+    pub name: Text,
+    /// Its number among the races that the user is shown, from 1.
+    pub number: u64,
+    /// The time of its segment, in time units.
+    pub time: u64,
+    /// Its values behind the run's order and behind the other.
+    pub values: (Bits, Bits),
+}
+
+/// A race with the steps of both orders that the user may list.
+#[derive(Drop)]
+pub struct RaceTold {
+    pub line: RaceLine,
+    /// Those of the run's order: the full name of each one's process, or `port ` and the full name of the port of a connection.
+    pub first_steps: Sequence<Text>,
+    /// The same of the other order.
+    pub second_steps: Sequence<Text>,
+}

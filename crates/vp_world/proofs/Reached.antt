@@ -1,0 +1,135 @@
+-- Each race in the book is of a segment that was kept when it was booked.
+use Rattle.std.proofs.Common.{◌≡◌, ◌∙◌, ℕ, Bool, true, false, List, [], ◌∷◌, ◌++◌, All, Option, Some, None, refl, sym, ap, subst, append_assoc, append-nil}
+use Rattle.std.specs.Prelude.{if◌then◌else◌, option_map, slice_get}
+use Rattle.std.specs.Option.{option_map_or}
+use Rattle.std.proofs.lemmas.List.Elements.{All-nil, All-push, All-weaker}
+use Rattle.vp_policy.specs.Users.{login_of}
+use Rattle.vp_race.specs.declared.fault.RaceError.{RaceError}
+use Rattle.vp_race.specs.declared.fault.RaceError.TheVariants.{SegmentGone}
+use Rattle.vp_race.specs.Booking.{BookState, refusal_of_finding, refusal_of_race}
+use Rattle.vp_race.specs.Recording.{Segments, kept_of}
+use Rattle.vp_race.specs.Same.{same_run}
+use Rattle.vp_race.specs.Segments.{IsRaceOf, Run, Told}
+use Rattle.vp_sim.specs.States as sim
+use Rattle.vp_world.specs.declared.event.Event.{Event}
+use Rattle.vp_world.specs.declared.event.Event.TheVariants as event
+use Rattle.vp_world.specs.declared.event.Request.{Request}
+use Rattle.vp_world.specs.declared.fault.WorldError.TheVariants as error
+use Rattle.vp_world.specs.Entries.{Entry}
+use Rattle.vp_world.specs.Events.{IsWellFormed}
+use Rattle.vp_world.specs.History.{IsLegal, IsReached, after, asked_at, book_refusal, closed_at, is_log_full, opened_by, refusal_behind, refusal_of, refusal_of_booking, state_asked, state_behind, stepped}
+use Rattle.vp_world.specs.Worlds.{Opening, SessionState, State, index_of}
+use Rattle.vp_world.proofs.Logs.{state_more}
+
+-- ---- what books nothing
+
+stepped_book : (s : State) (segments : sim.State → Segments) (o : sim.Outcome) → (stepped s segments o).book ≡ s.book
+stepped_book s segments (sim.Goes run change) = refl
+stepped_book s segments (sim.Refuses e) = refl
+
+opened_book : (s : State) (o : Option ℕ) → (option_map_or (opened_by s) o s).book ≡ s.book
+opened_book s None = refl
+opened_book s (Some u) = refl
+
+session_book : (s : State) (place : ℕ) (o : Option SessionState) (r : Request) → (state_asked s place o r).book ≡ s.book
+session_book s place None r = refl
+session_book s place (Some session) r = stepped_book _ _ _
+
+asked_book : (s : State) (o : Option ℕ) (r : Request) → (asked_at s o r).book ≡ s.book
+asked_book s None r = refl
+asked_book s (Some place) r = session_book s place (slice_get s.sessions place) r
+
+closed_book : (s : State) (o : Option ℕ) → (closed_at s o).book ≡ s.book
+closed_book s None = refl
+closed_book s (Some place) = refl
+
+-- ---- what is booked
+
+chosen : (b : Bool) (o : Option RaceError) → (if b then o else Some SegmentGone) ≡ None → b ≡ true
+chosen true o none = refl
+chosen false o none = absurd (cc)
+
+-- the kept segment of a finding that a book takes
+kept_there : (book : BookState) (kept : Option Run) (f : Told) → refusal_of_finding book kept f ≡ None → (run : Run) × (kept ≡ Some run) × (same_run run f.segment ≡ true)
+kept_there book None f none = absurd (cc)
+kept_there book (Some run) f none = (run, refl, chosen (same_run run f.segment) (refusal_of_race book f) none)
+
+-- a booking is refused where the book refuses the finding
+not_refused : (full : Bool) (refusal : Option RaceError) → refusal_of_booking full refusal ≡ None → refusal ≡ None
+not_refused true refusal h = absurd (cc)
+not_refused false None h = refl
+not_refused false (Some e) h = absurd (cc)
+
+-- ---- behind one entry more
+
+-- a race stays reached
+stays : (opening : Opening) (log : List Entry) (e : Entry) (f : Told) → IsReached opening log f → IsReached opening (log ++ e ∷ []) f
+stays opening log e f r = record {
+  race = r.race;
+  before = r.before;
+  rest = r.rest ++ e ∷ [];
+  cut = ap (λ (l : List Entry). l ++ e ∷ []) r.cut ∙ append_assoc r.before r.rest (e ∷ []);
+  run = r.run;
+  kept = r.kept;
+  same = r.same;
+}
+
+-- and so do all
+all_stay : (opening : Opening) (log : List Entry) (e : Entry) (book : List Told) → All (IsReached opening log) book → All (IsReached opening (log ++ e ∷ [])) book
+all_stay opening log e book all = All-weaker (IsReached opening log) (IsReached opening (log ++ e ∷ [])) (stays opening log e) book all
+
+-- the races behind an event
+behind_event :
+    (opening : Opening) (log : List Entry) (e : Entry) (happens : Event) → IsWellFormed opening.design happens
+    → refusal_of opening (is_log_full opening log) (state_behind opening log) happens ≡ None → All (IsReached opening log) (state_behind opening log).book
+    → All (IsReached opening (log ++ e ∷ [])) (after opening (state_behind opening log) happens).book
+behind_event opening log e (event.Open name token) formed none all =
+    let s = state_behind opening log in
+    subst (All (IsReached opening (log ++ e ∷ []))) (sym (opened_book s (login_of s.policy name token))) (all_stay opening log e s.book all)
+behind_event opening log e (event.Ask id request) formed none all =
+    let s = state_behind opening log in
+    subst (All (IsReached opening (log ++ e ∷ []))) (sym (asked_book s (index_of s.sessions id) request)) (all_stay opening log e s.book all)
+behind_event opening log e (event.Close id) formed none all =
+    let s = state_behind opening log in
+    subst (All (IsReached opening (log ++ e ∷ []))) (sym (closed_book s (index_of s.sessions id))) (all_stay opening log e s.book all)
+behind_event opening log e (event.Step k) formed none all =
+    let s = state_behind opening log in
+    subst (All (IsReached opening (log ++ e ∷ []))) (sym (stepped_book s _ (sim.step s.run k))) (all_stay opening log e s.book all)
+behind_event opening log e event.Advance formed none all =
+    let s = state_behind opening log in
+    subst (All (IsReached opening (log ++ e ∷ []))) (sym (stepped_book s _ (sim.advance s.run))) (all_stay opening log e s.book all)
+behind_event opening log e event.TakeJob formed none all = all_stay opening log e (state_behind opening log).book all
+behind_event opening log e (event.Book f) formed none all =
+    let s = state_behind opening log in
+    let there = kept_there (record { races = s.book; limit = opening.limits.book }) (kept_of s.segments f.segment.number) f (not_refused (is_log_full opening log) (book_refusal opening s f) none) in
+    let new : IsReached opening (log ++ e ∷ []) f = record {
+      race = formed.1;
+      before = log;
+      rest = e ∷ [];
+      cut = refl;
+      run = there.0;
+      kept = there.1;
+      same = there.2;
+    } in
+    All-push (IsReached opening (log ++ e ∷ [])) s.book f (all_stay opening log e s.book all) new
+
+-- the races behind one entry more of a legal log
+behind_entry :
+    (opening : Opening) (log : List Entry) (e : Entry) → IsWellFormed opening.design e.event → refusal_behind opening log e.event ≡ None
+    → All (IsReached opening log) (state_behind opening log).book → All (IsReached opening (log ++ e ∷ [])) (state_behind opening (log ++ e ∷ [])).book
+behind_entry opening log e formed none all =
+    subst (λ (s : State). All (IsReached opening (log ++ e ∷ [])) s.book) (sym (state_more opening log e)) (behind_event opening log e e.event formed none all)
+
+-- those behind the rest of a legal log
+behind_rest :
+    (opening : Opening) (before log : List Entry) → IsLegal opening before log → All (IsReached opening before) (state_behind opening before).book
+    → All (IsReached opening (before ++ log)) (state_behind opening (before ++ log)).book
+behind_rest opening before [] legal all =
+    subst (λ (l : List Entry). All (IsReached opening l) (state_behind opening l).book) (sym (append-nil before)) all
+behind_rest opening before (e ∷ log) (formed, accepted, is, legal) all =
+    subst (λ (l : List Entry). All (IsReached opening l) (state_behind opening l).book) (append_assoc before (e ∷ []) log)
+    (behind_rest opening (before ++ e ∷ []) log legal (behind_entry opening before e formed accepted all))
+
+-- each race in the book is reached
+pub all_reached : (opening : Opening) (log : List Entry) → IsLegal opening [] log → All (IsReached opening log) (state_behind opening log).book
+all_reached opening log legal = behind_rest opening [] log legal (All-nil (IsReached opening []))
