@@ -1,6 +1,6 @@
 ghost use Rattle.std.specs.Prelude.{◌≡◌, ◌<◌, ◌≤◌, ℕ, Bool, length, slice_get, slice_index_or, None, Some, IfErr, IfOk, IfSome, OnErr, OnOk, IsOkUnless};
 ghost use Rattle.vp_expr.specs.Tables.{tables_of};
-ghost use Rattle.vp_strata.specs.declared.event.Event.TheVariants.{NetUpdate};
+ghost use Rattle.vp_active.specs.declared.event.Event.TheVariants.{NetUpdate};
 ghost use Rattle.vp_sim.specs.declared.fault.SimError.TheVariants.{NoMemory};
 ghost use Rattle.vp_waking.specs.Changes.{change_of, net_at, updated_by};
 ghost use Rattle.vp_sim.specs.States.{Explains, Goes, IsStep, Refuses, with_activation, driven, evaluated, happened, without_event, step, turn, with_event};

@@ -1,8 +1,8 @@
 ghost use Rattle.std.specs.Prelude.{◌≡◌, length, map, None, Some, IfErr, IfOk, OnErr, OnOk, IsOkUnless};
 ghost use Rattle.std.specs.Arc.{arc_value};
 ghost use Rattle.vp_elab.specs.Tree.{below};
-ghost use Rattle.vp_strata.specs.declared.event.Event.TheVariants.{Evaluation};
-ghost use Rattle.vp_strata.specs.Events.{process_of};
+ghost use Rattle.vp_active.specs.declared.event.Event.TheVariants.{Evaluation};
+ghost use Rattle.vp_active.specs.Events.{process_of};
 ghost use Rattle.vp_strata.specs.Queues.{no_events, with_active};
 ghost use Rattle.vp_expr.specs.Tables.{tables_of};
 ghost use Rattle.vp_statement.specs.Walking.{flow_of};

@@ -1,5 +1,3 @@
-pub mod Choosing
-pub mod Counted
 pub mod Times
 pub mod Moving
 pub mod Ready
@@ -8,3 +6,4 @@ pub mod Halves
 pub mod Chunked
 pub mod Found
 pub mod Walks
+pub mod Assignments

@@ -1,4 +1,3 @@
 pub mod Faults
-pub mod Events
 pub mod Queues
 pub mod Chunks

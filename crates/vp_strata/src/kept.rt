@@ -1,18 +1,21 @@
-ghost use Rattle.std.specs.Prelude.{◌≡◌, true, IfErr, IfOk};
+ghost use Rattle.std.specs.Prelude.{◌≡◌, ◌+◌, length, true, IfErr, IfOk, IfSome};
 ghost use Rattle.vp_strata.specs.declared.fault.StrataError.TheVariants.{NoMemory};
 
-use crate::event::{Event, NonblockingUpdate};
 use crate::fault::StrataError;
 use crate::future::FutureRegion;
 use crate::strata::Strata;
 use std::alloc::Global;
 use std::marker::Model;
+use vp_active::{Event, NonblockingUpdate};
 use vp_list::are_same;
 
 /// The events of a queue as they were when a copy of it was kept. Its future events are shared with the queue, chunk by chunk. A contract
 /// sees the queue and the number of processes.
 #[derive(Drop)]
 pub struct KeptStrata {
+    /// The active updates of nonblocking assignments.
+    pub(crate) assignments: Vec<NonblockingUpdate>,
+    /// The other active events.
     pub(crate) active: Vec<Event>,
     pub(crate) inactive: Vec<usize>,
     pub(crate) nonblocking: Vec<NonblockingUpdate>,
@@ -21,15 +24,17 @@ pub struct KeptStrata {
 }
 
 impl Model for KeptStrata {
+    ghost use Rattle.std.specs.Prelude.{◌++◌, map};
     ghost use Rattle.std.specs.List.{All};
-    ghost use Rattle.vp_strata.specs.Events.{IsOfProcesses};
+    ghost use Rattle.vp_active.specs.declared.event.Event.TheVariants.{Nonblocking};
     ghost use Rattle.vp_strata.specs.Queues.{KeptQueue};
+    ghost use Rattle.vp_active.specs.Slots.{IsPushed};
 
     ghost Value = { KeptQueue };
 
-    ghost view = { λ k. record { queue = record { active = k.active.items; inactive = k.inactive.items; nonblocking = k.nonblocking.items; future = k.future }; processes = k.processes } };
+    ghost view = { λ k. record { queue = record { active = map Nonblocking k.assignments.items ++ k.active.items; inactive = k.inactive.items; nonblocking = k.nonblocking.items; future = k.future }; processes = k.processes } };
 
-    ghost invariant = { λ k. All (λ e. IsOfProcesses k.processes e) k.active.items };
+    ghost invariant = { λ k. All (λ e. IsPushed k.processes e) k.active.items };
 }
 
 impl KeptStrata {
@@ -40,10 +45,33 @@ impl KeptStrata {
         ensures differs { self.now ≡ other.now → result ≡ true }
     {
         self.processes == other.processes
-            && are_same(&self.active, &other.active)
+            && self.has_same_active(other)
             && are_same(&self.inactive, &other.inactive)
             && are_same(&self.nonblocking, &other.nonblocking)
             && self.future.is_same(&other.future)
+    }
+
+    /// Whether the active events of two copies are the same.
+    fn has_same_active(&self, other: &KeptStrata) -> bool
+        ensures same { result ≡ true → self.now.queue.active ≡ other.now.queue.active }
+        ensures differs { self.now.queue.active ≡ other.now.queue.active → result ≡ true }
+    {
+        if !are_same(&self.assignments, &other.assignments) {
+            return false;
+        }
+        are_same(&self.active, &other.active)
+    }
+
+    /// How many events are active, inactive or nonblocking, if it is a number of the machine.
+    pub fn count(&self) -> Option<usize>
+        ensures total { IfSome result (λ count. count ≡ length self.now.queue.active
+            + length self.now.queue.inactive + length self.now.queue.nonblocking) }
+    {
+        self.assignments
+            .len()
+            .checked_add(self.active.len())?
+            .checked_add(self.inactive.len())?
+            .checked_add(self.nonblocking.len())
     }
 
     /// A queue with these events. An `Err` is want of memory (701).

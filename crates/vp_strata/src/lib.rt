@@ -4,7 +4,6 @@
 //! matter of this crate: a simulator takes it, makes it happen, and pushes the events that it schedules.
 #![tactic(auto)]
 
-mod active;
 mod chunk;
 mod chunks;
 mod comparison;
@@ -15,7 +14,8 @@ mod future;
 mod kept;
 mod strata;
 
-pub use event::{Delayed, Event, NonblockingUpdate};
+pub use event::Delayed;
 pub use fault::StrataError;
 pub use kept::KeptStrata;
 pub use strata::{Strata, TIME_LIMIT};
+pub use vp_active::{Event, NonblockingUpdate};

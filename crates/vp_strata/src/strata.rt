@@ -1,18 +1,19 @@
-ghost use Rattle.std.specs.Prelude.{◌≡◌, ◌<◌, ◌≤◌, ◌+◌, ◌++◌, ◌∷◌, [], drop, length, slice_get, Err, IfErr, IfOk, IsOk, OnErr, OnOk};
+ghost use Rattle.std.specs.Prelude.{◌≡◌, ◌<◌, ◌≤◌, ◌+◌, ◌==◌, ◌++◌, ◌∷◌, [], drop, length, option_and_then, slice_get, Err, IfErr, IfOk, IsOk, OnErr, OnOk};
 ghost use Rattle.vp_strata.specs.declared.fault.StrataError.TheVariants.{NoMemory, TimeLimit};
-ghost use Rattle.vp_strata.specs.declared.event.Event.TheVariants.{Evaluation, NetUpdate};
-ghost use Rattle.vp_strata.specs.Events.{eligible_places};
+ghost use Rattle.vp_active.specs.declared.event.Event.TheVariants.{Evaluation, NetUpdate};
+ghost use Rattle.vp_active.specs.Events.{eligible_places};
 ghost use Rattle.vp_strata.specs.Queues.{activated, advanced, first_time, inactive_activated, is_done, no_events, nonblocking_activated, peeked, put_in, ready, scheduled, taken, with_active, with_future, with_inactive, with_nonblocking};
 
-use crate::active::{ActiveRegion, sum};
 use crate::copies::{append, copied};
-use crate::event::{Delayed, Event, NonblockingUpdate, Timed};
+use crate::event::{Delayed, Timed};
 use crate::fault::StrataError;
 use crate::future::FutureRegion;
 use crate::kept::KeptStrata;
 use std::alloc::{AllocError, Global};
 use std::collections::VecDeque;
 use std::marker::Model;
+use std::mem::swap;
+use vp_active::{ActiveRegion, Event, NonblockingUpdate};
 use vp_bits::Bits;
 
 /// Room is made for at least so many events at once, so that few of the events that follow have to ask for memory.
@@ -25,6 +26,9 @@ pub const TIME_LIMIT: u64 = 1 << 62;
 /// takes without memory, and the number of processes, by which events name them.
 #[derive(Drop)]
 pub struct Strata {
+    /// The active updates of nonblocking assignments. They became active while no event was, so that each other active event is newer.
+    assignments: VecDeque<NonblockingUpdate>,
+    /// The other active events.
     active: ActiveRegion,
     inactive: VecDeque<usize>,
     nonblocking: VecDeque<NonblockingUpdate>,
@@ -34,15 +38,16 @@ pub struct Strata {
 }
 
 impl Model for Strata {
-    ghost use Rattle.std.specs.Prelude.{◌+◌, ◌≤◌};
+    ghost use Rattle.std.specs.Prelude.{◌+◌, ◌++◌, ◌≤◌, map};
     ghost use Rattle.std.specs.VecDeque.{deque_capacity, deque_len};
+    ghost use Rattle.vp_active.specs.declared.event.Event.TheVariants.{Nonblocking};
     ghost use Rattle.vp_strata.specs.Queues.{Regions};
 
     ghost Value = { Regions };
 
-    ghost view = { λ s. record { queue = record { active = s.active.events; inactive = s.inactive.items; nonblocking = s.nonblocking.items; future = s.future }; spare = s.spare; processes = s.active.processes } };
+    ghost view = { λ s. record { queue = record { active = map Nonblocking s.assignments.items ++ s.active.events; inactive = s.inactive.items; nonblocking = s.nonblocking.items; future = s.future }; spare = s.spare; processes = s.active.processes } };
 
-    ghost invariant = { λ s. (s.spare + deque_len s.inactive + deque_len s.nonblocking ≤ s.active.room) × (deque_len s.inactive + s.spare ≤ deque_capacity s.inactive) × (deque_len s.nonblocking + s.spare ≤ deque_capacity s.nonblocking) };
+    ghost invariant = { λ s. (s.spare ≤ deque_capacity s.assignments) × (s.spare + deque_len s.inactive ≤ s.active.room) × (deque_len s.inactive + s.spare ≤ deque_capacity s.inactive) × (deque_len s.nonblocking + s.spare ≤ deque_capacity s.nonblocking) };
 }
 
 impl Strata {
@@ -53,6 +58,7 @@ impl Strata {
         ensures memory { IfErr result (λ e. e ≡ NoMemory) }
     {
         Ok(Strata {
+            assignments: VecDeque::new(alloc),
             active: ActiveRegion::new(alloc, processes)?,
             inactive: VecDeque::new(alloc),
             nonblocking: VecDeque::new(alloc),
@@ -69,6 +75,7 @@ impl Strata {
         ensures memory { IfErr result (λ e. e ≡ NoMemory) }
     {
         Ok(KeptStrata {
+            assignments: copied(alloc, &self.assignments)?,
             active: self.active.copied_events(alloc)?,
             inactive: copied(alloc, &self.inactive)?,
             nonblocking: copied(alloc, &self.nonblocking)?,
@@ -86,11 +93,7 @@ impl Strata {
         ensures processes { self.new.processes ≡ self.old.processes }
         ensures memory { IfErr result (λ e. e ≡ NoMemory) }
     {
-        let Some(count) = sum(
-            kept.active.len(),
-            kept.inactive.len(),
-            kept.nonblocking.len(),
-        ) else {
+        let Some(count) = kept.count() else {
             return Err(StrataError::NoMemory);
         };
         let future = kept.future.try_clone()?;
@@ -108,6 +111,8 @@ impl Strata {
         ensures queue { self.new.queue ≡ with_future kept.now.queue future }
         ensures processes { self.new.processes ≡ self.old.processes }
     {
+        self.assignments.clear();
+        append(&mut self.assignments, &kept.assignments);
         self.active.clear();
         self.active.push_all(&kept.active);
         self.inactive.clear();
@@ -143,8 +148,8 @@ impl Strata {
         ensures processes { self.new.processes ≡ self.old.processes }
         ensures memory { IfErr result (λ e. e ≡ NoMemory) }
     {
-        self.active
-            .reserve_all(count, self.inactive.len(), self.nonblocking.len())?;
+        self.assignments.reserve(count)?;
+        self.active.reserve_all(count, self.inactive.len())?;
         self.inactive.reserve(count)?;
         self.nonblocking.reserve(count)?;
         self.spare = count;
@@ -255,14 +260,22 @@ impl Strata {
     pub fn eligible(&self) -> usize
         ensures { result ≡ length (eligible_places self.now.queue.active) }
     {
-        self.active.count_eligible()
+        self.assignments.len().min(1) + self.active.eligible()
+    }
+
+    /// No event is active.
+    #[inline(always)]
+    fn is_idle(&self) -> bool
+        ensures { result ≡ (length self.now.queue.active == 0) }
+    {
+        self.assignments.is_empty() && self.active.is_empty()
     }
 
     /// How many events are eligible behind the activation that a step would make: the choices of the step.
     pub fn choices(&self) -> usize
         ensures { result ≡ length (ready self.now.queue) }
     {
-        if !self.active.events().is_empty() {
+        if !self.is_idle() {
             return self.eligible();
         }
         if !self.inactive.is_empty() {
@@ -272,12 +285,29 @@ impl Strata {
     }
 
     /// The k-th of the eligible events, counted from 0, behind the activation that a step would make; none where there are not so many.
+    #[inline(always)]
     pub fn peek(&self, k: usize) -> Option<Event>
         ensures { result ≡ peeked self.now.queue k }
     {
-        if !self.active.events().is_empty() {
-            let place = self.active.eligible_place(k)?;
-            return self.active.events().get(place).copied();
+        if k == 0 {
+            // The oldest event is always eligible.
+            if let Some(update) = self.assignments.front() {
+                return Some(Event::Nonblocking { update: *update });
+            }
+            if let Some(slot) = self.active.front() {
+                return slot.event();
+            }
+        }
+        self.peek_sought(k)
+    }
+
+    /// The same, where it is looked for.
+    #[inline(never)]
+    fn peek_sought(&self, k: usize) -> Option<Event>
+        ensures { result ≡ peeked self.now.queue k }
+    {
+        if !self.is_idle() {
+            return self.peek_active(k);
         }
         if !self.inactive.is_empty() {
             let process = *self.inactive.get(k)?;
@@ -290,14 +320,36 @@ impl Strata {
         Some(Event::Nonblocking { update })
     }
 
+    /// The k-th of the active events that are eligible, counted from 0; none where there are not so many.
+    fn peek_active(&self, k: usize) -> Option<Event>
+        ensures { result ≡ option_and_then (slice_get self.now.queue.active)
+            (slice_get (eligible_places self.now.queue.active) k) }
+    {
+        match self.assignments.front() {
+            None => self.active.peek(k),
+            Some(update) => {
+                // Of these updates only the oldest is eligible.
+                if k == 0 {
+                    Some(Event::Nonblocking { update: *update })
+                } else {
+                    self.active.peek(k - 1)
+                }
+            }
+        }
+    }
+
     /// Takes the k-th of the active events that are eligible, counted from 0, if there is one.
     pub fn take(&mut self, k: usize)
         ensures queue { self.new.queue ≡ taken self.old.queue k }
         ensures spare { self.new.spare ≡ self.old.spare }
         ensures processes { self.new.processes ≡ self.old.processes }
     {
-        if let Some(place) = self.active.eligible_place(k) {
-            self.active.remove(place);
+        if self.assignments.is_empty() {
+            self.active.take(k);
+        } else if k == 0 {
+            self.assignments.pop_front();
+        } else {
+            self.active.take(k - 1);
         }
     }
 
@@ -312,7 +364,7 @@ impl Strata {
     pub fn is_done(&self) -> bool
         ensures { result ≡ is_done self.now.queue }
     {
-        self.active.events().is_empty() && self.inactive.is_empty() && self.nonblocking.is_empty()
+        self.is_idle() && self.inactive.is_empty() && self.nonblocking.is_empty()
     }
 
     /// The time of the next future event, in time units; none where there is none.
@@ -343,11 +395,7 @@ impl Strata {
         ensures spare { self.new.spare ≡ self.old.spare }
         ensures processes { self.new.processes ≡ self.old.processes }
     {
-        for _ in 0..self.nonblocking.len() {
-            if let Some(update) = self.nonblocking.pop_front() {
-                self.active.push_nonblocking(update);
-            }
-        }
+        swap(&mut self.assignments, &mut self.nonblocking);
     }
 
     /// While no event is active, all inactive events are activated, or if there are none, all updates of nonblocking assignments (11.4).
@@ -356,7 +404,7 @@ impl Strata {
         ensures spare { self.new.spare ≡ self.old.spare }
         ensures processes { self.new.processes ≡ self.old.processes }
     {
-        if !self.active.events().is_empty() {
+        if !self.is_idle() {
             return;
         }
         if self.inactive.is_empty() {

@@ -14,7 +14,7 @@ use Rattle.vp_elab.specs.Tree.{below}
 use Rattle.vp_expr.specs.declared.tables.Process.{Process}
 use Rattle.vp_expr.specs.declared.tables.Process.TheVariants.{Procedure, Assignment, Connection}
 use Rattle.vp_expr.specs.declared.tables.Tables.{Tables}
-use Rattle.vp_strata.specs.declared.event.Event.TheVariants.{Evaluation}
+use Rattle.vp_active.specs.declared.event.Event.TheVariants.{Evaluation}
 use Rattle.vp_strata.specs.Queues.{Queue, with_active}
 use Rattle.vp_waking.specs.declared.change.Change.{Change}
 use Rattle.vp_waking.specs.declared.waiting.Waiting.{Waiting}

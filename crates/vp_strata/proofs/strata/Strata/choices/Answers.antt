@@ -2,8 +2,8 @@ use Rattle.std.proofs.Common.{rules, ◌≡◌, ◌∙◌, ◌<◌, length, min,
 use Rattle.vp_strata.proofs.Ready.{inactive_ready, nonblocking_ready}
 use Rattle.vp_strata.proofs.strata.Strata.choices.Goals as goal
 
-pub returns-then-not-is_empty-2 : goal.returns-then-not-is_empty-2
-returns-then-not-is_empty-2 c =
+pub returns-then-not-is_empty : goal.returns-then-not-is_empty
+returns-then-not-is_empty c =
     let q = c.args.self.now.queue in
     let none : length q.active ≡ 0 = search rules in
     let some : 0 < length q.inactive = search rules in

@@ -1,0 +1,4 @@
+pub mod Events
+pub mod Slots
+pub mod Blocks
+pub mod laws
