@@ -5,35 +5,10 @@
 set -eu
 top=$(cd "$(dirname "$0")/.." && pwd)
 . "$top/bench/common.sh"
+. "$top/bench/designs.sh"
 until=${1:-20000}
 scripts_until "$until"
 
-# 16 regs, of which each toggles where the one before it falls.
-chain() {
-    echo 'module top; reg clock; initial clock = 0; always #1 clock = ~clock;'
-    last=clock
-    for i in $(seq 16); do
-        echo "reg q$i; initial q$i = 0; always @(negedge $last) q$i = ~q$i;"
-        last=q$i
-    done
-}
-# 32 regs of 16 bits, which hand a value on at each rising edge.
-pipeline() {
-    echo 'module top; reg clock; reg [15:0] s0; initial begin clock = 0; s0 = 0; end always #1 clock = ~clock; always @(posedge clock) s0 <= s0 + 1;'
-    for i in $(seq 32); do
-        echo "reg [15:0] s$i; always @(posedge clock) s$i <= s$((i - 1));"
-    done
-}
-# 1,000 procedures that take the value of a bus at each change; it changes once in 40 time units.
-bus() {
-    echo 'module top; reg [7:0] bus; initial bus = 0; always #40 bus = bus + 1;'
-    for i in $(seq 1000); do echo "reg [7:0] r$i; always @(bus) r$i = bus;"; done
-}
-# A counter, and 1,000 procedures that wait for a reg that never changes.
-idle() {
-    echo 'module top; reg never; reg [31:0] count; initial count = 0; always #1 count = count + 1;'
-    for i in $(seq 1000); do echo "reg r$i; always @(never) r$i = 1;"; done
-}
 # How many events there are until a time: each statement that a procedure executes (a delay or event control is one too), and each nonblocking update.
 events_of() {
     awk -v until="$until" -v name="$1" 'BEGIN {

@@ -3,14 +3,15 @@
 # with 64 sessions that watch 1,024 each. Wants valgrind (Debian's package). Takes the time units that are counted (8000).
 set -eu
 top=$(cd "$(dirname "$0")/.." && pwd)
+. "$top/bench/common.sh"
 . "$top/bench/programs.sh"
 units=${1:-8000}
-build_program watch_speed "$top/bench/watch/main.txt" "time 1" vp_list vp_lex vp_pragma vp_source vp_parse vp_elab vp_expr vp_policy vp_world
+build_program watch_speed "$top/bench/watch/main.txt" "time 1" vp_list vp_lex vp_policy vp_world vp_samples
 
 # The instructions of a time unit with so many sessions and callbacks.
 cost() {
-    before=$(instructions "time 10" "$work/watch_speed" "$1" "$2" 10)
-    behind=$(instructions "time $((10 + units))" "$work/watch_speed" "$1" "$2" "$((10 + units))")
+    before=$(instructions_of "time 10" "$work/watch_speed" "$1" "$2" 10)
+    behind=$(instructions_of "time $((10 + units))" "$work/watch_speed" "$1" "$2" "$((10 + units))")
     echo "$(((behind - before) / units))"
 }
 few=$(cost 1 1)

@@ -147,7 +147,6 @@ pub fn search<G: Gate>(
         findings.items) }
     ensures memory { IsOkUnless result NoMemory }
 {
-    let _order = segment.order();
     if !segment.has_choice() {
         gate.turn();
         return Ok(Vec::new(alloc));

@@ -1,7 +1,8 @@
-ghost use Rattle.std.specs.Prelude.{◌≡◌, IfOk};
+ghost use Rattle.std.specs.Prelude.{◌≡◌, ℕ, [], false, IfOk};
 ghost use Rattle.std.specs.Arc.{arc_value};
 ghost use Rattle.vp_race.specs.Orders.{HasEnd, IsRun, has_choice};
 ghost use Rattle.vp_race.specs.Same.{same_run};
+ghost use Rattle.vp_race.specs.Search.{found};
 
 use std::alloc::{AllocError, Global};
 use std::marker::Model;
@@ -102,9 +103,10 @@ impl Segment {
         self.start.is_same(&other.start)
     }
 
-    /// At one of its steps another event could have been taken.
+    /// At one of its steps another event could have been taken. Where there was none at any, no search finds a race in it.
     pub fn has_choice(&self) -> bool
-        ensures { result ≡ has_choice self.now.start self.now.order }
+        ensures choice { result ≡ has_choice self.now.start self.now.order }
+        ensures alone { result ≡ false → (limit seeds : ℕ) → found self.now limit seeds ≡ [] }
     {
         self.several
     }

@@ -160,7 +160,7 @@ fn next_segment(alloc: Global, world: &World) -> Result<Option<Arc<Segment>>, Al
 
 /// Takes the next job, if there is one, searches its segment for races and books them, and tells whether there was one; or as far as
 /// there is memory for.
-fn search_job(alloc: Global, world: &mut World) -> Result<bool, AllocError>
+fn search_next(alloc: Global, world: &mut World) -> Result<bool, AllocError>
     ensures none { IfOk result (λ found. found ≡ false → (world.new ≡ world.old)
         × (is_none (refused_by world.old event.TakeJob) ≡ false)) }
     ensures some { IfOk result (λ found. found ≡ true → GoesOnBy world.old world.new) }
@@ -176,6 +176,24 @@ fn search_job(alloc: Global, world: &mut World) -> Result<bool, AllocError>
     match search_segment(alloc, world, &segment) {
         Ok(()) => Ok(true),
         Err(lacking) => Err(lacking),
+    }
+}
+
+/// The same. A segment in which the run never had a choice is not searched, since nothing is found there.
+fn search_job(alloc: Global, world: &mut World) -> Result<bool, AllocError>
+    ensures none { IfOk result (λ found. found ≡ false → (world.new ≡ world.old)
+        × (is_none (refused_by world.old event.TakeJob) ≡ false)) }
+    ensures some { IfOk result (λ found. found ≡ true → GoesOnBy world.old world.new) }
+    ensures starved { OnErr result (GoesOn true (record { world = world.old; found = [] })
+        world.new) }
+{
+    let Some(segment) = world.next_job() else {
+        return Ok(false);
+    };
+    if segment.has_choice() {
+        search_next(alloc, world)
+    } else {
+        tried(world, Event::TakeJob)
     }
 }
 

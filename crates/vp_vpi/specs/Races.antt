@@ -9,7 +9,8 @@ use Rattle.vp_policy.specs.Filter.{denial_at}
 use Rattle.vp_policy.specs.Users.{Member}
 use Rattle.vp_race.specs.Orders.{sources_of}
 use Rattle.vp_race.specs.Segments.{Told, value_behind}
-use Rattle.vp_vpi.specs.Observers.{RaceSeen, kind_at}
+use Rattle.vp_sim.specs.States.{State}
+use Rattle.vp_vpi.specs.Observers.{Observer, RaceSeen, kind_at, observer_of, with_races}
 
 -- a kind is that of a net or a reg: a step of such an object is that of a connection, which is named by its port
 abbrev pub is_port : Option Kind → Bool
@@ -43,3 +44,7 @@ race_seen tree u f = record {
 -- the races of a book that a user is shown, in the order in which they were booked
 abbrev pub races_seen : Tree → Member → List Told → List RaceSeen
 races_seen tree u book = map (race_seen tree u) (filter (is_shown tree u) book)
+
+-- what a session can look up of a simulation and a book of races, by a user of its policy
+abbrev pub observer_with : State → Member → List Told → Observer
+observer_with run u book = with_races (races_seen run.design.tree u book) (observer_of run u)

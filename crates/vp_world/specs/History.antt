@@ -11,8 +11,8 @@ use Rattle.vp_race.specs.Recording.{Segments, kept_of, next_job, with_anew, with
 use Rattle.vp_race.specs.Same.{same_run}
 use Rattle.vp_race.specs.Segments.{IsRaceOf, Run, Told}
 use Rattle.vp_sim.specs.States as sim
-use Rattle.vp_vpi.specs.Observers.{Observer, observer_of, with_races}
-use Rattle.vp_vpi.specs.Races.{races_seen}
+use Rattle.vp_vpi.specs.Observers.{Observer}
+use Rattle.vp_vpi.specs.Races.{observer_with}
 use Rattle.vp_vpi.specs.Seats.{Seat, new_seat, with_due}
 use Rattle.vp_world.specs.Entries.{Entry}
 use Rattle.vp_world.specs.declared.event.SessionId.{SessionId}
@@ -109,7 +109,7 @@ next_session s u = record { user = record { 0 = u }; opens = slice_index s.opens
 
 -- what a user can look up: the simulation, and the races of the book that he is shown
 abbrev pub eyes_of : State → Member → Observer
-eyes_of s u = with_races (races_seen s.run.design.tree u s.book) (observer_of s.run u)
+eyes_of s u = observer_with s.run u s.book
 
 -- what comes of a request of a session: its user looks into the simulation, and the policy in force says what he sees
 abbrev pub response_of : State → Seat → Request → Response

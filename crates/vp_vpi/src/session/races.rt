@@ -2,8 +2,7 @@
 ghost use Rattle.std.specs.Prelude.{◌≡◌, Ok, filter, option_copied, IfErr, IfOk, IsOkUnless};
 ghost use Rattle.vp_policy.specs.Users.{member_at};
 ghost use Rattle.vp_vpi.specs.Calls.{Explains, line_of, lines_of, race_of, shown_at};
-ghost use Rattle.vp_vpi.specs.Observers.{observer_of, with_races};
-ghost use Rattle.vp_vpi.specs.Races.{is_shown, race_seen, races_seen, step_name, steps_seen};
+ghost use Rattle.vp_vpi.specs.Races.{is_shown, observer_with, race_seen, step_name, steps_seen};
 
 use super::Session;
 use crate::fault::VpiError;
@@ -95,10 +94,9 @@ impl Session {
         book: &Book,
         from: u64,
     ) -> Result<Shared<Sequence<RaceLine>>, VpiError>
-        ensures lines { let eyes = with_races
-            (races_seen sim.now.design.tree (member_at policy.now self.now.user) book.now.races)
-            (observer_of sim.now (member_at policy.now self.now.user)) in
-            IfOk result (λ lines. lines ≡ lines_of eyes from) }
+        ensures lines { let member = member_at policy.now self.now.user in
+            IfOk result (λ lines. lines
+            ≡ lines_of (observer_with sim.now member book.now.races) from) }
         ensures refused { IsOkUnless result VpiError.NoMemory }
     {
         let mut lines = Vec::new(self.alloc);
@@ -152,14 +150,12 @@ impl Session {
         book: &Book,
         number: u64,
     ) -> Result<Shared<RaceTold>, VpiError>
-        ensures race { let eyes = with_races
-            (races_seen sim.now.design.tree (member_at policy.now self.now.user) book.now.races)
-            (observer_of sim.now (member_at policy.now self.now.user)) in
-            IfOk result (λ race. race_of eyes number ≡ Ok race) }
-        ensures refused { let eyes = with_races
-            (races_seen sim.now.design.tree (member_at policy.now self.now.user) book.now.races)
-            (observer_of sim.now (member_at policy.now self.now.user)) in
-            IfErr result (λ e. Explains (race_of eyes number) e) }
+        ensures race { let member = member_at policy.now self.now.user in
+            IfOk result (λ race.
+            race_of (observer_with sim.now member book.now.races) number ≡ Ok race) }
+        ensures refused { let member = member_at policy.now self.now.user in
+            IfErr result (λ e.
+            Explains (race_of (observer_with sim.now member book.now.races) number) e) }
     {
         let design = sim.design();
         let Some(finding) = self.finding_at(policy, design, book, number) else {

@@ -8,7 +8,7 @@ use Rattle.vp_world.specs.History.{state_behind}
 use Rattle.vp_script.specs.Keeping.{GoesOn}
 use Rattle.vp_script.specs.Scripts.{seed_count, step_limit}
 use Rattle.vp_script.proofs.Running.{job_done, job_then, searched_is}
-use Rattle.vp_script.proofs.keeper.search_job.Goals as goal
+use Rattle.vp_script.proofs.keeper.search_next.Goals as goal
 
 pub returns-in-Ok-clause-some : goal.returns-in-Ok-clause-some
 returns-in-Ok-clause-some c always =
