@@ -1,13 +1,25 @@
 #!/bin/sh
 # How fast events are applied, beside Icarus Verilog's vvp on the same four designs: a chain of counters, a pipeline of nonblocking assignments, a bus
 # with 1,000 listeners, and a counter beside 1,000 procedures that wait. Of each it tells the events a second, and the ratio of the times.
-# Wants iverilog (Debian's package) and crates/vp_served/out/vp_served, which `rt run` in crates/vp_served builds. Takes the time units to run (20000).
+# Wants iverilog (Debian's package) and crates/vp_served/out/vp_served, which `rt run` in crates/vp_served builds. Takes the time units to run (20000), and
+# the word `recorded` if a small program over `World` shall run them, which records time slots and searches none.
 set -eu
 top=$(cd "$(dirname "$0")/.." && pwd)
 . "$top/bench/common.sh"
 . "$top/bench/designs.sh"
 until=${1:-20000}
 scripts_until "$until"
+if [ "${2:-}" = recorded ]; then
+    . "$top/bench/programs.sh"
+    build_program world_speed "$top/bench/world/main.txt" "it did not run" vp_lex vp_list vp_policy vp_world vp_samples
+    still() { "$work/world_speed" 0 < "$work/$1.v"; }
+    run() { "$work/world_speed" "$until" < "$work/$1.v"; }
+    ending="time $until"
+else
+    still() { serve "$1" still; }
+    run() { serve "$1" run; }
+    ending="\"time\":$until"
+fi
 
 # How many events there are until a time: each statement that a procedure executes (a delay or event control is one too), and each nonblocking update.
 events_of() {
@@ -25,9 +37,9 @@ for name in chain pipeline bus idle; do
     { "$name"; echo "initial \$finish; endmodule"; } > "$work/$name.none.v"
     iverilog -o "$work/$name.all" "$work/$name.all.v"
     iverilog -o "$work/$name.none" "$work/$name.none.v"
-    still=$(shortest_of 5 serve "$name" still)
-    all=$(shortest_of 5 serve "$name" run)
-    tail -n 1 "$work/out" | grep -q "\"time\":$until" || { echo "$name did not run: $(cat "$work/out")"; exit 1; }
+    still=$(shortest_of 5 still "$name")
+    all=$(shortest_of 5 run "$name")
+    tail -n 1 "$work/out" | grep -q "$ending" || { echo "$name did not run: $(cat "$work/out")"; exit 1; }
     none=$(shortest_of 5 vvp -n "$work/$name.none")
     theirs=$(shortest_of 5 vvp -n "$work/$name.all")
     events=$(events_of "$name")

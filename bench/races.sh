@@ -1,7 +1,7 @@
 #!/bin/sh
 # What recorded time slots cost, and the search for races in them: in instructions (callgrind), by a small program that runs a design in a world without a
 # search, and by crates/vp_served/out/vp_served, which `rt run` in crates/vp_served builds, and which searches each slot by 16 orders. Wants valgrind (Debian's
-# package). Takes the time units that are counted (2000).
+# package). Takes the time units that are counted, a multiple of 40 (2000).
 set -eu
 top=$(cd "$(dirname "$0")/.." && pwd)
 . "$top/bench/common.sh"
@@ -24,8 +24,8 @@ searched() {
     scripts_until "$2"
     instructions_of "{\"finished\":false,\"time\":$2}" "$program" run "$work/$1.v" "$work/policy.json" < "$work/run"
 }
-# The instructions of a time unit of a design, from time 300 on, by one of these.
-unit_of() { echo "$((($("$1" "$2" $((300 + units))) - $("$1" "$2" 300)) / units))"; }
+# The instructions of a time unit of a design, from time 320 on, by one of these. The bus changes at each 40th unit.
+unit_of() { echo "$((($("$1" "$2" $((320 + units))) - $("$1" "$2" 320)) / units))"; }
 
 design pipeline pipeline
 design bus bus
