@@ -213,10 +213,6 @@ job_done w u v fs taken is (n, rest, happened, inr all) =
           (subst (λ (rest' : List Told). Happen (n + 1) first (record { world = v; found = rest' })) all behind),
     )
 
--- a job is taken in whose segment nothing is found
-pub job_alone : (w u : Logged) → (refused_by w event.TakeJob ≡ None) × (u ≡ with_entry w event.TakeJob) → searched w ≡ [] → GoesOnBy w u
-job_alone w u taken none = job_done w u u [] taken none (0, [], refl, inr refl)
-
 -- where memory is lacking, nothing may happen
 pub nothing : (w : Logged) → GoesOn true (record { world = w; found = [] }) w
 nothing w = (0, [], refl, inl refl)
