@@ -1,3 +1,4 @@
 pub mod Ordered
 pub mod Telling
 pub mod Rows
+pub mod Retiring

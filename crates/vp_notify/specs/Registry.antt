@@ -1,10 +1,14 @@
 -- The callbacks of a session, the notices that wait, and what each call makes of them (clause 27.33).
-use Rattle.std.specs.Prelude.{ℕ, ◌+◌, ◌-◌, ◌^◌, ◌==◌, ◌||◌, nat_le, nat_lt, min, Bool, not, List, [], ◌∷◌, ◌++◌, filter, length, map, Option, Some, None, if◌then◌else◌}
+use Rattle.std.specs.Prelude.{ℕ, ◌+◌, ◌-◌, ◌^◌, ◌==◌, ◌||◌, nat_le, nat_lt, min, Bool, false, not, List, [], ◌∷◌, ◌++◌, filter, length, map, slice_get, Option, Some, None, if◌then◌else◌}
+use Rattle.std.specs.Option.{option_map_or}
 use Rattle.std.specs.List.{fold, list_any}
 use Rattle.std.specs.List.Sorted.{IsNonDecreasingBy}
 use Rattle.vp_notify.specs.declared.registry.Callback.{Callback}
 use Rattle.vp_notify.specs.declared.notice.Notice.{Notice}
 use Rattle.vp_waking.specs.declared.change.Change.{Change}
+use Rattle.vp_pragma.specs.declared.rights.Rights.{Rights}
+use Rattle.vp_pragma.specs.declared.rights.Right.TheVariants as right
+use Rattle.vp_pragma.specs.Rights.{has, set_of}
 
 -- what a contract sees of a registry: its callbacks by object, each object's in order of registration; the number given last, 0 before the
 -- first; the notices that wait, oldest first; how many were lost since the last drain (profile)
@@ -92,3 +96,17 @@ due r (Some change) time = fold with_notice r (map (notice_of change time) (filt
 -- nothing waits any more, and nothing counts as lost (profile)
 abbrev pub drained : RegistryState → RegistryState
 drained r = record r { waiting = []; lost = 0 }
+
+-- ---- rights that end
+
+-- these rights, by object, lack the right to watch an object; none lacks it where no object is
+abbrev pub lacks_watch : List Rights → (object : ℕ) → Bool
+lacks_watch rights object = option_map_or (λ his. not (has right.Watch (set_of his))) (slice_get rights object) false
+
+-- the callbacks on objects of which a test holds go, and so do the notices of these objects that wait, whoever they are for; numbers
+-- and the lost count stay (profile)
+abbrev pub retired : (gone : ℕ → Bool) → RegistryState → RegistryState
+retired gone r = record r {
+  callbacks = filter (λ callback. not (gone callback.object.0)) r.callbacks;
+  waiting = filter (λ notice. not (gone notice.object.0)) r.waiting;
+}

@@ -1,7 +1,7 @@
-ghost use Rattle.std.specs.Prelude.{◌≡◌, ◌+◌, ◌-◌, ◌^◌, ◌≤◌, ◌↔◌, ◌∷◌, ◌++◌, [], length, min, nat_lt, false, true, if◌then◌else◌, option_copied, IfErr, IfOk, IsOk, OnErr, OnOk};
+ghost use Rattle.std.specs.Prelude.{◌≡◌, ◌+◌, ◌-◌, ◌^◌, ◌≤◌, ◌↔◌, ◌∷◌, ◌++◌, [], filter, length, min, not, nat_lt, false, true, if◌then◌else◌, option_copied, IfErr, IfOk, IsOk, OnErr, OnOk};
 ghost use Rattle.std.specs.List.{list_any};
 ghost use Rattle.vp_notify.specs.declared.fault.NotifyError.TheVariants.{NoMemory, NoSuchCallback, TooManyCallbacks};
-ghost use Rattle.vp_notify.specs.Registry.{AreOrdered, drained, due, empty_registry, has_number, is_full, is_numbered, notice_of, registered, watches, without};
+ghost use Rattle.vp_notify.specs.Registry.{AreOrdered, drained, due, empty_registry, has_number, is_full, is_numbered, lacks_watch, notice_of, registered, retired, watches, without};
 
 use crate::fault::NotifyError;
 use crate::notice::{Notice, Notices};
@@ -10,6 +10,7 @@ use circular_buffer::HeapCircularBuffer;
 use std::alloc::Global;
 use std::marker::Model;
 use vp_elab::ObjectId;
+use vp_pragma::{Right, Rights};
 use vp_waking::Change;
 
 /// The most callbacks that a registry has at a time.
@@ -82,6 +83,31 @@ fn hold(waiting: &mut HeapCircularBuffer<Notice>, lost: &mut u64, notice: Notice
     }
 }
 
+/// These rights, by object, lack the right to watch an object.
+fn lacks_watch(rights: &[Rights], object: ObjectId) -> bool
+    ensures { result ≡ lacks_watch rights.now object.0 }
+{
+    match rights.get(object.0 as usize) {
+        Some(his) => !his.has(Right::Watch),
+        None => false,
+    }
+}
+
+/// Takes the notices of objects that these rights do not let be watched out of those that wait. The others stay in their order.
+fn retire_notices(waiting: &mut HeapCircularBuffer<Notice>, rights: &[Rights])
+    ensures waiting { waiting.new.items
+        ≡ filter (λ n. not (lacks_watch rights.now n.object.0)) waiting.old.items }
+    ensures capacity { waiting.new.capacity ≡ waiting.old.capacity }
+{
+    for _turn in 0..waiting.len() {
+        if let Some(notice) = waiting.pop_front() {
+            if !lacks_watch(rights, notice.object) {
+                waiting.push_back(notice);
+            }
+        }
+    }
+}
+
 impl Registry {
     /// A registry without callbacks, with room for as many notices as may wait. Refuses with `NoMemory` where there is none.
     pub fn new(alloc: Global) -> Result<Registry, NotifyError>
@@ -140,6 +166,16 @@ impl Registry {
         }
         self.callbacks.retain(|other| other.number != callback);
         Ok(())
+    }
+
+    /// Takes out the callbacks on objects that these rights, by object, do not let be watched, and the notices of these objects that
+    /// wait; numbers and the lost count stay. One pass over the callbacks and the notices, which takes no memory.
+    pub fn retire(&mut self, rights: &[Rights])
+        ensures { self.new ≡ retired (lacks_watch rights.now) self.old }
+    {
+        self.callbacks
+            .retain(|callback| !lacks_watch(rights, callback.object));
+        retire_notices(&mut self.waiting, rights);
     }
 
     /// Some callback is on an object.

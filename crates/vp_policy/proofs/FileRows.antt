@@ -1,12 +1,12 @@
 -- Policy files, computed. Each row is an equation that holds by computation.
 use Rattle.std.proofs.Common.{◌≡◌, ℕ, zero, suc, true, false, List, [], ◌∷◌, ◌++◌, refl}
-use Rattle.std.specs.Prelude.{Result, Ok, Err, codes}
+use Rattle.std.specs.Prelude.{None, Some, Result, Ok, Err, codes}
 use Rattle.std.specs.Str.{is_utf8, chars}
 use Rattle.serde_json.proofs.OnLiterals.{serde_json_on_literals}
 use Rattle.vp_pragma.specs.Rights.{RightSet, nothing}
 use Rattle.vp_policy.specs.declared.fault.PolicyError.{PolicyError}
 use Rattle.vp_policy.specs.declared.fault.PolicyError.TheVariants.{BadPolicy, DuplicateUser, NoSuchEnvelope, TooManyUsers}
-use Rattle.vp_policy.specs.File.{accepted, file_of, member}
+use Rattle.vp_policy.specs.File.{PolicyFile, accepted, file_of, member}
 use Rattle.vp_policy.specs.Users.{Member, granted, granted_by}
 
 abbrev listing : RightSet
@@ -30,8 +30,12 @@ abbrev ann : List (ℕ × RightSet) → List Member
 ann grants = user (codes "ann") grants ∷ []
 
 -- a file for a design of two envelopes
-abbrev told : List ℕ → Result (List Member) PolicyError
+abbrev told : List ℕ → Result PolicyFile PolicyError
 told file = file_of 2 file
+
+-- what a file without an operator gives
+abbrev file : List Member → PolicyFile
+file users = record { members = users; operator = None }
 
 -- a file in which Ann has these grants
 abbrev granting : List ℕ → List ℕ
@@ -42,16 +46,16 @@ granting grants = codes "{\"users\":[{\"name\":\"ann\",\"token\":\"T\",\"grants\
 -- each right that is named, and list beside them
 whole :
     told (codes "{\"users\":[{\"name\":\"ann\",\"token\":\"t-1\",\"open\":\"read\",\"run\":true}]}")
-    ≡ Ok (member (codes "ann") (codes "t-1") reading [] true ∷ [])
+    ≡ Ok (file (member (codes "ann") (codes "t-1") reading [] true ∷ []))
 unfolding serde_json_on_literals is_utf8 chars
 whole = refl
 
 -- no rights, no grants and no run flag by default, and the keys in any order
-by_default : told (codes "{\"users\":[{\"token\":\"T\",\"name\":\"ann\"}]}") ≡ Ok (ann [])
+by_default : told (codes "{\"users\":[{\"token\":\"T\",\"name\":\"ann\"}]}") ≡ Ok (file (ann []))
 unfolding serde_json_on_literals is_utf8 chars
 by_default = refl
 
-empty_open : told (codes "{\"users\":[{\"name\":\"ann\",\"token\":\"T\",\"open\":\"\"}]}") ≡ Ok (ann [])
+empty_open : told (codes "{\"users\":[{\"name\":\"ann\",\"token\":\"T\",\"open\":\"\"}]}") ≡ Ok (file (ann []))
 unfolding serde_json_on_literals is_utf8 chars
 empty_open = refl
 
@@ -80,18 +84,18 @@ unfolding serde_json_on_literals is_utf8 chars
 empty_token = refl
 
 -- a key that is given twice has what is given last
-key_twice : told (codes "{\"users\":[{\"name\":\"bob\",\"name\":\"ann\",\"token\":\"T\"}]}") ≡ Ok (ann [])
+key_twice : told (codes "{\"users\":[{\"name\":\"bob\",\"name\":\"ann\",\"token\":\"T\"}]}") ≡ Ok (file (ann []))
 unfolding serde_json_on_literals is_utf8 chars
 key_twice = refl
 
-no_users : told (codes "{\"users\":[]}") ≡ Ok []
+no_users : told (codes "{\"users\":[]}") ≡ Ok (file [])
 unfolding serde_json_on_literals is_utf8 chars
 no_users = refl
 
 -- users stand in the order of the file
 two_users :
     told (codes "{\"users\":[{\"name\":\"b\",\"token\":\"T\"},{\"name\":\"a\",\"token\":\"T\"}]}")
-    ≡ Ok (user (codes "b") [] ∷ user (codes "a") [] ∷ [])
+    ≡ Ok (file (user (codes "b") [] ∷ user (codes "a") [] ∷ []))
 unfolding serde_json_on_literals is_utf8 chars
 two_users = refl
 
@@ -104,7 +108,7 @@ cut_off = refl
 -- two grants for one envelope and one for another, unjoined and in order; a grant may be empty
 three_grants :
     told (granting (codes "{\"envelope\":1,\"access\":\"read\"},{\"access\":\"\",\"envelope\":2},{\"envelope\":1,\"access\":\"list+put\"}"))
-    ≡ Ok (ann ((1, reading) ∷ (2, nothing) ∷ (1, putting) ∷ []))
+    ≡ Ok (file (ann ((1, reading) ∷ (2, nothing) ∷ (1, putting) ∷ [])))
 unfolding serde_json_on_literals is_utf8 chars
 three_grants = refl
 
@@ -130,7 +134,7 @@ grant_key_too_many : told (granting (codes "{\"envelope\":1,\"access\":\"\",\"ru
 unfolding serde_json_on_literals is_utf8 chars
 grant_key_too_many = refl
 
-grant_key_twice : told (granting (codes "{\"envelope\":3,\"access\":\"\",\"envelope\":1}")) ≡ Ok (ann ((1, nothing) ∷ []))
+grant_key_twice : told (granting (codes "{\"envelope\":3,\"access\":\"\",\"envelope\":1}")) ≡ Ok (file (ann ((1, nothing) ∷ [])))
 unfolding serde_json_on_literals is_utf8 chars
 grant_key_twice = refl
 
@@ -149,6 +153,38 @@ envelope_as_text = refl
 access_of_no_right : told (granting (codes "{\"envelope\":1,\"access\":\"see\"}")) ≡ Err BadPolicy
 unfolding serde_json_on_literals is_utf8 chars
 access_of_no_right = refl
+
+-- ---- the operator
+
+operator : told (codes "{\"users\":[],\"operator\":\"op-1\"}") ≡ Ok (record { members = []; operator = Some (codes "op-1") })
+unfolding serde_json_on_literals is_utf8 chars
+operator = refl
+
+-- the keys stand in any order
+operator_first : told (codes "{\"operator\":\"x\",\"users\":[{\"name\":\"ann\",\"token\":\"T\"}]}") ≡ Ok (record { members = ann []; operator = Some (codes "x") })
+unfolding serde_json_on_literals is_utf8 chars
+operator_first = refl
+
+-- a user may have the operator's token
+token_of_both : told (codes "{\"users\":[{\"name\":\"ann\",\"token\":\"T\"}],\"operator\":\"T\"}") ≡ Ok (record { members = ann []; operator = Some (codes "T") })
+unfolding serde_json_on_literals is_utf8 chars
+token_of_both = refl
+
+empty_operator : told (codes "{\"users\":[],\"operator\":\"\"}") ≡ Err BadPolicy
+unfolding serde_json_on_literals is_utf8 chars
+empty_operator = refl
+
+operator_with_a_blank : told (codes "{\"users\":[],\"operator\":\"o p\"}") ≡ Err BadPolicy
+unfolding serde_json_on_literals is_utf8 chars
+operator_with_a_blank = refl
+
+operator_of_null : told (codes "{\"users\":[],\"operator\":null}") ≡ Err BadPolicy
+unfolding serde_json_on_literals is_utf8 chars
+operator_of_null = refl
+
+operator_alone : told (codes "{\"operator\":\"x\"}") ≡ Err BadPolicy
+unfolding serde_json_on_literals is_utf8 chars
+operator_alone = refl
 
 -- ---- refusals in their order
 
@@ -172,14 +208,19 @@ bad_first : told (codes "{\"users\":[{\"name\":\"a\",\"token\":\"T\"},{\"name\":
 unfolding serde_json_on_literals is_utf8 chars
 bad_first = refl
 
+-- an operator who is none, behind two users who are named alike
+bad_operator_first : told (codes "{\"users\":[{\"name\":\"a\",\"token\":\"T\"},{\"name\":\"a\",\"token\":\"T\"}],\"operator\":1}") ≡ Err BadPolicy
+unfolding serde_json_on_literals is_utf8 chars
+bad_operator_first = refl
+
 -- users with different names, as many as asked
 abbrev users : ℕ → List ℕ → List Member
 users zero name = []
 users (suc n) name = user name ((9, nothing) ∷ []) ∷ users n (97 ∷ name)
 
 -- too many are told before a grant for no envelope
-one_too_many : accepted 2 (users 257 (codes "a")) ≡ Err TooManyUsers
+one_too_many : accepted 2 (file (users 257 (codes "a"))) ≡ Err TooManyUsers
 one_too_many = refl
 
-as_many_as_fit : accepted 9 (users 256 (codes "a")) ≡ Ok (users 256 (codes "a"))
+as_many_as_fit : accepted 9 (file (users 256 (codes "a"))) ≡ Ok (file (users 256 (codes "a")))
 as_many_as_fit = refl

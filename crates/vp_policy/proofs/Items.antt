@@ -17,13 +17,6 @@ each_at f vs i d in_list =
     ap (λ (ws : List Value). each_of f (items_view ws)) (drop-cons vs i d in_list)
     ∙ ap (λ (n : ℕ). option_and_then (λ x. option_map (λ xs. x ∷ xs) (each_of f (items_view (drop n vs)))) (f (view (get_or vs i d)))) next
 
--- nothing is read of the items from a place on, if nothing is read of the first
-pub each_none :
-    {X : Type 0} (f : Data → Option X) (vs : List Value) (i : ℕ) (d : Value) → i < length vs
-    → f (view (get_or vs i d)) ≡ None → each_of f (items_view (drop i vs)) ≡ None
-each_none f vs i d in_list h =
-    each_at f vs i d in_list ∙ ap (option_and_then (λ x. option_map (λ xs. x ∷ xs) (each_of f (items_view (drop (i + 1) vs))))) h
-
 joined : {X : Type 0} (done : List X) (x : X) (rest : Option (List X)) → option_map (λ xs. (done ++ x ∷ []) ++ xs) rest ≡ option_map (λ xs. done ++ xs) (option_map (λ xs. x ∷ xs) rest)
 joined done x None = refl
 joined done x (Some xs) = ap Some (append_assoc done (x ∷ []) xs)

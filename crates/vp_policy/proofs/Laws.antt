@@ -1,15 +1,16 @@
 -- What follows from the filter alone.
 use Rattle.std.proofs.Common.{◌≡◌, ℕ, Bool, true, false, ◌&&◌, List, [], ◌∷◌, ◌++◌, Option, Some, None, refl, sym, ap, ◌∙◌}
-use Rattle.std.specs.Prelude.{if◌then◌else◌, is_some, option_and_then}
+use Rattle.std.specs.Prelude.{if◌then◌else◌, is_some, not, option_and_then}
 use Rattle.std.specs.Option.{option_map_or}
 use Rattle.vp_pragma.specs.declared.rights.Right.{Right}
 use Rattle.vp_pragma.specs.declared.rights.Right.TheVariants as right
 use Rattle.vp_pragma.specs.Rights.{RightSet, has, both}
 use Rattle.vp_elab.specs.Tree.{Step, Tree, scope_names}
+use Rattle.vp_policy.specs.declared.denial.Denial.{Denial}
 use Rattle.vp_policy.specs.declared.denial.Look.{Look}
 use Rattle.vp_policy.specs.declared.denial.Look.TheVariants as look
 use Rattle.vp_policy.specs.Users.{Member}
-use Rattle.vp_policy.specs.Filter.{IsAnsweredAlike, opened, rights, closed, unlisted, find_listed, from_found, look_in, look_of, stop_of, walk}
+use Rattle.vp_policy.specs.Filter.{IsAnsweredAlike, by_step, denial, opened, rights, closed, unlisted, find_listed, from_found, look_in, look_of, stop_of, walk}
 
 stopped_by :
     (tree : Tree) (u : Member) (scope stop : List (List ℕ)) (found : Option ℕ) (deeper : Option (List (List ℕ))) (next : ℕ → Look)
@@ -79,3 +80,24 @@ right_above tree u r (s ∷ above) path h =
     let first = first_true (has r step) (has r here) joined in
     let rest = right_above tree u r above path (second_true (has r step) (has r here) joined) in
     has-both r step (rights tree u above) ∙ both_true (has r step) (has r (rights tree u above)) first rest
+
+denied_by : (b c : Bool) (d : Denial) (rest : Option Denial) → is_some rest ≡ not c → is_some (if b then rest else Some d) ≡ not (b && c)
+denied_by true c d rest h = h
+denied_by false c d rest h = refl
+
+-- a right is denied at a step of a path where it is not his at its end
+pub denied_path : (tree : Tree) (u : Member) (r : Right) (path : List Step) → is_some (denial tree u r path) ≡ not (has r (rights tree u path))
+denied_path tree u right.List [] = refl
+denied_path tree u right.Read [] = refl
+denied_path tree u right.Watch [] = refl
+denied_path tree u right.Put [] = refl
+denied_path tree u right.Race [] = refl
+denied_path tree u r (s ∷ path) =
+    let own : Denial = record { by = by_step tree u s; envelope = s.envelope; right = r } in
+    denied_by (has r (opened tree u s)) (has r (rights tree u path)) own (denial tree u r path) (denied_path tree u r path)
+    ∙ ap not (sym (has-both r (opened tree u s) (rights tree u path)))
+
+-- what is not denied has no denial
+pub none_denied : (o : Option Denial) → is_some o ≡ false → o ≡ None
+none_denied None h = refl
+none_denied (Some d) h = absurd cc

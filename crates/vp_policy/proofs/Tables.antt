@@ -35,7 +35,7 @@ found_by true x rest = refl
 found_by false x rest = refl
 
 -- a name is that of a user of the table where it is among its keys
-user_there : (name : List ℕ) (es : List (String Global × User)) → has_user (map member_of es) name ≡ is_some (lookup (λ k. bytes_eq name (string_bytes k)) es)
+pub user_there : (name : List ℕ) (es : List (String Global × User)) → has_user (map member_of es) name ≡ is_some (lookup (λ k. bytes_eq name (string_bytes k)) es)
 user_there name [] = refl
 user_there name (e ∷ es) =
     ap (λ (b : Bool). bytes_eq name (string_bytes e.0) || b) (user_there name es)

@@ -1,16 +1,6 @@
 -- Texts that are compared byte by byte, to the end of the shorter.
-use Rattle.std.proofs.Common.{◌≡◌, ◌⊎◌, ℕ, ◌==◌, Bool, true, false, ◌&&◌, List, [], ◌∷◌, length, inl, inr, refl, sym, ap, ◌∙◌, arith, eq-eqb}
+use Rattle.std.proofs.Common.{◌≡◌, ◌⊎◌, ℕ, ◌==◌, Bool, true, false, ◌&&◌, List, [], ◌∷◌, length, inl, inr, refl, sym, ap, ◌∙◌, arith}
 use Rattle.std.specs.Str.{bytes_eq}
-use Rattle.std.proofs.lemmas.Slice.Eq.{bytes_eq-Decides}
-use Rattle.std.proofs.Math.Bool.{and-false}
-
-even_by : (a b : List ℕ) (e : Bool) → bytes_eq a b ≡ e → ((length a == length b) && e) ≡ e
-even_by a b true h = ap (λ (n : Bool). n && true) (eq-eqb (length a) (length b) (ap length ((bytes_eq-Decides a b).0 h)))
-even_by a b false h = and-false (length a == length b)
-
--- texts of different lengths differ
-pub even_first : (a b : List ℕ) → ((length a == length b) && bytes_eq a b) ≡ bytes_eq a b
-even_first a b = even_by a b (bytes_eq a b) refl
 
 one_more_by : (same : Bool) (x y : ℕ) (xs ys : List ℕ) → ((same && (x == y)) && bytes_eq xs ys) ≡ (same && bytes_eq (x ∷ xs) (y ∷ ys))
 one_more_by true x y xs ys = refl

@@ -6,7 +6,7 @@ use Rattle.std.specs.Str.{bytes_eq}
 use Rattle.std.proofs.lemmas.Slice.Eq.{bytes_eq-Decides}
 use Rattle.std.proofs.lemmas.Bool.{and_parts}
 use Rattle.std.proofs.lemmas.List.Quantifiers.{position-Some}
-use Rattle.std.proofs.Math.Bool.{and-false, and-true}
+use Rattle.std.proofs.Math.Bool.{and-true}
 use Rattle.vp_list.specs.Texts.{behind_part, begun, parts}
 use Rattle.vp_pragma.specs.declared.rights.Right.{Right}
 use Rattle.vp_pragma.specs.Rights.{RightSet, both, either, everything, has, nothing}
@@ -41,11 +41,8 @@ same_fields a b c d e f g h i j p q r s t = cc
 same_sets : (a b : RightSet) → a.list ≡ b.list → a.read ≡ b.read → a.watch ≡ b.watch → a.put ≡ b.put → a.race ≡ b.race → a ≡ b
 same_sets a b l r w p c = same_fields a.list a.read a.watch a.put a.race b.list b.read b.watch b.put b.race l r w p c
 
-both-everything : (a : RightSet) → both a everything ≡ a
+pub both-everything : (a : RightSet) → both a everything ≡ a
 both-everything a = same_sets _ _ (and-true a.list) (and-true a.read) (and-true a.watch) (and-true a.put) (and-true a.race)
-
-pub both-nothing : (a : RightSet) → both a nothing ≡ nothing
-both-nothing a = same_sets _ _ (and-false a.list) (and-false a.read) (and-false a.watch) (and-false a.put) (and-false a.race)
 
 both-assoc : (a b c : RightSet) → both (both a b) c ≡ both a (both b c)
 both-assoc a b c = same_sets _ _ (and_assoc a.list b.list c.list) (and_assoc a.read b.read c.read) (and_assoc a.watch b.watch c.watch) (and_assoc a.put b.put c.put) (and_assoc a.race b.race c.race)
@@ -103,9 +100,9 @@ rights_step tree u id o r g h is =
     ap (both (both r g)) (left_is tree u id h.node o.parent h.there h.behind)
     ∙ both-swap r g (rights tree u above) ∙ ap (both r) (sym here)
 
--- no rights on what is not there
-pub rights_absent : (tree : Tree) (u : Member) (id : ℕ) → slice_get tree.nodes id ≡ None → rights_at tree u id ≡ nothing
-rights_absent tree u id h = ap (λ (x : Option Node). option_map_or (λ (x : Node). rights tree u x.path) x nothing) h
+-- the rights on an object, by those on the module in which it is declared
+pub rights_own : (tree : Tree) (u : Member) (id : ℕ) (o : Object) (g : RightSet) → StandsFor tree.nodes id o → g ≡ opened_at u o.envelope (sight_at tree id) → both g (rights_left tree u o.parent) ≡ rights_at tree u id
+rights_own tree u id o g h is = rights_step tree u id o everything g h is
 
 -- ---- denials, from the end of a path
 
@@ -117,10 +114,6 @@ first_denial (Some d) other = Some d
 first-assoc : (a b c : Option Denial) → first_denial (first_denial a b) c ≡ first_denial a (first_denial b c)
 first-assoc None b c = refl
 first-assoc (Some d) b c = refl
-
-pub first-none : (a : Option Denial) → first_denial a None ≡ a
-first-none None = refl
-first-none (Some d) = refl
 
 denial_by : (b : Bool) (d : Denial) (rest last : Option Denial) → (if b then first_denial rest last else Some d) ≡ first_denial (if b then rest else Some d) last
 denial_by true d rest last = refl
@@ -163,10 +156,6 @@ denial_step tree u r id o found h =
     ∙ denial-append tree u r above h.step ∙ ap (first_denial (denial tree u r above)) (here_is tree u r id o h)
     ∙ ap (λ (d : Option Denial). first_denial d own) (above_is tree u r o.parent) in
     sym (first-assoc (denial_left tree u r o.parent) own found) ∙ ap (λ (d : Option Denial). first_denial d found) (sym here)
-
--- nothing is denied of what is not there
-pub denial_absent : (tree : Tree) (u : Member) (r : Right) (id : ℕ) → slice_get tree.nodes id ≡ None → denial_at tree u r id ≡ None
-denial_absent tree u r id h = ap (λ (x : Option Node). denial tree u r (option_map_or (λ (x : Node). x.path) x [])) h
 
 -- ---- names
 

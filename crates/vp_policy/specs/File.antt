@@ -1,4 +1,4 @@
--- Policy files: the users that the bytes of a file give.
+-- Policy files: the users, and the operator's token, that the bytes of a file give.
 use Rattle.std.specs.Prelude.{ℕ, ◌==◌, ◌&&◌, ◌||◌, Bool, false, nat_lt, nat_le, if◌then◌else◌, List, [], ◌∷◌, ◌++◌, length, Option, Some, None, option_and_then, option_map, Result, Ok, Err, codes}
 use Rattle.std.specs.Char.{is_ascii_alphanumeric}
 use Rattle.std.specs.List.{list_all, list_any}
@@ -13,7 +13,9 @@ use Rattle.vp_pragma.specs.Rights.{RightSet, nothing}
 use Rattle.vp_policy.specs.declared.fault.PolicyError.{PolicyError}
 use Rattle.vp_policy.specs.declared.fault.PolicyError.TheVariants.{BadPolicy, DuplicateUser, NoSuchEnvelope, TooManyUsers}
 use Rattle.vp_policy.specs.declared.reading.TheConstants.{USER_LIMIT}
+use Rattle.vp_policy.specs.PolicyState.{PolicyState}
 use Rattle.vp_policy.specs.Users.{Member}
+use Rattle.vp_elab.specs.Tree.{Tree}
 
 -- what is read of each item of an array; none where nothing is read of one
 abbrev pub each_of : {X : Type 0} → (Data → Option X) → Items → Option (List X)
@@ -88,12 +90,35 @@ user_from d =
 
 -- ---- a file
 
--- all users of a file, an object with the key users alone; none where it is no policy file
+-- what a policy file gives: its users in their order, and the operator's token, if it has one
+pub record PolicyFile : Type 0 where
+  pub members : List Member
+  pub operator : Option (List ℕ)
+
+-- what a policy has of its file
+abbrev pub file_in : PolicyState → PolicyFile
+file_in policy = record { members = policy.members; operator = policy.operator }
+
+-- the policy of a file, for the tree of a design
+abbrev pub policy_for : Tree → PolicyFile → PolicyState
+policy_for tree file = record { tree = tree; members = file.members; operator = file.operator }
+
+-- all users of a file, an object with the key users, and operator at most; none where it is no policy file
 abbrev pub users_of : Data → Option (List Member)
 users_of file =
-    if has_keys (codes "users" ∷ []) [] file then
+    if has_keys (codes "users" ∷ []) (codes "operator" ∷ []) file then
     option_and_then (each_of user_from) (option_and_then as_array (get (codes "users") file))
     else None
+
+-- the operator's token of a file: the token under operator, none without that key; where no token stands there it is no policy file
+abbrev pub operator_of : Data → Option (Option (List ℕ))
+operator_of file =
+    option_map_or (λ d. option_map Some (option_and_then word_of (as_str d))) (get (codes "operator") file) (Some None)
+
+-- what the parts of a file give, if it has both
+abbrev pub file_from : Data → Option PolicyFile
+file_from d =
+    option_and_then (λ members. option_map (λ operator. record { members = members; operator = operator }) (operator_of d)) (users_of d)
 
 -- one of these users has the name
 abbrev pub has_user : List Member → List ℕ → Bool
@@ -116,19 +141,19 @@ is_for_missing envelopes grants = list_any (λ g. is_missing envelopes g.0) gran
 abbrev pub grants_missing : ℕ → List Member → Bool
 grants_missing envelopes users = list_any (λ u. is_for_missing envelopes u.grants) users
 
--- the users of a file, where a design has so many envelopes; or why they are refused, the first reason that holds (profile)
-abbrev pub accepted : ℕ → List Member → Result (List Member) PolicyError
-accepted envelopes users =
-    if is_named_twice [] users then Err DuplicateUser
-    else (if nat_lt USER_LIMIT (length users) then Err TooManyUsers
-    else (if grants_missing envelopes users then Err NoSuchEnvelope
-    else Ok users))
+-- what a file gives, where a design has so many envelopes; or why it is refused, the first reason that holds (profile)
+abbrev pub accepted : ℕ → PolicyFile → Result PolicyFile PolicyError
+accepted envelopes file =
+    if is_named_twice [] file.members then Err DuplicateUser
+    else (if nat_lt USER_LIMIT (length file.members) then Err TooManyUsers
+    else (if grants_missing envelopes file.members then Err NoSuchEnvelope
+    else Ok file))
 
--- the users of a file, where a design has so many envelopes; or why it is refused (profile)
-abbrev pub policy_of : ℕ → Data → Result (List Member) PolicyError
-policy_of envelopes file = option_map_or (accepted envelopes) (users_of file) (Err BadPolicy)
+-- what a file gives, where a design has so many envelopes; or why it is refused (profile)
+abbrev pub policy_of : ℕ → Data → Result PolicyFile PolicyError
+policy_of envelopes d = option_map_or (accepted envelopes) (file_from d) (Err BadPolicy)
 
--- the users of the bytes of a file, where a design has so many envelopes; or why they are refused: a text that is no UTF-8,
+-- what the bytes of a file give, where a design has so many envelopes; or why they are refused: a text that is no UTF-8,
 -- and one that is no JSON, is no policy file
-abbrev pub file_of : ℕ → List ℕ → Result (List Member) PolicyError
+abbrev pub file_of : ℕ → List ℕ → Result PolicyFile PolicyError
 file_of envelopes bytes = if is_utf8 bytes then option_map_or (policy_of envelopes) (read bytes) (Err BadPolicy) else Err BadPolicy

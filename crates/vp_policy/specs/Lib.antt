@@ -3,9 +3,13 @@ pub use Rattle.vp_pragma.specs.Envelopes
 pub use Rattle.vp_elab.specs.Tree
 pub mod Faults
 pub mod Users
+pub mod PolicyState
+pub mod Regrants
 pub mod Members
 pub mod Denials
 pub mod Filter
+pub mod ScopeLists
+pub mod RightsTables
 pub mod View
 pub mod SeenObjects
 pub mod File

@@ -1,14 +1,20 @@
 //! The policy: its file, who may do what with which object, and what is denied to whom.
 #![tactic(auto)]
 
+mod access;
+mod copying;
 mod denial;
 mod fault;
 mod filter;
 mod grant;
 mod policy;
 mod reading;
+mod regrant;
+mod rights_tables;
+mod scope_lists;
 mod view;
 
+pub use access::Access;
 pub use denial::{Barrier, By, Denial, DenialWords, Look};
 pub use fault::PolicyError;
 pub use grant::Grant;

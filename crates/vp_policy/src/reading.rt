@@ -4,10 +4,12 @@ ghost use Rattle.std.specs.List.{list_all};
 ghost use Rattle.serde_json.specs.View.{items_view, view};
 ghost use Rattle.vp_pragma.specs.Rights.{set_of};
 ghost use Rattle.vp_policy.specs.Faults.{Explains};
-ghost use Rattle.vp_policy.specs.File.{access_in, each_of, file_of, grant_of, grants_missing, grants_of, is_for_missing, is_word, is_word_byte, open_set_of, opened_by, policy_of, run_of, user_from, users_of, word_at};
+ghost use Rattle.vp_policy.specs.File.{access_in, each_of, file_in, file_of, grant_of, grants_missing, grants_of, is_for_missing, is_word, is_word_byte, open_set_of, opened_by, operator_of, policy_of, run_of, user_from, users_of, word_at, word_of};
 ghost use Rattle.vp_policy.specs.Members.{grant_shown, member_of};
 ghost use Rattle.vp_policy.specs.Listing.{IsListed};
+ghost use Rattle.vp_policy.specs.PolicyState.{Fits};
 
+use crate::copying::copied;
 use crate::fault::PolicyError;
 use crate::grant::Grant;
 use crate::policy::{Policy, User};
@@ -51,16 +53,22 @@ fn is_word(word: &str) -> bool
     0 < word.len() && word.len() <= WORD_LIMIT && has_word_bytes(word)
 }
 
+/// A text, if it is a user's name or a token.
+fn word_of(text: &str) -> Option<&str>
+    ensures { option_map (λ t. t.now) result ≡ word_of text.now }
+{
+    if is_word(text) { Some(text) } else { None }
+}
+
 /// The user's name or the token under a key.
 fn word<'a>(user: &'a Value, key: &str) -> Option<&'a str>
     ensures { option_map (λ t. t.now) result ≡ word_at key.now (view user.now) }
 {
-    let word = text(user, key)?;
-    if is_word(word) { Some(word) } else { None }
+    word_of(text(user, key)?)
 }
 
 /// The rights that a text opens: none if it is empty, else those of an access string.
-fn opened_by(names: &str) -> Option<Rights>
+pub fn opened_by(names: &str) -> Option<Rights>
     ensures { option_map set_of result ≡ opened_by names.now }
 {
     if names.is_empty() {
@@ -198,10 +206,20 @@ fn users_array(file: &Value) -> Option<&[Value]>
     ensures { option_and_then (λ users. each_of user_from (items_view users.now)) result
         ≡ users_of (view file.now) }
 {
-    if !has_keys(file, ["users"].as_slice(), [].as_slice()) {
+    if !has_keys(file, ["users"].as_slice(), ["operator"].as_slice()) {
         return None;
     }
     Some(file.get("users")?.as_array()?.as_slice())
+}
+
+/// The operator's token of a file, by default none; or that what stands there is no token.
+fn operator_of(file: &Value) -> Option<Option<&str>>
+    ensures { option_map (option_map (λ t. t.now)) result ≡ operator_of (view file.now) }
+{
+    match file.get("operator") {
+        Some(operator) => Some(Some(word_of(operator.as_str()?)?)),
+        None => Some(None),
+    }
 }
 
 /// One of these grants is for an envelope that a design with so many does not have.
@@ -228,36 +246,42 @@ fn grants_missing(users: &IndexMap<String, User>, envelopes: u8) -> bool
     false
 }
 
-/// The policy of a file's value, for a design with so many envelopes.
-fn policy_of(alloc: Global, file: &Value, envelopes: u8) -> Result<Policy, PolicyError>
-    ensures ok { IfOk result (λ policy. policy_of envelopes (view file.now) ≡ Ok policy) }
-    ensures refused { IfErr result (λ e. Explains (policy_of envelopes (view file.now)) e) }
+/// The policy of a file's value, for a design.
+fn policy_of(alloc: Global, file: &Value, design: &Design) -> Result<Policy, PolicyError>
+    ensures ok { IfOk result (λ policy.
+        policy_of (length design.now.tree.authors) (view file.now) ≡ Ok (file_in policy)) }
+    ensures fits { IfOk result (λ policy. Fits policy design.now.tree) }
+    ensures refused { IfErr result
+        (λ e. Explains (policy_of (length design.now.tree.authors) (view file.now)) e) }
 {
     let users = users_array(file).ok_or(PolicyError::BadPolicy)?;
     let listed = users_in(alloc, users)?;
+    let operator = operator_of(file).ok_or(PolicyError::BadPolicy)?;
     if !listed.once {
         return Err(PolicyError::DuplicateUser);
     }
     if listed.users.len() > USER_LIMIT {
         return Err(PolicyError::TooManyUsers);
     }
-    if grants_missing(&listed.users, envelopes) {
+    if grants_missing(&listed.users, design.envelope_count()) {
         return Err(PolicyError::NoSuchEnvelope);
     }
-    Ok(Policy::new(listed.users))
+    let operator = copied(alloc, operator)?;
+    Ok(Policy::of_users(alloc, listed.users, operator, design)?)
 }
 
-/// The policy of a file, for a design; or why it is refused, each reason tested over the whole file before the next: the bytes
-/// are no policy file (901), two users have one name (902), there are more than 256 (904), a grant is for an envelope that the
-/// design does not have (903). Want of memory (905) may be met at any time.
+/// The policy of a file, for a design, with the tables of its users' rights; or why it is refused, each reason tested over the
+/// whole file before the next: the bytes are no policy file (901), two users have one name (902), there are more than 256 (904),
+/// a grant is for an envelope that the design does not have (903). Want of memory (905) may be met at any time.
 pub fn read_policy(alloc: Global, bytes: &[u8], design: &Design) -> Result<Policy, PolicyError>
     ensures ok { IfOk result
-        (λ policy. file_of (length design.now.tree.authors) bytes.now ≡ Ok policy) }
+        (λ policy. file_of (length design.now.tree.authors) bytes.now ≡ Ok (file_in policy)) }
+    ensures fits { IfOk result (λ policy. Fits policy design.now.tree) }
     ensures refused { IfErr result
         (λ e. Explains (file_of (length design.now.tree.authors) bytes.now) e) }
 {
     match read(alloc, bytes) {
-        Ok(file) => policy_of(alloc, &file, design.envelope_count()),
+        Ok(file) => policy_of(alloc, &file, design),
         Err(ReadError::NotJson) => Err(PolicyError::BadPolicy),
         Err(ReadError::NoMemory) => Err(PolicyError::NoMemory),
     }

@@ -4,13 +4,15 @@ ghost use Rattle.vp_elab.specs.Tree.{Node, matches_at};
 ghost use Rattle.vp_pragma.specs.Rights.{set_of};
 ghost use Rattle.vp_resolve.specs.Constants.{constant_at};
 ghost use Rattle.vp_policy.specs.Filter.{is_listed_at};
+ghost use Rattle.vp_policy.specs.PolicyState.{Fits};
 ghost use Rattle.vp_policy.specs.SeenObjects.{envelope_shown, node_behind, nodes_from, number_in, numbers_from, view_shown, viewport_shown};
 ghost use Rattle.vp_policy.specs.Users.{Member, member_at};
 ghost use Rattle.vp_policy.specs.View.{is_parameter, is_value_seen, seen_envelopes, seen_node, seen_nodes, seen_viewport, view_of};
 
+use crate::copying::copied;
 use crate::fault::PolicyError;
 use crate::policy::{Policy, UserId};
-use std::alloc::{AllocError, Global};
+use std::alloc::Global;
 use std::marker::Model;
 use vp_bits::Bits;
 use vp_elab::{Design, Kind, Object, ObjectId};
@@ -109,16 +111,6 @@ impl View {
     }
 }
 
-/// A copy of a text, if there is one.
-fn copied(alloc: Global, text: Option<&str>) -> Result<Option<Text>, AllocError>
-    ensures { IfOk result (λ copy. copy ≡ option_map (λ t. t.now) text.entry) }
-{
-    match text {
-        Some(text) => Ok(Some(Text::copy(alloc, text)?)),
-        None => Ok(None),
-    }
-}
-
 /// The viewports that match an object, as a user sees them, in the order of the text.
 fn viewports_on(
     alloc: Global,
@@ -180,11 +172,13 @@ impl Policy {
         id: ObjectId,
         numbers: &[Option<u32>],
     ) -> Result<SeenObject, PolicyError>
-        requires listed { is_listed_at design.now.tree (member_at self.now user.0) id.0 ≡ true }
+        requires fits { Fits self.now design.now.tree }
+        requires listed { is_listed_at design.now.tree (member_at self.now.members user.0) id.0
+            ≡ true }
         requires numbers { numbers.now
-            ≡ numbers_from design.now.tree (member_at self.now user.0) 0
+            ≡ numbers_from design.now.tree (member_at self.now.members user.0) 0
             (take id.0 design.now.tree.nodes) }
-        ensures node { let user : Member = member_at self.now user.0 in
+        ensures node { let user : Member = member_at self.now.members user.0 in
             let before : List Node = take id.0 design.now.tree.nodes in
             IfOk result (λ o. IfSome (slice_get design.now.tree.nodes id.0)
             (λ node. node_behind (seen_nodes design.now user before) o
@@ -194,7 +188,7 @@ impl Policy {
         let Some(object) = design.object(id) else {
             unreachable!();
         };
-        let rights = self.rights(design, user, id);
+        let rights = self.rights(user, id);
         Ok(SeenObject {
             parent: number_in(numbers, object.parent),
             name: Text::copy(alloc, design.name(id))?,
@@ -206,7 +200,7 @@ impl Policy {
             line: design.line(id),
             definition: copied(alloc, design.def_name(id))?,
             value: seen_value(design, id, object, rights),
-            closed: self.closed(alloc, design, user, Some(id))?,
+            closed: self.closed(alloc, user, Some(id))?,
         })
     }
 
@@ -217,15 +211,16 @@ impl Policy {
         design: &Design,
         user: UserId,
     ) -> Result<Sequence<SeenObject>, PolicyError>
+        requires { Fits self.now design.now.tree }
         ensures nodes { IfOk result (λ objects. nodes_from [] objects
-            ≡ seen_nodes design.now (member_at self.now user.0) design.now.tree.nodes) }
+            ≡ seen_nodes design.now (member_at self.now.members user.0) design.now.tree.nodes) }
         ensures err { IsOkUnless result PolicyError.NoMemory }
     {
         let mut objects = Vec::new(alloc);
         let mut numbers = Vec::new(alloc);
         for number in 0..design.count() {
             let id = ObjectId(number);
-            if self.is_listed(design, user, id) {
+            if self.is_listed(user, id) {
                 let object = self.seen_object(alloc, design, user, id, numbers.as_slice())?;
                 numbers.push(Some(objects.len() as u32))?;
                 objects.push(object)?;
@@ -245,7 +240,7 @@ impl Policy {
     ) -> Result<Sequence<SeenEnvelope>, PolicyError>
         ensures envelopes { IfOk result
             (λ envelopes. map envelope_shown envelopes
-            ≡ seen_envelopes (member_at self.now user.0) 1 design.now.tree.authors) }
+            ≡ seen_envelopes (member_at self.now.members user.0) 1 design.now.tree.authors) }
         ensures err { IsOkUnless result PolicyError.NoMemory }
     {
         let mut envelopes = Vec::new(alloc);
@@ -262,12 +257,14 @@ impl Policy {
     /// What a user sees of a design: the objects that are listed to him with the closed lists of their scopes, the
     /// closed list of the top modules, the envelopes, and whether he may let the design run. Takes memory (905).
     pub fn view(&self, alloc: Global, design: &Design, user: UserId) -> Result<View, PolicyError>
-        ensures view { IfOk result (λ view. view ≡ view_of design.now (member_at self.now user.0)) }
+        requires { Fits self.now design.now.tree }
+        ensures view { IfOk result
+            (λ view. view ≡ view_of design.now (member_at self.now.members user.0)) }
         ensures err { IsOkUnless result PolicyError.NoMemory }
     {
         Ok(View {
             objects: self.seen_objects(alloc, design, user)?,
-            closed: self.closed(alloc, design, user, None)?,
+            closed: self.closed(alloc, user, None)?,
             envelopes: self.seen_envelopes(alloc, design, user)?,
             run: self.may_run(user),
         })

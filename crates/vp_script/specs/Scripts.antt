@@ -3,8 +3,7 @@ use Rattle.std.specs.Prelude.{◌≡◌, ◌⊎◌, ◌<◌, ◌≤◌, IsUtf8, 
 use Rattle.std.specs.Option.{option_map_or}
 use Rattle.vp_elab.specs.Built.{Elaborated}
 use Rattle.vp_policy.specs.Faults.{Explains}
-use Rattle.vp_policy.specs.File.{file_of}
-use Rattle.vp_policy.specs.Users.{Member}
+use Rattle.vp_policy.specs.File.{PolicyFile, file_of, policy_for}
 use Rattle.vp_race.specs.Recording.{next_job}
 use Rattle.vp_race.specs.Search.{found}
 use Rattle.vp_race.specs.Segments.{Told}
@@ -113,6 +112,7 @@ pub record Script : Type 0 where
 -- the event of a request
 abbrev pub event_of : Option SessionId → Request → Option Event
 event_of session (request.Open user token) = Some (event.Open user token)
+event_of session (request.Grant change) = Some (event.Grant change)
 event_of None r = None
 event_of (Some id) request.Close = Some (event.Close id)
 event_of (Some id) r = Some (event.Ask id r)
@@ -144,9 +144,9 @@ pub record IsOpened (text policy : List ℕ) (script : Script) : Type 0 where
   pub design : Elaborated
   pub is_design : IsDesignOf text design
   pub fits : length policy ≤ text_limit
-  pub users : List Member
-  pub are_users : file_of (length design.tree.authors) policy ≡ Ok users
-  pub fresh : script ≡ opened (record { design = design; policy = users; limits = greatest })
+  pub file : PolicyFile
+  pub is_file : file_of (length design.tree.authors) policy ≡ Ok file
+  pub fresh : script ≡ opened (record { design = design; policy = policy_for design.tree file; limits = greatest })
 
 -- a script over an input has read it to the end, so many lines, and each was told what the script answers it
 pub record IsAnswered (starved : Bool) (script : Script) (unread still_unread held holds : Option (List ℕ)) (lines : ℕ) : Type 0 where

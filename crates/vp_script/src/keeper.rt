@@ -9,7 +9,7 @@ ghost use Rattle.vp_world.specs.declared.fault.WorldError.TheVariants.{NoMemory}
 ghost use Rattle.vp_world.specs.Events.{IsWellFormed};
 ghost use Rattle.vp_script.specs.Keeping.{GoesOn, GoesOnBy, Keeps};
 ghost use Rattle.vp_script.specs.Scripts.{Applied, Runs, event_of, next_event, seed_count, step_limit, with_event_if};
-ghost use Rattle.vp_world.specs.History.{Explains, refused_by, state_behind, with_entry};
+ghost use Rattle.vp_world.specs.History.{Applies, refused_by, state_behind, with_entry};
 
 use std::alloc::{AllocError, Global};
 use std::collections::VecDeque;
@@ -32,6 +32,7 @@ fn event_of(session: Option<SessionId>, request: Request) -> Option<Event>
 {
     match (request, session) {
         (Request::Open { user, token }, _) => Some(Event::Open { user, token }),
+        (Request::Grant(change), _) => Some(Event::Grant(change)),
         (_, None) => None,
         (Request::Close, Some(session)) => Some(Event::Close { session }),
         (request, Some(session)) => Some(Event::Ask { session, request }),
@@ -71,10 +72,7 @@ fn proceed(world: &mut World) -> Result<(), WorldError>
 /// Lets an event happen whose reply nobody needs; else its refusal, or want of memory, which leave the world as it was.
 fn happens(world: &mut World, event: Event) -> Result<(), WorldError>
     requires { IsWellFormed world.old.opening.design event }
-    ensures accepted { OnOk result (refused_by world.old event ≡ None) }
-    ensures logged { OnOk result (world.new ≡ with_entry world.old event) }
-    ensures refused { IfErr result (λ e. Explains (refused_by world.old event) e) }
-    ensures unchanged { OnErr result (world.new ≡ world.old) }
+    ensures { Applies world.old event result world.new }
 {
     world.apply(event)?;
     Ok(())

@@ -1,6 +1,7 @@
 ghost use Rattle.std.specs.Prelude.{◌≡◌, ◌≤◌, length, IfErr, IfOk, OnOk, Ok};
 ghost use Rattle.vp_elab.specs.Built.{Elaborated};
-ghost use Rattle.vp_policy.specs.File.{file_of};
+ghost use Rattle.vp_policy.specs.File.{file_in, file_of};
+ghost use Rattle.vp_policy.specs.PolicyState.{Fits};
 ghost use Rattle.vp_script.specs.Keeping.{script_of};
 ghost use Rattle.vp_script.specs.Designs.{IsDesignOf, IsRefusedBy};
 ghost use Rattle.vp_script.specs.Scripts.{EndsBy, IsAnswered, IsOpened, IsPolicyRefusedBy, IsScript, IsStopped, IsUnopened};
@@ -47,8 +48,9 @@ fn checked(alloc: Global, text: &str) -> Result<Checked, ServeFault>
 
 /// The policy of a file, for a design.
 fn policy_of(alloc: Global, bytes: &[u8], design: &Design) -> Result<Policy, ServeFault>
-    ensures users { IfOk result
-        (λ policy. file_of (length design.now.tree.authors) bytes.now ≡ Ok policy) }
+    ensures file { IfOk result
+        (λ policy. file_of (length design.now.tree.authors) bytes.now ≡ Ok (file_in policy)) }
+    ensures design { IfOk result (λ policy. Fits policy design.now.tree) }
     ensures fits { OnOk result (length bytes.now ≤ TEXT_LIMIT) }
     ensures refused { IfErr result (λ fault. IsPolicyRefusedBy design.now bytes.now fault) }
 {

@@ -1,5 +1,5 @@
 -- What a session can look up.
-use Rattle.std.specs.Prelude.{ℕ, ◌&&◌, Bool, false, if◌then◌else◌, List, [], ◌∷◌, slice_get, slice_index_or, Option, Some, None, is_none, option_map}
+use Rattle.std.specs.Prelude.{ℕ, ◌&&◌, Bool, false, if◌then◌else◌, List, [], ◌∷◌, slice_get, slice_index_or, Option, Some, None, is_none, is_some, option_map}
 use Rattle.std.specs.Option.{option_map_or}
 use Rattle.vp_list.specs.Texts.{parts}
 use Rattle.vp_bits.specs.declared.bit.Bit.{Bit}
@@ -74,6 +74,10 @@ width_at tree o = option_map_or (λ node. node.width) (slice_get tree.nodes o) 0
 -- the line of the object of a number; 0 where no object is
 abbrev pub line_at : Tree → ℕ → ℕ
 line_at tree o = option_map_or (λ node. node.line) (slice_get tree.nodes o) 0
+
+-- a user may not watch an object
+abbrev pub is_watch_denied : Tree → Member → ℕ → Bool
+is_watch_denied tree u o = is_some (denial_at tree u right.Watch o)
 
 -- the value of an object that a user may read; none where it has none, and where he may not
 abbrev pub value_read : sim.State → Member → ℕ → Option (List Bit)

@@ -91,3 +91,9 @@ polled s = record { notices = s.registry.waiting; lost = s.registry.lost }
 -- a session behind a poll: none waits any more, and none counts as lost (profile)
 abbrev pub drained : Seat → Seat
 drained s = record s { registry = registry.drained s.registry }
+
+-- ---- rights that end
+
+-- a session without its callbacks on objects of which a test holds, and without the notices of these that wait (profile)
+abbrev pub retired : (gone : ℕ → Bool) → Seat → Seat
+retired gone s = record s { registry = registry.retired gone s.registry }

@@ -1,6 +1,7 @@
 ghost use Rattle.std.specs.Option.{option_flatten};
 ghost use Rattle.std.specs.Prelude.{◌≡◌, [], count_by, is_some, length, map, None, option_map, slice_get, slice_set, Ok, IfErr, IfOk, IsOkAnd, IsOkUnless, IsSome, IsTrue, OnErr, OnOk};
 ghost use Rattle.vp_policy.specs.Filter.{words_of};
+ghost use Rattle.vp_policy.specs.PolicyState.{Fits};
 ghost use Rattle.vp_policy.specs.Users.{Member, member_at};
 ghost use Rattle.vp_sim.specs.States.{State};
 ghost use Rattle.vp_vpi.specs.Observers.{lookup_of, observer_of};
@@ -135,11 +136,13 @@ impl Session {
         handle: u32,
         right: Right,
     ) -> Result<ObjectId, VpiError>
+        requires { Fits policy.now sim.now.design.tree }
         ensures ok { IfOk result
-            (λ o. allowed (observer_of sim.now (member_at policy.now self.now.user)) right
+            (λ o. allowed (observer_of sim.now (member_at policy.now.members self.now.user)) right
             (object_of self.now.handles handle) ≡ Ok o.0) }
         ensures refused { IfErr result
-            (λ e. Refuses (allowed (observer_of sim.now (member_at policy.now self.now.user)) right
+            (λ e. Refuses (allowed
+            (observer_of sim.now (member_at policy.now.members self.now.user)) right
             (object_of self.now.handles handle)) e) }
     {
         let Some(object) = self.object(handle) else {
@@ -159,11 +162,13 @@ impl Session {
         sim: &Sim,
         handle: Option<u32>,
     ) -> Result<Option<ObjectId>, VpiError>
+        requires { Fits policy.now sim.now.design.tree }
         ensures ok { IfOk result
-            (λ scope. scope_of (observer_of sim.now (member_at policy.now self.now.user))
+            (λ scope. scope_of (observer_of sim.now (member_at policy.now.members self.now.user))
             self.now.handles handle ≡ Ok (option_map (λ o. o.0) scope)) }
         ensures refused { IfErr result
-            (λ e. Refuses (scope_of (observer_of sim.now (member_at policy.now self.now.user))
+            (λ e. Refuses (scope_of
+            (observer_of sim.now (member_at policy.now.members self.now.user))
             self.now.handles handle) e) }
     {
         let Some(handle) = handle else {
@@ -199,11 +204,13 @@ impl Session {
         scope: Option<u32>,
         name: &str,
     ) -> Result<ObjectId, VpiError>
+        requires { Fits policy.now sim.now.design.tree }
         ensures ok { IfOk result
-            (λ o. handle_of (observer_of sim.now (member_at policy.now self.now.user))
+            (λ o. handle_of (observer_of sim.now (member_at policy.now.members self.now.user))
             self.now.handles scope name.now ≡ Ok o.0) }
         ensures refused { IfErr result
-            (λ e. Refuses (handle_of (observer_of sim.now (member_at policy.now self.now.user))
+            (λ e. Refuses (handle_of
+            (observer_of sim.now (member_at policy.now.members self.now.user))
             self.now.handles scope name.now) e) }
     {
         let above = self.scope(policy, sim, scope)?;
@@ -223,12 +230,14 @@ impl Session {
         scope: Option<u32>,
         name: &str,
     ) -> Result<u32, VpiError>
+        requires { Fits policy.now sim.now.design.tree }
         ensures handle { IfOk result (λ handle. handle ≡ next_handle self.old.handles) }
         ensures made { OnOk result
-            (IsOkAnd (handle_of (observer_of sim.now (member_at policy.now self.old.user))
+            (IsOkAnd (handle_of (observer_of sim.now (member_at policy.now.members self.old.user))
             self.old.handles scope name.now) (λ o. self.new ≡ with_handle o self.old)) }
         ensures refused { IfErr result
-            (λ e. Explains (handle_of (observer_of sim.now (member_at policy.now self.old.user))
+            (λ e. Explains (handle_of
+            (observer_of sim.now (member_at policy.now.members self.old.user))
             self.old.handles scope name.now) e) }
         ensures unchanged { OnErr result (self.new ≡ self.old) }
     {
@@ -246,9 +255,10 @@ impl Session {
         kind: Kind,
         scope: Option<ObjectId>,
     ) -> Result<Sequence<ObjectId>, AllocError>
+        requires { Fits policy.now design.now.tree }
         ensures { (run : State) → run.design ≡ design.now → IfOk result
             (λ ids. map (λ o. o.0) ids
-            ≡ listed_of (observer_of run (member_at policy.now self.now.user)) kind
+            ≡ listed_of (observer_of run (member_at policy.now.members self.now.user)) kind
             (option_map (λ o. o.0) scope)) }
     {
         match policy.listed(self.alloc, design, self.user, scope) {
@@ -265,13 +275,14 @@ impl Session {
         scope: Option<ObjectId>,
         objects: &[ObjectId],
     ) -> Result<Iteration, AllocError>
-        requires { IsTrue (has_room (length objects.now) self.now.handles) }
+        requires fits { Fits policy.now design.now.tree }
+        requires room { IsTrue (has_room (length objects.now) self.now.handles) }
         ensures iteration { (run : State) → run.design ≡ design.now → IfOk result
-            (λ i. i ≡ iteration (observer_of run (member_at policy.now self.now.user))
+            (λ i. i ≡ iteration (observer_of run (member_at policy.now.members self.now.user))
             self.now.handles (option_map (λ o. o.0) scope) (map (λ o. o.0) objects.now)) }
         ensures count { IfOk result (λ i. length i.handles ≡ length objects.now) }
     {
-        let Ok(closed) = policy.closed(self.alloc, design, self.user, scope) else {
+        let Ok(closed) = policy.closed(self.alloc, self.user, scope) else {
             return Err(AllocError);
         };
         let last = self.handles.len() as u32;
@@ -288,12 +299,13 @@ impl Session {
         kind: Kind,
         scope: Option<u32>,
     ) -> Result<Iteration, VpiError>
+        requires { Fits policy.now sim.now.design.tree }
         ensures ok { IfOk result
-            (λ i. iterated (observer_of sim.now (member_at policy.now self.now.user))
+            (λ i. iterated (observer_of sim.now (member_at policy.now.members self.now.user))
             self.now.handles kind scope ≡ Ok i) }
         ensures room { IfOk result (λ i. IsTrue (has_room (length i.handles) self.now.handles)) }
         ensures refused { IfErr result (λ e. ExplainsIteration
-            (iterated (observer_of sim.now (member_at policy.now self.now.user))
+            (iterated (observer_of sim.now (member_at policy.now.members self.now.user))
             self.now.handles kind scope) e) }
     {
         let above = self.scope(policy, sim, scope)?;
@@ -324,11 +336,14 @@ impl Session {
         handle: u32,
         property: NumberProperty,
     ) -> Result<u32, VpiError>
+        requires { Fits policy.now sim.now.design.tree }
         ensures ok { IfOk result
-            (λ n. number_of (observer_of sim.now (member_at policy.now self.now.user)) property
+            (λ n. number_of
+            (observer_of sim.now (member_at policy.now.members self.now.user)) property
             (object_of self.now.handles handle) ≡ Ok n) }
         ensures refused { IfErr result
-            (λ e. Explains (number_of (observer_of sim.now (member_at policy.now self.now.user))
+            (λ e. Explains (number_of
+            (observer_of sim.now (member_at policy.now.members self.now.user))
             property (object_of self.now.handles handle)) e) }
     {
         let object = self.allowed(policy, sim, handle, Right::List)?;
@@ -375,11 +390,14 @@ impl Session {
         handle: u32,
         property: TextProperty,
     ) -> Result<SharedText, VpiError>
+        requires { Fits policy.now sim.now.design.tree }
         ensures ok { IfOk result
-            (λ t. text_of (observer_of sim.now (member_at policy.now self.now.user)) property
+            (λ t. text_of
+            (observer_of sim.now (member_at policy.now.members self.now.user)) property
             (object_of self.now.handles handle) ≡ Ok t) }
         ensures refused { IfErr result
-            (λ e. Explains (text_of (observer_of sim.now (member_at policy.now self.now.user))
+            (λ e. Explains (text_of
+            (observer_of sim.now (member_at policy.now.members self.now.user))
             property (object_of self.now.handles handle)) e) }
     {
         let object = self.allowed(policy, sim, handle, Right::List)?;
@@ -390,11 +408,13 @@ impl Session {
     /// The value of a handle's object. Refused where the number is no handle (1101), the user lacks the right to read (1109), or the
     /// object is no net, reg or parameter (1102), or for want of memory (1107).
     pub fn get_value(&self, policy: &Policy, sim: &Sim, handle: u32) -> Result<Bits, VpiError>
+        requires { Fits policy.now sim.now.design.tree }
         ensures ok { IfOk result
-            (λ value. value_of (observer_of sim.now (member_at policy.now self.now.user))
+            (λ value. value_of (observer_of sim.now (member_at policy.now.members self.now.user))
             (object_of self.now.handles handle) ≡ Ok value) }
         ensures refused { IfErr result
-            (λ e. Explains (value_of (observer_of sim.now (member_at policy.now self.now.user))
+            (λ e. Explains (value_of
+            (observer_of sim.now (member_at policy.now.members self.now.user))
             (object_of self.now.handles handle)) e) }
     {
         let object = self.allowed(policy, sim, handle, Right::Read)?;
@@ -414,11 +434,13 @@ impl Session {
         handle: u32,
         value: &PutValue,
     ) -> Result<(ObjectId, Bits), VpiError>
+        requires { Fits policy.now sim.now.design.tree }
         ensures ok { IfOk result
-            (λ p. put_of (observer_of sim.now (member_at policy.now self.now.user)) value.now
+            (λ p. put_of
+            (observer_of sim.now (member_at policy.now.members self.now.user)) value.now
             (object_of self.now.handles handle) ≡ Ok (p.0.0, p.1)) }
         ensures refused { IfErr result
-            (λ e. Refuses (put_of (observer_of sim.now (member_at policy.now self.now.user))
+            (λ e. Refuses (put_of (observer_of sim.now (member_at policy.now.members self.now.user))
             value.now (object_of self.now.handles handle)) e) }
     {
         let object = self.allowed(policy, sim, handle, Right::Put)?;

@@ -1,6 +1,7 @@
 -- The lines of an input, and what becomes of a request, computed. Each row is an equation that holds by computation.
 use Rattle.std.proofs.Common.{◌≡◌, [], ◌∷◌, refl}
 use Rattle.std.specs.Prelude.{codes}
+use Rattle.vp_pragma.specs.Rights.{nothing}
 use Rattle.vp_world.specs.declared.event.Request.TheVariants as request
 use Rattle.vp_world.specs.declared.reply.Refusal.TheVariants as refusal
 use Rattle.vp_world.specs.declared.reply.Reply.TheVariants as reply
@@ -25,6 +26,16 @@ before_open = refl
 
 opened_once : turn_of_request Open (request.Open (codes "ann") (codes "t1")) ≡ Tells (codes "bad request")
 opened_once = refl
+
+-- a grant may be changed before an `open`, as behind it
+abbrev grants : request.the_data
+grants = request.Grant (record { token = codes "op"; user = codes "ann"; envelope = 1; access = nothing })
+
+grant_before_open : turn_of_request Before grants ≡ Calls grants
+grant_before_open = refl
+
+granted_before_open : stage_behind Before grants reply.Done ≡ Before
+granted_before_open = refl
 
 -- behind a close the caller is asked, and says that no session is open
 behind_close : turn_of_request Closed request.Time ≡ Calls request.Time

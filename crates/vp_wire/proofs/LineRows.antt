@@ -6,6 +6,7 @@ use Rattle.std.specs.Str.{is_utf8, chars}
 use Rattle.serde_json.proofs.OnLiterals.{serde_json_on_literals}
 use Rattle.vp_bits.specs.declared.bit.Bit.TheVariants.{Zero, One, Unknown, HighImpedance}
 use Rattle.vp_pragma.specs.declared.rights.Right.TheVariants as right
+use Rattle.vp_pragma.specs.Rights.{RightSet, nothing, with_right}
 use Rattle.vp_policy.specs.declared.denial.Barrier.TheVariants as by
 use Rattle.vp_world.specs.declared.event.Request.TheVariants as request
 use Rattle.vp_world.specs.declared.event.ValueFormat.TheVariants as format
@@ -92,3 +93,23 @@ handle_too_great = refl
 no_utf8 : meaning_of (34 ∷ 255 ∷ 34 ∷ []) ≡ NotJson
 unfolding is_utf8 chars lib.Utf8.encode
 no_utf8 = refl
+
+-- the change of a grant
+abbrev grants : RightSet → request.the_data
+grants access = request.Grant (record { token = codes "op"; user = codes "ann"; envelope = 1; access = access })
+
+asks_grant :
+    meaning_of (codes "{\"op\":\"grant\",\"token\":\"op\",\"user\":\"ann\",\"envelope\":1,\"access\":\"read\"}")
+    ≡ Asks (grants (with_right right.Read (with_right right.List nothing)))
+unfolding serde_json_on_literals is_utf8 chars
+asks_grant = refl
+
+asks_empty_grant :
+    meaning_of (codes "{\"op\":\"grant\",\"token\":\"op\",\"user\":\"ann\",\"envelope\":1,\"access\":\"\"}") ≡ Asks (grants nothing)
+unfolding serde_json_on_literals is_utf8 chars
+asks_empty_grant = refl
+
+grant_of_no_right :
+    meaning_of (codes "{\"op\":\"grant\",\"token\":\"op\",\"user\":\"ann\",\"envelope\":1,\"access\":\"peek\"}") ≡ NotRequest
+unfolding serde_json_on_literals is_utf8 chars
+grant_of_no_right = refl

@@ -54,6 +54,11 @@ abbrev pub is_opening : Request → Bool
 is_opening (request.Open user token) = true
 is_opening r = false
 
+-- a request changes a grant: it is an operator's, and may stand anywhere
+abbrev pub is_grant : Request → Bool
+is_grant (request.Grant change) = true
+is_grant r = false
+
 -- an `open` is asked once; before it is answered every other request is told that no session is open
 abbrev pub turn_by_opening : Stage → Request → (opens : Bool) → Turn
 turn_by_opening Before r true = Calls r
@@ -65,7 +70,7 @@ turn_by_opening Closed r false = Calls r
 
 -- what becomes of a request
 abbrev pub turn_of_request : Stage → Request → Turn
-turn_of_request stage r = turn_by_opening stage r (is_opening r)
+turn_of_request stage r = if is_grant r then Calls r else turn_by_opening stage r (is_opening r)
 
 -- what becomes of a line that is not too long, by what it means
 abbrev pub turn_of_meaning : Stage → Meaning → Turn

@@ -10,12 +10,12 @@ use Rattle.vp_json.specs.Keys.{has_keys}
 use Rattle.vp_bits.specs.declared.bit.Bit.{Bit}
 use Rattle.vp_bits.specs.Digits.{digit_of}
 use Rattle.vp_bits.specs.Vector.{aval_of, bval_of}
-use Rattle.vp_pragma.specs.Rights.{name_of}
+use Rattle.vp_pragma.specs.Rights.{RightSet, name_of}
 use Rattle.vp_elab.specs.Tree.{kind_of_name}
 use Rattle.vp_policy.specs.declared.denial.Barrier.{Barrier}
 use Rattle.vp_policy.specs.declared.denial.Barrier.TheVariants as by
 use Rattle.vp_policy.specs.Denials.{DenialWords}
-use Rattle.vp_policy.specs.File.{each_of}
+use Rattle.vp_policy.specs.File.{each_of, opened_by}
 use Rattle.vp_policy.specs.Filter.{run_denied}
 use Rattle.vp_notify.specs.declared.notice.Notice.{Notice}
 use Rattle.vp_vpi.specs.declared.iteration.ListedObject.{ListedObject}
@@ -261,6 +261,22 @@ open_request d =
 abbrev pub close_request : Data → Option Request
 close_request d = of_keys [] d (Some request.Close)
 
+-- the rights under a key: none for the empty text, else those of an access string
+abbrev pub access_at : List ℕ → Data → Option RightSet
+access_at key d = option_and_then opened_by (text_at key d)
+
+-- the request of these words to change a grant
+abbrev pub grant_of_words : List ℕ → List ℕ → ℕ → RightSet → Request
+grant_of_words token user envelope access =
+    request.Grant (record { token = token; user = user; envelope = envelope; access = access })
+
+-- the request to change a grant (profile)
+abbrev pub grant_request : Data → Option Request
+grant_request d =
+    of_keys (codes "token" ∷ codes "user" ∷ codes "envelope" ∷ codes "access" ∷ []) d
+    (option_and_then (λ token. option_and_then (λ user. option_and_then (λ envelope. option_map (grant_of_words token user envelope)
+    (access_at (codes "access") d)) (number_at (codes "envelope") d)) (text_at (codes "user") d)) (text_at (codes "token") d))
+
 -- the request of a handle
 abbrev pub handle_request : Data → Option Request
 handle_request d =
@@ -399,12 +415,10 @@ run_request d = of_keys (codes "until" ∷ []) d (option_map request.Run (time_a
 abbrev pub time_request : Data → Option Request
 time_request d = of_keys [] d (Some request.Time)
 
--- the request of an op (profile)
-abbrev pub request_of_op : List ℕ → Data → Option Request
-request_of_op op d =
-    if bytes_eq op (codes "open") then open_request d
-    else (if bytes_eq op (codes "close") then close_request d
-    else (if bytes_eq op (codes "handle") then handle_request d
+-- the request of an op that an open session asks (profile)
+abbrev pub asked_of_op : List ℕ → Data → Option Request
+asked_of_op op d =
+    if bytes_eq op (codes "handle") then handle_request d
     else (if bytes_eq op (codes "iterate") then iterate_request d
     else (if bytes_eq op (codes "get") then get_request d
     else (if bytes_eq op (codes "get_str") then get_str_request d
@@ -419,7 +433,15 @@ request_of_op op d =
     else (if bytes_eq op (codes "race") then race_request d
     else (if bytes_eq op (codes "run") then run_request d
     else (if bytes_eq op (codes "time") then time_request d
-    else None))))))))))))))))
+    else None))))))))))))))
+
+-- the request of an op (profile)
+abbrev pub request_of_op : List ℕ → Data → Option Request
+request_of_op op d =
+    if bytes_eq op (codes "open") then open_request d
+    else (if bytes_eq op (codes "close") then close_request d
+    else (if bytes_eq op (codes "grant") then grant_request d
+    else asked_of_op op d))
 
 -- the request of a JSON value; none where it is no request
 abbrev pub request_of : Data → Option Request

@@ -2,7 +2,7 @@ ghost use Rattle.std.specs.Prelude.{◌≡◌, ◌≤◌, ◌<◌, ◌+◌, ◌^
 ghost use Rattle.std.specs.Io.KnownBytes.{IsAtEnd};
 ghost use Rattle.vp_world.specs.declared.event.Request.{Request};
 ghost use Rattle.vp_world.specs.declared.reply.Reply.{Reply};
-ghost use Rattle.vp_wire.specs.Dialogue.{Answers, Asked, Closes, IsDialogue, IsWhole, Point, Stops, is_opening, stage_behind, turn_of, turn_of_request};
+ghost use Rattle.vp_wire.specs.Dialogue.{Answers, Asked, Closes, IsDialogue, IsWhole, Point, Stops, is_grant, is_opening, stage_behind, turn_of, turn_of_request};
 ghost use Rattle.vp_wire.specs.Failures.{failures_behind, one_more, reader_failures, writer_failures};
 ghost use Rattle.vp_wire.specs.Reading.{Finishes, Goes, IsBegun, Progress, Takes, Told, is_closing, point_of, size_left, text_told, turn_by};
 
@@ -48,10 +48,14 @@ pub enum Stage {
 }
 
 impl Stage {
-    /// The request, where the caller is asked for it: an `open` before the session is open, and every other behind that.
+    /// The request, where the caller is asked for it: an `open` before the session is open, and every other behind that; a change of
+    /// a grant anywhere.
     pub(crate) fn admitted(self, request: Request) -> Result<Request, LineError>
         ensures { turn_of_request self request ≡ turn_by result }
     {
+        if is_grant(&request) {
+            return Ok(request);
+        }
         match (self, is_opening(&request)) {
             (Stage::Before, false) => Err(LineError::NotOpen),
             (Stage::Open | Stage::Closed, true) => Err(LineError::BadRequest),
@@ -77,6 +81,13 @@ fn is_opening(request: &Request) -> bool
     ensures { result ≡ is_opening request.now }
 {
     matches!(request, Request::Open { .. })
+}
+
+/// The request changes a grant.
+fn is_grant(request: &Request) -> bool
+    ensures { result ≡ is_grant request.now }
+{
+    matches!(request, Request::Grant(_))
 }
 
 /// The request closes a session.

@@ -3,7 +3,7 @@ ghost use Rattle.std.specs.Prelude.{◌≡◌, ◌⊎◌, [], ◌∷◌, None, S
 ghost use Rattle.serde_json.specs.View.{items_view, view};
 ghost use Rattle.vp_json.specs.Keys.{has_keys};
 ghost use Rattle.vp_policy.specs.File.{each_of};
-ghost use Rattle.vp_wire.specs.Lines.{close_request, compare_request, digits_request, format_at, format_of, free_request, from_at, get_request, get_str_request, handle_request, iterate_request, meaning_of, number_at, number_if, number_in, number_property, open_request, poll_request, put_request, race_request, races_request, request_of, request_of_op, run_request, text_property, time_at, time_request, unwatch_request, value_request, vector_request, watch_request, word_in, words_at, Asks, NotJson, NotRequest};
+ghost use Rattle.vp_wire.specs.Lines.{access_at, asked_of_op, close_request, compare_request, digits_request, format_at, format_of, free_request, from_at, get_request, get_str_request, grant_of_words, grant_request, handle_request, iterate_request, meaning_of, number_at, number_if, number_in, number_property, open_request, poll_request, put_request, race_request, races_request, request_of, request_of_op, run_request, text_property, time_at, time_request, unwatch_request, value_request, vector_request, watch_request, word_in, words_at, Asks, NotJson, NotRequest};
 
 use crate::fault::WireError;
 use serde_json::Value;
@@ -11,13 +11,14 @@ use std::alloc::{AllocError, Global};
 use vp_elab::Kind;
 use vp_json::{ReadError, has_keys, number, read, text};
 use vp_list::{Sequence, Text};
+use vp_policy::Access;
 use vp_vpi::{NumberProperty, PutValue, TextProperty, VectorWord};
-use vp_world::{Request, ValueFormat};
+use vp_world::{GrantChange, Request, ValueFormat};
 
 /// Every time is below this one, in time units.
 const TIME_END: u64 = 1 << 62;
 
-/// The handle or callback under a key of a request: a number of 32 bits.
+/// The handle, callback or envelope under a key of a request: a number of 32 bits.
 fn handle_under(value: &Value, key: &str) -> Option<u32>
     ensures { result ≡ number_at key.now (view value.now) }
 {
@@ -68,6 +69,50 @@ fn close_request(value: &Value) -> Option<Request>
         Some(Request::Close)
     } else {
         None
+    }
+}
+
+/// The change of a grant of these words.
+fn grant_change(
+    alloc: Global,
+    token: &str,
+    user: &str,
+    envelope: u32,
+    access: Access,
+) -> Result<Option<Request>, AllocError>
+    ensures { IfOk result (λ r. r ≡ Some (grant_of_words token.now user.now envelope access)) }
+{
+    Ok(Some(Request::Grant(GrantChange {
+        token: Text::copy(alloc, token)?,
+        user: Text::copy(alloc, user)?,
+        envelope,
+        access,
+    })))
+}
+
+/// The rights under a key of a request: none for the empty text, else those of an access string.
+fn access_under(value: &Value, key: &str) -> Option<Access>
+    ensures { result ≡ access_at key.now (view value.now) }
+{
+    Access::of_text(text(value, key)?)
+}
+
+/// The request to change a grant.
+fn grant_request(alloc: Global, value: &Value) -> Result<Option<Request>, AllocError>
+    ensures { IfOk result (λ r. r ≡ grant_request (view value.now)) }
+{
+    if !has_request_keys(value, ["token", "user", "envelope", "access"].as_slice()) {
+        return Ok(None);
+    }
+    let (Some(token), Some(user)) = (text(value, "token"), text(value, "user")) else {
+        return Ok(None);
+    };
+    match (
+        handle_under(value, "envelope"),
+        access_under(value, "access"),
+    ) {
+        (Some(envelope), Some(access)) => grant_change(alloc, token, user, envelope, access),
+        _ => Ok(None),
     }
 }
 
@@ -412,13 +457,11 @@ fn time_request(value: &Value) -> Option<Request>
     }
 }
 
-/// The request of an op.
-fn request_of_op(alloc: Global, op: &str, value: &Value) -> Result<Option<Request>, AllocError>
-    ensures { IfOk result (λ r. r ≡ request_of_op op.now (view value.now)) }
+/// The request of an op that an open session asks.
+fn asked_of_op(alloc: Global, op: &str, value: &Value) -> Result<Option<Request>, AllocError>
+    ensures { IfOk result (λ r. r ≡ asked_of_op op.now (view value.now)) }
 {
     match op {
-        "open" => open_request(alloc, value),
-        "close" => Ok(close_request(value)),
         "handle" => handle_request(alloc, value),
         "iterate" => Ok(iterate_request(value)),
         "get" => Ok(get_request(value)),
@@ -435,6 +478,18 @@ fn request_of_op(alloc: Global, op: &str, value: &Value) -> Result<Option<Reques
         "run" => Ok(run_request(value)),
         "time" => Ok(time_request(value)),
         _ => Ok(None),
+    }
+}
+
+/// The request of an op.
+fn request_of_op(alloc: Global, op: &str, value: &Value) -> Result<Option<Request>, AllocError>
+    ensures { IfOk result (λ r. r ≡ request_of_op op.now (view value.now)) }
+{
+    match op {
+        "open" => open_request(alloc, value),
+        "close" => Ok(close_request(value)),
+        "grant" => grant_request(alloc, value),
+        _ => asked_of_op(alloc, op, value),
     }
 }
 

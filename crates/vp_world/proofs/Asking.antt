@@ -5,12 +5,13 @@ use Rattle.std.proofs.lemmas.List.{length-map, map-set, set-get_or}
 use Rattle.std.proofs.lemmas.Option.{slice_get-map, slice_get-get_or}
 use Rattle.vp_bits.specs.declared.bit.Bit.{Bit}
 use Rattle.vp_elab.specs.Built.{Elaborated}
-use Rattle.vp_policy.specs.Users.{Member}
+use Rattle.vp_policy.specs.PolicyState.{PolicyState}
 use Rattle.vp_race.specs.Booking.{BookState}
-use Rattle.vp_race.specs.Recording.{Recorded, Segments}
+use Rattle.vp_race.specs.Recording.{Recorded, Segments, with_step}
 use Rattle.vp_race.specs.Segments.{Told}
 use Rattle.vp_sim.specs.declared.fault.SimError.{SimError}
 use Rattle.vp_sim.specs.States as sim
+use Rattle.vp_sim.specs.laws.Designs.{behind_step}
 use Rattle.vp_vpi.specs.Seats.{Seat}
 use Rattle.vp_waking.specs.declared.change.Change.{Change}
 use Rattle.vp_world.specs.declared.answering.Answer.{Answer}
@@ -32,7 +33,7 @@ session_found sessions place session within is =
 
 -- the place of a session that is shown is one of the list
 pub within_shown :
-    (run : Recorded) (book : List Told) (first policy : List Member) (limits : Limits) (sessions : List OpenSession) (opens : List ℕ) (goal : Option ℕ) (place : ℕ) (w : Standing)
+    (run : Recorded) (book : List Told) (first policy : PolicyState) (limits : Limits) (sessions : List OpenSession) (opens : List ℕ) (goal : Option ℕ) (place : ℕ) (w : Standing)
     → shown run book first policy limits sessions opens goal ≡ w → place < length w.state.sessions → place < length sessions
 within_shown run book first policy limits sessions opens goal place w is within =
     subst (λ n. place < n) (length-map sessions session_shown) (subst (λ v. place < length v.state.sessions) (sym is) within)
@@ -63,14 +64,8 @@ put_design run None = refl
 put_design run (Some p) = chosen_design run _ _ _ run.finished refl
 
 -- what comes of a request of a session of this seat
-abbrev pub due_of : Recorded → BookState → (policy : List Member) → Seat → Request → Response
+abbrev pub due_of : Recorded → BookState → (policy : PolicyState) → Seat → Request → Response
 due_of run book policy seat r = respond (eyes_in (races_in run book policy seat.user) run policy seat.user) seat r
-
--- what an answer gives by a policy it gives by the same policy
-pub gives_by :
-    (run next : Recorded) (book : BookState) (asked policy : List Member) (seat : Seat) (r : Request) (new : Seat) (a : Answer) → asked ≡ policy
-    → Gives (due_of run book asked seat r) run next new a → Gives (due_of run book policy seat r) run next new a
-gives_by run next book asked policy seat r new a same given = subst (λ p. Gives (due_of run book p seat r) run next new a) same given
 
 -- a world with this design, simulation, segments and sessions
 abbrev pub with_run : Standing → Elaborated → sim.State → Segments → List SessionState → Standing
@@ -81,7 +76,7 @@ with_run w design run segments sessions = record {
 
 -- what is known of the fields of a world in which a session of a place is asked
 module _
-    (run : Recorded) (book : BookState) (first policy : List Member) (limits : Limits) (sessions : List OpenSession) (opens : List ℕ) (goal : Option ℕ)
+    (run : Recorded) (book : BookState) (first policy : PolicyState) (limits : Limits) (sessions : List OpenSession) (opens : List ℕ) (goal : Option ℕ)
     (place : ℕ) (session : OpenSession) (r : Request) (w : Standing)
     (is : shown run book.races first policy limits sessions opens goal ≡ w) (inside : place < length w.state.sessions)
     (at : session ≡ slice_index_or sessions place session)
@@ -131,3 +126,21 @@ module _
         ∙ ap (λ goal'. behind due.seat goal' (outcome_of_put run.simulation due.put)) (raises ∙ ap (raised goal) given.goal)
         ∙ ap (λ there. with_state old (state_asked old.state place there r)) (sym found)
         ∙ ap (λ v. with_state v (asked_at v.state (Some place) r)) is
+
+-- the world behind a step
+pub step_shown :
+    (old new : Recorded) (book : List Told) (first policy : PolicyState) (limits : Limits) (sessions told : List OpenSession) (opens : List ℕ) (goal : Option ℕ)
+    (k : ℕ) (change : Option Change) (w : Standing)
+    → shown old book first policy limits sessions opens goal ≡ w → sim.step old.simulation k ≡ sim.Goes new.simulation change
+    → new.segments ≡ with_step old.segments k new.simulation
+    → map session_shown told ≡ noticed change new.simulation.time (map session_shown sessions)
+    → shown new book first policy limits told opens goal ≡ with_state w (stepped w.state (with_step w.state.segments k) (sim.step w.state.run k))
+step_shown old new book first policy limits sessions told opens goal k change w is goes closes tells =
+    let was : Standing = shown old book first policy limits sessions opens goal in
+    let next = new.simulation in
+    let notices : List SessionState = noticed change next.time (map session_shown sessions) in
+    ap (with_run was next.design next new.segments) tells
+    ∙ ap (λ (d : Elaborated). with_run was d next new.segments notices) (behind_step old.simulation next k change goes)
+    ∙ ap (λ (s : Segments). with_run was old.simulation.design next s notices) closes
+    ∙ ap (λ (o : sim.Outcome). with_state was (stepped was.state (with_step old.segments k) o)) (sym goes)
+    ∙ ap (λ (v : Standing). with_state v (stepped v.state (with_step v.state.segments k) (sim.step v.state.run k))) is

@@ -3,16 +3,17 @@ use Rattle.std.proofs.Common.{ℕ, ◌+◌, ◌≤◌, Bool, true, false, List, 
 use Rattle.std.specs.Prelude.{fold, if◌then◌else◌, slice_get, slice_set}
 use Rattle.std.specs.Option.{option_map_or}
 use Rattle.vp_bits.specs.declared.bit.Bit.{Bit}
-use Rattle.vp_policy.specs.Users.{login_of}
+use Rattle.vp_policy.specs.Users.{login_of, user_of}
 use Rattle.vp_race.specs.Orders.{is_over}
 use Rattle.vp_race.specs.Recording.{Segments, next_job, with_anew, with_job, with_step}
 use Rattle.vp_race.specs.Segments.{Run}
 use Rattle.vp_sim.specs.States as sim
+use Rattle.vp_world.specs.declared.event.GrantChange.{GrantChange}
 use Rattle.vp_world.specs.declared.event.Event.{Event}
 use Rattle.vp_world.specs.declared.event.Event.TheVariants as event
 use Rattle.vp_world.specs.declared.event.Request.{Request}
 use Rattle.vp_world.specs.Entries.{Entry}
-use Rattle.vp_world.specs.History.{after, asked_at, closed_at, opened_by, outcome_of_put, raised, response_of, segments_of_put, state_asked, state_behind, stepped}
+use Rattle.vp_world.specs.History.{after, asked_at, closed_at, granted_to, opened_by, outcome_of_put, raised, response_of, segments_of_put, state_asked, state_behind, stepped}
 use Rattle.vp_world.specs.Worlds.{Opening, SessionState, State, index_of, start}
 
 -- at most one segment more is closed
@@ -61,6 +62,11 @@ closing_closes : (s : State) (place : Option ℕ) → ClosesOne s.segments (clos
 closing_closes s None = omega arith
 closing_closes s (Some place) = omega arith
 
+-- by a change of a grant
+granting_closes : (s : State) (change : GrantChange) (user : Option ℕ) → (let next : State = option_map_or (granted_to s change) user s in ClosesOne s.segments next.segments)
+granting_closes s change None = omega arith
+granting_closes s change (Some u) = omega arith
+
 -- by a job
 job_closes : (old : Segments) (job : Option Run) → ClosesOne old (option_map_or (with_job old) job old)
 job_closes old None = omega arith
@@ -68,9 +74,10 @@ job_closes old (Some run) = omega arith
 
 -- by an event
 event_closes : (opening : Opening) (s : State) (e : Event) → ClosesOne s.segments (after opening s e).segments
-event_closes opening s (event.Open name token) = opening_closes s (login_of s.policy name token)
+event_closes opening s (event.Open name token) = opening_closes s (login_of s.policy.members name token)
 event_closes opening s (event.Ask id request) = request_closes s (index_of s.sessions id) request
 event_closes opening s (event.Close id) = closing_closes s (index_of s.sessions id)
+event_closes opening s (event.Grant change) = granting_closes s change (user_of s.policy.members change.user)
 event_closes opening s (event.Step k) = outcome_closes s (with_step s.segments k) (sim.step s.run k) (step_closes s.segments k)
 event_closes opening s event.Advance = outcome_closes s (with_anew s.segments) (sim.advance s.run) (λ next. omega arith)
 event_closes opening s event.TakeJob = job_closes s.segments (next_job s.segments)

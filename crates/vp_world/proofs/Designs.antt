@@ -1,5 +1,5 @@
 -- The segments of a run are of its design.
-use Rattle.std.proofs.Common.{◌≡◌, ◌∙◌, ℕ, Bool, true, false, cond, List, [], ◌∷◌, ◌++◌, length, All, Option, Some, None, IfSome, refl, sym, subst}
+use Rattle.std.proofs.Common.{◌≡◌, ◌∙◌, ℕ, Bool, true, false, cond, List, [], ◌∷◌, ◌++◌, length, All, Option, Some, None, IfSome, refl, sym, ap, subst}
 use Rattle.std.specs.Prelude.{◌-◌, if◌then◌else◌, option_copied}
 use Rattle.std.specs.List.{find}
 use Rattle.std.proofs.lemmas.List.Elements.{All-drop, All-head, All-push, All-tail}
@@ -11,6 +11,7 @@ use Rattle.vp_race.specs.Recording.{Recorded, Segments, closed_run, kept_limit, 
 use Rattle.vp_race.specs.Segments.{Run}
 use Rattle.vp_sim.specs.States as sim
 use Rattle.vp_sim.specs.laws.Designs.{behind_put, behind_step}
+use Rattle.vp_policy.specs.PolicyState.{Fits, PolicyState}
 use Rattle.vp_waking.specs.declared.change.Change.{Change}
 use Rattle.vp_world.specs.History.{outcome_of_put, segments_of_put}
 use Rattle.vp_world.specs.Shown.{AreOfDesign}
@@ -67,6 +68,20 @@ put_leaves old new None change goes is of =
 put_leaves old new (Some p) change goes is of =
     of_same new (with_anew old.segments new.simulation) is
     (anew_of old new.simulation (behind_put old.simulation new.simulation p.0 p.1 change goes) of)
+
+-- ---- a policy that fits
+
+-- fits behind a step
+pub fits_stepped : (policy : PolicyState) (old new : Recorded) (k : ℕ) (change : Option Change) → sim.step old.simulation k ≡ sim.Goes new.simulation change → Fits policy old.simulation.design.tree → Fits policy new.simulation.design.tree
+fits_stepped policy old new k change goes fits = fits ∙ ap (λ (d : Elaborated). d.tree) (sym (behind_step old.simulation new.simulation k change goes))
+
+-- and behind a put, if there is one
+pub fits_put : (policy : PolicyState) (old new : Recorded) (p : Option (ℕ × List Bit)) (change : Option Change) → outcome_of_put old.simulation p ≡ sim.Goes new.simulation change → Fits policy old.simulation.design.tree → Fits policy new.simulation.design.tree
+fits_put policy old new None change goes fits =
+    let same : old.simulation ≡ new.simulation = cc in
+    fits ∙ ap (λ (s : sim.State). s.design.tree) same
+fits_put policy old new (Some p) change goes fits =
+    fits ∙ ap (λ (d : Elaborated). d.tree) (sym (behind_put old.simulation new.simulation p.0 p.1 change goes))
 
 -- ---- the kept segment of a number
 

@@ -1,12 +1,13 @@
 -- A log with one entry more.
 use Rattle.std.proofs.Common.{◌≡◌, ◌∙◌, Bool, List, [], ◌∷◌, ◌++◌, Option, Some, None, Result, Err, ℕ, refl, sym, ap, subst, append_assoc, append-nil}
-use Rattle.std.specs.Prelude.{IfErr, fold}
+use Rattle.std.specs.Prelude.{fold}
 use Rattle.vp_waking.specs.declared.change.Change.{Change}
+use Rattle.vp_world.specs.declared.event.Event.{Event}
 use Rattle.vp_world.specs.declared.fault.WorldError.{WorldError}
 use Rattle.vp_world.specs.declared.reply.Reply.{Reply}
 use Rattle.vp_world.specs.Entries.{Entry}
 use Rattle.vp_world.specs.Events.{IsWellFormed}
-use Rattle.vp_world.specs.History.{Explains, IsLegal, Keeps, after, answer, changed, entry_of, refusal_behind, state_behind, with_entry}
+use Rattle.vp_world.specs.History.{Applies, Explains, IsLegal, Keeps, after, answer, changed, entry_of, refusal_behind, refused_by, state_behind, with_entry}
 use Rattle.vp_world.specs.Worlds.{Logged, Opening, Standing, State, start}
 
 -- a left fold of one item more
@@ -55,11 +56,18 @@ keeps_more w next log more e keeps is added formed accepted entry =
       legal = legal_more w.opening [] log e keeps.legal formed accepted entry;
     }))
 
--- a refusal explains itself
-pub explained : {A : Type 0} (r : Result A WorldError) (e : WorldError) (refusal : Option WorldError) → r ≡ Err e → refusal ≡ Some e → IfErr r (λ x. Explains refusal x)
-explained r e refusal is told = subst (λ x. IfErr x (λ y. Explains refusal y)) (sym is) (subst (λ x. Explains x e) (sym told) refl)
+-- an event that is refused so leaves the world
+pub refused_so : {A : Type 0} (v : Logged) (happens : Event) (r : Result A WorldError) (e : WorldError) → r ≡ Err e → refused_by v happens ≡ Some e → Applies v happens r v
+refused_so v happens r e is told =
+    subst (λ x. Applies v happens x v) (sym is)
+    (record {
+      accepted = tt;
+      logged = tt;
+      refused = subst (λ x. Explains x e) (sym told) refl;
+      unchanged = refl;
+    })
 
--- and is seen with it
+-- a world is seen with one entry more
 pub seen_more : (w next : Standing) (log more : List Entry) (e : Entry) (v : Logged) → (let seen : Logged = record { opening = w.opening; log = log } in seen ≡ v) → next ≡ record { opening = w.opening; state = next.state } → more ≡ log ++ e ∷ [] → e ≡ entry_of w.opening (state_behind w.opening log) e.event → (let now : Logged = record { opening = next.opening; log = more } in now ≡ with_entry v e.event)
 seen_more w next log more e v is same added entry =
     ap (λ (s : Standing). (let now : Logged = record { opening = s.opening; log = more } in now)) same

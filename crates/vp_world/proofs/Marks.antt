@@ -1,15 +1,19 @@
 -- Objects that may be watched, while callbacks come and go.
-use Rattle.std.proofs.Common.{◌≡◌, ◌∙◌, ◌<◌, ℕ, zero, suc, ◌&&◌, ◌||◌, Bool, true, false, List, [], ◌∷◌, ◌++◌, map, filter, length, arith, Option, Some, None, refl, sym, ap}
+use Rattle.std.proofs.Common.{◌≡◌, ◌∙◌, ◌<◌, ◌==◌, ℕ, zero, suc, not, ◌&&◌, ◌||◌, Bool, true, false, List, [], ◌∷◌, ◌++◌, map, filter, length, arith, Option, Some, None, refl, sym, ap}
 use Rattle.std.specs.Prelude.{cond, if◌then◌else◌, slice_index_or, slice_set}
 use Rattle.std.specs.List.{fold, list_any, remove}
 use Rattle.std.proofs.lemmas.Bool.{eq-eqb, eqb-true}
 use Rattle.vp_notify.specs.declared.notice.Notice.{Notice}
 use Rattle.vp_notify.specs.declared.registry.Callback.{Callback}
 use Rattle.vp_notify.specs.Registry.{RegistryState, due, is_on, notice_of, with_notice}
+use Rattle.vp_policy.specs.PolicyState.{PolicyState}
+use Rattle.vp_policy.specs.Users.{member_at}
+use Rattle.vp_vpi.specs.Observers.{is_watch_denied}
+use Rattle.vp_vpi.specs.Seats.{Seat, retired}
 use Rattle.vp_waking.specs.declared.change.Change.{Change}
 use Rattle.vp_world.specs.declared.session.OpenSession.{OpenSession}
 use Rattle.vp_world.specs.Marks.{all_marked, are_marked, is_marked, is_watched, may_be_watched}
-use Rattle.vp_world.specs.Shown.{told_open}
+use Rattle.vp_world.specs.Shown.{retired_open, told_open}
 
 -- ---- two tests
 
@@ -181,3 +185,19 @@ marked_at watched (x ∷ sessions) zero s within at marked =
     ∙ (both_parts (are_marked watched x.session.registry.callbacks) (all_marked watched sessions) marked).0
 marked_at watched (x ∷ sessions) (suc place) s within at marked =
     marked_at watched sessions place s (omega (arith, within)) at (both_parts (are_marked watched x.session.registry.callbacks) (all_marked watched sessions) marked).1
+
+-- out of one of two sessions callbacks are taken
+retired_marked_by : (watched : List Bool) (gone : ℕ → Bool) (seat : Seat) (his : Bool) → are_marked watched seat.registry.callbacks ≡ true
+    → (let left : Seat = (if his then retired gone seat else seat) in are_marked watched left.registry.callbacks ≡ true)
+retired_marked_by watched gone seat true marked = are_marked_filter watched (λ c. not (gone c.object.0)) seat.registry.callbacks marked
+retired_marked_by watched gone seat false marked = marked
+
+-- open sessions behind a change of what a user is granted
+pub retired_marked : (watched : List Bool) (policy : PolicyState) (user : ℕ) (sessions : List OpenSession) → all_marked watched sessions ≡ true → all_marked watched (map (retired_open policy user) sessions) ≡ true
+retired_marked watched policy user [] marked = refl
+retired_marked watched policy user (s ∷ sessions) marked =
+    let own = s.session.registry.callbacks in
+    let parts = both_parts (are_marked watched own) (all_marked watched sessions) marked in
+    both _ (all_marked watched (map (retired_open policy user) sessions))
+    (retired_marked_by watched (is_watch_denied policy.tree (member_at policy.members user)) s.session (s.session.user == user) parts.0)
+    (retired_marked watched policy user sessions parts.1)

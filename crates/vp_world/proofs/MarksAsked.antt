@@ -31,6 +31,7 @@ unwatched watched seat callback false done refused h k = k
 pub respond_keeps : (watched : List Bool) (eyes : Observer) (seat : Seat) (r : Request) → is_watch r ≡ false → Keeps watched seat → Keeps watched (respond eyes seat r).seat
 respond_keeps watched eyes seat (request.Open user token) other marked = marked
 respond_keeps watched eyes seat request.Close other marked = marked
+respond_keeps watched eyes seat (request.Grant change) other marked = marked
 respond_keeps watched eyes seat (request.Handle name scope) other marked = by_answer watched seat _ (handle_of eyes seat.handles scope name) marked (λ x. marked)
 respond_keeps watched eyes seat (request.Iterate k scope) other marked = by_answer watched seat _ (iterated eyes seat.handles k scope) marked (λ x. marked)
 respond_keeps watched eyes seat (request.Get handle p) other marked = by_answer watched seat _ (number_of eyes p (object_of seat.handles handle)) marked (λ x. marked)

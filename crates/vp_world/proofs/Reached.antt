@@ -1,23 +1,23 @@
 -- Each race in the book is of a segment that was kept when it was booked.
 use Rattle.std.proofs.Common.{◌≡◌, ◌∙◌, ℕ, Bool, true, false, List, [], ◌∷◌, ◌++◌, All, Option, Some, None, refl, sym, ap, subst, append_assoc, append-nil}
-use Rattle.std.specs.Prelude.{if◌then◌else◌, option_map, slice_get}
+use Rattle.std.specs.Prelude.{if◌then◌else◌, slice_get}
 use Rattle.std.specs.Option.{option_map_or}
 use Rattle.std.proofs.lemmas.List.Elements.{All-nil, All-push, All-weaker}
-use Rattle.vp_policy.specs.Users.{login_of}
+use Rattle.vp_policy.specs.Users.{login_of, user_of}
 use Rattle.vp_race.specs.declared.fault.RaceError.{RaceError}
 use Rattle.vp_race.specs.declared.fault.RaceError.TheVariants.{SegmentGone}
 use Rattle.vp_race.specs.Booking.{BookState, refusal_of_finding, refusal_of_race}
 use Rattle.vp_race.specs.Recording.{Segments, kept_of}
 use Rattle.vp_race.specs.Same.{same_run}
-use Rattle.vp_race.specs.Segments.{IsRaceOf, Run, Told}
+use Rattle.vp_race.specs.Segments.{Run, Told}
 use Rattle.vp_sim.specs.States as sim
+use Rattle.vp_world.specs.declared.event.GrantChange.{GrantChange}
 use Rattle.vp_world.specs.declared.event.Event.{Event}
 use Rattle.vp_world.specs.declared.event.Event.TheVariants as event
 use Rattle.vp_world.specs.declared.event.Request.{Request}
-use Rattle.vp_world.specs.declared.fault.WorldError.TheVariants as error
 use Rattle.vp_world.specs.Entries.{Entry}
 use Rattle.vp_world.specs.Events.{IsWellFormed}
-use Rattle.vp_world.specs.History.{IsLegal, IsReached, after, asked_at, book_refusal, closed_at, is_log_full, opened_by, refusal_behind, refusal_of, refusal_of_booking, state_asked, state_behind, stepped}
+use Rattle.vp_world.specs.History.{IsLegal, IsReached, after, asked_at, book_refusal, closed_at, granted_to, is_log_full, opened_by, refusal_behind, refusal_of, refusal_of_booking, state_asked, state_behind, stepped}
 use Rattle.vp_world.specs.Worlds.{Opening, SessionState, State, index_of}
 use Rattle.vp_world.proofs.Logs.{state_more}
 
@@ -30,6 +30,10 @@ stepped_book s segments (sim.Refuses e) = refl
 opened_book : (s : State) (o : Option ℕ) → (option_map_or (opened_by s) o s).book ≡ s.book
 opened_book s None = refl
 opened_book s (Some u) = refl
+
+granted_book : (s : State) (change : GrantChange) (o : Option ℕ) → (option_map_or (granted_to s change) o s).book ≡ s.book
+granted_book s change None = refl
+granted_book s change (Some u) = refl
 
 session_book : (s : State) (place : ℕ) (o : Option SessionState) (r : Request) → (state_asked s place o r).book ≡ s.book
 session_book s place None r = refl
@@ -85,13 +89,16 @@ behind_event :
     → All (IsReached opening (log ++ e ∷ [])) (after opening (state_behind opening log) happens).book
 behind_event opening log e (event.Open name token) formed none all =
     let s = state_behind opening log in
-    subst (All (IsReached opening (log ++ e ∷ []))) (sym (opened_book s (login_of s.policy name token))) (all_stay opening log e s.book all)
+    subst (All (IsReached opening (log ++ e ∷ []))) (sym (opened_book s (login_of s.policy.members name token))) (all_stay opening log e s.book all)
 behind_event opening log e (event.Ask id request) formed none all =
     let s = state_behind opening log in
     subst (All (IsReached opening (log ++ e ∷ []))) (sym (asked_book s (index_of s.sessions id) request)) (all_stay opening log e s.book all)
 behind_event opening log e (event.Close id) formed none all =
     let s = state_behind opening log in
     subst (All (IsReached opening (log ++ e ∷ []))) (sym (closed_book s (index_of s.sessions id))) (all_stay opening log e s.book all)
+behind_event opening log e (event.Grant change) formed none all =
+    let s = state_behind opening log in
+    subst (All (IsReached opening (log ++ e ∷ []))) (sym (granted_book s change (user_of s.policy.members change.user))) (all_stay opening log e s.book all)
 behind_event opening log e (event.Step k) formed none all =
     let s = state_behind opening log in
     subst (All (IsReached opening (log ++ e ∷ []))) (sym (stepped_book s _ (sim.step s.run k))) (all_stay opening log e s.book all)

@@ -1,12 +1,12 @@
 -- A world, computed event by event. Each row is an equation that holds by computation.
-use Rattle.std.proofs.Common.{◌≡◌, ℕ, true, false, List, [], ◌∷◌, Option, Some, None, refl}
+use Rattle.std.proofs.Common.{◌≡◌, ℕ, true, false, List, [], ◌∷◌, ◌++◌, Option, Some, None, refl}
 use Rattle.std.specs.Prelude.{codes, fold}
 use Rattle.std.specs.Fmt.{digits}
 use Rattle.std.specs.Str.{chars, is_utf8}
 use Rattle.std.proofs.Math.Utf8.{encode}
 use Rattle.vp_bits.specs.declared.bit.Bit.TheVariants.{Unknown, One}
 use Rattle.vp_pragma.specs.declared.rights.Right.TheVariants as right
-use Rattle.vp_pragma.specs.Rights.{nothing, with_right}
+use Rattle.vp_pragma.specs.Rights.{RightSet, nothing, with_right}
 use Rattle.vp_lex.specs.declared.token.Token.{Token}
 use Rattle.vp_lex.specs.declared.token.TokenKind.TheVariants.{Name}
 use Rattle.vp_source.specs.declared.source.Source.{Source}
@@ -115,7 +115,7 @@ ann = record {
 abbrev opening : Opening
 opening = record {
   design = record { source = source; tree = tree };
-  policy = ann ∷ [];
+  policy = record { tree = tree; members = ann ∷ []; operator = Some (codes "op") };
   limits = record { log = 7; book = 65536; sessions = 1 };
 }
 
@@ -222,6 +222,48 @@ no_future : refused (opens ∷ runs ∷ steps 0 ∷ steps 0 ∷ []) event.Advanc
 unfolding digits is_utf8 chars encode sizes_in tables_of effect_at flow_of
 no_future = refl
 
+-- ---- grants that change
+
+abbrev reading : RightSet
+reading = with_right right.Read (with_right right.List nothing)
+
+abbrev grants : List ℕ → List ℕ → ℕ → RightSet → Event
+grants token user envelope access = event.Grant (record { token = token; user = user; envelope = envelope; access = access })
+
+-- the operator's grant to a user
+abbrev grants_to : List ℕ → ℕ → RightSet → Event
+grants_to user envelope access = grants (codes "op") user envelope access
+
+-- a grant opens the envelope, and then an absent name is told as such
+granted_name : answered (opens ∷ grants_to (codes "ann") 1 reading ∷ []) (asks (codes "top.k")) ≡ reply.Handle 1
+granted_name = refl
+
+absent_behind_a_grant : answered (opens ∷ grants_to (codes "ann") 1 reading ∷ []) (asks (codes "top.zz")) ≡ reply.Error refusal.NoSuchName
+absent_behind_a_grant = refl
+
+-- behind an empty one both are denied by the grant
+abbrev hidden_by_grant : Reply
+hidden_by_grant = reply.Denied (record { by = by.Grant; envelope = 1; right = right.List; author = codes "acme"; object = None })
+
+ended_name : answered (opens ∷ grants_to (codes "ann") 1 reading ∷ grants_to (codes "ann") 1 nothing ∷ []) (asks (codes "top.k")) ≡ hidden_by_grant
+ended_name = refl
+
+absent_behind_its_end : answered (opens ∷ grants_to (codes "ann") 1 nothing ∷ []) (asks (codes "top.zz")) ≡ hidden_by_grant
+absent_behind_its_end = refl
+
+-- the reasons why one is refused, each before the next
+bad_operator : refused [] (grants (codes "no") (codes "zed") 2 nothing) ≡ Some error.BadOperator
+bad_operator = refl
+
+no_such_user : refused [] (grants (codes "op") (codes "zed") 2 nothing) ≡ Some error.NoSuchUser
+no_such_user = refl
+
+no_such_envelope : refusal_of opening true (behind []) (grants (codes "op") (codes "ann") 2 nothing) ≡ Some error.NoSuchEnvelope
+no_such_envelope = refl
+
+grant_at_a_full_log : refusal_of opening true (behind []) (grants (codes "op") (codes "ann") 1 nothing) ≡ Some error.LogFull
+grant_at_a_full_log = refl
+
 -- ---- two sessions of one user, who may watch and put
 
 abbrev bob : Member
@@ -234,7 +276,7 @@ bob = record {
 }
 
 abbrev shared : Opening
-shared = record opening { policy = bob ∷ []; limits = record { log = 7; book = 65536; sessions = 2 } }
+shared = record opening { policy = record { tree = tree; members = bob ∷ []; operator = Some (codes "op") }; limits = record { log = 7; book = 65536; sessions = 2 } }
 
 abbrev second : SessionId
 second = record { user = record { 0 = 0 }; opens = 2 }
@@ -258,6 +300,21 @@ put_told = refl
 put_not_told : answered_behind_a_put (event.Ask first request.Poll) ≡ reply.Notices (record { notices = []; lost = 0 })
 unfolding digits is_utf8 chars encode sizes_in tables_of effect_at
 put_not_told = refl
+
+-- a grant that ends takes what waits along, and the callback
+abbrev answered_behind_an_end : Event → Reply
+answered_behind_an_end e =
+    answer shared
+    (fold (after shared) (start shared)
+    (watching ++ event.Ask first (request.Put 1 (Digits (codes "1"))) ∷ grants_to (codes "bob") 0 (with_right right.List nothing) ∷ [])) e
+
+nothing_waits : answered_behind_an_end (event.Ask second request.Poll) ≡ reply.Notices (record { notices = []; lost = 0 })
+unfolding digits is_utf8 chars encode sizes_in tables_of effect_at
+nothing_waits = refl
+
+callback_gone : answered_behind_an_end (event.Ask second (request.Unwatch 1)) ≡ reply.Error refusal.NoSuchCallback
+unfolding digits is_utf8 chars encode sizes_in tables_of effect_at
+callback_gone = refl
 
 -- ---- logs
 

@@ -110,10 +110,12 @@ run_response eyes seat until = record {
   put = None;
 }
 
--- what comes of a request of a session that looks things up so: openings and closings are no requests of a session (profile)
+-- what comes of a request of a session that looks things up so: openings, closings and changes of grants are no requests of a session
+-- (profile)
 abbrev pub respond : Observer → Seat → Request → Response
 respond eyes seat (request.Open user token) = only_told seat (reply.Error refusal.NotOpen)
 respond eyes seat request.Close = only_told seat (reply.Error refusal.NotOpen)
+respond eyes seat (request.Grant change) = only_told seat (reply.Error refusal.NotOpen)
 respond eyes seat (request.Handle name scope) = response_by seat (made seat) (handle_of eyes seat.handles scope name)
 respond eyes seat (request.Iterate k scope) = response_by seat (scanned seat) (iterated eyes seat.handles k scope)
 respond eyes seat (request.Get handle p) = told_by seat reply.Number (number_of eyes p (object_of seat.handles handle))

@@ -5,13 +5,16 @@ use Rattle.vp_race.specs.declared.fault.RaceError.TheVariants as race
 use Rattle.vp_sim.specs.declared.fault.SimError.{SimError}
 use Rattle.vp_sim.specs.declared.fault.SimError.TheVariants as sim
 use Rattle.vp_world.specs.declared.fault.WorldError.{WorldError}
-use Rattle.vp_world.specs.declared.fault.WorldError.TheVariants.{BadToken, SessionsFull, NotOpen, LogFull, BeyondGoal, NoJob, Sim, Race, NoMemory}
+use Rattle.vp_world.specs.declared.fault.WorldError.TheVariants.{BadToken, SessionsFull, NotOpen, BadOperator, NoSuchUser, NoSuchEnvelope, LogFull, BeyondGoal, NoJob, Sim, Race, NoMemory}
 
 -- the number of a refusal (profile)
 abbrev pub code_of : WorldError → ℕ
 code_of BadToken = 1302
 code_of SessionsFull = 1301
 code_of NotOpen = 1303
+code_of BadOperator = 1310
+code_of NoSuchUser = 1311
+code_of NoSuchEnvelope = 1312
 code_of LogFull = 1304
 code_of BeyondGoal = 1305
 code_of NoJob = 1306

@@ -1,6 +1,7 @@
 -- What a request is answered, as it is told and kept.
 use Rattle.std.specs.Prelude.{◌≡◌, ℕ, List, None, IfSome}
-use Rattle.vp_policy.specs.Users.{Member, member_at}
+use Rattle.vp_policy.specs.PolicyState.{PolicyState}
+use Rattle.vp_policy.specs.Users.{member_at}
 use Rattle.vp_race.specs.Booking.{BookState}
 use Rattle.vp_race.specs.Recording.{Recorded}
 use Rattle.vp_sim.specs.States as sim
@@ -14,12 +15,12 @@ use Rattle.vp_world.specs.Answers.{Response}
 use Rattle.vp_world.specs.History.{outcome_of_put, segments_of_put}
 
 -- what a user can look up in a simulation, with these races
-abbrev pub eyes_in : List RaceSeen → Recorded → (policy : List Member) → (user : ℕ) → Observer
-eyes_in races r policy user = with_races races (observer_of r.simulation (member_at policy user))
+abbrev pub eyes_in : List RaceSeen → Recorded → (policy : PolicyState) → (user : ℕ) → Observer
+eyes_in races r policy user = with_races races (observer_of r.simulation (member_at policy.members user))
 
 -- the races of a book that a user is shown
-abbrev pub races_in : Recorded → BookState → (policy : List Member) → (user : ℕ) → List RaceSeen
-races_in r book policy user = races_seen r.simulation.design.tree (member_at policy user) book.races
+abbrev pub races_in : Recorded → BookState → (policy : PolicyState) → (user : ℕ) → List RaceSeen
+races_in r book policy user = races_seen r.simulation.design.tree (member_at policy.members user) book.races
 
 -- a reply from which nothing else comes, told and kept
 abbrev pub plain : Reply → Answer

@@ -1,9 +1,11 @@
 -- The world as a function of its events.
-use Rattle.std.specs.Prelude.{◌≡◌, ℕ, ◌+◌, ◌||◌, nat_le, nat_lt, max, Bool, true, false, if◌then◌else◌, List, [], ◌∷◌, ◌++◌, length, fold, map, slice_get, slice_index, slice_set, Option, Some, None, is_none, option_and_then, option_map}
+use Rattle.std.specs.Prelude.{◌≡◌, ℕ, ◌+◌, ◌==◌, ◌||◌, nat_le, nat_lt, max, Bool, true, false, if◌then◌else◌, List, [], ◌∷◌, ◌++◌, length, fold, map, slice_get, slice_index, slice_set, Option, Some, None, is_none, option_and_then, option_map, Result, IfErr, OnErr, OnOk}
 use Rattle.std.specs.List.{remove}
 use Rattle.std.specs.Option.{option_map_or}
 use Rattle.vp_bits.specs.declared.bit.Bit.{Bit}
-use Rattle.vp_policy.specs.Users.{Member, login_of, member_at}
+use Rattle.vp_policy.specs.PolicyState.{PolicyState}
+use Rattle.vp_policy.specs.Regrants.{is_operator, regranted}
+use Rattle.vp_policy.specs.Users.{Member, login_of, member_at, user_of}
 use Rattle.vp_waking.specs.declared.change.Change.{Change}
 use Rattle.vp_race.specs.declared.fault.RaceError.{RaceError}
 use Rattle.vp_race.specs.Booking.{refusal_of_finding}
@@ -11,10 +13,11 @@ use Rattle.vp_race.specs.Recording.{Segments, kept_of, next_job, with_anew, with
 use Rattle.vp_race.specs.Same.{same_run}
 use Rattle.vp_race.specs.Segments.{IsRaceOf, Run, Told}
 use Rattle.vp_sim.specs.States as sim
-use Rattle.vp_vpi.specs.Observers.{Observer}
+use Rattle.vp_vpi.specs.Observers.{Observer, is_watch_denied}
 use Rattle.vp_vpi.specs.Races.{observer_with}
-use Rattle.vp_vpi.specs.Seats.{Seat, new_seat, with_due}
+use Rattle.vp_vpi.specs.Seats.{Seat, new_seat, retired, with_due}
 use Rattle.vp_world.specs.Entries.{Entry}
+use Rattle.vp_world.specs.declared.event.GrantChange.{GrantChange}
 use Rattle.vp_world.specs.declared.event.SessionId.{SessionId}
 use Rattle.vp_world.specs.declared.event.Request.{Request}
 use Rattle.vp_world.specs.declared.event.Event.{Event}
@@ -48,6 +51,20 @@ refusal_of_open opening full s (Some u) = if is_full opening s u then Some error
 abbrev pub refusal_of_session : Bool → Option ℕ → Option WorldError
 refusal_of_session full None = Some error.NotOpen
 refusal_of_session full (Some place) = refusal_of_log full
+
+-- why a change of a grant for an envelope is refused, by the number of the user who was found under its name: there is none, no envelope
+-- has the number, then a full log (profile)
+abbrev pub refusal_of_grantee : Bool → PolicyState → (envelope : ℕ) → Option ℕ → Option WorldError
+refusal_of_grantee full policy envelope None = Some error.NoSuchUser
+refusal_of_grantee full policy envelope (Some user) =
+    if nat_lt (length policy.tree.authors) envelope then Some error.NoSuchEnvelope else refusal_of_log full
+
+-- why a change of a grant is refused: its token is not the operator's, then the reasons above (profile)
+abbrev pub refusal_of_grant : Bool → PolicyState → GrantChange → Option WorldError
+refusal_of_grant full policy change =
+    if is_operator policy change.token
+    then refusal_of_grantee full policy change.envelope (user_of policy.members change.user)
+    else Some error.BadOperator
 
 -- why the simulation refuses a step, if it does
 abbrev pub refusal_of_outcome : sim.Outcome → Option WorldError
@@ -87,9 +104,10 @@ refusal_of_booking full refusal = if full then Some error.LogFull else option_ma
 -- the first refusal of an event that holds, in a state, behind a log that is full or not; none where the event is accepted.
 -- Want of memory is no part of it (profile)
 abbrev pub refusal_of : Opening → Bool → State → Event → Option WorldError
-refusal_of opening full s (event.Open name token) = refusal_of_open opening full s (login_of s.policy name token)
+refusal_of opening full s (event.Open name token) = refusal_of_open opening full s (login_of s.policy.members name token)
 refusal_of opening full s (event.Ask id request) = refusal_of_session full (index_of s.sessions id)
 refusal_of opening full s (event.Close id) = refusal_of_session full (index_of s.sessions id)
+refusal_of opening full s (event.Grant change) = refusal_of_grant full s.policy change
 refusal_of opening full s (event.Step k) = refusal_of_step full (is_beyond s.goal s.run.time) (sim.step s.run k)
 refusal_of opening full s event.Advance =
     refusal_of_step full (is_next_beyond s.goal (sim.next_time s.run)) (sim.advance s.run)
@@ -113,7 +131,7 @@ eyes_of s u = observer_with s.run u s.book
 
 -- what comes of a request of a session: its user looks into the simulation, and the policy in force says what he sees
 abbrev pub response_of : State → Seat → Request → Response
-response_of s seat r = respond (eyes_of s (member_at s.policy seat.user)) seat r
+response_of s seat r = respond (eyes_of s (member_at s.policy.members seat.user)) seat r
 
 -- the open session of a name
 abbrev pub session_of : List SessionState → SessionId → Option SessionState
@@ -127,9 +145,10 @@ asked s (Some session) r = (response_of s session.seat r).reply
 -- the reply to an event that is accepted
 abbrev pub answer : Opening → State → Event → Reply
 answer opening s (event.Open name token) =
-    option_map_or (λ u. reply.Opened (next_session s u)) (login_of s.policy name token) (reply.Error refusal.BadToken)
+    option_map_or (λ u. reply.Opened (next_session s u)) (login_of s.policy.members name token) (reply.Error refusal.BadToken)
 answer opening s (event.Ask id request) = asked s (session_of s.sessions id) request
 answer opening s (event.Close id) = reply.Done
+answer opening s (event.Grant change) = reply.Done
 answer opening s (event.Step k) = reply.Done
 answer opening s event.Advance = reply.Done
 answer opening s event.TakeJob = option_map_or (λ run. reply.Job run.number) (next_job s.segments) (reply.Error refusal.NoJob)
@@ -160,6 +179,7 @@ abbrev pub changed : State → Event → Option Change
 changed s (event.Open name token) = None
 changed s (event.Ask id request) = changed_by s (session_of s.sessions id) request
 changed s (event.Close id) = None
+changed s (event.Grant change) = None
 changed s (event.Step k) = change_of (sim.step s.run k)
 changed s event.Advance = change_of (sim.advance s.run)
 changed s event.TakeJob = None
@@ -224,6 +244,21 @@ abbrev pub closed_at : State → Option ℕ → State
 closed_at s None = s
 closed_at s (Some place) = record s { sessions = remove s.sessions place }
 
+-- an open session behind a change of what the user of a number is granted: if it is his, what he may not watch any more is taken out of
+-- it (profile)
+abbrev pub retired_for : PolicyState → (user : ℕ) → SessionState → SessionState
+retired_for policy user s = record s {
+  seat = (if s.seat.user == user then retired (is_watch_denied policy.tree (member_at policy.members user)) s.seat else s.seat);
+}
+
+-- the state in which another policy is in force, behind a change of what the user of a number is granted
+abbrev pub under_policy : State → (user : ℕ) → PolicyState → State
+under_policy s user policy = record s { policy = policy; sessions = map (retired_for policy user) s.sessions }
+
+-- the state behind a change of the grant of the user of a number: the changed policy is in force (profile)
+abbrev pub granted_to : State → GrantChange → (user : ℕ) → State
+granted_to s change user = under_policy s user (regranted s.policy user change.envelope change.access)
+
 -- the state behind a job: the oldest kept segment that was not handed out is handed out
 abbrev pub with_job_taken : State → State
 with_job_taken s = record s { segments = option_map_or (with_job s.segments) (next_job s.segments) s.segments }
@@ -234,9 +269,10 @@ with_booked s finding = record s { book = s.book ++ finding ∷ [] }
 
 -- the state behind an event that is accepted
 abbrev pub after : Opening → State → Event → State
-after opening s (event.Open name token) = option_map_or (opened_by s) (login_of s.policy name token) s
+after opening s (event.Open name token) = option_map_or (opened_by s) (login_of s.policy.members name token) s
 after opening s (event.Ask id request) = asked_at s (index_of s.sessions id) request
 after opening s (event.Close id) = closed_at s (index_of s.sessions id)
+after opening s (event.Grant change) = option_map_or (granted_to s change) (user_of s.policy.members change.user) s
 after opening s (event.Step k) = stepped s (with_step s.segments k) (sim.step s.run k)
 after opening s event.Advance = stepped s (with_anew s.segments) (sim.advance s.run)
 after opening s event.TakeJob = with_job_taken s
@@ -297,6 +333,14 @@ answered_by w e = answer w.opening (state_behind w.opening w.log) e
 -- the world with the entry of an event more
 abbrev pub with_entry : Logged → Event → Logged
 with_entry w e = record w { log = w.log ++ entry_of w.opening (state_behind w.opening w.log) e ∷ [] }
+
+-- an event is applied to a world, which becomes another: it is accepted and logged; or refused by the first reason that holds, or, where
+-- none does, for want of memory, and the world stays as it was
+pub record Applies {T : Type 0} (w : Logged) (e : Event) (result : Result T WorldError) (v : Logged) : Type 0 where
+  pub accepted : OnOk result (refused_by w e ≡ None)
+  pub logged : OnOk result (v ≡ with_entry w e)
+  pub refused : IfErr result (λ error. Explains (refused_by w e) error)
+  pub unchanged : OnErr result (v ≡ w)
 
 -- ---- a world without its log, by how it began and its state
 

@@ -3,13 +3,16 @@ use Rattle.std.specs.Prelude.{ℕ, List, codes}
 use Rattle.vp_world.specs.declared.fault.WorldError.{WorldError}
 use Rattle.vp_world.specs.declared.fault.WorldError.TheVariants as error
 use Rattle.vp_world.specs.declared.reply.Refusal.{Refusal}
-use Rattle.vp_world.specs.declared.reply.Refusal.TheVariants.{BadHandle, WrongKind, BadValue, Finished, TooManyHandles, NoSuchName, TooManyCallbacks, NoSuchCallback, NoSuchRace, SessionsFull, BadToken, NotOpen, LogFull, BeyondGoal, NoJob, Simulation, Race, NoMemory}
+use Rattle.vp_world.specs.declared.reply.Refusal.TheVariants.{BadHandle, WrongKind, BadValue, Finished, TooManyHandles, NoSuchName, TooManyCallbacks, NoSuchCallback, NoSuchRace, SessionsFull, BadToken, NotOpen, BadOperator, NoSuchUser, NoSuchEnvelope, LogFull, BeyondGoal, NoJob, Simulation, Race, NoMemory}
 
 -- what a line is told where the world refuses its event (profile)
 abbrev pub refusal_of_error : WorldError → Refusal
 refusal_of_error error.BadToken = BadToken
 refusal_of_error error.SessionsFull = SessionsFull
 refusal_of_error error.NotOpen = NotOpen
+refusal_of_error error.BadOperator = BadOperator
+refusal_of_error error.NoSuchUser = NoSuchUser
+refusal_of_error error.NoSuchEnvelope = NoSuchEnvelope
 refusal_of_error error.LogFull = LogFull
 refusal_of_error error.BeyondGoal = BeyondGoal
 refusal_of_error error.NoJob = NoJob
@@ -31,6 +34,9 @@ text_of NoSuchRace = codes "no such race"
 text_of SessionsFull = codes "sessions full"
 text_of BadToken = codes "bad token"
 text_of NotOpen = codes "not open"
+text_of BadOperator = codes "bad operator"
+text_of NoSuchUser = codes "no such user"
+text_of NoSuchEnvelope = codes "no such envelope"
 text_of LogFull = codes "log full"
 text_of BeyondGoal = codes "beyond the goal"
 text_of NoJob = codes "no job"

@@ -1,9 +1,11 @@
 -- What a contract sees of the fields of a world.
-use Rattle.std.specs.Prelude.{◌≡◌, ℕ, List, map, All, Option}
-use Rattle.vp_policy.specs.Users.{Member}
+use Rattle.std.specs.Prelude.{◌≡◌, ℕ, ◌==◌, if◌then◌else◌, List, map, All, Option}
+use Rattle.vp_policy.specs.PolicyState.{PolicyState}
+use Rattle.vp_policy.specs.Users.{member_at}
 use Rattle.vp_race.specs.Recording.{Recorded}
 use Rattle.vp_race.specs.Segments.{Run, Told}
-use Rattle.vp_vpi.specs.Seats.{with_due}
+use Rattle.vp_vpi.specs.Observers.{is_watch_denied}
+use Rattle.vp_vpi.specs.Seats.{retired, with_due}
 use Rattle.vp_waking.specs.declared.change.Change.{Change}
 use Rattle.vp_world.specs.declared.limits.Limits.{Limits}
 use Rattle.vp_world.specs.declared.session.OpenSession.{OpenSession}
@@ -17,8 +19,16 @@ session_shown s = record { id = s.id; seat = s.session }
 abbrev pub told_open : Option Change → (time : ℕ) → OpenSession → OpenSession
 told_open change time s = record { id = s.id; session = with_due change time s.session }
 
+-- an open session out of which, if it is a user's, is taken what he may not watch by a policy
+abbrev pub retired_open : PolicyState → (user : ℕ) → OpenSession → OpenSession
+retired_open policy user s = record {
+  id = s.id;
+  session =
+      (if s.session.user == user then retired (is_watch_denied policy.tree (member_at policy.members user)) s.session else s.session);
+}
+
 -- how a world of these fields began, and its state: of the two policies, the first opened it and the second is in force
-abbrev pub shown : Recorded → (book : List Told) → (first policy : List Member) → Limits → List OpenSession → List ℕ → Option ℕ → Standing
+abbrev pub shown : Recorded → (book : List Told) → (first policy : PolicyState) → Limits → List OpenSession → List ℕ → Option ℕ → Standing
 shown r book first policy limits sessions opens goal = record {
   opening = record { design = r.simulation.design; policy = first; limits = limits };
   state = record {

@@ -2,7 +2,7 @@
 use Rattle.std.specs.Prelude.{ℕ, ◌==◌, ◌&&◌, Bool, List, [], map, Option, None}
 use Rattle.std.specs.List.{position}
 use Rattle.vp_elab.specs.Built.{Elaborated}
-use Rattle.vp_policy.specs.Users.{Member}
+use Rattle.vp_policy.specs.PolicyState.{PolicyState}
 use Rattle.vp_race.specs.Recording.{Segments, first_segments}
 use Rattle.vp_race.specs.Segments.{Told}
 use Rattle.vp_sim.specs.States as sim
@@ -11,10 +11,10 @@ use Rattle.vp_world.specs.Entries.{Entry}
 use Rattle.vp_world.specs.declared.event.SessionId.{SessionId}
 use Rattle.vp_world.specs.declared.limits.Limits.{Limits}
 
--- how a world begins: a design, the policy with which it opens, which is a list of users, and its limits
+-- how a world begins: a design, the policy with which it opens, and its limits
 pub record Opening : Type 0 where
   pub design : Elaborated
-  pub policy : List Member
+  pub policy : PolicyState
   pub limits : Limits
 
 -- an open session: its name; its user and his handles
@@ -28,7 +28,7 @@ pub record State : Type 0 where
   pub run : sim.State
   pub segments : Segments
   pub book : List Told
-  pub policy : List Member
+  pub policy : PolicyState
   pub sessions : List SessionState
   pub opens : List ℕ
   pub goal : Option ℕ
@@ -59,6 +59,6 @@ start opening = record {
   book = [];
   policy = opening.policy;
   sessions = [];
-  opens = map (λ u. 0) opening.policy;
+  opens = map (λ u. 0) opening.policy.members;
   goal = None;
 }

@@ -1,5 +1,6 @@
 // What a session's request is answered, and what comes of it (docs/FORMATS.md, "Lines").
 ghost use Rattle.std.specs.Prelude.{◌≡◌, ◌≢◌, List, None, length, option_map, string_bytes, IfOk, IsOkUnless, IsTrue, OnErr, OnOk};
+ghost use Rattle.vp_policy.specs.PolicyState.{Fits};
 ghost use Rattle.vp_race.specs.Recording.{with_anew};
 ghost use Rattle.vp_sim.specs.States as sim;
 ghost use Rattle.vp_vpi.specs.Observers.{RaceSeen};
@@ -88,6 +89,7 @@ fn handle(
     name: &str,
     scope: Option<u32>,
 ) -> Result<Answer, WorldError>
+    requires { Fits policy.now run.now.simulation.design.tree }
     ensures given { (races : List RaceSeen) → IfOk result
         (Gives (respond (eyes_in races run.now policy.now session.old.user)
         session.old (request.Handle name.now scope)) run.now run.now session.new) }
@@ -127,6 +129,7 @@ fn iterate(
     kind: Kind,
     scope: Option<u32>,
 ) -> Result<Answer, WorldError>
+    requires { Fits policy.now run.now.simulation.design.tree }
     ensures given { (races : List RaceSeen) → IfOk result
         (Gives (respond (eyes_in races run.now policy.now session.old.user)
         session.old (request.Iterate kind scope)) run.now run.now session.new) }
@@ -147,6 +150,7 @@ fn get(
     handle: u32,
     property: NumberProperty,
 ) -> Result<Answer, WorldError>
+    requires { Fits policy.now run.now.simulation.design.tree }
     ensures given { (races : List RaceSeen) → IfOk result
         (Gives (respond (eyes_in races run.now policy.now session.now.user)
         session.now (request.Get handle property)) run.now run.now session.now) }
@@ -166,6 +170,7 @@ fn get_str(
     handle: u32,
     property: TextProperty,
 ) -> Result<Answer, WorldError>
+    requires { Fits policy.now run.now.simulation.design.tree }
     ensures given { (races : List RaceSeen) → IfOk result
         (Gives (respond (eyes_in races run.now policy.now session.now.user)
         session.now (request.GetStr handle property)) run.now run.now session.now) }
@@ -195,6 +200,7 @@ fn value(
     handle: u32,
     format: ValueFormat,
 ) -> Result<Answer, WorldError>
+    requires { Fits policy.now run.now.simulation.design.tree }
     ensures given { (races : List RaceSeen) → IfOk result
         (Gives (respond (eyes_in races run.now policy.now session.now.user)
         session.now (request.Value handle format)) run.now run.now session.now) }
@@ -237,6 +243,7 @@ fn put(
     handle: u32,
     value: &PutValue,
 ) -> Result<Answer, WorldError>
+    requires { Fits policy.now run.old.simulation.design.tree }
     ensures given { (races : List RaceSeen) → IfOk result
         (Gives (respond (eyes_in races run.old policy.now session.now.user)
         session.now (request.Put handle value.now)) run.old run.new session.now) }
@@ -299,6 +306,7 @@ fn watch(
     run: &Recording,
     handle: u32,
 ) -> Result<Answer, WorldError>
+    requires { Fits policy.now run.now.simulation.design.tree }
     ensures given { (races : List RaceSeen) → IfOk result
         (Gives (respond (eyes_in races run.now policy.now session.old.user)
         session.old (request.Watch handle)) run.now run.now session.new) }
@@ -364,6 +372,7 @@ fn races(
     book: &Book,
     from: u64,
 ) -> Result<Answer, WorldError>
+    requires { Fits policy.now run.now.simulation.design.tree }
     ensures given { let shown = races_in run.now book.now policy.now session.now.user in IfOk result
         (Gives (respond (eyes_in shown run.now policy.now session.now.user)
         session.now (request.Races from)) run.now run.now session.now) }
@@ -383,6 +392,7 @@ fn race(
     book: &Book,
     number: u64,
 ) -> Result<Answer, WorldError>
+    requires { Fits policy.now run.now.simulation.design.tree }
     ensures given { let shown = races_in run.now book.now policy.now session.now.user in IfOk result
         (Gives (respond (eyes_in shown run.now policy.now session.now.user)
         session.now (request.Race number)) run.now run.now session.now) }
@@ -441,7 +451,8 @@ pub fn respond(
     book: &Book,
     request: &Request,
 ) -> Result<Answer, WorldError>
-    requires { IsAsked request.now }
+    requires asked { IsAsked request.now }
+    requires fits { Fits policy.now run.old.simulation.design.tree }
     ensures given { let shown = races_in run.old book.now policy.now session.old.user in IfOk result
         (Gives (respond (eyes_in shown run.old policy.now session.old.user)
         session.old request.now) run.old run.new session.new) }
@@ -465,6 +476,6 @@ pub fn respond(
         Request::Race { number } => race(session, policy, run, book, *number),
         Request::Run { until } => Ok(let_run(session, policy, run, *until)),
         Request::Time => Ok(time(session, policy, run)),
-        Request::Open { .. } | Request::Close => unreachable!(),
+        Request::Open { .. } | Request::Close | Request::Grant(_) => unreachable!(),
     }
 }

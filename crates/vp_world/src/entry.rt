@@ -1,4 +1,4 @@
-use crate::event::{Request, SessionId};
+use crate::event::{GrantChange, Request, SessionId};
 use crate::reply::Reply;
 use std::marker::Model;
 use std::sync::Arc;
@@ -41,6 +41,10 @@ pub enum Happening {
     /// A session was closed.
     Close {
         session: SessionId,
+    },
+    /// A user's grant for an envelope changed.
+    Grant {
+        change: Arc<GrantChange>,
     },
     /// The simulation took the k-th of the events that a step could take, which changed nothing.
     Step {

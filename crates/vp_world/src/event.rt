@@ -1,6 +1,6 @@
 use vp_elab::Kind;
 use vp_list::Text;
-use vp_policy::UserId;
+use vp_policy::{Access, UserId};
 use vp_race::{Finding, Shared};
 use vp_vpi::{NumberProperty, PutValue, TextProperty};
 
@@ -20,6 +20,19 @@ pub enum ValueFormat {
     Vector,
 }
 
+/// What an operator orders: a user's grant for an envelope is to be exactly this (docs/POLICY.md, "Grants that change").
+#[derive(Drop)]
+pub struct GrantChange {
+    /// The operator's token.
+    pub token: Text,
+    /// The user's name.
+    pub user: Text,
+    /// The number of the envelope; 0 is the open text.
+    pub envelope: u32,
+    /// The grant, be it empty.
+    pub access: Access,
+}
+
 /// What a line asks (docs/FORMATS.md, "Lines").
 #[derive(Drop)]
 pub enum Request {
@@ -30,6 +43,8 @@ pub enum Request {
     },
     /// To close the session.
     Close,
+    /// To change a grant, which an operator asks and no session does.
+    Grant(GrantChange),
     /// A handle of the object of a dotted name, in the module of a handle or among the top modules.
     Handle {
         name: Text,
@@ -103,7 +118,7 @@ pub enum Event {
         user: Text,
         token: Text,
     },
-    /// A session asks; the request is neither `Open` nor `Close`.
+    /// A session asks; the request is neither `Open` nor `Close` nor `Grant`.
     Ask {
         session: SessionId,
         request: Request,
@@ -112,6 +127,8 @@ pub enum Event {
     Close {
         session: SessionId,
     },
+    /// A user's grant for an envelope changes.
+    Grant(GrantChange),
     /// The simulation takes the k-th of the events that a step can take, from 0.
     Step(u32),
     /// The simulation goes on to the time of the next event.

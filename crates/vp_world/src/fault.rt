@@ -18,6 +18,12 @@ pub enum WorldError {
     SessionsFull,
     /// The session is not open (1303).
     NotOpen,
+    /// The token is not the operator's, or the policy has no operator (1310).
+    BadOperator,
+    /// No user has this name (1311).
+    NoSuchUser,
+    /// No envelope has this number (1312).
+    NoSuchEnvelope,
     /// The log has as many entries as the limit allows (1304).
     LogFull,
     /// No run reaches so far (1305).
@@ -35,7 +41,7 @@ pub enum WorldError {
 impl WorldError {
     ghost use Rattle.vp_world.specs.Faults.{code_of};
 
-    /// The number of the refusal, 1301 to 1309.
+    /// The number of the refusal, 1301 to 1312.
     pub fn code(&self) -> u32
         ensures { result ≡ code_of self.now }
     {
@@ -43,6 +49,9 @@ impl WorldError {
             WorldError::BadToken => 1302,
             WorldError::SessionsFull => 1301,
             WorldError::NotOpen => 1303,
+            WorldError::BadOperator => 1310,
+            WorldError::NoSuchUser => 1311,
+            WorldError::NoSuchEnvelope => 1312,
             WorldError::LogFull => 1304,
             WorldError::BeyondGoal => 1305,
             WorldError::NoJob => 1306,

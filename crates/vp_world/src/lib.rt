@@ -13,7 +13,7 @@ mod watching;
 mod world;
 
 pub use entry::{Asked, Entry, Happening, Login};
-pub use event::{Event, Request, SessionId, ValueFormat};
+pub use event::{Event, GrantChange, Request, SessionId, ValueFormat};
 pub use fault::WorldError;
 pub use limits::Limits;
 pub use reply::{Refusal, Reply};

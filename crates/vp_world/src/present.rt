@@ -1,23 +1,25 @@
-ghost use Rattle.std.specs.Prelude.{◌≡◌, ◌<◌, ◌+◌, ◌^◌, false, true, length, slice_index, slice_set, None, Some, option_copied, option_map, IfErr, IfOk, IfSome, IsOkUnless, OnErr, OnOk};
+ghost use Rattle.std.specs.Prelude.{◌≡◌, ◌<◌, ◌≤◌, ◌+◌, ◌^◌, false, true, length, slice_index, slice_set, None, Some, option_copied, option_map, IfErr, IfOk, IfSome, IsOkUnless, OnErr, OnOk};
 ghost use Rattle.std.specs.Arc.{arc_value};
-ghost use Rattle.vp_policy.specs.Users.{login_of};
+ghost use Rattle.vp_policy.specs.PolicyState.{Fits};
+ghost use Rattle.vp_policy.specs.Users.{login_of, user_of};
 ghost use Rattle.vp_race.specs.Recording.{kept_of, next_job, with_anew, with_step};
 ghost use Rattle.vp_sim.specs.States as sim;
 ghost use Rattle.vp_world.specs.declared.event.Event.TheVariants as event;
 ghost use Rattle.vp_world.specs.declared.fault.WorldError.TheVariants as world_error;
 ghost use Rattle.vp_world.specs.declared.reply.Reply.TheVariants as reply;
 ghost use Rattle.vp_world.specs.Events.{IsAsked};
-ghost use Rattle.vp_world.specs.History.{Explains, asked_at, asked_in, book_refusal, change_of, changed_in, closed_at, is_beyond, is_full, is_next_beyond, later, next_session, raised, opened_by, refusal_in, refusal_of_job, refusal_of_log, refusal_of_outcome, refusal_of_session, refusal_of_step, due_advance, due_step, stepped, with_booked, with_job_taken, with_state};
+ghost use Rattle.vp_world.specs.History.{Explains, asked_at, asked_in, book_refusal, change_of, changed_in, closed_at, granted_to, is_beyond, is_full, is_next_beyond, later, next_session, raised, opened_by, refusal_in, refusal_of_job, refusal_of_log, refusal_of_outcome, refusal_of_session, refusal_of_step, due_advance, due_step, stepped, with_booked, with_job_taken, with_state};
 ghost use Rattle.vp_world.specs.Worlds.{index_of, start};
 
 use crate::answering::{Answer, respond};
-use crate::event::{Request, SessionId};
+use crate::event::{GrantChange, Request, SessionId};
 use crate::fault::WorldError;
 use crate::limits::Limits;
-use crate::session::{OpenSession, place_of};
+use crate::session::{OpenSession, place_of, retire};
 use crate::watching::{mark_asked, notify};
 use std::alloc::Global;
 use std::marker::Model;
+use std::snapshot::Snapshot;
 use std::sync::Arc;
 use vp_expr::Checked;
 use vp_policy::{Policy, UserId};
@@ -32,10 +34,10 @@ pub struct Present {
     alloc: Global,
     run: Recording,
     book: Book,
-    /// The policy with which it opened.
-    first_policy: Arc<Policy>,
+    /// The policy with which it opened, as contracts see it: it takes no memory.
+    opening_policy: Snapshot<Policy>,
     /// The policy in force.
-    policy: Arc<Policy>,
+    policy: Policy,
     limits: Limits,
     /// Those that are open, in the order in which they were opened.
     sessions: Vec<OpenSession>,
@@ -48,18 +50,19 @@ pub struct Present {
 }
 
 impl Model for Present {
-    ghost use Rattle.std.specs.Arc.{arc_value};
     ghost use Rattle.std.specs.Prelude.{◌≡◌, true};
+    ghost use Rattle.vp_policy.specs.PolicyState.{Fits};
     ghost use Rattle.vp_world.specs.Shown.{AreOfDesign, shown};
     ghost use Rattle.vp_world.specs.Marks.{all_marked};
     ghost use Rattle.vp_world.specs.Worlds.{Standing};
 
     ghost Value = { Standing };
 
-    ghost view = { λ w. shown w.run w.book.races (arc_value w.first_policy) (arc_value w.policy) w.limits w.sessions.items w.opens.items w.goal };
+    ghost view = { λ w. shown w.run w.book.races w.opening_policy.value w.policy w.limits w.sessions.items w.opens.items w.goal };
 
     ghost invariant = { λ w. (all_marked w.watched.items w.sessions.items ≡ true)
-        × (w.book.limit ≡ w.limits.book) × AreOfDesign w.run };
+        × (w.book.limit ≡ w.limits.book) × AreOfDesign w.run
+        × Fits w.policy w.run.simulation.design.tree };
 }
 
 /// The later of a goal, if there is one, and a time.
@@ -121,13 +124,14 @@ fn set_count(opens: &mut Vec<u64>, user: UserId, count: u64)
 }
 
 impl Present {
-    /// A world in which nothing has happened; or want of memory (1307). The policy was read for the design.
+    /// A world in which nothing has happened; or want of memory (1307).
     pub fn new(
         alloc: Global,
         checked: Arc<Checked>,
         policy: Policy,
         limits: Limits,
     ) -> Result<Present, WorldError>
+        requires { Fits policy (arc_value checked).tree }
         ensures opening { IfOk result
             (λ world. world.opening ≡ record {
               design = arc_value checked;
@@ -139,8 +143,6 @@ impl Present {
     {
         let opens = vec![in alloc; 0u64; policy.count()]?;
         let watched = vec![in alloc; false; checked.design().count() as usize]?;
-        let first_policy = Arc::new(alloc, policy)?;
-        let policy = Arc::try_clone(&first_policy)?;
         let Ok(run) = Recording::new(alloc, checked) else {
             return Err(WorldError::NoMemory);
         };
@@ -148,7 +150,7 @@ impl Present {
             alloc,
             run,
             book: Book::new(alloc, limits.book),
-            first_policy,
+            opening_policy: Snapshot::of(&policy),
             policy,
             limits,
             sessions: Vec::new(alloc),
@@ -222,7 +224,7 @@ impl Present {
     /// The user whose name and token an opening gives, where it is not refused; else the refusal (1302, 1301, 1304).
     pub fn admit(&self, name: &str, token: &str, full: bool) -> Result<UserId, WorldError>
         ensures user { IfOk result
-            (λ user. login_of self.now.state.policy name.now token.now ≡ Some user.0) }
+            (λ user. login_of self.now.state.policy.members name.now token.now ≡ Some user.0) }
         ensures room { IfOk result
             (λ user. is_full self.now.opening self.now.state user.0 ≡ false) }
         ensures accepted { OnOk result
@@ -252,6 +254,31 @@ impl Present {
         };
         check_log(full)?;
         Ok(place)
+    }
+
+    /// The user whose grant an operator changes, where that is not refused; else the refusal (1310, 1311, 1312, 1304).
+    pub fn grantee(&self, change: &GrantChange, full: bool) -> Result<UserId, WorldError>
+        ensures user { IfOk result
+            (λ user. user_of self.now.state.policy.members change.now.user ≡ Some user.0) }
+        ensures envelope { OnOk result
+            (change.now.envelope ≤ length self.now.state.policy.tree.authors) }
+        ensures accepted { OnOk result
+            (refusal_in self.now full (event.Grant change.now) ≡ None) }
+        ensures refused { IfErr result
+            (λ e. refusal_in self.now full (event.Grant change.now) ≡ Some e) }
+    {
+        if !self.policy.is_operator(change.token.as_str()) {
+            return Err(WorldError::BadOperator);
+        }
+        let Some(grantee) = self.policy.user(change.user.as_str()) else {
+            return Err(WorldError::NoSuchUser);
+        };
+        let envelopes = self.run.simulation().design().envelope_count();
+        if change.envelope > u32::from(envelopes) {
+            return Err(WorldError::NoSuchEnvelope);
+        }
+        check_log(full)?;
+        Ok(grantee)
     }
 
     /// Neither a log that is full or not nor the goal refuses a step; else the refusal (1304, 1305).
@@ -322,6 +349,28 @@ impl Present {
         self.sessions.push(OpenSession { id, session })?;
         set_count(&mut self.opens, user, id.opens);
         Ok(id)
+    }
+
+    /// Makes a user's grant for an envelope exactly what an operator orders: the changed policy is in force, and what the user may
+    /// not watch any more is taken out of his sessions; or want of memory (1307), which leaves the world as it was.
+    pub fn grant(&mut self, user: UserId, change: &GrantChange) -> Result<(), WorldError>
+        requires there { user_of self.old.state.policy.members change.now.user ≡ Some user.0 }
+        requires envelope { change.now.envelope ≤ length self.old.state.policy.tree.authors }
+        ensures after { OnOk result
+            (self.new ≡ with_state self.old (granted_to self.old.state change.now user.0)) }
+        ensures refused { IsOkUnless result world_error.NoMemory }
+        ensures unchanged { OnErr result (self.new ≡ self.old) }
+    {
+        let design = self.run.simulation().design();
+        let access = change.access.rights();
+        let Ok(()) = self
+            .policy
+            .regrant(self.alloc, design, user, change.envelope, access)
+        else {
+            return Err(WorldError::NoMemory);
+        };
+        retire(&mut self.sessions, &self.policy, user);
+        Ok(())
     }
 
     /// Closes the session in a place.

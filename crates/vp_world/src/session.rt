@@ -1,8 +1,9 @@
 ghost use Rattle.std.specs.Prelude.{◌≡◌, ◌<◌, length, map, Some, IfSome};
-ghost use Rattle.vp_world.specs.Shown.{session_shown, told_open};
+ghost use Rattle.vp_world.specs.Shown.{retired_open, session_shown, told_open};
 ghost use Rattle.vp_world.specs.Worlds.{index_of, same_session};
 
 use crate::event::SessionId;
+use vp_policy::{Policy, UserId};
 use vp_vpi::Session;
 use vp_waking::Change;
 
@@ -11,6 +12,17 @@ use vp_waking::Change;
 pub struct OpenSession {
     pub id: SessionId,
     pub session: Session,
+}
+
+impl OpenSession {
+    /// If it is a user's, what he may not watch by a policy is taken out of it. Takes no memory.
+    fn retire(&mut self, policy: &Policy, user: UserId)
+        ensures { self.new ≡ retired_open policy.now user.0 self.old }
+    {
+        if self.session.user().0 == user.0 {
+            self.session.retire(policy);
+        }
+    }
 }
 
 fn is_same(a: SessionId, b: SessionId) -> bool
@@ -38,5 +50,15 @@ pub fn tell(sessions: &mut [OpenSession], change: &Change, time: u64)
 {
     for opened in sessions {
         opened.session.on_changes(Some(change), time);
+    }
+}
+
+/// What a user may not watch by a policy, behind a change of his grants, is taken out of those of these sessions that are his. Takes no
+/// memory.
+pub fn retire(sessions: &mut [OpenSession], policy: &Policy, user: UserId)
+    ensures { sessions.new ≡ map (retired_open policy.now user.0) sessions.old }
+{
+    for opened in sessions {
+        opened.retire(policy, user);
     }
 }

@@ -1,14 +1,15 @@
-ghost use Rattle.std.specs.Prelude.{◌≡◌, [], None, option_copied, IfErr, IfOk, IfSome, IsOkUnless, OnErr, OnOk};
+ghost use Rattle.std.specs.Prelude.{◌≡◌, [], option_copied, IfOk, IfSome, IsOkUnless};
 ghost use Rattle.std.specs.Arc.{arc_value};
 ghost use Rattle.std.specs.List.{All};
+ghost use Rattle.vp_policy.specs.PolicyState.{Fits};
 ghost use Rattle.vp_world.specs.declared.event.Event.TheVariants as event;
 ghost use Rattle.vp_world.specs.declared.fault.WorldError.TheVariants.{NoMemory};
 ghost use Rattle.vp_race.specs.Recording.{kept_of, next_job};
 ghost use Rattle.vp_world.specs.Events.{IsAsked, IsWellFormed};
-ghost use Rattle.vp_world.specs.History.{Explains, IsLegal, IsReached, answered_by, is_log_full, refused_by, state_behind, with_entry};
+ghost use Rattle.vp_world.specs.History.{Applies, IsLegal, IsReached, answered_by, is_log_full, state_behind};
 
 use crate::entry::{Asked, Entry, Happening, Login};
-use crate::event::{Event, Request, SessionId};
+use crate::event::{Event, GrantChange, Request, SessionId};
 use crate::fault::WorldError;
 use crate::limits::Limits;
 use crate::present::Present;
@@ -42,13 +43,14 @@ impl Model for World {
 }
 
 impl World {
-    /// A world in which nothing has happened; or want of memory (1307). The policy was read for the design.
+    /// A world in which nothing has happened; or want of memory (1307).
     pub fn new(
         alloc: Global,
         checked: Arc<Checked>,
         policy: Policy,
         limits: Limits,
     ) -> Result<World, WorldError>
+        requires { Fits policy (arc_value checked).tree }
         ensures world { IfOk result
             (λ world. world ≡ record {
               opening = record {
@@ -84,22 +86,21 @@ impl World {
     }
 
     /// Lets an event happen, answers it, and adds it to the log. An Open is refused by a wrong name or token (1302), too many
-    /// sessions (1301) or a full log (1304); an Ask and a Close by a session that is not open (1303) or a full log; a Step and an
+    /// sessions (1301) or a full log (1304); an Ask and a Close by a session that is not open (1303) or a full log; a Grant by
+    /// another token than the operator's (1310), a user (1311) or an envelope (1312) that is not there, or a full log; a Step and an
     /// Advance by a full log, by a goal that does not reach so far (1305) or by the simulation (1308); a TakeJob by a full log or
     /// where no kept segment is left to be handed out (1306); a Book by a full log or by the book (1309); and each for want of
     /// memory (1307). A refusal leaves the world as it was.
     pub fn apply(&mut self, event: Event) -> Result<Reply, WorldError>
         requires { IsWellFormed self.old.opening.design event }
-        ensures accepted { OnOk result (refused_by self.old event ≡ None) }
+        ensures applied { Applies self.old event result self.new }
         ensures reply { IfOk result (λ reply. reply ≡ answered_by self.old event) }
-        ensures logged { OnOk result (self.new ≡ with_entry self.old event) }
-        ensures refused { IfErr result (λ e. Explains (refused_by self.old event) e) }
-        ensures unchanged { OnErr result (self.new ≡ self.old) }
     {
         match event {
             Event::Open { user, token } => self.apply_open(user, token),
             Event::Ask { session, request } => self.apply_ask(session, request),
             Event::Close { session } => self.apply_close(session),
+            Event::Grant(change) => self.apply_grant(change),
             Event::Step(k) => self.apply_step(k),
             Event::Advance => self.apply_advance(),
             Event::TakeJob => self.apply_job(),
@@ -109,11 +110,8 @@ impl World {
 
     /// The same of a Step.
     fn apply_step(&mut self, k: u32) -> Result<Reply, WorldError>
-        ensures accepted { OnOk result (refused_by self.old (event.Step k) ≡ None) }
+        ensures applied { Applies self.old (event.Step k) result self.new }
         ensures reply { IfOk result (λ reply. reply ≡ answered_by self.old (event.Step k)) }
-        ensures logged { OnOk result (self.new ≡ with_entry self.old (event.Step k)) }
-        ensures refused { IfErr result (λ e. Explains (refused_by self.old (event.Step k)) e) }
-        ensures unchanged { OnErr result (self.new ≡ self.old) }
     {
         self.step(k)?;
         Ok(Reply::Done)
@@ -122,10 +120,7 @@ impl World {
     /// Applies the Step with which the simulation takes the k-th of the events that a step can take, from 0. Its refusals are those
     /// of `apply`; its reply, that it was done, is no one's.
     pub fn step(&mut self, k: u32) -> Result<(), WorldError>
-        ensures accepted { OnOk result (refused_by self.old (event.Step k) ≡ None) }
-        ensures logged { OnOk result (self.new ≡ with_entry self.old (event.Step k)) }
-        ensures refused { IfErr result (λ e. Explains (refused_by self.old (event.Step k)) e) }
-        ensures unchanged { OnErr result (self.new ≡ self.old) }
+        ensures { Applies self.old (event.Step k) result self.new }
     {
         let full = self.is_full();
         self.present.check_goal(full)?;
@@ -145,11 +140,8 @@ impl World {
 
     /// The same of a TakeJob.
     fn apply_job(&mut self) -> Result<Reply, WorldError>
-        ensures accepted { OnOk result (refused_by self.old event.TakeJob ≡ None) }
+        ensures applied { Applies self.old event.TakeJob result self.new }
         ensures reply { IfOk result (λ reply. reply ≡ answered_by self.old event.TakeJob) }
-        ensures logged { OnOk result (self.new ≡ with_entry self.old event.TakeJob) }
-        ensures refused { IfErr result (λ e. Explains (refused_by self.old event.TakeJob) e) }
-        ensures unchanged { OnErr result (self.new ≡ self.old) }
     {
         let full = self.is_full();
         self.present.check_job(full)?;
@@ -168,12 +160,8 @@ impl World {
     /// The same of a Book.
     fn apply_booking(&mut self, finding: Shared<Finding>) -> Result<Reply, WorldError>
         requires { IsWellFormed self.old.opening.design (event.Book finding) }
-        ensures accepted { OnOk result (refused_by self.old (event.Book finding) ≡ None) }
+        ensures applied { Applies self.old (event.Book finding) result self.new }
         ensures reply { IfOk result (λ reply. reply ≡ answered_by self.old (event.Book finding)) }
-        ensures logged { OnOk result (self.new ≡ with_entry self.old (event.Book finding)) }
-        ensures refused { IfErr result
-            (λ e. Explains (refused_by self.old (event.Book finding)) e) }
-        ensures unchanged { OnErr result (self.new ≡ self.old) }
     {
         if self.is_full() {
             return Err(WorldError::LogFull);
@@ -222,11 +210,8 @@ impl World {
 
     /// The same of an Advance.
     fn apply_advance(&mut self) -> Result<Reply, WorldError>
-        ensures accepted { OnOk result (refused_by self.old event.Advance ≡ None) }
+        ensures applied { Applies self.old event.Advance result self.new }
         ensures reply { IfOk result (λ reply. reply ≡ answered_by self.old event.Advance) }
-        ensures logged { OnOk result (self.new ≡ with_entry self.old event.Advance) }
-        ensures refused { IfErr result (λ e. Explains (refused_by self.old event.Advance) e) }
-        ensures unchanged { OnErr result (self.new ≡ self.old) }
     {
         self.advance()?;
         Ok(Reply::Done)
@@ -235,10 +220,7 @@ impl World {
     /// Applies the Advance with which the simulation goes on to the time of the next event. Its refusals are those of `apply`; its
     /// reply, that it was done, is no one's.
     pub fn advance(&mut self) -> Result<(), WorldError>
-        ensures accepted { OnOk result (refused_by self.old event.Advance ≡ None) }
-        ensures logged { OnOk result (self.new ≡ with_entry self.old event.Advance) }
-        ensures refused { IfErr result (λ e. Explains (refused_by self.old event.Advance) e) }
-        ensures unchanged { OnErr result (self.new ≡ self.old) }
+        ensures { Applies self.old event.Advance result self.new }
     {
         let full = self.is_full();
         self.present.check_next_goal(full)?;
@@ -257,13 +239,9 @@ impl World {
 
     /// The same of an Open.
     fn apply_open(&mut self, user: Text, token: Text) -> Result<Reply, WorldError>
-        ensures accepted { OnOk result (refused_by self.old (event.Open user token) ≡ None) }
+        ensures applied { Applies self.old (event.Open user token) result self.new }
         ensures reply { IfOk result
             (λ reply. reply ≡ answered_by self.old (event.Open user token)) }
-        ensures logged { OnOk result (self.new ≡ with_entry self.old (event.Open user token)) }
-        ensures refused { IfErr result
-            (λ e. Explains (refused_by self.old (event.Open user token)) e) }
-        ensures unchanged { OnErr result (self.new ≡ self.old) }
     {
         let full = self.is_full();
         let number = self.present.admit(user.as_str(), token.as_str(), full)?;
@@ -281,13 +259,9 @@ impl World {
     /// The same of an Ask.
     fn apply_ask(&mut self, session: SessionId, request: Request) -> Result<Reply, WorldError>
         requires { IsAsked request }
-        ensures accepted { OnOk result (refused_by self.old (event.Ask session request) ≡ None) }
+        ensures applied { Applies self.old (event.Ask session request) result self.new }
         ensures reply { IfOk result
             (λ reply. reply ≡ answered_by self.old (event.Ask session request)) }
-        ensures logged { OnOk result (self.new ≡ with_entry self.old (event.Ask session request)) }
-        ensures refused { IfErr result
-            (λ e. Explains (refused_by self.old (event.Ask session request)) e) }
-        ensures unchanged { OnErr result (self.new ≡ self.old) }
     {
         let full = self.is_full();
         let place = self.present.place(session, full)?;
@@ -305,12 +279,8 @@ impl World {
 
     /// The same of a Close.
     fn apply_close(&mut self, session: SessionId) -> Result<Reply, WorldError>
-        ensures accepted { OnOk result (refused_by self.old (event.Close session) ≡ None) }
+        ensures applied { Applies self.old (event.Close session) result self.new }
         ensures reply { IfOk result (λ reply. reply ≡ answered_by self.old (event.Close session)) }
-        ensures logged { OnOk result (self.new ≡ with_entry self.old (event.Close session)) }
-        ensures refused { IfErr result
-            (λ e. Explains (refused_by self.old (event.Close session)) e) }
-        ensures unchanged { OnErr result (self.new ≡ self.old) }
     {
         let full = self.is_full();
         let place = self.present.place(session, full)?;
@@ -318,6 +288,24 @@ impl World {
         self.present.close(place);
         self.log.push_reserved(Entry {
             happening: Happening::Close { session },
+            time: self.present.time(),
+            finished: self.present.finished(),
+        });
+        Ok(Reply::Done)
+    }
+
+    /// The same of a Grant.
+    fn apply_grant(&mut self, change: GrantChange) -> Result<Reply, WorldError>
+        ensures applied { Applies self.old (event.Grant change) result self.new }
+        ensures reply { IfOk result (λ reply. reply ≡ answered_by self.old (event.Grant change)) }
+    {
+        let full = self.is_full();
+        let user = self.present.grantee(&change, full)?;
+        self.log.reserve(1)?;
+        let change = Arc::new(self.alloc, change)?;
+        self.present.grant(user, &change)?;
+        self.log.push_reserved(Entry {
+            happening: Happening::Grant { change },
             time: self.present.time(),
             finished: self.present.finished(),
         });

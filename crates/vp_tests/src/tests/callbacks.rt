@@ -1,60 +1,10 @@
 //! Two sessions of one world, each told of the changes that the other makes.
-ghost use Rattle.vp_world.specs.Events.{IsAsked};
-
+use crate::tests::sessions::{ask, find, open, put, world_of};
 use std::alloc::Global;
-use vp_list::Text;
-use vp_policy::{Policy, UserId, read_policy};
-use vp_samples::shared_of;
-use vp_vpi::PutValue;
-use vp_world::{Event, Limits, Reply, Request, SessionId, World};
+use vp_world::{Reply, Request, World};
 
 /// A module with one reg.
 const DESIGN: &str = "module top; reg a; endmodule";
-
-/// A policy with one user, who may watch and put.
-const POLICY: &[u8] = b"{\"users\":[{\"name\":\"ann\",\"token\":\"t1\",\"open\":\"watch+put\"}]}";
-
-/// A world of the design in which nothing has happened.
-fn empty_world(alloc: Global) -> Option<World> {
-    let checked = shared_of(alloc, DESIGN)?;
-    let policy: Policy = read_policy(alloc, POLICY, checked.design()).ok()?;
-    let limits = Limits {
-        log: 100,
-        book: 100,
-        sessions: 2,
-    };
-    World::new(alloc, checked, policy, limits).ok()
-}
-
-/// Ann opens a session.
-fn open(alloc: Global, world: &mut World) -> Option<Reply> {
-    let user = Text::copy(alloc, "ann").ok()?;
-    let token = Text::copy(alloc, "t1").ok()?;
-    world.apply(Event::Open { user, token }).ok()
-}
-
-/// What the how-many-th session of Ann is answered to a request.
-fn ask(world: &mut World, opens: u64, request: Request) -> Option<Reply>
-    requires { IsAsked request }
-{
-    let session = SessionId {
-        user: UserId(0),
-        opens,
-    };
-    world.apply(Event::Ask { session, request }).ok()
-}
-
-/// A session's handle of the reg.
-fn find(alloc: Global, world: &mut World, opens: u64) -> Option<Reply> {
-    let name = Text::copy(alloc, "top.a").ok()?;
-    ask(world, opens, Request::Handle { name, scope: None })
-}
-
-/// A session's put on the reg.
-fn put(alloc: Global, world: &mut World, opens: u64, digits: &str) -> Option<Reply> {
-    let value = PutValue::Digits(Text::copy(alloc, digits).ok()?);
-    ask(world, opens, Request::Put { handle: 1, value })
-}
 
 /// How many notices a session is told.
 fn told(world: &mut World, opens: u64) -> Option<usize> {
@@ -66,7 +16,7 @@ fn told(world: &mut World, opens: u64) -> Option<usize> {
 
 /// A world with two sessions, each with a handle of the reg, of which the first watches it.
 fn watched_world(alloc: Global) -> Option<World> {
-    let mut world = empty_world(alloc)?;
+    let mut world = world_of(alloc, DESIGN)?;
     open(alloc, &mut world)?;
     open(alloc, &mut world)?;
     find(alloc, &mut world, 1)?;

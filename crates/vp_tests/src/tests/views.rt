@@ -1,4 +1,5 @@
 //! What a user sees of a design.
+ghost use Rattle.vp_policy.specs.PolicyState.{Fits};
 
 use crate::tests::building::policy_for;
 use std::alloc::Global;
@@ -19,7 +20,9 @@ endmodule
 ";
 
 /// What Ann sees of a design under a policy.
-fn view_under(alloc: Global, policy: &Policy, design: &Design) -> Option<View> {
+fn view_under(alloc: Global, policy: &Policy, design: &Design) -> Option<View>
+    requires { Fits policy.now design.now.tree }
+{
     policy.view(alloc, design, UserId(0)).ok()
 }
 

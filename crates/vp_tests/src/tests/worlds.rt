@@ -28,25 +28,14 @@ const ANN: SessionId = SessionId {
     opens: 1,
 };
 
-/// The policy, read.
-fn policy(alloc: Global) -> Option<Policy> {
-    let checked = shared_of(alloc, DESIGN)?;
-    policy_for(alloc, checked.design())
-}
-
-/// The envelopes of a scope of a design that are closed to Ann under a policy.
-fn closed_under(
-    alloc: Global,
-    policy: &Policy,
-    design: &Design,
-    scope: Option<ObjectId>,
-) -> Option<Sequence<u8>> {
-    policy.closed(alloc, design, UserId(0), scope).ok()
+/// The envelopes of a scope that are closed to Ann under a policy.
+fn closed_under(alloc: Global, policy: &Policy, scope: Option<ObjectId>) -> Option<Sequence<u8>> {
+    policy.closed(alloc, UserId(0), scope).ok()
 }
 
 /// The envelopes of a scope of a design that are closed to Ann.
 fn closed_in(alloc: Global, design: &Design, scope: Option<ObjectId>) -> Option<Sequence<u8>> {
-    closed_under(alloc, &policy_for(alloc, design)?, design, scope)
+    closed_under(alloc, &policy_for(alloc, design)?, scope)
 }
 
 /// The envelopes of a scope of the design that are closed to Ann.
@@ -144,7 +133,8 @@ fn outcomes(alloc: Global, world: &mut World, deeds: &[Deed]) -> Option<Vec<u64>
 /// A world of the design and the policy, with these limits.
 fn world(alloc: Global, limits: Limits) -> Option<World> {
     let checked = shared_of(alloc, DESIGN)?;
-    World::new(alloc, checked, policy(alloc)?, limits).ok()
+    let policy = policy_for(alloc, checked.design())?;
+    World::new(alloc, checked, policy, limits).ok()
 }
 
 /// What comes of deeds in a world, and how long its log is then.

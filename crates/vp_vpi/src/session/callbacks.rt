@@ -1,10 +1,11 @@
 // A session's callbacks on changes of values (IEEE Std 1364-2005, 27.33 and 27.34).
 ghost use Rattle.std.specs.Prelude.{◌≡◌, ◌+◌, false, true, option_copied, option_map, IfErr, IfOk, IsOk, IsOkAnd, IsOkUnless, OnErr, OnOk, ◌↔◌};
+ghost use Rattle.vp_policy.specs.PolicyState.{Fits};
 ghost use Rattle.vp_policy.specs.Users.{member_at};
 ghost use Rattle.vp_notify.specs.Registry as registry;
 ghost use Rattle.vp_vpi.specs.Calls.{Explains, Refuses, is_watchable, watchable_of, watched_of};
-ghost use Rattle.vp_vpi.specs.Observers.{observer_of};
-ghost use Rattle.vp_vpi.specs.Seats.{drained, object_of, polled, with_callback, with_due, without_callback};
+ghost use Rattle.vp_vpi.specs.Observers.{is_watch_denied, observer_of};
+ghost use Rattle.vp_vpi.specs.Seats.{drained, object_of, polled, retired, with_callback, with_due, without_callback};
 
 use super::Session;
 use crate::fault::VpiError;
@@ -30,11 +31,13 @@ impl Session {
     /// The object of a handle, whose changes the user may watch. Refused where the number is no handle (1101), the user lacks the right
     /// to watch (1109), or the object is no net or reg (1102), or for want of memory (1107).
     fn watchable(&self, policy: &Policy, sim: &Sim, handle: u32) -> Result<ObjectId, VpiError>
+        requires { Fits policy.now sim.now.design.tree }
         ensures ok { IfOk result
-            (λ o. watchable_of (observer_of sim.now (member_at policy.now self.now.user))
+            (λ o. watchable_of (observer_of sim.now (member_at policy.now.members self.now.user))
             (object_of self.now.handles handle) ≡ Ok o.0) }
         ensures refused { IfErr result
-            (λ e. Refuses (watchable_of (observer_of sim.now (member_at policy.now self.now.user))
+            (λ e. Refuses (watchable_of
+            (observer_of sim.now (member_at policy.now.members self.now.user))
             (object_of self.now.handles handle)) e) }
     {
         let object = self.allowed(policy, sim, handle, Right::Watch)?;
@@ -49,13 +52,15 @@ impl Session {
     /// lacks the right to watch (1109), the object is no net or reg (1102), with too many callbacks (1001), or for want of memory (1107).
     /// A refusal leaves the session as it was.
     pub fn register_cb(&mut self, policy: &Policy, sim: &Sim, handle: u32) -> Result<u32, VpiError>
+        requires { Fits policy.now sim.now.design.tree }
         ensures number { IfOk result (λ n. n ≡ self.old.registry.given + 1) }
         ensures registered { OnOk result
-            (IsOkAnd (watched_of (observer_of sim.now (member_at policy.now self.old.user))
+            (IsOkAnd (watched_of (observer_of sim.now (member_at policy.now.members self.old.user))
             self.old.registry (object_of self.old.handles handle))
             (λ o. self.new ≡ with_callback o self.old)) }
         ensures refused { IfErr result
-            (λ e. Explains (watched_of (observer_of sim.now (member_at policy.now self.old.user))
+            (λ e. Explains (watched_of
+            (observer_of sim.now (member_at policy.now.members self.old.user))
             self.old.registry (object_of self.old.handles handle)) e) }
         ensures unchanged { OnErr result (self.new ≡ self.old) }
     {
@@ -80,6 +85,15 @@ impl Session {
         ensures { result.now ≡ self.now.registry.callbacks }
     {
         self.registry.callbacks()
+    }
+
+    /// Takes out its callbacks on objects that its user may not watch by a policy, and the notices of these objects that wait (docs/POLICY.md,
+    /// "Grants that change"). Takes no memory.
+    pub fn retire(&mut self, policy: &Policy)
+        ensures { self.new ≡ retired (is_watch_denied policy.now.tree
+            (member_at policy.now.members self.old.user)) self.old }
+    {
+        self.registry.retire(policy.row(self.user));
     }
 
     /// Some callback of it is on an object.

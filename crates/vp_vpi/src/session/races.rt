@@ -1,5 +1,6 @@
 // The races that a session is told.
 ghost use Rattle.std.specs.Prelude.{◌≡◌, Ok, filter, option_copied, IfErr, IfOk, IsOkUnless};
+ghost use Rattle.vp_policy.specs.PolicyState.{Fits};
 ghost use Rattle.vp_policy.specs.Users.{member_at};
 ghost use Rattle.vp_vpi.specs.Calls.{Explains, line_of, lines_of, race_of, shown_at};
 ghost use Rattle.vp_vpi.specs.Races.{is_shown, observer_with, race_seen, step_name, steps_seen};
@@ -41,15 +42,13 @@ impl Session {
         design: &Design,
         sources: &[ObjectId],
     ) -> Result<Sequence<Text>, AllocError>
-        ensures { IfOk result (λ names. names
-            ≡ steps_seen design.now.tree (member_at policy.now self.now.user) sources.now) }
+        requires { Fits policy.now design.now.tree }
+        ensures { let member = member_at policy.now.members self.now.user in
+            IfOk result (λ names. names ≡ steps_seen design.now.tree member sources.now) }
     {
         let mut names = Vec::new(self.alloc);
         for object in sources {
-            if policy
-                .lacking(design, self.user, *object, Right::List)
-                .is_none()
-            {
+            if !policy.is_denied(self.user, *object, Right::List) {
                 names.push(self.step_name(design, *object)?)?;
             }
         }
@@ -57,12 +56,11 @@ impl Session {
     }
 
     /// The user is shown a race: he has the race right on its object.
-    fn is_shown(&self, policy: &Policy, design: &Design, finding: &Finding) -> bool
-        ensures { result ≡ is_shown design.now.tree (member_at policy.now self.now.user) finding.now }
+    fn is_shown(&self, policy: &Policy, finding: &Finding) -> bool
+        ensures { result
+            ≡ is_shown policy.now.tree (member_at policy.now.members self.now.user) finding.now }
     {
-        policy
-            .lacking(design, self.user, finding.object(), Right::Race)
-            .is_none()
+        !policy.is_denied(self.user, finding.object(), Right::Race)
     }
 
     /// A race in the user's list, by its number there; or want of memory.
@@ -73,8 +71,9 @@ impl Session {
         finding: &Finding,
         number: u64,
     ) -> Result<RaceLine, AllocError>
-        ensures { IfOk result (λ line. line
-            ≡ line_of number (race_seen design.now.tree (member_at policy.now self.now.user) finding.now)) }
+        ensures { let member = member_at policy.now.members self.now.user in
+            IfOk result (λ line. line
+            ≡ line_of number (race_seen design.now.tree member finding.now)) }
     {
         let name = design.full_name(self.alloc, finding.object())?;
         Ok(RaceLine {
@@ -94,7 +93,8 @@ impl Session {
         book: &Book,
         from: u64,
     ) -> Result<Shared<Sequence<RaceLine>>, VpiError>
-        ensures lines { let member = member_at policy.now self.now.user in
+        requires { Fits policy.now sim.now.design.tree }
+        ensures lines { let member = member_at policy.now.members self.now.user in
             IfOk result (λ lines. lines
             ≡ lines_of (observer_with sim.now member book.now.races) from) }
         ensures refused { IsOkUnless result VpiError.NoMemory }
@@ -106,7 +106,7 @@ impl Session {
             if lines.len() >= RACE_LIMIT {
                 break;
             }
-            if self.is_shown(policy, sim.design(), finding) {
+            if self.is_shown(policy, finding) {
                 number += 1;
                 if number >= from {
                     lines.push(self.race_line(policy, sim.design(), finding, number)?)?;
@@ -117,21 +117,15 @@ impl Session {
     }
 
     /// The finding of the race of a number among those that the user is shown, if there is one.
-    fn finding_at<'a>(
-        &self,
-        policy: &Policy,
-        design: &Design,
-        book: &'a Book,
-        number: u64,
-    ) -> Option<&'a Finding>
-        ensures { option_copied result ≡ shown_at
-            (filter (is_shown design.now.tree (member_at policy.now self.now.user)) book.now.races)
-            number }
+    fn finding_at<'a>(&self, policy: &Policy, book: &'a Book, number: u64) -> Option<&'a Finding>
+        ensures { let member = member_at policy.now.members self.now.user in
+            option_copied result
+            ≡ shown_at (filter (is_shown policy.now.tree member) book.now.races) number }
     {
         let mut before = number.checked_sub(1)?;
         for finding in book.races() {
             let finding = finding.value();
-            if self.is_shown(policy, design, finding) {
+            if self.is_shown(policy, finding) {
                 if before == 0 {
                     return Some(finding);
                 }
@@ -150,15 +144,16 @@ impl Session {
         book: &Book,
         number: u64,
     ) -> Result<Shared<RaceTold>, VpiError>
-        ensures race { let member = member_at policy.now self.now.user in
+        requires { Fits policy.now sim.now.design.tree }
+        ensures race { let member = member_at policy.now.members self.now.user in
             IfOk result (λ race.
             race_of (observer_with sim.now member book.now.races) number ≡ Ok race) }
-        ensures refused { let member = member_at policy.now self.now.user in
+        ensures refused { let member = member_at policy.now.members self.now.user in
             IfErr result (λ e.
             Explains (race_of (observer_with sim.now member book.now.races) number) e) }
     {
         let design = sim.design();
-        let Some(finding) = self.finding_at(policy, design, book, number) else {
+        let Some(finding) = self.finding_at(policy, book, number) else {
             return Err(VpiError::NoSuchRace);
         };
         let told = RaceTold {

@@ -1,10 +1,9 @@
-use Rattle.std.proofs.Common.{◌≡◌, ◌∙◌, ℕ, List, Err, Ok, ap, length, subst, sym, IfErr, IfOk}
+use Rattle.std.proofs.Common.{◌≡◌, ℕ, Err, Ok, ap, length, subst, sym, IfErr, IfOk}
 use Rattle.std.specs.Prelude.{Result}
 use Rattle.serde_json.specs.View.{view}
 use Rattle.vp_policy.specs.declared.fault.PolicyError.{PolicyError}
 use Rattle.vp_policy.specs.Faults.{Explains}
-use Rattle.vp_policy.specs.File.{policy_of}
-use Rattle.vp_policy.specs.Users.{Member}
+use Rattle.vp_policy.specs.File.{PolicyFile, file_in}
 use Rattle.vp_policy.proofs.Files.{file_of_json, file_of_other}
 use Rattle.vp_policy.proofs.reading.read_policy.Goals as goal
 
@@ -12,17 +11,15 @@ pub returns-in-Ok-clause-ok : goal.returns-in-Ok-clause-ok
 returns-in-Ok-clause-ok c =
     let envelopes : ℕ = length c.args.design.now.tree.authors in
     let read = c.in-Ok.ensures {u = tt} in
-    subst (λ (due : Result (List Member) PolicyError). IfOk c.policy_of.result (λ policy. due ≡ Ok policy))
-    (ap (λ (n : ℕ). policy_of n (view c.in-Ok.file)) c.envelope_count.ensures
-    ∙ sym (file_of_json envelopes c.args.bytes.now (view c.in-Ok.file) read.utf8 read.value)) c.policy_of.ensures.ok
+    subst (λ (due : Result PolicyFile PolicyError). IfOk c.policy_of.result (λ policy. due ≡ Ok (file_in policy)))
+    (sym (file_of_json envelopes c.args.bytes.now (view c.in-Ok.file) read.utf8 read.value)) c.policy_of.ensures.ok
 
 pub returns-in-Ok-clause-refused : goal.returns-in-Ok-clause-refused
 returns-in-Ok-clause-refused c =
     let envelopes : ℕ = length c.args.design.now.tree.authors in
     let read = c.in-Ok.ensures {u = tt} in
-    subst (λ (due : Result (List Member) PolicyError). IfErr c.policy_of.result (λ e. Explains due e))
-    (ap (λ (n : ℕ). policy_of n (view c.in-Ok.file)) c.envelope_count.ensures
-    ∙ sym (file_of_json envelopes c.args.bytes.now (view c.in-Ok.file) read.utf8 read.value)) c.policy_of.ensures.refused
+    subst (λ (due : Result PolicyFile PolicyError). IfErr c.policy_of.result (λ e. Explains due e))
+    (sym (file_of_json envelopes c.args.bytes.now (view c.in-Ok.file) read.utf8 read.value)) c.policy_of.ensures.refused
 
 pub returns-in-Err-NotJson-clause-refused : goal.returns-in-Err-NotJson-clause-refused
 returns-in-Err-NotJson-clause-refused c =

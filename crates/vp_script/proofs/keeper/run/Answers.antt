@@ -1,4 +1,4 @@
-use Rattle.std.proofs.Common.{rules, ◌≡◌, [], ℕ, Bool, false, None, subst, sym, true}
+use Rattle.std.proofs.Common.{rules, ◌≡◌, [], ℕ, Bool, false, subst, sym, true}
 use Rattle.std.specs.Prelude.{is_err, is_none}
 use Rattle.vp_world.specs.declared.event.Event.TheVariants as event
 use Rattle.vp_world.specs.History.{refused_by}

@@ -14,6 +14,6 @@ returns-in-Err-clause-given c = λ races.
     let run = c.args.run.now in
     let policy = c.args.policy.now in
     let due = handle_of (eyes_in races run policy seat.user) seat.handles c.args.scope c.args.name.now in
-    let told = subst (λ (s : sim.State). Explains (handle_of (observer_of s (member_at policy seat.user)) seat.handles c.args.scope c.args.name.now) c.in-Err.error) c.simulation.ensures c.in-Err.ensures.refused in
+    let told = subst (λ (s : sim.State). Explains (handle_of (observer_of s (member_at policy.members seat.user)) seat.handles c.args.scope c.args.name.now) c.in-Err.error) c.simulation.ensures c.in-Err.ensures.refused in
     refusal_gives run seat c.handle_by_name.new.self (made seat) due c.in-Err.error c.refusal.result
     c.in-Err.ensures.unchanged told c.refusal.ensures.answer c.refusal.ensures.reason

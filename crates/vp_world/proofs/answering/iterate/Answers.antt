@@ -14,7 +14,7 @@ returns-in-Ok-clause-given c = λ races.
     let run = c.args.run.now in
     let policy = c.args.policy.now in
     let due = iterated (eyes_in races run policy seat.user) seat.handles c.args.kind c.args.scope in
-    let is = subst (λ (s : sim.State). iterated (observer_of s (member_at policy seat.user)) seat.handles c.args.kind c.args.scope ≡ Ok c.in-Ok.found) c.simulation.ensures c.in-Ok.ensures.ok in
+    let is = subst (λ (s : sim.State). iterated (observer_of s (member_at policy.members seat.user)) seat.handles c.args.kind c.args.scope ≡ Ok c.in-Ok.found) c.simulation.ensures c.in-Ok.ensures.ok in
     iteration_gives run seat c.scan.new.session due c.in-Ok.found c.scan.result is c.scan.ensures.answer c.scan.ensures.made
 
 pub returns-in-Err-clause-given : goal.returns-in-Err-clause-given
@@ -23,5 +23,5 @@ returns-in-Err-clause-given c = λ races.
     let run = c.args.run.now in
     let policy = c.args.policy.now in
     let due = iterated (eyes_in races run policy seat.user) seat.handles c.args.kind c.args.scope in
-    let told = subst (λ (s : sim.State). ExplainsIteration (iterated (observer_of s (member_at policy seat.user)) seat.handles c.args.kind c.args.scope) c.in-Err.error) c.simulation.ensures c.in-Err.ensures.refused in
+    let told = subst (λ (s : sim.State). ExplainsIteration (iterated (observer_of s (member_at policy.members seat.user)) seat.handles c.args.kind c.args.scope) c.in-Err.error) c.simulation.ensures c.in-Err.ensures.refused in
     iteration_refused_gives run seat seat (scanned seat) due c.in-Err.error c.refusal.result refl told c.refusal.ensures.answer c.refusal.ensures.reason

@@ -16,5 +16,5 @@ returns-in-Err-clause-given c = λ races.
     let policy = c.args.policy.now in
     let there = object_of seat.handles c.args.handle in
     let due = put_of (eyes_in races run policy seat.user) c.args.value.now there in
-    let told = subst (λ (s : sim.State). Refuses (put_of (observer_of s (member_at policy seat.user)) c.args.value.now there) c.in-Err.error) c.simulation.ensures c.in-Err.ensures.refused in
+    let told = subst (λ (s : sim.State). Refuses (put_of (observer_of s (member_at policy.members seat.user)) c.args.value.now there) c.in-Err.error) c.simulation.ensures c.in-Err.ensures.refused in
     refused_gives run seat seat (putting seat) due c.in-Err.error c.refusal.result refl told c.refusal.ensures.answer c.refusal.ensures.reason

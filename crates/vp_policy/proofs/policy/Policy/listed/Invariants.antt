@@ -7,4 +7,4 @@ use Rattle.vp_policy.proofs.policy.Policy.listed.Given as goal
 abbrev pub invariant-loop-object : goal.invariant-loop-object
 invariant-loop-object l =
     map (λ (o : ObjectId). o.0) l.ids.items
-    ≡ filter (is_listed_at l.design.tree (member_at l.self l.user.0)) (map (λ (o : ObjectId). o.0) (take l.object-index l.object-items))
+    ≡ filter (is_listed_at l.design.tree (member_at l.self.members l.user.0)) (map (λ (o : ObjectId). o.0) (take l.object-index l.object-items))

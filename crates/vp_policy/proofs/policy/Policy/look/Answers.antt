@@ -12,7 +12,7 @@ use Rattle.vp_policy.proofs.policy.Policy.look.Goals as goal
 pub loop-object-preserved : goal.loop-object-preserved
 loop-object-preserved c =
     let tree = c.args.design.now.tree in
-    let user : Member = member_at c.args.self.now c.args.user.0 in
+    let user : Member = member_at c.args.self.now.members c.args.user.0 in
     let scope : Option ℕ = option_map (λ (o : ObjectId). o.0) c.loop-object.scope in
     let part : List ℕ = c.first_part.result.0.now in
     record {
@@ -25,14 +25,14 @@ loop-object-preserved c =
 
 pub returns-in_default-clause-alike : goal.returns-in_default-clause-alike
 returns-in_default-clause-alike c =
-    let user : Member = member_at c.args.self.now c.args.user.0 in
+    let user : Member = member_at c.args.self.now.members c.args.user.0 in
     let scope : Option ℕ = option_map (λ (o : ObjectId). o.0) c.args.scope in
     let is : c.unlisted.result ≡ look_in c.args.design.now.tree user scope (parts 46 c.args.name.now) = search rules in
     looks_alike c.args.design.now.tree user scope (parts 46 c.args.name.now) c.unlisted.result is
 
 pub returns-in-None-clause-alike : goal.returns-in-None-clause-alike
 returns-in-None-clause-alike c =
-    let user : Member = member_at c.args.self.now c.args.user.0 in
+    let user : Member = member_at c.args.self.now.members c.args.user.0 in
     let scope : Option ℕ = option_map (λ (o : ObjectId). o.0) c.args.scope in
     let is : look.Found c.in-Some.object ≡ look_in c.args.design.now.tree user scope (parts 46 c.args.name.now) = search rules in
     looks_alike c.args.design.now.tree user scope (parts 46 c.args.name.now) (look.Found c.in-Some.object) is

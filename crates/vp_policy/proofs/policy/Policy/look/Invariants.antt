@@ -10,8 +10,8 @@ abbrev pub invariant-loop-object : goal.invariant-loop-object
 invariant-loop-object l = record {
   text : IsUtf8 l.rest;
   left :
-      look_in l.design.tree (member_at l.self l.user.0) (option_map (λ o. o.0) l.scope) (parts 46 l.rest)
-      ≡ look_in l.design.tree (member_at l.self l.user.0) (option_map (λ o. o.0) l.fn.scope) (parts 46 l.name);
+      look_in l.design.tree (member_at l.self.members l.user.0) (option_map (λ o. o.0) l.scope) (parts 46 l.rest)
+      ≡ look_in l.design.tree (member_at l.self.members l.user.0) (option_map (λ o. o.0) l.fn.scope) (parts 46 l.name);
 }
 
 abbrev pub decreases-loop-object : goal.decreases-loop-object

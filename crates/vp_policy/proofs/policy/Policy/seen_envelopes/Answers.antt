@@ -7,7 +7,7 @@ use Rattle.vp_policy.proofs.policy.Policy.seen_envelopes.Goals as goal
 
 pub loop-before-preserved : goal.loop-before-preserved
 loop-before-preserved c =
-    let user : Member = member_at c.args.self.now c.args.user.0 in
+    let user : Member = member_at c.args.self.now.members c.args.user.0 in
     let seen = c.loop-before.envelopes.items in
     let author = c.in_ok-shared_author.field-0 in
     let granted = c.has_entry.result in

@@ -8,5 +8,5 @@ use Rattle.vp_vpi.proofs.session.Session.finding_at.Given as goal
 -- the race of the number, counted among what is left
 abbrev pub invariant-loop-finding : goal.invariant-loop-finding
 invariant-loop-finding l =
-    shown_at (filter (is_shown l.design.tree (member_at l.policy l.self.user)) l.book.races) l.fn.number
-    ≡ slice_get (filter (is_shown l.design.tree (member_at l.policy l.self.user)) (drop l.finding-index l.book.races)) l.before
+    shown_at (filter (is_shown l.policy.tree (member_at l.policy.members l.self.user)) l.book.races) l.fn.number
+    ≡ slice_get (filter (is_shown l.policy.tree (member_at l.policy.members l.self.user)) (drop l.finding-index l.book.races)) l.before

@@ -10,7 +10,7 @@ use Rattle.vp_vpi.proofs.session.Session.races.Goals.{else-loop-finding-test, th
 pub returns-clause-lines : goal.returns-clause-lines
 returns-clause-lines c =
     let tree = c.args.sim.now.design.tree in
-    let u = member_at c.args.policy.now c.args.self.now.user in
+    let u = member_at c.args.policy.now.members c.args.self.now.user in
     let races = c.args.book.now.races in
     let from = c.args.from in
     let number = c.loop-finding.number in

@@ -8,8 +8,8 @@ use Rattle.vp_vpi.proofs.session.Session.races.Given as goal
 abbrev pub invariant-loop-finding : goal.invariant-loop-finding
 invariant-loop-finding l = record {
   told :
-      told_from l.from 0 (races_seen l.sim.design.tree (member_at l.policy l.self.user) l.book.races)
-      ≡ l.lines.items ++ told_from l.from l.number (races_seen l.sim.design.tree (member_at l.policy l.self.user) (drop l.finding-index l.book.races));
+      told_from l.from 0 (races_seen l.sim.design.tree (member_at l.policy.members l.self.user) l.book.races)
+      ≡ l.lines.items ++ told_from l.from l.number (races_seen l.sim.design.tree (member_at l.policy.members l.self.user) (drop l.finding-index l.book.races));
   few : length l.lines.items ≤ 100;
   number : l.number ≤ l.finding-index;
 }

@@ -6,4 +6,4 @@ use Rattle.vp_vpi.proofs.session.Session.steps_seen.Given as goal
 -- the names so far, and those of what is left
 abbrev pub invariant-loop-object : goal.invariant-loop-object
 invariant-loop-object l =
-    steps_seen l.design.tree (member_at l.policy l.self.user) l.sources ≡ l.names.items ++ steps_seen l.design.tree (member_at l.policy l.self.user) (drop l.object-index l.sources)
+    steps_seen l.design.tree (member_at l.policy.members l.self.user) l.sources ≡ l.names.items ++ steps_seen l.design.tree (member_at l.policy.members l.self.user) (drop l.object-index l.sources)

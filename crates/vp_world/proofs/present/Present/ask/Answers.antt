@@ -1,5 +1,4 @@
 use Rattle.std.proofs.Common.{◌≡◌, ◌∙◌, ap, map, rules, slice_set}
-use Rattle.std.specs.Arc.{arc_value}
 use Rattle.std.specs.Vec.{with_item}
 use Rattle.std.proofs.lemmas.List.{with_items_is}
 use Rattle.vp_sim.specs.States as sim
@@ -7,8 +6,8 @@ use Rattle.vp_world.specs.Given.{eyes_in, races_in}
 use Rattle.vp_world.specs.History.{noticed}
 use Rattle.vp_world.specs.Marks.{all_marked}
 use Rattle.vp_world.specs.Shown.{session_shown, shown}
-use Rattle.vp_world.proofs.Asking.{changed_given, due_of, gives_by, kept_given, seated, state_given, told_given, within_shown}
-use Rattle.vp_world.proofs.Designs.{put_leaves}
+use Rattle.vp_world.proofs.Asking.{changed_given, due_of, kept_given, seated, state_given, told_given, within_shown}
+use Rattle.vp_world.proofs.Designs.{fits_put, put_leaves}
 use Rattle.vp_world.proofs.Marks.{all_marked_more, marked_at, marked_set}
 use Rattle.vp_world.proofs.present.Present.ask.Goals as goal
 
@@ -19,34 +18,34 @@ notify-requires c =
     let session = c.index_mut.result.now in
     let new = c.respond.new.session in
     let marks = c.mark_asked.new.watched.items in
-    let within = within_shown inside.run inside.book.races (arc_value inside.first_policy) (arc_value inside.policy) inside.limits sessions inside.opens.items inside.goal c.args.place c.args.self.now c.self.view_is c.requires.within in
+    let within = within_shown inside.run inside.book.races inside.opening_policy.value inside.policy inside.limits sessions inside.opens.items inside.goal c.args.place c.args.self.now c.self.view_is c.requires.within in
     let own = marked_at inside.watched.items sessions c.args.place session within c.index_mut.ensures.value c.self.invariant.0 in
     let answered = (c.in_ok-answer.ensures {u = tt}).given in
     ap (all_marked marks) c.deref_mut.ensures.value
     ∙ marked_set marks sessions c.args.place (seated session new)
     (all_marked_more inside.watched.items marks sessions c.mark_asked.ensures.grown c.self.invariant.0)
-    (c.mark_asked.ensures.marked (eyes_in (races_in inside.run inside.book c.deref.result.now session.session.user) inside.run c.deref.result.now session.session.user) session.session answered.seat own)
+    (c.mark_asked.ensures.marked (eyes_in (races_in inside.run inside.book inside.policy session.session.user) inside.run inside.policy session.session.user) session.session answered.seat own)
 
 pub returns-clause-told : goal.returns-clause-told
 returns-clause-told c =
     let inside = c.self.inside in
-    told_given inside.run inside.book (arc_value inside.first_policy) (arc_value inside.policy) inside.limits inside.sessions.items inside.opens.items inside.goal c.args.place c.index_mut.result.now c.args.request.now c.args.self.now c.self.view_is c.requires.within c.index_mut.ensures.value
+    told_given inside.run inside.book inside.opening_policy.value inside.policy inside.limits inside.sessions.items inside.opens.items inside.goal c.args.place c.index_mut.result.now c.args.request.now c.args.self.now c.self.view_is c.requires.within c.index_mut.ensures.value
     c.respond.new.run c.respond.new.session c.in_ok-answer.answer
-    (gives_by inside.run c.respond.new.run inside.book c.deref.result.now (arc_value inside.policy) c.index_mut.result.now.session c.args.request.now c.respond.new.session c.in_ok-answer.answer c.deref.ensures (c.in_ok-answer.ensures {u = tt}).given)
+    (c.in_ok-answer.ensures {u = tt}).given
 
 pub returns-clause-kept : goal.returns-clause-kept
 returns-clause-kept c =
     let inside = c.self.inside in
-    kept_given inside.run inside.book (arc_value inside.first_policy) (arc_value inside.policy) inside.limits inside.sessions.items inside.opens.items inside.goal c.args.place c.index_mut.result.now c.args.request.now c.args.self.now c.self.view_is c.requires.within c.index_mut.ensures.value
+    kept_given inside.run inside.book inside.opening_policy.value inside.policy inside.limits inside.sessions.items inside.opens.items inside.goal c.args.place c.index_mut.result.now c.args.request.now c.args.self.now c.self.view_is c.requires.within c.index_mut.ensures.value
     c.respond.new.run c.respond.new.session c.in_ok-answer.answer
-    (gives_by inside.run c.respond.new.run inside.book c.deref.result.now (arc_value inside.policy) c.index_mut.result.now.session c.args.request.now c.respond.new.session c.in_ok-answer.answer c.deref.ensures (c.in_ok-answer.ensures {u = tt}).given)
+    (c.in_ok-answer.ensures {u = tt}).given
 
 pub returns-clause-change : goal.returns-clause-change
 returns-clause-change c =
     let inside = c.self.inside in
-    changed_given inside.run inside.book (arc_value inside.first_policy) (arc_value inside.policy) inside.limits inside.sessions.items inside.opens.items inside.goal c.args.place c.index_mut.result.now c.args.request.now c.args.self.now c.self.view_is c.requires.within c.index_mut.ensures.value
+    changed_given inside.run inside.book inside.opening_policy.value inside.policy inside.limits inside.sessions.items inside.opens.items inside.goal c.args.place c.index_mut.result.now c.args.request.now c.args.self.now c.self.view_is c.requires.within c.index_mut.ensures.value
     c.respond.new.run c.respond.new.session c.in_ok-answer.answer
-    (gives_by inside.run c.respond.new.run inside.book c.deref.result.now (arc_value inside.policy) c.index_mut.result.now.session c.args.request.now c.respond.new.session c.in_ok-answer.answer c.deref.ensures (c.in_ok-answer.ensures {u = tt}).given)
+    (c.in_ok-answer.ensures {u = tt}).given
 
 pub returns-clause-after : goal.returns-clause-after
 returns-clause-after c =
@@ -61,10 +60,10 @@ returns-clause-after c =
     ∙ ap (λ time. noticed answer.change time (map session_shown c.deref_mut.result.now)) (c.time-time.ensures ∙ ap (λ (s : sim.State). s.time) c.simulation.ensures)
     ∙ ap (λ s. noticed answer.change next.simulation.time (map session_shown s)) c.deref_mut.ensures.value in
     let v = with_item inside.sessions c.args.place (seated session c.respond.new.session) in
-    ap (λ items. shown next inside.book.races (arc_value inside.first_policy) (arc_value inside.policy) inside.limits items inside.opens.items c.raised-self-inside.result) (with_items_is v c.notify.new.sessions (search rules))
-    ∙ state_given inside.run inside.book (arc_value inside.first_policy) (arc_value inside.policy) inside.limits inside.sessions.items inside.opens.items inside.goal c.args.place session c.args.request.now c.args.self.now c.self.view_is c.requires.within c.index_mut.ensures.value
+    ap (λ items. shown next inside.book.races inside.opening_policy.value inside.policy inside.limits items inside.opens.items c.raised-self-inside.result) (with_items_is v c.notify.new.sessions (search rules))
+    ∙ state_given inside.run inside.book inside.opening_policy.value inside.policy inside.limits inside.sessions.items inside.opens.items inside.goal c.args.place session c.args.request.now c.args.self.now c.self.view_is c.requires.within c.index_mut.ensures.value
     next c.respond.new.session c.notify.new.sessions c.raised-self-inside.result answer
-    (gives_by inside.run c.respond.new.run inside.book c.deref.result.now (arc_value inside.policy) c.index_mut.result.now.session c.args.request.now c.respond.new.session c.in_ok-answer.answer c.deref.ensures (c.in_ok-answer.ensures {u = tt}).given)
+    (c.in_ok-answer.ensures {u = tt}).given
     c.raised-self-inside.ensures tells
 
 pub invariant_of-self-2 : goal.invariant_of-self-2
@@ -76,5 +75,6 @@ invariant_of-self-2 c =
     let v = with_item inside.sessions c.args.place (seated session c.respond.new.session) in (
       ap (all_marked c.notify.new.watched.items) (with_items_is v c.notify.new.sessions (search rules)) ∙ c.notify.ensures.marked,
       c.self.invariant.1,
-      put_leaves inside.run c.respond.new.run (due_of inside.run inside.book c.deref.result.now session.session c.args.request.now).put answer.change given.put given.segments c.self.invariant.2,
+      put_leaves inside.run c.respond.new.run (due_of inside.run inside.book inside.policy session.session c.args.request.now).put answer.change given.put given.segments c.self.invariant.2,
+      fits_put inside.policy inside.run c.respond.new.run (due_of inside.run inside.book inside.policy session.session c.args.request.now).put answer.change given.put c.self.invariant.3,
     )

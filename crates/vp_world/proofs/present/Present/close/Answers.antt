@@ -1,5 +1,4 @@
 use Rattle.std.proofs.Common.{◌∙◌, ap}
-use Rattle.std.specs.Arc.{arc_value}
 use Rattle.vp_world.specs.Marks.{all_marked}
 use Rattle.vp_world.proofs.Marks.{marked_without}
 use Rattle.vp_world.proofs.Standings.{closed_shown}
@@ -8,7 +7,7 @@ use Rattle.vp_world.proofs.present.Present.close.Goals as goal
 pub returns : goal.returns
 returns c =
     let inside = c.self.inside in
-    closed_shown inside.run inside.book.races (arc_value inside.first_policy) (arc_value inside.policy) inside.limits inside.sessions.items c.remove.new.self.items inside.opens.items inside.goal c.args.place c.args.self.now c.self.view_is c.remove.ensures.items
+    closed_shown inside.run inside.book.races inside.opening_policy.value inside.policy inside.limits inside.sessions.items c.remove.new.self.items inside.opens.items inside.goal c.args.place c.args.self.now c.self.view_is c.remove.ensures.items
 
 pub invariant_of-self : goal.invariant_of-self
 invariant_of-self c =
@@ -17,4 +16,5 @@ invariant_of-self c =
           ∙ marked_without inside.watched.items inside.sessions.items c.args.place c.self.invariant.0,
       c.self.invariant.1,
       c.self.invariant.2,
+      c.self.invariant.3,
     )

@@ -1,5 +1,4 @@
 use Rattle.std.proofs.Common.{rules, ◌+◌}
-use Rattle.std.specs.Arc.{arc_value}
 use Rattle.vp_world.proofs.Standings.{opened_shown}
 use Rattle.vp_world.proofs.present.Present.open_for.Goals as goal
 
@@ -7,6 +6,6 @@ pub returns-clause-after : goal.returns-clause-after
 returns-clause-after c =
     let inside = c.self.inside in
     let w = c.args.self.now in
-    opened_shown inside.run inside.book.races (arc_value inside.first_policy) (arc_value inside.policy) inside.limits inside.sessions.items c.push.new.self.items inside.opens.items c.set_count.new.opens.items inside.goal
+    opened_shown inside.run inside.book.races inside.opening_policy.value inside.policy inside.limits inside.sessions.items c.push.new.self.items inside.opens.items c.set_count.new.opens.items inside.goal
     (record { id = record { user = c.args.user; opens = c.opened.result + 1 }; session = c.in-Ok.session }) c.args.user.0 w c.self.view_is
     (search rules) (search rules) (search rules)

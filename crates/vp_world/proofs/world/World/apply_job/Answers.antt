@@ -36,7 +36,12 @@ invariant_of-self-2 c =
     let accepted : refusal_behind (w c).opening (log c) event.TakeJob ≡ None = search rules in
     keeps_more (w c) c.take_job.new.self (log c) c.push_reserved.new.self.items (entry c) c.self.invariant (behind c) (added c) tt accepted (made c)
 
-pub returns-clause-logged : goal.returns-clause-logged
-returns-clause-logged c =
-    seen_more (w c) c.take_job.new.self (log c) c.push_reserved.new.self.items (entry c) c.args.self.now c.self.view_is
-    (behind c ∙ ap (λ (s : Standing). with_state (w c) s.state) (sym (behind c))) (added c) (made c)
+pub returns-clause-applied : goal.returns-clause-applied
+returns-clause-applied c = record {
+  accepted = search rules;
+  logged =
+      seen_more (w c) c.take_job.new.self (log c) c.push_reserved.new.self.items (entry c) c.args.self.now c.self.view_is
+      (behind c ∙ ap (λ (s : Standing). with_state (w c) s.state) (sym (behind c))) (added c) (made c);
+  refused = tt;
+  unchanged = tt;
+}

@@ -9,17 +9,17 @@ use Rattle.vp_world.specs.declared.reply.Refusal.TheVariants as refusal
 use Rattle.vp_world.specs.declared.reply.Reply.TheVariants as reply
 use Rattle.vp_world.specs.History.{after, answer, entry_of, next_session, opened_by, refusal_behind, state_behind, with_state}
 use Rattle.vp_world.specs.Worlds.{Standing}
-use Rattle.vp_world.proofs.Logs.{entry_is, explained, keeps_more, seen_more}
+use Rattle.vp_world.proofs.Logs.{entry_is, keeps_more, refused_so, seen_more}
 use Rattle.vp_world.proofs.world.World.apply_open.Goals as goal
 
-pub returns-in_err-number-clause-refused : goal.returns-in_err-number-clause-refused
-returns-in_err-number-clause-refused c =
+pub returns-in_err-number-clause-applied : goal.returns-in_err-number-clause-applied
+returns-in_err-number-clause-applied c =
     let v = c.args.self.now in
     let happens = event.Open c.args.user c.args.token in
     let e = c.in_err-number.field-0.0 in
     let is : c.from_residual.result ≡ Err e = search rules in
     let why : refusal_behind v.opening v.log happens ≡ Some e = search rules in
-    explained c.from_residual.result e (refusal_behind v.opening v.log happens) is why
+    refused_so v happens c.from_residual.result e is why
 
 module _ (c : goal.After-push_reserved) where
   abbrev w : Standing
@@ -34,7 +34,7 @@ module _ (c : goal.After-push_reserved) where
   abbrev entry : Entry
   entry = record { event = happens; reply = reply.Opened c.in_ok-session.session; change = None; time = c.time.result; finished = c.finished.result }
 
-  found : login_of w.state.policy c.args.user c.args.token ≡ Some c.in_ok-number.number.0
+  found : login_of w.state.policy.members c.args.user c.args.token ≡ Some c.in_ok-number.number.0
   found = search rules
 
   behind : c.open_for.new.self ≡ with_state w (after w.opening w.state happens)
@@ -58,7 +58,12 @@ invariant_of-self-2 c =
     let accepted : refusal_behind (w c).opening (log c) (happens c) ≡ None = search rules in
     keeps_more (w c) c.open_for.new.self (log c) c.push_reserved.new.self.items (entry c) c.self.invariant (behind c) (added c) tt accepted (made c)
 
-pub returns-clause-logged : goal.returns-clause-logged
-returns-clause-logged c =
-    seen_more (w c) c.open_for.new.self (log c) c.push_reserved.new.self.items (entry c) c.args.self.now c.self.view_is
-    (behind c ∙ ap (λ (s : Standing). with_state (w c) s.state) (sym (behind c))) (added c) (made c)
+pub returns-clause-applied : goal.returns-clause-applied
+returns-clause-applied c = record {
+  accepted = search rules;
+  logged =
+      seen_more (w c) c.open_for.new.self (log c) c.push_reserved.new.self.items (entry c) c.args.self.now c.self.view_is
+      (behind c ∙ ap (λ (s : Standing). with_state (w c) s.state) (sym (behind c))) (added c) (made c);
+  refused = tt;
+  unchanged = tt;
+}

@@ -1,6 +1,4 @@
-use Rattle.std.proofs.Common.{◌≡◌, ◌∙◌, [], All, List, ap, subst, sym}
-use Rattle.vp_race.specs.Segments.{Told}
-use Rattle.vp_world.specs.Entries.{Entry}
+use Rattle.std.proofs.Common.{◌≡◌, ◌∙◌, All, ap, subst, sym}
 use Rattle.vp_world.specs.History.{IsReached, state_behind}
 use Rattle.vp_world.specs.Worlds.{Logged, State}
 use Rattle.vp_world.proofs.Reached.{all_reached}

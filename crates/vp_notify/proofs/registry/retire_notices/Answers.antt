@@ -1,0 +1,43 @@
+use Rattle.std.proofs.Common.{◌≡◌, ◌∙◌, ◌+◌, ◌-◌, ℕ, suc, Bool, true, false, Some, not, ap, refl, subst, sym, length, arith, rules}
+use Rattle.circular_buffer.specs.Buffer.{Buffer}
+use Rattle.vp_notify.specs.declared.notice.Notice.{Notice}
+use Rattle.vp_notify.specs.Registry.{lacks_watch}
+use Rattle.vp_notify.proofs.Retiring.{Retires, begun, ended, goes, there, turns}
+use Rattle.vp_notify.proofs.registry.retire_notices.Goals.{in-Some+then-not-lacks_watch, in-Some+else-not-lacks_watch, in_default}
+use Rattle.vp_notify.proofs.registry.retire_notices.Goals as goal
+
+pub loop-turn-init : goal.loop-turn-init
+loop-turn-init c =
+    let keeps : Notice → Bool = λ n. not (lacks_watch c.args.rights.now n.object.0) in
+    let before = c.args.waiting.now in
+    let whole : Retires keeps before before (length before.items) = record {
+      retiring = begun keeps before.items;
+      capacity = refl;
+      room = omega arith;
+    } in
+    let all : length before.items ≡ c.len-turn-end.result - 0 = omega arith in
+    subst (Retires keeps before before) all whole
+
+pub loop-turn-preserved : goal.loop-turn-preserved
+loop-turn-preserved c =
+    let keeps : Notice → Bool = λ n. not (lacks_watch c.args.rights.now n.object.0) in
+    let before = c.args.waiting.now in
+    let now = c.loop-turn.waiting in
+    let count : ℕ = c.len-turn-end.result - c.loop-turn._turn in
+    let next : ℕ = c.len-turn-end.result - (c.loop-turn._turn + 1) in
+    let one : count ≡ suc next = omega arith in
+    elim c.match-pop_front.branch [
+      | in-Some+then-not-lacks_watch w ↦
+          subst (λ (b : Buffer Notice). Retires keeps before b next) (sym w.waiting-is)
+          (turns keeps before now c.pop_front.new.self w.push_back.new.self count next w.in-Some.notice one c.loop-turn.invariant (sym c.pop_front.ensures.value ∙ w.in-Some.is) c.pop_front.ensures.items w.push_back.ensures.items (search rules))
+      | in-Some+else-not-lacks_watch w ↦
+          subst (λ (b : Buffer Notice). Retires keeps before b next) (sym w.waiting-is)
+          (goes keeps before now c.pop_front.new.self count next w.in-Some.notice one c.loop-turn.invariant (sym c.pop_front.ensures.value ∙ w.in-Some.is) c.pop_front.ensures.items (search rules))
+      | in_default w ↦ absurd (there keeps before.items now.items count next one c.loop-turn.invariant.retiring (sym c.pop_front.ensures.value ∙ w.in_default.is))
+    ]
+
+pub returns-clause-waiting : goal.returns-clause-waiting
+returns-clause-waiting c =
+    let keeps : Notice → Bool = λ n. not (lacks_watch c.args.rights.now n.object.0) in
+    let none : c.len-turn-end.result - c.loop-turn._turn ≡ 0 = omega arith in
+    ended keeps c.args.waiting.now.items c.loop-turn.waiting.items (c.len-turn-end.result - c.loop-turn._turn) none c.loop-turn.invariant.retiring

@@ -1,0 +1,160 @@
+//! Time slots of a world that are kept as segments, and what a race of one is answered that is no longer kept.
+ghost use Rattle.std.specs.Prelude.{◌≡◌, IfSome};
+ghost use Rattle.std.specs.Arc.{arc_value};
+
+use crate::tests::sessions::{ask, find, open, put, world_of};
+use std::alloc::Global;
+use std::sync::Arc;
+use vp_elab::ObjectId;
+use vp_race::{Finding, Segment, Shared, check};
+use vp_world::{Event, Request, World, WorldError};
+
+/// Regs `top.a` (1), `top.b` (2) and `top.c` (3), and two processes that race for `a` and `b` at time 5.
+const SWAPPED: &str = "module top;\n  reg a, b, c;\n\
+      initial begin a = 0; b = 1; c = 0; #5 c = 1; end\n\
+      always @(posedge c) a = b;\n  always @(posedge c) b = a;\nendmodule\n";
+
+/// The simulation takes the first of its events, so often.
+fn steps(world: &mut World, count: u64) -> Option<()> {
+    for _step in 0..count {
+        world.apply(Event::Step(0)).ok()?;
+    }
+    Some(())
+}
+
+/// Ann opens a session and asks for a run until a time.
+fn begin_run(alloc: Global, world: &mut World, until: u64) -> Option<()> {
+    open(alloc, world)?;
+    ask(world, 1, Request::Run { until })?;
+    Some(())
+}
+
+/// The simulation goes on to the time of the race, and Ann gives `top.a` a value behind its first step.
+fn put_in_race(alloc: Global, world: &mut World) -> Option<()> {
+    steps(world, 6)?;
+    world.apply(Event::Advance).ok()?;
+    steps(world, 1)?;
+    find(alloc, world, 1)?;
+    put(alloc, world, 1, "1")?;
+    steps(world, 4)
+}
+
+/// The kept segment of a number, to be shared.
+fn kept(alloc: Global, world: &World, number: u64) -> Option<Arc<Segment>> {
+    let segment = world.kept(number)?.try_clone(alloc).ok()?;
+    Arc::new(alloc, segment).ok()
+}
+
+/// The second segment of the world where Ann gave `top.a` a value.
+fn put_upon(alloc: Global) -> Option<Arc<Segment>> {
+    let mut world = world_of(alloc, SWAPPED)?;
+    begin_run(alloc, &mut world, 10)?;
+    put_in_race(alloc, &mut world)?;
+    kept(alloc, &world, 2)
+}
+
+/// The number of the refusal of an order at `top.a`; 0 where it is a race.
+fn refusal(alloc: Global, segment: &Arc<Segment>, order: &[u32]) -> Option<u32> {
+    let choices = Vec::from_slice(alloc, order).ok()?;
+    match check(alloc, segment, choices, ObjectId(1)) {
+        Ok(_) => Some(0),
+        Err(error) => Some(error.code()),
+    }
+}
+
+/// The refusals of two orders of that segment: the second has the step before the put.
+fn refusals_behind_put(alloc: Global) -> Option<[u32; 2]> {
+    let segment = put_upon(alloc)?;
+    Some([
+        refusal(alloc, &segment, &[1, 1, 0, 0])?,
+        refusal(alloc, &segment, &[0, 0, 0, 0, 0])?,
+    ])
+}
+
+/// The segment begins behind the put.
+fn begins_behind_put(alloc: Global) -> Option<bool> {
+    let segment = put_upon(alloc)?;
+    Some(segment.time() == 5 && segment.order() == [0, 0, 0, 0].as_slice())
+}
+
+#[test]
+fn a_segment_begins_anew_with_a_put(rt: HostRuntime) {
+    assert_eq!(rt; begins_behind_put(rt.alloc()), Some(true));
+}
+
+#[test]
+fn orders_of_a_segment_behind_a_put(rt: HostRuntime) {
+    assert_eq!(rt; refusals_behind_put(rt.alloc()), Some([1203, 1201]));
+}
+
+/// A reg `top.a` (1) for which two processes race at time 0, and one that changes at each time.
+const RACED: &str =
+    "module top; reg a, t; initial a = 0; initial a = 1; always #1 t = 1; endmodule";
+
+/// The first segment, to be shared.
+fn first_segment(alloc: Global, world: &World) -> Option<Arc<Segment>>
+    ensures { IfSome result (λ s. (arc_value s).start.design ≡ world.now.opening.design) }
+{
+    let segment = world.next_job()?.try_clone(alloc).ok()?;
+    Arc::new(alloc, segment).ok()
+}
+
+/// The race for `top.a` in that segment, to be booked.
+fn race_of(alloc: Global, segment: &Arc<Segment>) -> Option<Shared<Finding>>
+    ensures { IfSome result (λ f. f.segment ≡ arc_value segment.now) }
+{
+    let choices = Vec::from_slice(alloc, &[1, 0, 0]).ok()?;
+    let finding = check(alloc, segment, choices, ObjectId(1)).ok()?;
+    Shared::new(alloc, finding).ok()
+}
+
+/// The simulation takes its first event, or goes on, if the world lets it.
+fn go_on(world: &mut World)
+    ensures { world.new.opening ≡ world.old.opening }
+{
+    if world.step(0).is_err() {
+        let _gone = world.advance().is_ok();
+    }
+}
+
+/// So many events of the simulation.
+fn events(world: &mut World, count: u64)
+    ensures { world.new.opening ≡ world.old.opening }
+{
+    for _event in 0..count {
+        go_on(world);
+    }
+}
+
+/// What is answered where a race is booked: the number of the refusal, and that of the book; twice 0 where it is booked.
+fn booked(world: &mut World, race: Shared<Finding>) -> (u32, u32)
+    requires { race.segment.start.design ≡ world.old.opening.design }
+{
+    // Read, so that the check knows that it is a race.
+    let _segment = race.value().segment();
+    match world.apply(Event::Book(race)) {
+        Ok(_) => (0, 0),
+        Err(WorldError::Race(error)) => (WorldError::Race(error).code(), error.code()),
+        Err(error) => (error.code(), 0),
+    }
+}
+
+/// What is answered where the race of the first time slot is booked behind so many more, of three events each.
+fn booked_in(alloc: Global, world: &mut World, slots: u64) -> Option<(u32, u32)> {
+    begin_run(alloc, world, 1_000)?;
+    steps(world, 3)?;
+    let segment = first_segment(alloc, world)?;
+    events(world, slots.saturating_mul(3));
+    Some(booked(world, race_of(alloc, &segment)?))
+}
+
+/// The same of a new world.
+fn booked_behind(alloc: Global, slots: u64) -> Option<(u32, u32)> {
+    booked_in(alloc, &mut world_of(alloc, RACED)?, slots)
+}
+
+#[test]
+fn race_of_a_segment_that_is_gone(rt: HostRuntime) {
+    assert_eq!(rt; booked_behind(rt.alloc(), 255), Some((0, 0)));
+    assert_eq!(rt; booked_behind(rt.alloc(), 256), Some((1309, 1204)));
+}

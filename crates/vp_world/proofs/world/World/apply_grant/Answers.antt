@@ -1,0 +1,48 @@
+use Rattle.std.proofs.Common.{rules, ◌≡◌, ◌++◌, List, ◌∷◌, [], None, Some, Option, ℕ, refl, sym, ap, ◌∙◌}
+use Rattle.std.specs.Option.{option_map_or}
+use Rattle.vp_policy.specs.Users.{user_of}
+use Rattle.vp_world.specs.declared.event.GrantChange.{GrantChange}
+use Rattle.vp_world.specs.Entries.{Entry}
+use Rattle.vp_world.specs.declared.event.Event.{Event}
+use Rattle.vp_world.specs.declared.event.Event.TheVariants as event
+use Rattle.vp_world.specs.declared.reply.Reply.TheVariants as reply
+use Rattle.vp_world.specs.History.{after, entry_of, granted_to, refusal_behind, state_behind, with_state}
+use Rattle.vp_world.specs.Worlds.{Standing}
+use Rattle.vp_world.proofs.Logs.{entry_is, keeps_more}
+use Rattle.vp_world.proofs.world.World.apply_grant.Goals as goal
+
+module _ (c : goal.After-push_reserved) where
+  abbrev w : Standing
+  w = c.self.inside.present
+
+  abbrev log : List Entry
+  log = c.self.inside.log.items
+
+  abbrev happens : Event
+  happens = event.Grant c.args.change
+
+  abbrev entry : Entry
+  entry = record { event = happens; reply = reply.Done; change = None; time = c.time.result; finished = c.finished.result }
+
+  found : user_of w.state.policy.members c.args.change.user ≡ Some c.in_ok-user.user.0
+  found = (c.in_ok-user.ensures {u = tt}).user
+
+  same : c.deref.result.now ≡ c.args.change
+  same = c.deref.ensures ∙ (c.in_ok-change.ensures {u = tt}).ok
+
+  behind : c.grant.new.self ≡ with_state w (after w.opening w.state happens)
+  behind =
+      search rules
+      ∙ ap (λ (g : GrantChange). with_state w (granted_to w.state g c.in_ok-user.user.0)) same
+      ∙ ap (λ (o : Option ℕ). with_state w (option_map_or (granted_to w.state c.args.change) o w.state)) (sym found)
+
+  added : c.push_reserved.new.self.items ≡ log ++ entry ∷ []
+  added = search rules
+
+  made : entry ≡ entry_of w.opening (state_behind w.opening log) happens
+  made = entry_is w.opening w.state (state_behind w.opening log) entry c.self.invariant.state refl refl (c.time.ensures ∙ ap (λ (s : Standing). s.state.run.time) behind) (c.finished.ensures ∙ ap (λ (s : Standing). s.state.run.finished) behind)
+
+pub invariant_of-self-2 : goal.invariant_of-self-2
+invariant_of-self-2 c =
+    let accepted : refusal_behind (w c).opening (log c) (happens c) ≡ None = search rules in
+    keeps_more (w c) c.grant.new.self (log c) c.push_reserved.new.self.items (entry c) c.self.invariant (behind c) (added c) tt accepted (made c)
