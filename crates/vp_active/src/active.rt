@@ -28,7 +28,11 @@ impl Model for ActiveRegion {
 
     ghost Value = { Region };
 
-    ghost view = { λ r. record { events = events_of r.slots.slots; room = r.slots.room; processes = length r.updates.items } };
+    ghost view = { λ r. record {
+      events = events_of r.slots.slots;
+      room = r.slots.room;
+      processes = length r.updates.items;
+    } };
 
     ghost invariant = { λ r. AreMarked r.slots.slots r.updates.items };
 }
@@ -266,8 +270,8 @@ impl ActiveRegion {
     /// The k-th of the eligible events is over, if there is one.
     #[inline(always)]
     pub fn take(&mut self, k: usize)
-        ensures events { self.new.events ≡ without_at (slice_get (eligible_places self.old.events) k)
-            self.old.events }
+        ensures events { self.new.events
+            ≡ without_at (slice_get (eligible_places self.old.events) k) self.old.events }
         ensures no_less { self.old.room ≤ self.new.room }
         ensures processes { self.new.processes ≡ self.old.processes }
         ensures kinds { All (λ e. is_nonblocking e ≡ false) self.old.events }

@@ -30,7 +30,10 @@ impl Model for ActiveSlots {
 
     ghost Value = { SlotsKept };
 
-    ghost view = { λ a. record { slots = a.slots.items; room = min (deque_capacity a.slots) (16 * length a.counts) - deque_len a.slots } };
+    ghost view = { λ a. record {
+      slots = a.slots.items;
+      room = min (deque_capacity a.slots) (16 * length a.counts) - deque_len a.slots;
+    } };
 
     ghost invariant = { λ a. AreIndexed a.slots.items a.empty a.waiting a.counts };
 }

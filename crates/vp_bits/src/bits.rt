@@ -40,7 +40,11 @@ impl Model for Bits {
 
     ghost invariant = { λ v. IsStored v.width v.aval v.bval };
 
-    ghost inverse = { λ bits. record { width = length bits; aval = aval_of bits; bval = bval_of bits } };
+    ghost inverse = { λ bits. record {
+      width = length bits;
+      aval = aval_of bits;
+      bval = bval_of bits;
+    } };
 
     ghost use Rattle.vp_bits.specs.laws.Inverse.{inverse_of_view};
 

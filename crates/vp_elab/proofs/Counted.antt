@@ -6,17 +6,18 @@ use Rattle.std.specs.Option.{option_map_or}
 use Rattle.std.proofs.Math.Bool.{or-false, or-true}
 use Rattle.std.proofs.lemmas.List.{length-append, length-map}
 use Rattle.std.proofs.lemmas.List.Folds.{list_any-append}
+use Rattle.vp_list.specs.Refusals.{MayExplain}
 use Rattle.vp_source.specs.declared.source.Source.{Source}
 use Rattle.vp_source.specs.declared.source.Module.{Module}
 use Rattle.vp_source.specs.declared.source.Item.{Item}
 use Rattle.vp_names.specs.declared.fault.ElabError.{ElabError}
-use Rattle.vp_names.specs.declared.fault.ElabError.TheVariants.{TooManyObjects}
+use Rattle.vp_names.specs.declared.fault.ElabError.TheVariants.{TooManyObjects, NoMemory}
 use Rattle.vp_names.specs.Items.{definition_of, is_top, items_in}
 use Rattle.vp_pragma.specs.declared.envelope.Envelope.{Envelope}
 use Rattle.vp_elab.specs.declared.object.TheConstants.{OBJECT_LIMIT}
 use Rattle.vp_elab.specs.Tree.{Node, Step}
 use Rattle.vp_elab.specs.Elaboration.{further_limit, item_node, item_nodes, item_step, nodes_below, nodes_of, root_node, root_step, top_nodes}
-use Rattle.vp_names.specs.Refusals.{Explains, first_of_two}
+use Rattle.vp_names.specs.Refusals.{first_of_two}
 use Rattle.vp_modules.specs.Refusals as modules
 use Rattle.vp_pragma.specs.Envelopes.{Protection}
 use Rattle.vp_elab.specs.Objects.{objects_within}
@@ -104,10 +105,10 @@ module _ (source : Source) (envelopes : List Envelope) where
 
 module _ (source : Source) (protection : Protection) (right : modules.refusal_of source ≡ None) where
   -- there are too many objects
-  pub refused_many : OBJECT_LIMIT < object_count source → (e : ElabError) → e ≡ TooManyObjects → Explains (refusal_of source protection) e
+  pub refused_many : OBJECT_LIMIT < object_count source → (e : ElabError) → e ≡ TooManyObjects → MayExplain NoMemory (refusal_of source protection) e
   refused_many more e is =
-      subst (Explains (refusal_of source protection)) (sym is)
-      (ap (λ (o : Option ElabError). first_of_two o (first_of_two (too_many source protection.envelopes) (unmatched_in source protection))) right
+      subst (MayExplain NoMemory (refusal_of source protection)) (sym is)
+      (λ other. ap (λ (o : Option ElabError). first_of_two o (first_of_two (too_many source protection.envelopes) (unmatched_in source protection))) right
       ∙ ap (λ (o : Option ElabError). first_of_two o (unmatched_in source protection)) (many source protection.envelopes more))
 
   module _ (few : object_count source ≤ OBJECT_LIMIT) where
@@ -117,8 +118,8 @@ module _ (source : Source) (protection : Protection) (right : modules.refusal_of
         ∙ ap (λ (o : Option ElabError). first_of_two o (unmatched_in source protection)) (not_many source protection.envelopes few)
 
     -- a viewport is on nothing
-    pub refused_viewport : (e : ElabError) → Explains (unmatched_in source protection) e → Explains (refusal_of source protection) e
-    refused_viewport e h = subst (λ (o : Option ElabError). Explains o e) (sym last_is) h
+    pub refused_viewport : (e : ElabError) → MayExplain NoMemory (unmatched_in source protection) e → MayExplain NoMemory (refusal_of source protection) e
+    refused_viewport e h = subst (λ (o : Option ElabError). MayExplain NoMemory o e) (sym last_is) h
 
     -- none
     pub accepted : unmatched_in source protection ≡ None → refusal_of source protection ≡ None

@@ -1,8 +1,9 @@
+ghost use Rattle.vp_list.specs.Refusals.{MayExplain};
+ghost use Rattle.vp_names.specs.declared.fault.ElabError.TheVariants.{NoMemory};
 ghost use Rattle.std.specs.Prelude.{◌≡◌, ◌≤◌, None, suc, length, map, IfErr, IfOk, OnOk};
 ghost use Rattle.vp_source.specs.Whole.{AreWhole};
 ghost use Rattle.vp_names.specs.Items.{definition_number, is_top};
 ghost use Rattle.vp_modules.specs.Refusals as modules;
-ghost use Rattle.vp_names.specs.Refusals.{Explains};
 ghost use Rattle.vp_modules.specs.Resolution.{resolved_in};
 ghost use Rattle.vp_elab.specs.declared.object.TheConstants.{OBJECT_LIMIT};
 ghost use Rattle.vp_elab.specs.Built.{IsBuilt, design_of};
@@ -45,7 +46,7 @@ fn check_objects(
     ensures sizes { IfOk result (λ sizes. sizes ≡ sizes_in source.now further_limit) }
     ensures few { OnOk result (object_count source.now ≤ OBJECT_LIMIT) }
     ensures accepted { OnOk result (refusal_of source.now envelopes.now ≡ None) }
-    ensures refused { IfErr result (λ e. Explains (refusal_of source.now envelopes.now) e) }
+    ensures refused { IfErr result (MayExplain NoMemory (refusal_of source.now envelopes.now)) }
 {
     let sizes = sizes_of(alloc, source, resolved.definitions.as_slice())?;
     check_count(source, resolved.tops.as_slice(), sizes.as_slice())?;
@@ -95,7 +96,7 @@ fn placed(
     ensures built { IfOk result (λ p. IsBuilt source.now envelopes.now resolved.now.tables p.0
         p.1) }
     ensures accepted { OnOk result (refusal_of source.now envelopes.now ≡ None) }
-    ensures refused { IfErr result (λ e. Explains (refusal_of source.now envelopes.now) e) }
+    ensures refused { IfErr result (MayExplain NoMemory (refusal_of source.now envelopes.now)) }
 {
     let sizes = check_objects(alloc, source, envelopes, resolved)?;
     let definitions = resolved.definitions.as_slice();
@@ -119,7 +120,7 @@ fn parts_of(alloc: Global, source: &Source, envelopes: &Envelopes) -> Result<Par
     ensures built { IfOk result (λ p. IsBuilt source.now envelopes.now p.tables p.scopes
         p.objects) }
     ensures accepted { OnOk result (refusal_of source.now envelopes.now ≡ None) }
-    ensures refused { IfErr result (λ e. Explains (refusal_of source.now envelopes.now) e) }
+    ensures refused { IfErr result (MayExplain NoMemory (refusal_of source.now envelopes.now)) }
 {
     let resolved = check_modules(alloc, source)?;
     let (scopes, objects) = placed(alloc, source, envelopes, &resolved)?;
@@ -137,7 +138,7 @@ pub fn elaborate(alloc: Global, source: Source, envelopes: Envelopes) -> Result<
     requires { AreWhole source }
     ensures design { IfOk result (λ design. design ≡ design_of source envelopes) }
     ensures accepted { IfOk result (λ design. refusal_of source envelopes ≡ None) }
-    ensures refused { IfErr result (λ e. Explains (refusal_of source envelopes) e) }
+    ensures refused { IfErr result (MayExplain NoMemory (refusal_of source envelopes)) }
 {
     let parts = parts_of(alloc, &source, &envelopes)?;
     Ok(Design::new(source, envelopes, parts.tables, parts.scopes, parts.objects))

@@ -38,7 +38,11 @@ impl Model for Scope {
 
     ghost Value = { Declared };
 
-    ghost view = { λ s. record { envelopes = s.envelopes; slots = s.slots; sights = map shown s.sights } };
+    ghost view = { λ s. record {
+      envelopes = s.envelopes;
+      slots = s.slots;
+      sights = map shown s.sights;
+    } };
 }
 
 impl Scope {

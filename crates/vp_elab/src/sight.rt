@@ -1,9 +1,11 @@
 // What viewports open at the objects of a design, and whether each is on something (docs/FORMATS.md, "Viewports").
+ghost use Rattle.vp_list.specs.Refusals.{MayExplain};
+ghost use Rattle.vp_names.specs.declared.fault.ElabError.TheVariants.{NoMemory};
 ghost use Rattle.std.specs.Prelude.{◌≡◌, [], None, Some, map, slice_index_or, IfOk, MatchResult};
 ghost use Rattle.std.specs.List.{list_any};
 ghost use Rattle.std.specs.Option.{option_or};
 ghost use Rattle.vp_names.specs.Items.{item_name, items_in};
-ghost use Rattle.vp_names.specs.Refusals.{Explains, twice, twice_in};
+ghost use Rattle.vp_names.specs.Refusals.{twice, twice_in};
 ghost use Rattle.vp_names.specs.Tables.{scope_in, tables_in};
 ghost use Rattle.vp_pragma.specs.Reading.{viewport_of};
 ghost use Rattle.vp_pragma.specs.Rights.{either, nothing, set_of};
@@ -167,7 +169,7 @@ pub fn check_viewports(
     requires tables { tables.now ≡ tables_in source.now }
     requires once { twice_in source.now [] source.now.modules ≡ None }
     ensures { MatchResult result (λ _. unmatched_in source.now envelopes.now ≡ None)
-        (λ e. Explains (unmatched_in source.now envelopes.now) e) }
+        (MayExplain NoMemory (unmatched_in source.now envelopes.now)) }
 {
     for viewport in envelopes.viewports() {
         if !is_on_any(source, envelopes, tables, viewport) {

@@ -1,3 +1,5 @@
+ghost use Rattle.vp_list.specs.Refusals.{MayExplain};
+ghost use Rattle.vp_resolve.specs.declared.fault.ExprError.TheVariants.{NoMemory};
 ghost use Rattle.std.specs.Prelude.{◌≡◌, ◌≤◌, ℕ, [], slice_index_or, true, length, map, All, None, IfErr, IfOk, OnOk};
 ghost use Rattle.std.specs.List.{list_all};
 ghost use Rattle.vp_expr.specs.Origins.{origins_of};
@@ -8,7 +10,7 @@ ghost use Rattle.vp_expr.specs.Awaits.{awaits_of};
 ghost use Rattle.vp_expr.specs.Derived.{HasTerm, StandsAt, expr_term};
 ghost use Rattle.vp_expr.specs.Resolved.{NamesAreFound, StatementsAreActions};
 ghost use Rattle.vp_expr.specs.Tables.{IsChecked, awaited_of, tables_of};
-ghost use Rattle.vp_resolve.specs.Checks.{Explains, refusal_of};
+ghost use Rattle.vp_resolve.specs.Checks.{refusal_of};
 ghost use Rattle.vp_resolve.specs.Names.{scope_of};
 ghost use Rattle.vp_resolve.specs.Operands.{operands_of};
 
@@ -100,7 +102,7 @@ impl Checked {
 fn checked_tables(alloc: Global, design: &Design) -> Result<Tables, ExprError>
     ensures tables { IfOk result (λ tables. IsChecked design.now tables) }
     ensures accepted { OnOk result (refusal_of design.now ≡ None) }
-    ensures refused { IfErr result (λ e. Explains (refusal_of design.now) e) }
+    ensures refused { IfErr result (MayExplain NoMemory (refusal_of design.now)) }
 {
     let operands = operands_of(alloc, design)?;
     refuse(alloc, design, operands.as_slice())?;
@@ -116,7 +118,7 @@ fn checked_tables(alloc: Global, design: &Design) -> Result<Tables, ExprError>
 pub fn check(alloc: Global, design: Design) -> Result<Checked, ExprError>
     ensures design { IfOk result (λ checked. checked ≡ design) }
     ensures accepted { OnOk result (refusal_of design ≡ None) }
-    ensures refused { IfErr result (λ e. Explains (refusal_of design) e) }
+    ensures refused { IfErr result (MayExplain NoMemory (refusal_of design)) }
 {
     match checked_tables(alloc, &design) {
         Ok(tables) => Ok(Checked { design, tables }),

@@ -194,11 +194,14 @@ pub fn eval(checked: &Checked, values: &Values, instance: ObjectId, id: ExprId) 
     ensures value { result ≡ eval (tables_of checked.now) (drop instance.0 values.now) id }
     ensures width { length result ≡ id.size }
     ensures derived { (m : Module) (e : Expr) → StandsAt checked.now m id.place e
-        → result ≡ derived_value checked.now (scope_of checked.now m) (drop instance.0 values.now) id.size e }
+        → result
+        ≡ derived_value checked.now (scope_of checked.now m)
+        (drop instance.0 values.now) id.size e }
     // In an instance of that module its names are looked up in this very instance.
     ensures instance { (m : Module) (e : Expr) → StandsAt checked.now m id.place e
         → IsInstanceOf checked.now m instance.0
-        → result ≡ derived_value checked.now (Some instance.0) (drop instance.0 values.now) id.size e }
+        → result
+        ≡ derived_value checked.now (Some instance.0) (drop instance.0 values.now) id.size e }
 {
     checked.design().source_is_whole();
     checked.design().instances_are_alike();
@@ -247,7 +250,8 @@ pub fn add_reads(checked: &Checked, place: u32, slots: &mut Vec<Slot>) -> Result
     ensures read { OnOk result (slots.new.items
         ≡ slots.old.items ++ map slot_at (reads (term_at (tables_of checked.now).operands place))) }
     ensures derived { OnOk result ((m : Module) (e : Expr) → StandsAt checked.now m place e
-        → slots.new.items ≡ slots.old.items ++ map slot_at (reads (expr_term checked.now (scope_of checked.now m) e))) }
+        → slots.new.items ≡ slots.old.items
+        ++ map slot_at (reads (expr_term checked.now (scope_of checked.now m) e))) }
 {
     checked.design().source_is_whole();
     add_slots(checked.tables().operands.as_slice(), place, slots)

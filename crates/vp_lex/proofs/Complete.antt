@@ -112,7 +112,7 @@ turns_same (suc turns) (suc more) at (b ∷ bytes) l m =
           let found = first_piece_found text piece e in
           let shorter = rest_shorter text piece found.0 found.1 in
           let rest : drop (length piece.bytes) text ≡ found.0 = rest_is text piece found.0 found.1 in
-          let left : length (drop (length piece.bytes) text) ≡ length found.0 = ap length rest in
+          let remainder : length (drop (length piece.bytes) text) ≡ length found.0 = ap length rest in
           ap (behind_piece piece) (turns_same turns more (at + length piece.bytes) (drop (length piece.bytes) text) (omega arith) (omega arith)))
     ] in
     on (first_piece text) refl
@@ -151,6 +151,6 @@ cut_more at (b ∷ bytes) piece e =
     let next : Piece → Result (List Piece) Refusal = λ piece. behind_piece piece (cut_from (length bytes) (at + length piece.bytes) (drop (length piece.bytes) text)) in
     let found = first_piece_found text piece e in
     let shorter = rest_shorter text piece found.0 found.1 in
-    let left : length (drop (length piece.bytes) text) ≡ length found.0 = ap length (rest_is text piece found.0 found.1) in
+    let remainder : length (drop (length piece.bytes) text) ≡ length found.0 = ap length (rest_is text piece found.0 found.1) in
     ap (λ (r : Result Piece Fault). on_piece at r next) e
     ∙ ap (behind_piece piece) (turns_same (length bytes) (length (drop (length piece.bytes) text)) (at + length piece.bytes) (drop (length piece.bytes) text) (omega arith) (omega arith))

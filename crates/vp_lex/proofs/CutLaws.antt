@@ -123,8 +123,8 @@ one_cut text (piece ∷ pieces) [] h k = absurd (no_piece_of_nothing text piece 
 one_cut text (piece ∷ pieces) (other ∷ others) h k =
     let first : piece ≡ other = one_longest text piece other h.0 k.0 h.1 k.1 in
     let rests : h.0 ≡ k.0 = one_rest text piece other h.0 k.0 h.1 k.1 in
-    let left : Cut k.0 pieces = subst (λ (x : List ℕ). Cut x pieces) rests h.3 in
-    let more : pieces ≡ others = one_cut k.0 pieces others left k.3 in
+    let remainder : Cut k.0 pieces = subst (λ (x : List ℕ). Cut x pieces) rests h.3 in
+    let more : pieces ≡ others = one_cut k.0 pieces others remainder k.3 in
     cc
 
 -- ---- the whole cut
@@ -163,8 +163,8 @@ cut_from_cuts (suc turns) at (b ∷ bytes) pieces l h =
     let found = first_piece_found text f.0 f.1 in
     let shorter = rest_shorter text f.0 found.0 found.1 in
     let rest = rest_is text f.0 found.0 found.1 in
-    let left : cut_from turns (at + length f.0.bytes) found.0 ≡ Ok g.0 = ap (cut_from turns (at + length f.0.bytes)) (sym rest) ∙ g.1 in
-    let more = cut_from_cuts turns (at + length f.0.bytes) found.0 g.0 (omega arith) left in
+    let remainder : cut_from turns (at + length f.0.bytes) found.0 ≡ Ok g.0 = ap (cut_from turns (at + length f.0.bytes)) (sym rest) ∙ g.1 in
+    let more = cut_from_cuts turns (at + length f.0.bytes) found.0 g.0 (omega arith) remainder in
     subst (λ (x : List Piece). Cut text x) g.2 (found.0, found.1, found.2, more)
 
 -- what is computed is a cut

@@ -55,11 +55,11 @@ first_piece_fault (b ∷ bytes) fault l h = first_piece_fault_of b bytes fault (
 
 -- what is left of a text behind so many bytes is refused
 record RefusedFrom (start : ℕ) (text : List ℕ) (refusal : Refusal) : Type 0 where
-  left : List ℕ
-  cut : CutTo text refusal.pieces left
-  at : refusal.at + length left ≡ start + length text
-  more : 1 ≤ length left
-  why : Explains refusal.fault left
+  remainder : List ℕ
+  cut : CutTo text refusal.pieces remainder
+  at : refusal.at + length remainder ≡ start + length text
+  more : 1 ≤ length remainder
+  why : Explains refusal.fault remainder
 
 -- a refusal behind one more piece
 abbrev refusal_behind : Piece → Refusal → Refusal
@@ -73,12 +73,12 @@ refused_here : (at b : ℕ) (bytes : List ℕ) (fault : Fault) (refusal : Refusa
 refused_here at b bytes fault refusal e h =
     let here : Refusal = record { fault = fault; at = at; pieces = [] } in
     let same : here ≡ refusal = cc in
-    let refused : RefusedFrom at (b ∷ bytes) here = record { left = b ∷ bytes; cut = refl; at = refl; more = omega arith; why = first_piece_explains b bytes fault e } in
+    let refused : RefusedFrom at (b ∷ bytes) here = record { remainder = b ∷ bytes; cut = refl; at = refl; more = omega arith; why = first_piece_explains b bytes fault e } in
     subst (λ (x : Refusal). RefusedFrom at (b ∷ bytes) x) same refused
 
 refused_behind : (at : ℕ) (text : List ℕ) (refusal : Refusal) (piece : Piece) (rest : List ℕ) → Longest text piece rest → IsRead piece → RefusedFrom (at + length piece.bytes) rest refusal → RefusedFrom at text (refusal_behind piece refusal)
 refused_behind at text refusal piece rest h known r = record {
-  left = r.left;
+  remainder = r.remainder;
   cut = (rest, h, known, r.cut);
   at = omega (arith, r.at, length-append piece.bytes rest, ap length h.splits);
   more = r.more;
@@ -99,9 +99,9 @@ cut_from_refused (suc turns) at (b ∷ bytes) refusal l h =
           let shorter = rest_shorter text piece found.0 found.1 in
           let rest : drop (length piece.bytes) text ≡ found.0 = rest_is text piece found.0 found.1 in
           let g = fault_behind_piece piece (cut_from turns (at + length piece.bytes) (drop (length piece.bytes) text)) refusal h in
-          let left : cut_from turns (at + length piece.bytes) found.0 ≡ Err g.0 = ap (cut_from turns (at + length piece.bytes)) (sym rest) ∙ g.1 in
+          let remainder : cut_from turns (at + length piece.bytes) found.0 ≡ Err g.0 = ap (cut_from turns (at + length piece.bytes)) (sym rest) ∙ g.1 in
           subst (λ (x : Refusal). RefusedFrom at text x) g.2
-          (refused_behind at text g.0 piece found.0 found.1 found.2 (cut_from_refused turns (at + length piece.bytes) found.0 g.0 (omega arith) left)))
+          (refused_behind at text g.0 piece found.0 found.1 found.2 (cut_from_refused turns (at + length piece.bytes) found.0 g.0 (omega arith) remainder)))
     ] in
     on (first_piece text) refl h
 
@@ -109,30 +109,30 @@ cut_from_refused (suc turns) at (b ∷ bytes) refusal l h =
 pub cut_text_refused : (text : List ℕ) (refusal : Refusal) → cut_text text ≡ Err refusal → IsRefused text refusal
 cut_text_refused text refusal h =
     let r = cut_from_refused (length text) 0 text refusal (omega arith) h in
-    record { left = r.left; cut = r.cut; at = omega (arith, r.at); more = r.more; why = r.why }
+    record { remainder = r.remainder; cut = r.cut; at = omega (arith, r.at); more = r.more; why = r.why }
 
-refused_is : (turns at told : ℕ) (text : List ℕ) (pieces : List Piece) (left : List ℕ) (fault : Fault) → length text ≤ turns → CutTo text pieces left → 1 ≤ length left → Explains fault left → told + length left ≡ at + length text → cut_from turns at text ≡ Err (record { fault = fault; at = told; pieces = pieces })
-refused_is zero at told text [] left fault l h m why e = absurd (omega (arith, ap length h))
-refused_is zero at told text (piece ∷ pieces) left fault l h m why e = absurd (no_piece_of_nothing text piece h.0 (none_left text l) h.1)
-refused_is (suc turns) at told [] [] left fault l h m why e = absurd (omega (arith, ap length h))
-refused_is (suc turns) at told [] (piece ∷ pieces) left fault l h m why e = absurd (no_piece_of_nothing [] piece h.0 refl h.1)
-refused_is (suc turns) at told (b ∷ bytes) [] left fault l h m why e =
+refused_is : (turns at told : ℕ) (text : List ℕ) (pieces : List Piece) (remainder : List ℕ) (fault : Fault) → length text ≤ turns → CutTo text pieces remainder → 1 ≤ length remainder → Explains fault remainder → told + length remainder ≡ at + length text → cut_from turns at text ≡ Err (record { fault = fault; at = told; pieces = pieces })
+refused_is zero at told text [] remainder fault l h m why e = absurd (omega (arith, ap length h))
+refused_is zero at told text (piece ∷ pieces) remainder fault l h m why e = absurd (no_piece_of_nothing text piece h.0 (none_left text l) h.1)
+refused_is (suc turns) at told [] [] remainder fault l h m why e = absurd (omega (arith, ap length h))
+refused_is (suc turns) at told [] (piece ∷ pieces) remainder fault l h m why e = absurd (no_piece_of_nothing [] piece h.0 refl h.1)
+refused_is (suc turns) at told (b ∷ bytes) [] remainder fault l h m why e =
     let text : List ℕ = b ∷ bytes in
     let next : Piece → Result (List Piece) Refusal = λ piece. behind_piece piece (cut_from turns (at + length piece.bytes) (drop (length piece.bytes) text)) in
     let why : Explains fault text = subst (λ (x : List ℕ). Explains fault x) (sym h) why in
     let here : at ≡ told = omega (arith, ap length h) in
     ap (λ (r : Result Piece Fault). on_piece at r next) (first_piece_fault text fault (omega arith) why)
     ∙ ap (λ (n : ℕ). (let r : Result (List Piece) Refusal = Err (record { fault = fault; at = n; pieces = [] }) in r)) here
-refused_is (suc turns) at told (b ∷ bytes) (piece ∷ pieces) left fault l h m why e =
+refused_is (suc turns) at told (b ∷ bytes) (piece ∷ pieces) remainder fault l h m why e =
     let text : List ℕ = b ∷ bytes in
     let next : Piece → Result (List Piece) Refusal = λ piece. behind_piece piece (cut_from turns (at + length piece.bytes) (drop (length piece.bytes) text)) in
     let shorter = rest_shorter text piece h.0 h.1 in
     let rest : drop (length piece.bytes) text ≡ h.0 = rest_is text piece h.0 h.1 in
     let sum : length text ≡ length piece.bytes + length h.0 = ap length h.1.splits ∙ length-append piece.bytes h.0 in
-    let more = refused_is turns (at + length piece.bytes) told h.0 pieces left fault (omega arith) h.3 m why (omega arith) in
+    let more = refused_is turns (at + length piece.bytes) told h.0 pieces remainder fault (omega arith) h.3 m why (omega arith) in
     ap (λ (r : Result Piece Fault). on_piece at r next) (first_piece_is text piece h.0 h.1 h.2)
     ∙ ap (behind_piece piece) (ap (cut_from turns (at + length piece.bytes)) rest ∙ more)
 
 -- and that fault is told, at that place
 pub refused_is_told : (text : List ℕ) (refusal : Refusal) → IsRefused text refusal → cut_text text ≡ Err refusal
-refused_is_told text refusal h = refused_is (length text) 0 refusal.at text refusal.pieces h.left refusal.fault (omega arith) h.cut h.more h.why (omega (arith, h.at))
+refused_is_told text refusal h = refused_is (length text) 0 refusal.at text refusal.pieces h.remainder refusal.fault (omega arith) h.cut h.more h.why (omega (arith, h.at))

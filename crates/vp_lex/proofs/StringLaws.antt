@@ -47,8 +47,8 @@ value_more characters at next e l h n =
     ∙ ap (λ (n : ℕ). e.0 ∷ value_behind 0 (drop n characters)) sum
 
 -- more characters of a value, and what is left of it, are all of it
-pub encoded_more : (old new all left : List ℕ) (c : ℕ) (rest : List ℕ) → old ++ encode_utf8_all left ≡ all → left ≡ c ∷ rest → new ≡ old ++ encode c → new ++ encode_utf8_all rest ≡ all
-encoded_more old new all left c rest h l n =
+pub encoded_more : (old new all remainder : List ℕ) (c : ℕ) (rest : List ℕ) → old ++ encode_utf8_all remainder ≡ all → remainder ≡ c ∷ rest → new ≡ old ++ encode c → new ++ encode_utf8_all rest ≡ all
+encoded_more old new all remainder c rest h l n =
     ap (λ (x : List ℕ). x ++ encode_utf8_all rest) n ∙ append_assoc old (encode c) (encode_utf8_all rest)
     ∙ ap (λ (x : List ℕ). old ++ encode_utf8_all x) (sym l) ∙ h
 

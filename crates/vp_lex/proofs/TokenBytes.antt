@@ -11,10 +11,10 @@ use Rattle.vp_lex.specs.Tokens.{is_mark, marks, token_kind, token_at, with_token
 use Rattle.vp_lex.proofs.CutLaws.{piece_has_byte}
 
 -- a text is its pieces, one behind the other, and what is left
-pub cut_joins : (text : List ℕ) (pieces : List Piece) (left : List ℕ) → CutTo text pieces left → text ≡ joined pieces ++ left
-cut_joins text [] left h = h
-cut_joins text (piece ∷ pieces) left h =
-    h.1.splits ∙ ap (λ (x : List ℕ). piece.bytes ++ x) (cut_joins h.0 pieces left h.3) ∙ sym (append_assoc piece.bytes (joined pieces) left)
+pub cut_joins : (text : List ℕ) (pieces : List Piece) (remainder : List ℕ) → CutTo text pieces remainder → text ≡ joined pieces ++ remainder
+cut_joins text [] remainder h = h
+cut_joins text (piece ∷ pieces) remainder h =
+    h.1.splits ∙ ap (λ (x : List ℕ). piece.bytes ++ x) (cut_joins h.0 pieces remainder h.3) ∙ sym (append_assoc piece.bytes (joined pieces) remainder)
 
 pub own_bytes : (before bytes rest : List ℕ) (marked : Bool) (kind : TokenKind) (mark : Bool) → bytes_of (before ++ (bytes ++ rest)) (token_at before marked bytes kind mark) ≡ bytes
 own_bytes before bytes rest marked kind mark =

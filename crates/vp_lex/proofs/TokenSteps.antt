@@ -62,11 +62,11 @@ more_tokens before marked piece (Some its) items scan = ap (λ (x : List Token).
 
 -- what is left behind a piece, and its token behind those that there were
 pub left_next : (text : List ℕ) (at end : ℕ) (marked : Bool) (kind : PieceKind) (items : List Token) → at < end → end ≤ length text → first_piece (drop at text) ≡ Ok (record { kind = kind; bytes = slice_range text at end }) → scan_of text ≡ on_tokens (λ more. items ++ more) (scan_left text at marked) → scan_of text ≡ on_tokens (λ more. (items ++ option_to_list (option_map (λ its. token_at (take at text) marked (slice_range text at end) its (is_mark kind)) (token_kind kind (slice_range text at end)))) ++ more) (scan_left text end (marks marked (record { kind = kind; bytes = slice_range text at end })))
-left_next text at end marked kind items l m first left =
+left_next text at end marked kind items l m first remainder =
     let bytes : List ℕ = slice_range text at end in
     let piece : Piece = record { kind = kind; bytes = bytes } in
     let long : at + length bytes ≡ end = omega (arith, length-take (end - at) (drop at text), length-drop at text) in
-    left ∙ ap (on_tokens (λ more. items ++ more)) (piece_left text at marked piece first)
+    remainder ∙ ap (on_tokens (λ more. items ++ more)) (piece_left text at marked piece first)
     ∙ more_tokens (take at text) marked piece (token_kind kind bytes) items (scan_left text (at + length bytes) (marks marked piece))
     ∙ ap (λ (n : ℕ). on_tokens (λ more. (items ++ option_to_list (option_map (λ its. token_at (take at text) marked bytes its (is_mark kind)) (token_kind kind bytes))) ++ more) (scan_left text n (marks marked piece))) long
 
@@ -76,10 +76,10 @@ first_is_piece text piece e = (first_piece_found text piece e).1.is
 
 -- the same for what a loop has then: the token in a list, the place and the mark
 pub left_moved : (text : List ℕ) (at end : ℕ) (marked : Bool) (kind : PieceKind) (items : List Token) → at < end → end ≤ length text → first_piece (drop at text) ≡ Ok (record { kind = kind; bytes = slice_range text at end }) → scan_of text ≡ on_tokens (λ more. items ++ more) (scan_left text at marked) → (token : Option Token) (moved : List Token) (here : ℕ) (mark : Bool) → token ≡ option_map (λ its. token_at (take at text) marked (slice_range text at end) its (is_mark kind)) (token_kind kind (slice_range text at end)) → moved ≡ items ++ option_to_list token → here ≡ end → mark ≡ marks marked (record { kind = kind; bytes = slice_range text at end }) → scan_of text ≡ on_tokens (λ more. moved ++ more) (scan_left text here mark)
-left_moved text at end marked kind items l m first left token moved here mark t i h k =
+left_moved text at end marked kind items l m first remainder token moved here mark t i h k =
     let all : moved ≡ items ++ option_to_list (option_map (λ its. token_at (take at text) marked (slice_range text at end) its (is_mark kind)) (token_kind kind (slice_range text at end))) =
     i ∙ ap (λ (o : Option Token). items ++ option_to_list o) t in
-    left_next text at end marked kind items l m first left
+    left_next text at end marked kind items l m first remainder
     ∙ ap (λ (x : List Token). on_tokens (λ more. x ++ more) (scan_left text end (marks marked (record { kind = kind; bytes = slice_range text at end })))) (sym all)
     ∙ ap (λ (n : ℕ). on_tokens (λ more. moved ++ more) (scan_left text n (marks marked (record { kind = kind; bytes = slice_range text at end })))) (sym h)
     ∙ ap (λ (v : Bool). on_tokens (λ more. moved ++ more) (scan_left text here v)) (sym k)

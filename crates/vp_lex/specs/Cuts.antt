@@ -12,8 +12,8 @@ pub record Longest (text : List ℕ) (piece : Piece) (rest : List ℕ) : Type 0 
 
 -- the text is these pieces, one behind the other, and then what is left; each is the longest that begins where it does, and is read (IEEE Std 1364-2005, 3.1; profile)
 abbrev pub CutTo : List ℕ → List Piece → List ℕ → Type 0
-CutTo text [] left = text ≡ left
-CutTo text (piece ∷ pieces) left = (rest : List ℕ) × Longest text piece rest × IsRead piece × CutTo rest pieces left
+CutTo text [] remainder = text ≡ remainder
+CutTo text (piece ∷ pieces) remainder = (rest : List ℕ) × Longest text piece rest × IsRead piece × CutTo rest pieces remainder
 
 -- the text is these pieces, and nothing is left (IEEE Std 1364-2005, 3.1; profile)
 abbrev pub Cut : List ℕ → List Piece → Type 0
@@ -36,8 +36,8 @@ NotRead fault text = (piece : Piece) × (rest : List ℕ) × Longest text piece 
 
 -- the fault of what is left of a text: no piece is there, or one that is not read (profile)
 abbrev pub Explains : Fault → List ℕ → Type 0
-Explains BadCharacter left = NoPiece left
-Explains fault left = NotRead fault left
+Explains BadCharacter remainder = NoPiece remainder
+Explains fault remainder = NotRead fault remainder
 
 -- a fault, how many bytes of the text stand before it, and which pieces
 pub record Refusal : Type 0 where
@@ -47,8 +47,8 @@ pub record Refusal : Type 0 where
 
 -- the text is these pieces up to this place, and the fault is that of what is left, which is not empty
 pub record IsRefused (text : List ℕ) (refusal : Refusal) : Type 0 where
-  pub left : List ℕ
-  pub cut : CutTo text refusal.pieces left
-  pub at : refusal.at + length left ≡ length text
-  pub more : 1 ≤ length left
-  pub why : Explains refusal.fault left
+  pub remainder : List ℕ
+  pub cut : CutTo text refusal.pieces remainder
+  pub at : refusal.at + length remainder ≡ length text
+  pub more : 1 ≤ length remainder
+  pub why : Explains refusal.fault remainder

@@ -1,6 +1,6 @@
 -- Lists in chunks.
-use Rattle.std.specs.Prelude.{ℕ, ◌<◌, ◌≤◌, ◌≡◌, List, [], ◌∷◌, length}
-use Rattle.std.specs.List.{flat_map}
+use Rattle.std.specs.Prelude.{ℕ, ◌+◌, ◌<◌, ◌≤◌, ◌≡◌, List, [], ◌∷◌, length}
+use Rattle.std.specs.List.{flat_map, splice}
 
 -- the chunks as one list
 abbrev pub joined : {X : Type 0} → List (List X) → List X
@@ -11,3 +11,7 @@ abbrev pub AreChunks : {X : Type 0} → ℕ → List (List X) → Type 0
 AreChunks size [] = Unit {0}
 AreChunks size (c ∷ []) = (0 < length c) × (length c ≤ size)
 AreChunks size (c ∷ d ∷ cs) = (length c ≡ size) × AreChunks size (d ∷ cs)
+
+-- a list with others in place of as many of its items, from a place on
+abbrev pub with_items : {X : Type 0} → List X → (place : ℕ) → List X → List X
+with_items xs place ys = splice xs place (place + length ys) ys

@@ -1,5 +1,6 @@
 pub mod Texts
 pub mod Lists
+pub mod Refusals
 pub mod Chunks
 pub mod laws
 pub mod Tracked

@@ -1,5 +1,6 @@
-ghost use Rattle.std.specs.Prelude.{◌≡◌, ◌<◌, ◌≤◌, ◌*◌, ◌%◌, ◌++◌, ℕ, List, drop, length, slice_get, slice_set, take, true, IfOk, OnErr, OnOk};
+ghost use Rattle.std.specs.Prelude.{◌≡◌, ◌+◌, ◌<◌, ◌≤◌, ◌*◌, ◌%◌, ◌++◌, ℕ, List, drop, length, slice_get, take, true, IfOk, OnErr, OnOk};
 ghost use Rattle.std.specs.Arc.{arc_value};
+ghost use Rattle.vp_list.specs.Chunks.{with_items};
 
 use crate::same::{Same, are_same};
 use std::alloc::{AllocError, Global};
@@ -14,6 +15,9 @@ pub trait Part<T>: Clone + Drop {
     /// What its maker needs.
     ghost can_make: { Type 0 };
 
+    /// So many items from a place on stand in one chunk, if they stand in the list.
+    ghost in_chunk: { ℕ → ℕ → Type 0 };
+
     /// A part that stands for some items. Takes memory.
     fn of_items(alloc: Global, list: &[T]) -> Result<Self, AllocError>
         requires { can_make }
@@ -23,11 +27,14 @@ pub trait Part<T>: Clone + Drop {
     fn item(&self, place: usize) -> Option<T>
         ensures { result ≡ slice_get (items self.now) place };
 
-    /// Exchanges the item at a place; does nothing where there is none. May take memory, and changes nothing if there is
-    /// none.
-    fn set_item(&mut self, place: usize, item: T) -> Result<(), AllocError>
-        ensures set { OnOk result (items self.new ≡ slice_set (items self.old) place item) }
-        ensures kept { OnErr result (items self.new ≡ items self.old) };
+    /// Exchanges the items from a place on, which stand in one chunk, for others. May take memory, and changes nothing if
+    /// there is none.
+    fn set_items(&mut self, place: usize, list: &[T]) -> Result<(), AllocError>
+        requires chunk { in_chunk place (length list.now) }
+        requires some { 0 < length list.now }
+        requires there { place + length list.now ≤ length (items self.old) }
+        ensures set { OnOk result (items self.new ≡ with_items (items self.old) place list.now) }
+        ensures unchanged { OnErr result (items self.new ≡ items self.old) };
 
     /// Puts the items behind others. May take memory; where there is none, some of them may stand there.
     fn append_to(&self, list: &mut Vec<T>) -> Result<(), AllocError>
@@ -66,15 +73,6 @@ impl<T: Copy + Drop> Chunk<T> {
     {
         self.items.get(place).copied()
     }
-
-    /// Exchanges the item at a place; does nothing where there is none.
-    fn set(&mut self, place: usize, item: T)
-        ensures { self.new ≡ slice_set self.old place item }
-    {
-        if place < self.items.len() {
-            self.items[place] = item;
-        }
-    }
 }
 
 impl<T: Copy + Drop> Clone for Chunk<T> {
@@ -93,6 +91,8 @@ impl<T: Copy + Drop> Part<T> for Chunk<T> {
 
     ghost can_make = { Unit {0} };
 
+    ghost in_chunk = { λ place count. Unit {0} };
+
     ghost copied = { λ a b h. h };
 
     fn of_items(alloc: Global, list: &[T]) -> Result<Chunk<T>, AllocError> {
@@ -106,8 +106,8 @@ impl<T: Copy + Drop> Part<T> for Chunk<T> {
         self.get(place)
     }
 
-    fn set_item(&mut self, place: usize, item: T) -> Result<(), AllocError> {
-        self.set(place, item);
+    fn set_items(&mut self, place: usize, list: &[T]) -> Result<(), AllocError> {
+        self.items[place..place + list.len()].copy_from_slice(list);
         Ok(())
     }
 
@@ -148,19 +148,19 @@ impl<T: Copy + Drop, P: Part<T>, const SIZE: usize> Parts<T, P, SIZE> {
         }
     }
 
-    /// Exchanges the item at a place; does nothing where there is none. A part that is shared is copied first, and where
-    /// there is no memory for that nothing changes.
-    pub fn set(&mut self, place: usize, item: T) -> Result<(), AllocError>
-        ensures set { OnOk result (self.new ≡ slice_set self.old place item) }
-        ensures kept { OnErr result (self.new ≡ self.old) }
+    /// Exchanges the items from a place on, which stand in one chunk, for others. A part that is shared is copied first, and
+    /// where there is no memory for that nothing changes.
+    fn set_within(&mut self, place: usize, list: &[T]) -> Result<(), AllocError>
+        requires chunk { (place % SIZE + length list.now ≤ SIZE)
+            × P.in_chunk (place % SIZE) (length list.now) }
+        requires some { 0 < length list.now }
+        requires there { place + length list.now ≤ length self.old }
+        ensures set { OnOk result (self.new ≡ with_items self.old place list.now) }
+        ensures unchanged { OnErr result (self.new ≡ self.old) }
     {
         let _ = &self.parts;
-        let number = place / SIZE;
-        if number >= self.parts.len() {
-            return Ok(());
-        }
-        let part = Arc::make_mut(&mut self.parts[number])?;
-        part.set_item(place % SIZE, item)
+        let part = Arc::make_mut(&mut self.parts[place / SIZE])?;
+        part.set_items(place % SIZE, list)
     }
 
     /// Appends a part of some items to full parts; where there is no memory nothing changes.
@@ -231,6 +231,9 @@ impl<T: Copy + Drop, P: Part<T>, const SIZE: usize> Part<T> for Parts<T, P, SIZE
 
     ghost can_make = { (0 < SIZE) × P.can_make };
 
+    ghost in_chunk = { λ place count. (place % SIZE + count ≤ SIZE)
+        × P.in_chunk (place % SIZE) count };
+
     ghost copied = { λ a b h. h };
 
     fn of_items(alloc: Global, list: &[T]) -> Result<Parts<T, P, SIZE>, AllocError> {
@@ -241,8 +244,8 @@ impl<T: Copy + Drop, P: Part<T>, const SIZE: usize> Part<T> for Parts<T, P, SIZE
         self.get(place)
     }
 
-    fn set_item(&mut self, place: usize, item: T) -> Result<(), AllocError> {
-        self.set(place, item)
+    fn set_items(&mut self, place: usize, list: &[T]) -> Result<(), AllocError> {
+        self.set_within(place, list)
     }
 
     fn append_to(&self, list: &mut Vec<T>) -> Result<(), AllocError> {
@@ -297,15 +300,18 @@ impl<T: Copy + Drop> SharedList<T> {
         self.parts.get(place)
     }
 
-    /// Exchanges the item at a place; does nothing where there is none. What is shared there is copied first, and where
+    /// Exchanges the items of a chunk of 64, from its first on, for others. What is shared there is copied first, and where
     /// there is no memory for that nothing changes.
-    pub fn set(&mut self, place: usize, item: T) -> Result<(), AllocError>
-        ensures set { OnOk result (self.new ≡ slice_set self.old place item) }
-        ensures kept { OnErr result (self.new ≡ self.old) }
+    pub(crate) fn set_chunk(&mut self, number: usize, list: &[T]) -> Result<(), AllocError>
+        requires some { 0 < length list.now }
+        requires most { length list.now ≤ 64 }
+        requires there { 64 * number + length list.now ≤ length self.old }
+        ensures set { OnOk result (self.new ≡ with_items self.old (64 * number) list.now) }
+        ensures unchanged { OnErr result (self.new ≡ self.old) }
     {
         let _len = self.len;
         let parts = Arc::make_mut(&mut self.parts)?;
-        parts.set(place, item)
+        parts.set_items(64 * number, list)
     }
 
     /// The same list for one holder more, which shares the items; or an error where the holders can't be counted.
@@ -372,6 +378,14 @@ fn part_in<T: Copy + Drop>(
 }
 
 impl<T: Copy + Drop + Same> SharedList<T> {
+    /// The chunk of a number has these items.
+    pub(crate) fn has_chunk(&self, number: usize, list: &[T]) -> bool
+        requires { 64 * number < length self.now }
+        ensures { result ≡ true → take 64 (drop (64 * number) self.now) ≡ list.now }
+    {
+        are_same(self.chunk(number).items.as_slice(), list)
+    }
+
     /// Two lists have the same items. It takes time for each item at most, chunk by chunk, and no memory.
     #[tactic(auto, using(crate::specs::laws::Copies::chunk_within, crate::specs::laws::Copies::next_same, crate::specs::laws::Copies::all_same))]
     pub fn is_same(&self, other: &SharedList<T>) -> bool

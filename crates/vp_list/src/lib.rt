@@ -1,4 +1,4 @@
-//! Texts and lists that contracts see as lists.
+//! What all crates share: texts and lists that contracts see as lists, and what an error of a call says.
 #![tactic(auto)]
 
 mod chunks;

@@ -1,5 +1,9 @@
 ghost use Rattle.std.specs.Prelude.{◌≡◌, true};
 
+use crate::sequence::Sequence;
+use crate::shared::SharedText;
+use crate::text::Text;
+
 /// What is compared by its contents.
 pub trait Same {
     /// The contents are the same.
@@ -23,6 +27,24 @@ impl Same for u32 {
 impl Same for Option<u32> {
     fn is_same(&self, other: &Option<u32>) -> bool {
         *self == *other
+    }
+}
+
+impl Same for Text {
+    fn is_same(&self, other: &Text) -> bool {
+        self.as_str() == other.as_str()
+    }
+}
+
+impl Same for SharedText {
+    fn is_same(&self, other: &SharedText) -> bool {
+        self.as_str() == other.as_str()
+    }
+}
+
+impl<T: Same + Drop> Same for Sequence<T> {
+    fn is_same(&self, other: &Sequence<T>) -> bool {
+        are_same(self.as_slice(), other.as_slice())
     }
 }
 

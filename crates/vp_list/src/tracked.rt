@@ -1,38 +1,39 @@
-ghost use Rattle.std.specs.Prelude.{◌≡◌, ◌++◌, ◌∷◌, [], length, slice_set, true, IfOk, OnErr, OnOk};
-ghost use Rattle.vp_list.specs.Tracked.{AreKept, taken_over};
+ghost use Rattle.std.specs.Prelude.{◌≡◌, ◌/◌, ℕ, [], length, slice_get, slice_set, true, IfOk, OnErr, OnOk};
+ghost use Rattle.std.specs.List.{Contains};
+ghost use Rattle.vp_list.specs.Tracked.{AreCopied, AreMarked, Lags};
 
 use crate::chunks::SharedList;
 use crate::same::Same;
 use std::alloc::{AllocError, Global};
 use std::marker::Model;
 
-/// How many written places are remembered between two copies to be kept; behind these the next copy is made anew.
-const REMEMBERED: usize = 65_536;
-
-/// A list that is written in place, and of which copies are kept: a copy shares its chunks with the one before it, but for those that were
-/// written since. A contract sees its items, in order.
+/// A list that is written in place, and of which copies are kept: a copy shares its chunks of 64 items with the one before it, but for
+/// those that were written since. A contract sees its items, in order.
 #[derive(Drop)]
 pub struct TrackedList<T: Copy + Drop + Same> {
     alloc: Global,
     items: Vec<T>,
     /// The items as they were when the last copy was made; empty before the first.
-    kept: SharedList<T>,
-    /// The places that were written since.
-    written: Vec<usize>,
-    /// There was a copy, and all places that were written since are remembered.
+    copy: SharedList<T>,
+    /// The numbers of the chunks that were written since.
+    changed: Vec<usize>,
+    /// For each chunk, whether it is one of those.
+    marks: Vec<bool>,
+    /// There was a copy, and each chunk that was written since is one of those.
     is_complete: bool,
 }
 
 impl<T: Copy + Drop + Same> Model for TrackedList<T> {
     ghost use Rattle.std.specs.Prelude.{◌≡◌, List, length, true};
-    ghost use Rattle.vp_list.specs.Tracked.{AreKept};
+    ghost use Rattle.vp_list.specs.Tracked.{AreCopied, AreMarked};
 
     ghost Value = { List T };
 
     ghost view = { λ t. t.items.items };
 
-    ghost invariant = { λ t. t.is_complete ≡ true
-        → (length t.kept ≡ length t.items.items) × AreKept t.kept t.items.items t.written.items };
+    ghost invariant = { λ t. AreMarked t.changed.items t.marks.items
+        × (t.is_complete ≡ true → (length t.copy ≡ length t.items.items)
+        × AreCopied t.copy t.items.items t.changed.items) };
 }
 
 impl<T: Copy + Drop + Same> TrackedList<T> {
@@ -40,11 +41,13 @@ impl<T: Copy + Drop + Same> TrackedList<T> {
     pub fn from_vec(alloc: Global, items: Vec<T>) -> Result<TrackedList<T>, AllocError>
         ensures { IfOk result (λ t. t ≡ items.items) }
     {
+        let marks = vec![in alloc; false; items.len().div_ceil(64)]?;
         Ok(TrackedList {
             alloc,
             items,
-            kept: SharedList::from_slice(alloc, &[])?,
-            written: Vec::new(alloc),
+            copy: SharedList::from_slice(alloc, &[])?,
+            changed: Vec::new(alloc),
+            marks,
             is_complete: false,
         })
     }
@@ -53,11 +56,13 @@ impl<T: Copy + Drop + Same> TrackedList<T> {
     pub fn of_kept(alloc: Global, kept: &SharedList<T>) -> Result<TrackedList<T>, AllocError>
         ensures { IfOk result (λ t. t ≡ kept.now) }
     {
+        let marks = vec![in alloc; false; kept.len().div_ceil(64)]?;
         Ok(TrackedList {
             alloc,
             items: kept.to_vec(alloc)?,
-            kept: kept.try_clone()?,
-            written: Vec::new(alloc),
+            copy: kept.try_clone()?,
+            changed: Vec::new(alloc),
+            marks,
             is_complete: true,
         })
     }
@@ -77,72 +82,112 @@ impl<T: Copy + Drop + Same> TrackedList<T> {
             return;
         }
         self.items[place] = item;
-        self.is_complete = remember(self.is_complete, &mut self.written, place);
+        self.is_complete = remember(
+            self.is_complete,
+            &mut self.changed,
+            &mut self.marks,
+            place / 64,
+        );
     }
 
-    /// A copy to be kept, which shares what was not written since the last one; or an error where there is no memory, or the holders
-    /// can't be counted.
+    /// A copy to be kept, which shares the chunks that were not written since the last one; or an error where there is no memory, or the
+    /// holders can't be counted.
     pub fn keep(&mut self) -> Result<SharedList<T>, AllocError>
         ensures copy { IfOk result (λ copy. copy ≡ self.old) }
         ensures same { self.new ≡ self.old }
     {
-        if self.is_complete {
-            renew(
-                &mut self.kept,
-                self.items.as_slice(),
-                self.written.as_slice(),
-            )?;
-        } else {
-            self.kept = SharedList::from_slice(self.alloc, self.items.as_slice())?;
+        if !self.is_complete {
+            self.copy = SharedList::from_slice(self.alloc, self.items.as_slice())?;
+            self.is_complete = true;
         }
-        self.written.clear();
-        self.is_complete = true;
-        self.kept.try_clone()
+        renew(
+            &mut self.copy,
+            self.items.as_slice(),
+            &mut self.changed,
+            &mut self.marks,
+        )?;
+        self.copy.try_clone()
     }
 }
 
-/// Remembers a place that is written where all others are, and tells so, unless there are too many or there is no memory.
-fn remember(is_complete: bool, written: &mut Vec<usize>, place: usize) -> bool
-    ensures { result ≡ true
-        → (is_complete ≡ true) × (written.new.items ≡ written.old.items ++ place ∷ []) }
+/// Remembers, once, that a chunk is written, where all others are, and tells so; but not where there is no memory for that.
+#[tactic(auto, using(crate::specs::laws::Tracked::marked_more))]
+fn remember(
+    is_complete: bool,
+    changed: &mut Vec<usize>,
+    marks: &mut Vec<bool>,
+    number: usize,
+) -> bool
+    requires marked { AreMarked changed.old.items marks.old.items }
+    ensures marked { AreMarked changed.new.items marks.new.items }
+    ensures others { (k : ℕ) → Contains changed.old.items k → Contains changed.new.items k }
+    ensures there { result ≡ true → (is_complete ≡ true) × Contains changed.new.items number }
 {
-    is_complete && written.len() < REMEMBERED && written.push(place).is_ok()
-}
-
-/// Takes the item at a place of a list into a copy of it, if there is one.
-#[tactic(auto, using(crate::specs::laws::Tracked::taken_same, crate::specs::laws::Tracked::taken_past, crate::specs::laws::Tracked::taken_none))]
-fn take_over<T: Copy + Drop + Same>(
-    kept: &mut SharedList<T>,
-    items: &[T],
-    place: usize,
-) -> Result<(), AllocError>
-    ensures there { OnOk result (kept.new ≡ taken_over kept.old items.now place) }
-    ensures same { OnErr result (kept.new ≡ kept.old) }
-{
-    let (Some(item), Some(was)) = (items.get(place), kept.get(place)) else {
-        return Ok(());
+    if !is_complete {
+        return false;
+    }
+    if marks.get(number).copied() == Some(true) {
+        return true;
+    }
+    let Ok(()) = changed.push(number) else {
+        return false;
     };
-    // What is the same again needs no copy of its chunk.
-    if was.is_same(item) {
-        return Ok(());
-    }
-    kept.set(place, *item)
+    mark(marks, number, true);
+    true
 }
 
-/// Takes the items at these places of a list into a copy, which has the others; or as many as there is memory for.
-fn renew<T: Copy + Drop + Same>(
-    kept: &mut SharedList<T>,
-    items: &[T],
-    written: &[usize],
-) -> Result<(), AllocError>
-    requires length { length kept.old ≡ length items.now }
-    requires others { AreKept kept.old items.now written.now }
-    ensures all { OnOk result (kept.new ≡ items.now) }
-    ensures others { AreKept kept.new items.now written.now }
-    ensures length { length kept.new ≡ length items.now }
+/// Sets the mark of a chunk, if it has one.
+fn mark(marks: &mut Vec<bool>, number: usize, is_changed: bool)
+    ensures { marks.new.items ≡ slice_set marks.old.items number is_changed }
 {
-    for place in written {
-        take_over(kept, items, *place)?;
+    if number < marks.len() {
+        marks[number] = is_changed;
+    }
+}
+
+/// Takes a chunk of a list into a copy of it, if there is one of this number.
+#[tactic(auto, using(crate::specs::laws::Tracked::own_past))]
+fn take_over<T: Copy + Drop + Same>(
+    copy: &mut SharedList<T>,
+    items: &[T],
+    number: usize,
+) -> Result<(), AllocError>
+    requires length { length copy.old ≡ length items.now }
+    ensures length { length copy.new ≡ length copy.old }
+    ensures own { OnOk result ((k : ℕ) → k / 64 ≡ number
+        → slice_get copy.new k ≡ slice_get items.now k) }
+    ensures others { OnOk result ((k : ℕ) → (k / 64 ≡ number → ⊥)
+        → slice_get copy.new k ≡ slice_get copy.old k) }
+    ensures unchanged { OnErr result (copy.new ≡ copy.old) }
+{
+    if number >= items.len().div_ceil(64) {
+        return Ok(());
+    }
+    let rest = &items[64 * number..];
+    let chunk = &rest[..rest.len().min(64)];
+    // What is the same again needs no copy.
+    if copy.has_chunk(number, chunk) {
+        return Ok(());
+    }
+    copy.set_chunk(number, chunk)
+}
+
+/// Takes the chunks that were written since into a copy, and forgets them; or as many as there is memory for.
+#[tactic(auto, using(crate::specs::laws::Tracked::copied_less, crate::specs::laws::Tracked::marked_less, crate::specs::laws::Tracked::copied_whole))]
+fn renew<T: Copy + Drop + Same>(
+    copy: &mut SharedList<T>,
+    items: &[T],
+    changed: &mut Vec<usize>,
+    marks: &mut Vec<bool>,
+) -> Result<(), AllocError>
+    requires lags { Lags copy.old items.now changed.old.items marks.old.items }
+    ensures all { OnOk result (copy.new ≡ items.now) }
+    ensures lags { Lags copy.new items.now changed.new.items marks.new.items }
+{
+    while let Some(number) = changed.as_slice().last().copied() {
+        take_over(copy, items, number)?;
+        mark(marks, number, false);
+        let _ = changed.pop();
     }
     Ok(())
 }

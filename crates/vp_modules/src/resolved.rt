@@ -1,6 +1,8 @@
+ghost use Rattle.vp_list.specs.Refusals.{MayExplain};
+ghost use Rattle.vp_names.specs.declared.fault.ElabError.TheVariants.{NoMemory};
 ghost use Rattle.std.specs.Prelude.{◌≡◌, [], None, map, IfErr, IfOk, OnOk};
 ghost use Rattle.vp_names.specs.Items.{definition_number, is_top};
-ghost use Rattle.vp_names.specs.Refusals.{Explains, twice_in};
+ghost use Rattle.vp_names.specs.Refusals.{twice_in};
 ghost use Rattle.vp_modules.specs.Refusals.{refusal_of, refusal_of_instances, refusal_of_uses};
 ghost use Rattle.vp_names.specs.Tables.{tables_in};
 ghost use Rattle.vp_modules.specs.Resolution.{resolved_in};
@@ -36,7 +38,7 @@ fn check_instances(
     requires definitions { definitions.now ≡ map (definition_number source.now) source.now.items }
     requires once { twice_in source.now [] source.now.modules ≡ None }
     ensures right { OnOk result (refusal_of_instances source.now ≡ None) }
-    ensures refused { IfErr result (λ e. Explains (refusal_of_instances source.now) e) }
+    ensures refused { IfErr result (MayExplain NoMemory (refusal_of_instances source.now)) }
 {
     if let Some(place) = first_missing(source, &tables.modules) {
         return Err(ElabError::UnknownModule {
@@ -55,7 +57,7 @@ fn check_instances(
 fn check_uses(alloc: Global, source: &Source, tables: &Tables) -> Result<(), ElabError>
     requires { tables.now ≡ tables_in source.now }
     ensures right { OnOk result (refusal_of_uses source.now ≡ None) }
-    ensures refused { IfErr result (λ e. Explains (refusal_of_uses source.now) e) }
+    ensures refused { IfErr result (MayExplain NoMemory (refusal_of_uses source.now)) }
 {
     if let Some(place) = first_undeclared(source, tables.scopes.as_slice()) {
         return Err(ElabError::Undeclared {
@@ -93,7 +95,7 @@ fn check_items(
         (λ found. found.0 ≡ map (definition_number source.now) source.now.items) }
     ensures tops { IfOk result (λ found. found.1 ≡ map (is_top source.now) source.now.modules) }
     ensures right { OnOk result (refusal_of source.now ≡ None) }
-    ensures refused { IfErr result (λ e. Explains (refusal_of source.now) e) }
+    ensures refused { IfErr result (MayExplain NoMemory (refusal_of source.now)) }
 {
     let definitions = definitions_of(alloc, source, tables)?;
     check_instances(alloc, source, tables, definitions.as_slice())?;
@@ -106,7 +108,7 @@ fn check_items(
 pub fn check_modules(alloc: Global, source: &Source) -> Result<Resolved, ElabError>
     ensures resolved { IfOk result (λ resolved. resolved ≡ resolved_in source.now) }
     ensures right { OnOk result (refusal_of source.now ≡ None) }
-    ensures refused { IfErr result (λ e. Explains (refusal_of source.now) e) }
+    ensures refused { IfErr result (MayExplain NoMemory (refusal_of source.now)) }
 {
     let tables = tables_of(alloc, source)?;
     let (definitions, tops) = check_items(alloc, source, &tables)?;

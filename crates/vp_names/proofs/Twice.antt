@@ -1,13 +1,14 @@
 -- Names that are declared twice, module by module.
 use Rattle.std.proofs.Common.{◌≡◌, ℕ, suc, ◌+◌, ◌<◌, Bool, false, cond, List, [], ◌∷◌, ◌++◌, length, drop, get_or, Option, Some, None, ap, sym, subst, ◌∙◌, arith}
 use Rattle.std.proofs.Math.Seq.{drop-cons}
+use Rattle.vp_list.specs.Refusals.{MayExplain}
 use Rattle.vp_source.specs.Places.{line_at, word_at}
 use Rattle.vp_source.specs.declared.source.Source.{Source}
 use Rattle.vp_source.specs.declared.source.Module.{Module}
 use Rattle.vp_names.specs.declared.fault.ElabError.{ElabError}
-use Rattle.vp_names.specs.declared.fault.ElabError.TheVariants.{Duplicate}
+use Rattle.vp_names.specs.declared.fault.ElabError.TheVariants.{Duplicate, NoMemory}
 use Rattle.vp_names.specs.Items.{is_among, items_in}
-use Rattle.vp_names.specs.Refusals.{Explains, first_of_two, twice, twice_in}
+use Rattle.vp_names.specs.Refusals.{first_of_two, twice, twice_in}
 
 -- behind a module whose names are new and declared once, the modules go on
 pub twice_behind :
@@ -33,6 +34,6 @@ twice_next source names ms i d in_list new once =
 pub refused_at :
     (source : Source) (names : List (List ℕ)) (ms : List Module) (i : ℕ) (d : Module) (e : ElabError) → i < length ms
     → twice_in source names (drop i ms) ≡ twice_in source [] ms
-    → ((rest : List Module) → Explains (twice_in source names (get_or ms i d ∷ rest)) e) → Explains (twice_in source [] ms) e
+    → ((rest : List Module) → MayExplain NoMemory (twice_in source names (get_or ms i d ∷ rest)) e) → MayExplain NoMemory (twice_in source [] ms) e
 refused_at source names ms i d e in_list same refused =
-    subst (λ (r : Option ElabError). Explains r e) (ap (twice_in source names) (sym (drop-cons ms i d in_list)) ∙ same) (refused (drop (suc i) ms))
+    subst (λ (r : Option ElabError). MayExplain NoMemory r e) (ap (twice_in source names) (sym (drop-cons ms i d in_list)) ∙ same) (refused (drop (suc i) ms))

@@ -16,26 +16,13 @@ use Rattle.vp_source.specs.declared.source.Module as declared
 use Rattle.vp_source.specs.declared.source.Item.{Item}
 use Rattle.vp_source.specs.declared.source.Item.TheVariants as item
 use Rattle.vp_names.specs.declared.fault.ElabError.{ElabError}
-use Rattle.vp_names.specs.declared.fault.ElabError.TheVariants.{Duplicate, UnknownModule, Recursive, Undeclared, BadTarget, BadConnection, MultipleDrivers, TooManyObjects, ViewportUnknown, NoMemory}
+use Rattle.vp_names.specs.declared.fault.ElabError.TheVariants.{Duplicate, UnknownModule, Recursive, Undeclared, BadTarget, BadConnection, MultipleDrivers, TooManyObjects, ViewportUnknown}
 use Rattle.vp_names.specs.Items.{connections_of, definition_of, expressions_in, instantiated, is_among, is_input, is_net, is_operand, is_reg, is_signal, item_name, item_place, items_in, module_named, named_at, ports_in, statements_in, terms_in}
 
 -- the first of two refusals that holds
 abbrev pub first_of_two : Option ElabError → Option ElabError → Option ElabError
 first_of_two None other = other
 first_of_two (Some e) other = Some e
-
--- an error is this refusal; want of memory may be told at any time
-abbrev pub Explains : Option ElabError → ElabError → Type 0
-Explains refusal NoMemory = Unit {0}
-Explains refusal (Duplicate line) = refusal ≡ Some (Duplicate line)
-Explains refusal (UnknownModule line) = refusal ≡ Some (UnknownModule line)
-Explains refusal (Recursive line) = refusal ≡ Some (Recursive line)
-Explains refusal (Undeclared line) = refusal ≡ Some (Undeclared line)
-Explains refusal (BadTarget line) = refusal ≡ Some (BadTarget line)
-Explains refusal (BadConnection line) = refusal ≡ Some (BadConnection line)
-Explains refusal (MultipleDrivers line) = refusal ≡ Some (MultipleDrivers line)
-Explains refusal TooManyObjects = refusal ≡ Some TooManyObjects
-Explains refusal (ViewportUnknown line) = refusal ≡ Some (ViewportUnknown line)
 
 -- the first token of a text where a test of its modules holds
 abbrev pub first_in : Source → (declared.Module → Option ℕ) → Option ℕ

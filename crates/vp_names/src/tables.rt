@@ -1,8 +1,10 @@
+ghost use Rattle.vp_list.specs.Refusals.{MayExplain};
+ghost use Rattle.vp_names.specs.declared.fault.ElabError.TheVariants.{NoMemory};
 ghost use Rattle.std.specs.Prelude.{◌≡◌, false, List, [], ◌∷◌, ◌++◌, map, None, IfErr, IfOk, OnOk};
 ghost use Rattle.vp_source.specs.Places.{word_at};
 ghost use Rattle.vp_names.specs.Items.{is_among, item_name, items_in};
 ghost use Rattle.vp_names.specs.Tables.{module_names, scope_in, tables_in};
-ghost use Rattle.vp_names.specs.Refusals.{Explains, twice, twice_in};
+ghost use Rattle.vp_names.specs.Refusals.{twice, twice_in};
 
 use crate::fault::ElabError;
 use crate::items::{items_of, name_of, place_of};
@@ -24,7 +26,7 @@ pub struct Tables {
 fn names_of(alloc: Global, source: &Source, items: &[Item]) -> Result<Names, ElabError>
     ensures names { IfOk result (λ names. names ≡ map (item_name source.now) items.now) }
     ensures once { IfOk result (λ names. twice source.now [] items.now ≡ None) }
-    ensures twice { IfErr result (λ e. Explains (twice source.now [] items.now) e) }
+    ensures twice { IfErr result (MayExplain NoMemory (twice source.now [] items.now)) }
 {
     let mut names = Names::new(alloc);
     for item in items {
@@ -53,7 +55,7 @@ fn add_module(
     ensures new { OnOk result (is_among modules.old (word_at source.now declared.name) ≡ false) }
     ensures once { OnOk result (twice source.now [] (items_in source.now declared) ≡ None) }
     ensures twice { IfErr result (λ e. (ms : List Module)
-        → Explains (twice_in source.now modules.old (declared ∷ ms)) e) }
+        → MayExplain NoMemory (twice_in source.now modules.old (declared ∷ ms)) e) }
 {
     let name = String::from_str(alloc, source.word(declared.name))?;
     if !modules.add(name)? {
@@ -70,7 +72,7 @@ fn add_module(
 pub fn tables_of(alloc: Global, source: &Source) -> Result<Tables, ElabError>
     ensures tables { IfOk result (λ tables. tables ≡ tables_in source.now) }
     ensures once { IfOk result (λ tables. twice_in source.now [] source.now.modules ≡ None) }
-    ensures twice { IfErr result (λ e. Explains (twice_in source.now [] source.now.modules) e) }
+    ensures twice { IfErr result (MayExplain NoMemory (twice_in source.now [] source.now.modules)) }
 {
     let mut modules = Names::new(alloc);
     let mut scopes = Vec::new(alloc);

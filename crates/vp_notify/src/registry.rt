@@ -46,9 +46,15 @@ impl Model for Registry {
 
     ghost Value = { RegistryState };
 
-    ghost view = { λ r. record { callbacks = r.callbacks.items; given = r.given; waiting = r.waiting.items; lost = r.lost } };
+    ghost view = { λ r. record {
+      callbacks = r.callbacks.items;
+      given = r.given;
+      waiting = r.waiting.items;
+      lost = r.lost;
+    } };
 
-    ghost invariant = { λ r. AreOrdered r.callbacks.items × (length r.callbacks.items ≤ 1024) × (r.waiting.capacity ≡ 4096) };
+    ghost invariant = { λ r. AreOrdered r.callbacks.items × (length r.callbacks.items ≤ 1024)
+        × (r.waiting.capacity ≡ 4096) };
 }
 
 /// One of the callbacks has a number.

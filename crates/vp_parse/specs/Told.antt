@@ -10,25 +10,25 @@ use Rattle.vp_parse_expr.specs.Stopping.{Stop, Unexpected, TooDeep}
 
 -- the symbol at which reading stops, with so many left; the last one at the end of the text
 abbrev pub stopped_at : List Symbol → ℕ → Option Symbol
-stopped_at symbols left = slice_get symbols (length symbols - max left 1)
+stopped_at symbols unread = slice_get symbols (length symbols - max unread 1)
 
 -- its place; 0 where there is none
 abbrev pub place_told : List Symbol → ℕ → ℕ
-place_told symbols left = option_map_or (λ (s : Symbol). s.place) (stopped_at symbols left) 0
+place_told symbols unread = option_map_or (λ (s : Symbol). s.place) (stopped_at symbols unread) 0
 
 -- the line of its token; 0 where there is none
 abbrev pub line_told : List Token → List Symbol → ℕ → ℕ
-line_told tokens symbols left =
-    option_map_or (λ (t : Token). t.line) (option_and_then (λ (s : Symbol). slice_get tokens s.place) (stopped_at symbols left)) 0
+line_told tokens symbols unread =
+    option_map_or (λ (t : Token). t.line) (option_and_then (λ (s : Symbol). slice_get tokens s.place) (stopped_at symbols unread)) 0
 
 -- an error tells why and where reading stops, a word left out as one that is unexpected; want of memory tells nothing of it
 abbrev pub Tells : List Token → List Symbol → ParseError → Result Derivation Stop → Type 0
 Tells tokens symbols (error.Syntax line) read =
-    (left : ℕ) × (read ≡ Err (Unexpected left)) × (line ≡ line_told tokens symbols left)
+    (unread : ℕ) × (read ≡ Err (Unexpected unread)) × (line ≡ line_told tokens symbols unread)
 Tells tokens symbols (error.LeftOut word line) read =
-    (left : ℕ) × (read ≡ Err (Unexpected left)) × (word ≡ place_told symbols left) × (line ≡ line_told tokens symbols left)
+    (unread : ℕ) × (read ≡ Err (Unexpected unread)) × (word ≡ place_told symbols unread) × (line ≡ line_told tokens symbols unread)
 Tells tokens symbols (error.TooDeep line) read =
-    (left : ℕ) × (read ≡ Err (TooDeep left)) × (line ≡ line_told tokens symbols left)
+    (unread : ℕ) × (read ≡ Err (TooDeep unread)) × (line ≡ line_told tokens symbols unread)
 Tells tokens symbols error.NoMemory read = Unit {0}
 
 -- an error says that no derivation spells the symbols: however deep it nests, or, where it is of depth, within the limit; want of

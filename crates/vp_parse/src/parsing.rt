@@ -87,29 +87,29 @@ fn modules(
 }
 
 /// The symbol at which reading stopped, with so many left; at the end of the text the last one.
-fn stopped_at(symbols: &[Symbol], left: usize) -> Option<Symbol>
-    ensures { result ≡ stop_at symbols.now left }
+fn stopped_at(symbols: &[Symbol], unread: usize) -> Option<Symbol>
+    ensures { result ≡ stop_at symbols.now unread }
 {
     symbols
-        .get(symbols.len().saturating_sub(left.max(1)))
+        .get(symbols.len().saturating_sub(unread.max(1)))
         .copied()
 }
 
 /// The place of the symbol at which reading stopped, 0 where there is none.
-fn place_of(symbols: &[Symbol], left: usize) -> u32
-    ensures { result ≡ place_told symbols.now left }
+fn place_of(symbols: &[Symbol], unread: usize) -> u32
+    ensures { result ≡ place_told symbols.now unread }
 {
-    match stopped_at(symbols, left) {
+    match stopped_at(symbols, unread) {
         Some(symbol) => symbol.place,
         None => 0,
     }
 }
 
 /// The line on which reading stopped, 0 where there is none.
-fn line_of(symbols: &[Symbol], tokens: &[Token], left: usize) -> u32
-    ensures { result ≡ line_told tokens.now symbols.now left }
+fn line_of(symbols: &[Symbol], tokens: &[Token], unread: usize) -> u32
+    ensures { result ≡ line_told tokens.now symbols.now unread }
 {
-    let Some(symbol) = stopped_at(symbols, left) else {
+    let Some(symbol) = stopped_at(symbols, unread) else {
         return 0;
     };
     match tokens.get(symbol.place as usize) {
@@ -124,15 +124,15 @@ fn error_of(stop: Stop, symbols: &[Symbol], tokens: &[Token]) -> ParseError
         → Tells tokens.now symbols.now result read }
 {
     match stop {
-        Stop::Syntax(left) => ParseError::Syntax {
-            line: line_of(symbols, tokens, left),
+        Stop::Syntax(unread) => ParseError::Syntax {
+            line: line_of(symbols, tokens, unread),
         },
-        Stop::LeftOut(left) => ParseError::LeftOut {
-            word: place_of(symbols, left),
-            line: line_of(symbols, tokens, left),
+        Stop::LeftOut(unread) => ParseError::LeftOut {
+            word: place_of(symbols, unread),
+            line: line_of(symbols, tokens, unread),
         },
-        Stop::TooDeep(left) => ParseError::TooDeep {
-            line: line_of(symbols, tokens, left),
+        Stop::TooDeep(unread) => ParseError::TooDeep {
+            line: line_of(symbols, tokens, unread),
         },
         Stop::NoMemory => ParseError::NoMemory,
     }

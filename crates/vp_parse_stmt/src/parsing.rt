@@ -823,7 +823,8 @@ pub fn statement<'a>(
     ensures read { Gives (λ found. (found.0, lists_in arena.new, found.1.now))
         result (stmt_into limit depth (lists_in arena.old) symbols.now) }
     ensures found { IfOk result (λ found. (s : Stmt)
-        × IsStatementOf limit depth (lists_in arena.old) symbols.now (found.0, lists_in arena.new, found.1.now) s) }
+        × IsStatementOf limit depth (lists_in arena.old) symbols.now
+        (found.0, lists_in arena.new, found.1.now) s) }
     ensures none { IfErr result (λ stop. (stop ≡ NoMemory) ⊎ NoStatement limit depth symbols.now) }
     ensures lighter { IfOk result (λ found. weight arena.new found.1.now
         < weight arena.old symbols.now) }

@@ -27,7 +27,8 @@ pub fn value<'a>(
     ensures read { Gives (λ found. (found.0, lists_in arena.new, found.1.now)) result
         (value_into limit (lists_in arena.old) symbols.now) }
     ensures found { IfOk result (λ found. (e : Expr)
-        × IsValueOf limit (lists_in arena.old) symbols.now (found.0, lists_in arena.new, found.1.now) e) }
+        × IsValueOf limit (lists_in arena.old) symbols.now
+        (found.0, lists_in arena.new, found.1.now) e) }
     ensures none { IfErr result (λ stop. (stop ≡ NoMemory) ⊎ NoExpression limit symbols.now) }
     ensures lighter { IfOk result (λ found. weight arena.new found.1.now
         < weight arena.old symbols.now) }

@@ -4,7 +4,8 @@ ghost use Rattle.vp_policy.specs.File.{opened_by};
 
 use crate::reading::opened_by;
 use std::marker::Model;
-use vp_pragma::Rights;
+use vp_list::Same;
+use vp_pragma::{Right, Rights};
 
 /// What a grant gives. A contract sees the set of its rights.
 #[derive(Drop)]
@@ -29,10 +30,30 @@ impl Access {
         Some(Access { rights })
     }
 
+    /// The same once more.
+    pub fn copy(&self) -> Access
+        ensures { result ≡ self.now }
+    {
+        Access {
+            rights: self.rights,
+        }
+    }
+
     /// Its rights.
     pub fn rights(&self) -> Rights
         ensures { set_of result ≡ self.now }
     {
         self.rights
+    }
+}
+
+impl Same for Access {
+    fn is_same(&self, other: &Access) -> bool {
+        let (first, second) = (self.rights, other.rights);
+        first.has(Right::List) == second.has(Right::List)
+            && first.has(Right::Read) == second.has(Right::Read)
+            && first.has(Right::Watch) == second.has(Right::Watch)
+            && first.has(Right::Put) == second.has(Right::Put)
+            && first.has(Right::Race) == second.has(Right::Race)
     }
 }

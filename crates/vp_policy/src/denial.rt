@@ -6,7 +6,7 @@ use std::alloc::{AllocError, Global};
 use std::marker::Model;
 use std::sync::Arc;
 use vp_elab::{Design, ObjectId};
-use vp_list::SharedText;
+use vp_list::{Same, SharedText};
 use vp_pragma::Right;
 
 /// What keeps a user out.
@@ -163,6 +163,16 @@ impl DenialWords {
             Some(object) => Some(object.as_str()),
             None => None,
         }
+    }
+}
+
+impl Same for DenialWords {
+    fn is_same(&self, other: &DenialWords) -> bool {
+        self.by() == other.by()
+            && self.envelope() == other.envelope()
+            && self.right() == other.right()
+            && self.author() == other.author()
+            && self.object() == other.object()
     }
 }
 

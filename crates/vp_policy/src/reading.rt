@@ -1,9 +1,11 @@
 // The policy file (docs/FORMATS.md, "Policy").
 ghost use Rattle.std.specs.Prelude.{◌≡◌, ◌⊎◌, [], None, Ok, Some, length, map, option_and_then, option_map, IfErr, IfOk, IsErrOf};
 ghost use Rattle.std.specs.List.{list_all};
+ghost use Rattle.std.specs.Result.{result_err};
+ghost use Rattle.vp_policy.specs.declared.fault.PolicyError.TheVariants.{NoMemory};
+ghost use Rattle.vp_list.specs.Refusals.{MayExplain};
 ghost use Rattle.serde_json.specs.View.{items_view, view};
 ghost use Rattle.vp_pragma.specs.Rights.{set_of};
-ghost use Rattle.vp_policy.specs.Faults.{Explains};
 ghost use Rattle.vp_policy.specs.File.{access_in, each_of, file_in, file_of, grant_of, grants_missing, grants_of, is_for_missing, is_word, is_word_byte, open_set_of, opened_by, operator_of, policy_of, run_of, user_from, users_of, word_at, word_of};
 ghost use Rattle.vp_policy.specs.Members.{grant_shown, member_of};
 ghost use Rattle.vp_policy.specs.Listing.{IsListed};
@@ -252,7 +254,8 @@ fn policy_of(alloc: Global, file: &Value, design: &Design) -> Result<Policy, Pol
         policy_of (length design.now.tree.authors) (view file.now) ≡ Ok (file_in policy)) }
     ensures fits { IfOk result (λ policy. Fits policy design.now.tree) }
     ensures refused { IfErr result
-        (λ e. Explains (policy_of (length design.now.tree.authors) (view file.now)) e) }
+        (MayExplain NoMemory (result_err
+        (policy_of (length design.now.tree.authors) (view file.now)))) }
 {
     let users = users_array(file).ok_or(PolicyError::BadPolicy)?;
     let listed = users_in(alloc, users)?;
@@ -278,7 +281,7 @@ pub fn read_policy(alloc: Global, bytes: &[u8], design: &Design) -> Result<Polic
         (λ policy. file_of (length design.now.tree.authors) bytes.now ≡ Ok (file_in policy)) }
     ensures fits { IfOk result (λ policy. Fits policy design.now.tree) }
     ensures refused { IfErr result
-        (λ e. Explains (file_of (length design.now.tree.authors) bytes.now) e) }
+        (MayExplain NoMemory (result_err (file_of (length design.now.tree.authors) bytes.now))) }
 {
     match read(alloc, bytes) {
         Ok(file) => policy_of(alloc, &file, design),

@@ -1,5 +1,5 @@
 -- A refusal of the deeds so far is that of all.
-use Rattle.std.proofs.Common.{◌≡◌, ℕ, suc, ◌<◌, Bool, false, cond, eqb, length, List, [], ◌∷◌, map, Option, Some, Result, Err, refl, sym, ap, subst, ◌∙◌, arith}
+use Rattle.std.proofs.Common.{◌≡◌, ℕ, suc, ◌<◌, Bool, false, cond, eqb, length, List, [], ◌∷◌, map, Option, Some, Result, Ok, Err, refl, sym, ap, subst, ◌∙◌, arith}
 use Rattle.std.specs.Prelude.{IfSome}
 use Rattle.std.proofs.lemmas.Bool.Decides.{nat_tests}
 use Rattle.vp_pragma.specs.declared.deed.Deed.{Deed}
@@ -14,28 +14,26 @@ use Rattle.vp_pragma.specs.EnvelopesOf.{Progress, after_deeds}
 use Rattle.vp_pragma.specs.Pragmas.{before_deeds, deed_of}
 use Rattle.vp_pragma.specs.LineReading.{deeds_from, expression_at, first_deeds, next_deeds, all_deeds}
 use Rattle.vp_pragma.specs.Signs.{Placed}
-use Rattle.vp_pragma.specs.Faults.{Explains}
+use Rattle.std.specs.Result.{result_err}
+use Rattle.vp_list.specs.Refusals.{MayExplain}
 use Rattle.vp_pragma.specs.Reading.{after_all, after_one, directive_of, placed}
+
+refusal_through :
+    {A B : Type 0} (f : Result A PragmaError → Result B PragmaError) (given : Result A PragmaError) (e : PragmaError)
+    → ((x : PragmaError) → f (Err x) ≡ Err x) → result_err given ≡ Some e → result_err (f given) ≡ Some e
+refusal_through f (Ok x) e keeps h = absurd (cc)
+refusal_through f (Err x) e keeps h = ap result_err (keeps x) ∙ h
 
 -- what keeps a refusal keeps its explanation
 pub explains_through :
     {A B : Type 0} (f : Result A PragmaError → Result B PragmaError) (given : Result A PragmaError) (e : PragmaError)
-    → ((x : PragmaError) → f (Err x) ≡ Err x) → Explains given e → Explains (f given) e
-explains_through f given error.NoMemory keeps h = tt
-explains_through f given (error.NestedBegin line) keeps h = ap f h ∙ keeps (error.NestedBegin line)
-explains_through f given (error.EndWithoutBegin line) keeps h = ap f h ∙ keeps (error.EndWithoutBegin line)
-explains_through f given (error.OpenEnvelope line) keeps h = ap f h ∙ keeps (error.OpenEnvelope line)
-explains_through f given (error.Unbalanced line) keeps h = ap f h ∙ keeps (error.Unbalanced line)
-explains_through f given (error.ViewportOutside line) keeps h = ap f h ∙ keeps (error.ViewportOutside line)
-explains_through f given (error.BadAccess line) keeps h = ap f h ∙ keeps (error.BadAccess line)
-explains_through f given (error.NeedsDecryption line) keeps h = ap f h ∙ keeps (error.NeedsDecryption line)
-explains_through f given (error.TooMany line) keeps h = ap f h ∙ keeps (error.TooMany line)
-explains_through f given (error.BadPragma line) keeps h = ap f h ∙ keeps (error.BadPragma line)
+    → ((x : PragmaError) → f (Err x) ≡ Err x) → MayExplain error.NoMemory (result_err given) e → MayExplain error.NoMemory (result_err (f given)) e
+explains_through f given e keeps h n = refusal_through f given e keeps (h n)
 
 -- the refusal of a deed is that of the deeds from it on
 pub explains_more :
-    (line : Line) (reading : Reading) (deed : Deed) (e : PragmaError) → Explains (after_one line reading deed) e
-    → (ds : List Deed) → Explains (after_all line reading (deed ∷ ds)) e
+    (line : Line) (reading : Reading) (deed : Deed) (e : PragmaError) → MayExplain error.NoMemory (result_err (after_one line reading deed)) e
+    → (ds : List Deed) → MayExplain error.NoMemory (result_err (after_all line reading (deed ∷ ds))) e
 explains_more line reading deed e h ds =
     explains_through (λ (r : Result Progress PragmaError). after_deeds line.text.now line.tokens.now r (map (λ (d : Deed). (directive_of line, d)) ds))
     (after_one line reading deed) e (λ x. refl) h
@@ -44,11 +42,11 @@ explains_more line reading deed e h ds =
 pub explains_first :
     (line : Line) (pragma : Pragma) (reading : Reading) (ps : List Placed) (first : Expression) (behind : List Placed) (deed : Option Deed) (e : PragmaError)
     → Some (first, behind) ≡ expression_at ps → deed ≡ deed_of pragma line.text.now first
-    → ((ds : List Deed) → Explains (after_all line reading (before_deeds deed ds)) e)
-    → (n : ℕ) → Explains (after_all line reading (deeds_from pragma line.text.now (suc n) ps)) e
+    → ((ds : List Deed) → MayExplain error.NoMemory (result_err (after_all line reading (before_deeds deed ds))) e)
+    → (n : ℕ) → MayExplain error.NoMemory (result_err (after_all line reading (deeds_from pragma line.text.now (suc n) ps))) e
 explains_first line pragma reading ps first behind deed e is deed_is h n =
-    subst (λ (found : Option (Expression × List Placed)). Explains (after_all line reading (first_deeds pragma line.text.now (deeds_from pragma line.text.now n) found)) e) is
-    (subst (λ (d : Option Deed). Explains (after_all line reading (before_deeds d (next_deeds (deeds_from pragma line.text.now n) behind))) e) deed_is (h _))
+    subst (λ (found : Option (Expression × List Placed)). MayExplain error.NoMemory (result_err (after_all line reading (first_deeds pragma line.text.now (deeds_from pragma line.text.now n) found))) e) is
+    (subst (λ (d : Option Deed). MayExplain error.NoMemory (result_err (after_all line reading (before_deeds d (next_deeds (deeds_from pragma line.text.now n) behind)))) e) deed_is (h _))
 
 -- a number that is not zero
 not_none : (n : ℕ) → 0 < n → eqb n 0 ≡ false

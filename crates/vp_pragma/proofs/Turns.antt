@@ -9,7 +9,9 @@ use Rattle.vp_pragma.specs.EnvelopesOf.{Progress, after_deed, after_deeds}
 use Rattle.vp_pragma.specs.Pragmas.{begins_line, on_line, pragma_line}
 use Rattle.vp_pragma.specs.LineReading.{deeds_behind, directive_deeds}
 use Rattle.vp_pragma.specs.Signs.{Placed}
-use Rattle.vp_pragma.specs.Faults.{Explains}
+use Rattle.std.specs.Result.{result_err}
+use Rattle.vp_list.specs.Refusals.{MayExplain}
+use Rattle.vp_pragma.specs.declared.fault.PragmaError.TheVariants as error
 use Rattle.vp_pragma.specs.Reading.{after_left, progress_of}
 use Rattle.vp_pragma.proofs.Refusals.{explains_through}
 
@@ -59,9 +61,9 @@ line_read text tokens r next before line place t d lt is begins line_is done =
 pub line_refused :
     (text : List ℕ) (tokens : List Token) (r : Reading) (before : Option ℕ) (place : ℕ) (t d : Token) (e : PragmaError)
     → place < length tokens → t ≡ get_or tokens place d → begins_line before t ≡ true
-    → Explains (after_deeds text tokens (Ok (progress_of r)) (told place t (directive_deeds text t (on_line place t (drop (place + 1) tokens))))) e
-    → Explains (after_left text tokens r before place) e
+    → MayExplain error.NoMemory (result_err (after_deeds text tokens (Ok (progress_of r)) (told place t (directive_deeds text t (on_line place t (drop (place + 1) tokens)))))) e
+    → MayExplain error.NoMemory (result_err (after_left text tokens r before place)) e
 line_refused text tokens r before place t d e lt is begins refused =
-    subst (λ (q : Result Progress PragmaError). Explains q e) (sym (first_left text tokens r before place t d true lt is begins))
+    subst (λ (q : Result Progress PragmaError). MayExplain error.NoMemory (result_err q) e) (sym (first_left text tokens r before place t d true lt is begins))
     (explains_through (λ (q : Result Progress PragmaError). after_deeds text tokens q (others text tokens place t))
     (after_deeds text tokens (Ok (progress_of r)) (told place t (directive_deeds text t (on_line place t (drop (place + 1) tokens))))) e (λ x. refl) refused)

@@ -12,13 +12,8 @@ use Rattle.vp_pragma.specs.declared.reading.Open.{Open}
 use Rattle.vp_pragma.specs.declared.reading.Reading.{Reading}
 use Rattle.vp_pragma.specs.declared.viewport.Viewport as declared
 use Rattle.vp_pragma.specs.Envelopes.{Viewport}
-use Rattle.vp_pragma.specs.EnvelopesOf.{Progress, item_named, view_at, with_item}
+use Rattle.vp_pragma.specs.EnvelopesOf.{Progress, view_at, viewed}
 use Rattle.vp_pragma.specs.Reading.{begun_of, progress_of, viewport_of}
-
--- what the strings of a viewport make of what has been read
-abbrev viewed : List ℕ → Progress → ℕ → ViewportStrings → Result Progress PragmaError
-viewed text r line view =
-    with_item text r line (string_value (text_of text view.access)) (item_named (parts 46 (string_value (text_of text view.object))))
 
 pub in_envelope : (text : List ℕ) (r : Progress) (line : ℕ) (found : Option ViewportStrings) (view : ViewportStrings) (begun : Option Open) → found ≡ Some view → is_some begun ≡ true → view_at text r line found (option_map begun_of begun) ≡ viewed text r line view
 in_envelope text r line found view None h k = absurd (false≢true k)

@@ -1,5 +1,6 @@
 -- The envelopes of a text: what its pragmas do, one after the other.
 use Rattle.std.specs.Prelude.{◌≡◌, ℕ, ◌+◌, ◌==◌, ◌&&◌, not, Bool, true, false, if◌then◌else◌, nat_le, List, [], ◌∷◌, ◌++◌, length, Option, Some, None, Result, Ok, Err}
+use Rattle.std.specs.Result.{result_err}
 use Rattle.vp_lex.specs.declared.token.Token.{Token}
 use Rattle.vp_lex.specs.Strings.{string_value}
 use Rattle.vp_lex.specs.Texts.{text_of}
@@ -15,7 +16,7 @@ use Rattle.vp_pragma.specs.Access.{access_of}
 use Rattle.vp_pragma.specs.Envelopes.{Protection, Viewport}
 use Rattle.vp_pragma.specs.Rights.{RightSet}
 use Rattle.vp_pragma.specs.Surroundings.{is_free, module_at}
-use Rattle.vp_pragma.specs.Faults.{Explains}
+use Rattle.vp_list.specs.Refusals.{MayExplain}
 use Rattle.vp_pragma.specs.Pragmas.{LinesDo, lines_of}
 use Rattle.vp_pragma.specs.Signs.{Placed}
 
@@ -99,12 +100,16 @@ abbrev pub with_item : List ℕ → Progress → (line : ℕ) → (access : List
 with_item text r line access None = Err (error.BadPragma line)
 with_item text r line access (Some item) = with_rights r line item (access_of access)
 
+-- the strings of a viewport name an item and rights, tested in this order (profile)
+abbrev pub viewed : List ℕ → Progress → (line : ℕ) → ViewportStrings → Result Progress PragmaError
+viewed text r line view =
+    with_item text r line (string_value (text_of text view.access)) (item_named (parts 46 (string_value (text_of text view.object))))
+
 -- a viewport stands in an envelope, and says an object and an access, tested in this order (profile)
 abbrev pub view_at : List ℕ → Progress → (line : ℕ) → Option ViewportStrings → Option Begun → Result Progress PragmaError
 view_at text r line view None = Err (error.ViewportOutside line)
 view_at text r line None (Some b) = Err (error.BadPragma line)
-view_at text r line (Some view) (Some b) =
-    with_item text r line (string_value (text_of text view.access)) (item_named (parts 46 (string_value (text_of text view.object))))
+view_at text r line (Some view) (Some b) = viewed text r line view
 
 -- what a deed on the line of a directive makes of what has been read, or the first refusal of it that holds
 abbrev pub after_deed : List ℕ → List Token → Progress → Placed → Deed → Result Progress PragmaError
@@ -141,4 +146,4 @@ pub record AreEnvelopes (text : List ℕ) (tokens : List Token) (due : Result Pr
 
 -- an error is the first fault of the pragmas of a text; want of memory may be told at any time
 abbrev pub IsFaultOf : List ℕ → List Token → PragmaError → Type 0
-IsFaultOf text tokens e = (due : Result Protection PragmaError) × AreEnvelopes text tokens due × Explains due e
+IsFaultOf text tokens e = (due : Result Protection PragmaError) × AreEnvelopes text tokens due × MayExplain error.NoMemory (result_err due) e

@@ -1,5 +1,5 @@
--- The faults of a text's pragmas: their numbers, their lines, and when each may be told.
-use Rattle.std.specs.Prelude.{◌≡◌, ℕ, Result, Err}
+-- The numbers and the lines of the faults of a text's pragmas.
+use Rattle.std.specs.Prelude.{ℕ}
 use Rattle.vp_pragma.specs.declared.fault.PragmaError.{PragmaError}
 use Rattle.vp_pragma.specs.declared.fault.PragmaError.TheVariants.{NestedBegin, EndWithoutBegin, OpenEnvelope, Unbalanced, TooMany, ViewportOutside, BadAccess, NeedsDecryption, BadPragma, NoMemory}
 
@@ -28,16 +28,3 @@ line_of (NeedsDecryption line) = line
 line_of (TooMany line) = line
 line_of (BadPragma line) = line
 line_of NoMemory = 0
-
--- an error is the refusal that is due; want of memory may be told at any time
-abbrev pub Explains : {A : Type 0} → Result A PragmaError → PragmaError → Type 0
-Explains due (NestedBegin line) = due ≡ Err (NestedBegin line)
-Explains due (EndWithoutBegin line) = due ≡ Err (EndWithoutBegin line)
-Explains due (OpenEnvelope line) = due ≡ Err (OpenEnvelope line)
-Explains due (Unbalanced line) = due ≡ Err (Unbalanced line)
-Explains due (ViewportOutside line) = due ≡ Err (ViewportOutside line)
-Explains due (BadAccess line) = due ≡ Err (BadAccess line)
-Explains due (NeedsDecryption line) = due ≡ Err (NeedsDecryption line)
-Explains due (TooMany line) = due ≡ Err (TooMany line)
-Explains due (BadPragma line) = due ≡ Err (BadPragma line)
-Explains due NoMemory = Unit {0}

@@ -103,7 +103,8 @@ impl Envelopes {
 
     /// The envelope of a number; None for number 0, the open text, and for a number that is not there.
     fn envelope(&self, number: u8) -> Option<&Envelope>
-        ensures { option_map_or (λ e. e.now.author) result [] ≡ author_of self.now.envelopes number }
+        ensures { option_map_or (λ e. e.now.author) result []
+            ≡ author_of self.now.envelopes number }
     {
         if number == 0 {
             return None;

@@ -1,3 +1,4 @@
+ghost use Rattle.std.specs.Result.{result_err};
 ghost use Rattle.std.specs.Prelude.{◌≡◌, ℕ, suc, ◌<◌, ◌≤◌, ◌+◌, ◌==◌, ◌&&◌, not, drop, length, List, slice_index_or, IfErr, IfNone, IfOk, IfSome, MatchResult, OnOk};
 ghost use Rattle.vp_lex.specs.declared.token.TheConstants.{TEXT_LIMIT};
 ghost use Rattle.vp_lex.specs.declared.token.Token.{Token};
@@ -7,7 +8,8 @@ ghost use Rattle.vp_pragma.specs.declared.deed.Deed.{Deed};
 ghost use Rattle.vp_pragma.specs.EnvelopesOf.{AreEnvelopes, IsFaultOf, after_deeds, at_start, envelopes_behind, same_module};
 ghost use Rattle.vp_pragma.specs.Pragmas.{before_deeds, begins_line, is_pragma, on_line, pragma_line};
 ghost use Rattle.vp_pragma.specs.LineReading.{deeds_from, deeds_of_text, directive_deeds, line_deeds, named_deeds, all_deeds};
-ghost use Rattle.vp_pragma.specs.Faults.{Explains};
+ghost use Rattle.vp_pragma.specs.declared.fault.PragmaError.TheVariants.{NoMemory};
+ghost use Rattle.vp_list.specs.Refusals.{MayExplain};
 ghost use Rattle.vp_pragma.specs.Reading.{HasPlaces, HasRoom, IsBefore, IsLine, after_all, after_left, after_one, placed, progress_of};
 ghost use Rattle.vp_pragma.specs.Surroundings.{is_before_else, is_free_around};
 
@@ -97,7 +99,7 @@ fn begin(
     ensures room { OnOk result (HasRoom reading.new) }
     ensures begun { let after = after_one line.entry reading.old (Deed.Begins place)
         in MatchResult result (λ _. after ≡ Ok (progress_of reading.new))
-        (λ e. Explains after e) }
+        (MayExplain NoMemory (result_err after)) }
 {
     let number = line.directive.line;
     if reading.open.is_some() {
@@ -126,7 +128,7 @@ fn end(reading: &mut Reading, line: Line<'_>, place: u32) -> Result<(), PragmaEr
     ensures room { OnOk result (HasRoom reading.new) }
     ensures ended { let after = after_one line.entry reading.old (Deed.Ends place)
         in MatchResult result (λ _. after ≡ Ok (progress_of reading.new))
-        (λ e. Explains after e) }
+        (MayExplain NoMemory (result_err after)) }
 {
     let number = line.directive.line;
     let Some(open) = reading.open.take() else {
@@ -155,7 +157,7 @@ fn open_view(
     ensures room { OnOk result (HasRoom reading.new) }
     ensures opened { let after = after_one line.entry reading.old (Deed.Views view)
         in MatchResult result (λ _. after ≡ Ok (progress_of reading.new))
-        (λ e. Explains after e) }
+        (MayExplain NoMemory (result_err after)) }
 {
     let number = line.directive.line;
     if reading.open.is_none() {
@@ -183,7 +185,7 @@ fn apply(
     ensures room { OnOk result (HasRoom reading.new) }
     ensures done { let after = after_one line.entry reading.old deed
         in MatchResult result (λ _. after ≡ Ok (progress_of reading.new))
-        (λ e. Explains after e) }
+        (MayExplain NoMemory (result_err after)) }
 {
     match deed {
         Deed::Begins(place) => begin(alloc, reading, line, place),
@@ -221,7 +223,8 @@ fn apply_any(
         → after_all line.entry reading.old (before_deeds deed ds)
         ≡ after_all line.entry reading.new ds) }
     ensures fault { IfErr result (λ e. (ds : List Deed)
-        → Explains (after_all line.entry reading.old (before_deeds deed ds)) e) }
+        → MayExplain NoMemory
+        (result_err (after_all line.entry reading.old (before_deeds deed ds))) e) }
 {
     match deed {
         Some(deed) => apply(alloc, reading, line, deed),
@@ -251,8 +254,8 @@ fn apply_first<'a>(
         (deeds_from pragma line.entry.text.now (suc n) (placed rest.entry))
         ≡ after_all line.entry reading.new (deeds_from pragma line.entry.text.now n (placed r)))) }
     ensures fault { IfErr result (λ e. (n : ℕ)
-        → Explains (after_all line.entry reading.old
-        (deeds_from pragma line.entry.text.now (suc n) (placed rest.entry))) e) }
+        → MayExplain NoMemory (result_err (after_all line.entry reading.old
+        (deeds_from pragma line.entry.text.now (suc n) (placed rest.entry)))) e) }
 {
     let number = line.directive.line;
     let Some((expression, behind)) = expression_at(rest) else {
@@ -283,7 +286,7 @@ fn apply_all(
     ensures done { let after = after_all line.entry reading.old
         (all_deeds pragma line.entry.text.now (placed rest.entry))
         in MatchResult result (λ _. after ≡ Ok (progress_of reading.new))
-        (λ e. Explains after e) }
+        (MayExplain NoMemory (result_err after)) }
 {
     let count = rest.tokens.len();
     if count == 0 {
@@ -317,7 +320,7 @@ fn read_named(
     ensures done { let after = after_all line.entry reading.old
         (named_deeds line.entry.text.now name.now (placed rest.entry))
         in MatchResult result (λ _. after ≡ Ok (progress_of reading.new))
-        (λ e. Explains after e) }
+        (MayExplain NoMemory (result_err after)) }
 {
     match name {
         "protect" => apply_all(alloc, reading, line, Pragma::Protect, rest),
@@ -339,7 +342,7 @@ fn read_line(alloc: Global, reading: &mut Reading, line: Line<'_>) -> Result<(),
         (on_line line.entry.place line.entry.directive
         (drop (line.entry.place + 1) line.entry.tokens.now)))
         in MatchResult result (λ _. after ≡ Ok (progress_of reading.new))
-        (λ e. Explains after e) }
+        (MayExplain NoMemory (result_err after)) }
 {
     let number = line.directive.line;
     match split(run_of(line.tokens, number, line.place + 1)) {
@@ -369,7 +372,7 @@ fn read_directive(alloc: Global, reading: &mut Reading, line: Line<'_>) -> Resul
         (on_line line.entry.place line.entry.directive
         (drop (line.entry.place + 1) line.entry.tokens.now)))
         in MatchResult result (λ _. after ≡ Ok (progress_of reading.new))
-        (λ e. Explains after e) }
+        (MayExplain NoMemory (result_err after)) }
 {
     if is_pragma(line.text, line.directive) {
         read_line(alloc, reading, line)
@@ -449,7 +452,7 @@ fn read_token(
     ensures done { let after = after_left text.now tokens.now reading.old before place
         in MatchResult result (λ _. after
         ≡ after_left text.now tokens.now reading.new behind.line (place + 1))
-        (λ e. Explains after e) }
+        (MayExplain NoMemory (result_err after)) }
 {
     let directive = tokens[place];
     if !begins_line(before, directive) {
@@ -473,7 +476,7 @@ fn read(alloc: Global, text: &str, tokens: &[Token]) -> Result<Reading, PragmaEr
     ensures done { let after = after_deeds text.now tokens.now (Ok at_start)
         (deeds_of_text text.now tokens.now)
         in MatchResult result (λ reading. after ≡ Ok (progress_of reading))
-        (λ e. Explains after e) }
+        (MayExplain NoMemory (result_err after)) }
 {
     let mut reading = Reading {
         closed: Vec::new(alloc),
@@ -506,7 +509,8 @@ fn read(alloc: Global, text: &str, tokens: &[Token]) -> Result<Reading, PragmaEr
 fn ended(alloc: Global, reading: Reading) -> Result<Envelopes, PragmaError>
     requires { HasRoom reading }
     ensures { let after = envelopes_behind (Ok (progress_of reading))
-        in MatchResult result (λ envelopes. after ≡ Ok envelopes) (λ e. Explains after e) }
+        in MatchResult result (λ envelopes. after ≡ Ok envelopes)
+        (MayExplain NoMemory (result_err after)) }
 {
     let Reading {
         closed,

@@ -56,7 +56,8 @@ impl Flags for Rights {
 
     ghost exact = { ⊤ };
 
-    ghost table = { (codes "LIST", 1) ∷ (codes "READ", 2) ∷ (codes "WATCH", 4) ∷ (codes "PUT", 8) ∷ (codes "RACE", 16) ∷ [] };
+    ghost table = { (codes "LIST", 1) ∷ (codes "READ", 2) ∷ (codes "WATCH", 4)
+        ∷ (codes "PUT", 8) ∷ (codes "RACE", 16) ∷ [] };
 
     ghost set_of = { λ rights. rights.0 };
 

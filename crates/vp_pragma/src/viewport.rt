@@ -1,4 +1,5 @@
 // Viewports: what the strings of an object and of an access say.
+ghost use Rattle.std.specs.Result.{result_err};
 ghost use Rattle.std.specs.Prelude.{◌≡◌, ◌+◌, ◌++◌, ◌∷◌, [], Ok, codes, length, option_map, IfOk, MatchResult};
 ghost use Rattle.std.specs.List.{list_all};
 ghost use Rattle.vp_list.specs.Texts.{parts};
@@ -7,8 +8,9 @@ ghost use Rattle.vp_lex.specs.Pieces.{is_word};
 ghost use Rattle.vp_lex.specs.Strings.{string_value};
 ghost use Rattle.vp_lex.specs.Texts.{text_of};
 ghost use Rattle.vp_pragma.specs.Envelopes.{object_of};
-ghost use Rattle.vp_pragma.specs.EnvelopesOf.{Progress, item_named, with_item};
-ghost use Rattle.vp_pragma.specs.Faults.{Explains};
+ghost use Rattle.vp_pragma.specs.EnvelopesOf.{Progress, item_named, viewed};
+ghost use Rattle.vp_pragma.specs.declared.fault.PragmaError.TheVariants.{NoMemory};
+ghost use Rattle.vp_list.specs.Refusals.{MayExplain};
 ghost use Rattle.vp_pragma.specs.Reading.{viewport_of};
 
 use crate::deed::ViewportStrings;
@@ -170,8 +172,9 @@ pub fn read_view(
     view: ViewportStrings,
 ) -> Result<Viewport, PragmaError>
     ensures { MatchResult result
-        (λ v. (r : Progress) → length r.ended + 1 ≡ envelope → with_item text.now r line (string_value (text_of text.now view.access)) (item_named (parts 46 (string_value (text_of text.now view.object)))) ≡ Ok (record r { viewports = r.viewports ++ viewport_of v ∷ [] }))
-        (λ e. (r : Progress) → Explains (with_item text.now r line (string_value (text_of text.now view.access)) (item_named (parts 46 (string_value (text_of text.now view.object))))) e) }
+        (λ v. (r : Progress) → length r.ended + 1 ≡ envelope → viewed text.now r line view
+        ≡ Ok (record r { viewports = r.viewports ++ viewport_of v ∷ [] }))
+        (λ e. (r : Progress) → MayExplain NoMemory (result_err (viewed text.now r line view)) e) }
 {
     let object = string_value(alloc, view.object.text(text))?;
     let Some((module, item)) = names_of(&object) else {

@@ -2,6 +2,8 @@
 use Rattle.std.proofs.Common.{◌≡◌, ◌≢◌, ◌∙◌, ℕ, ◌&&◌, Bool, true, false, not, if◌then◌else◌, List, Option, Some, None, inl, inr, refl, sym, ap, subst}
 use Rattle.vp_bits.specs.declared.bit.Bit.{Bit}
 use Rattle.std.specs.Option.{option_map_or}
+use Rattle.vp_race.specs.Segments.{choices_refusal}
+use Rattle.vp_list.specs.Refusals.{MayExplain}
 use Rattle.vp_bits.specs.Vector.{same_bits}
 use Rattle.vp_bits.specs.laws.Words.{same_bits-Decides}
 use Rattle.vp_elab.specs.declared.object.ObjectId.{ObjectId}
@@ -9,7 +11,7 @@ use Rattle.vp_operand.specs.Values.{no_value}
 use Rattle.vp_race.specs.declared.fault.RaceError.{RaceError}
 use Rattle.vp_race.specs.declared.fault.RaceError.TheVariants.{NoMemory, NotComplete, SameValue}
 use Rattle.vp_race.specs.Orders.{HasEnd, IsOrder, behind, differs, is_over, is_signal, value_of}
-use Rattle.vp_race.specs.Segments.{AreApart, Beside, Run, Explains, ExplainsChoices, apart, check_refusal, order_refusal, refusal_behind, value_behind}
+use Rattle.vp_race.specs.Segments.{AreApart, Beside, Run, apart, check_refusal, order_refusal, refusal_behind, value_behind}
 use Rattle.vp_race.proofs.Apart.{signal_as}
 use Rattle.vp_race.proofs.Designs.{behind_design, one_end}
 use Rattle.vp_sim.specs.States.{State}
@@ -52,8 +54,8 @@ accepted segment choices object first end values h k over some =
     ∙ ap (λ (b : Bool). if b then None else Some SameValue) (some_apart (differs first end object) _ values some)
 
 -- an error that is the refusal explains it
-pub explains_own : (o : Option RaceError) (e : RaceError) → o ≡ Some e → Explains o e
-explains_own o e h = subst (λ (p : Option RaceError). Explains p e) (sym h) (inl refl)
+pub explains_own : (o : Option RaceError) (e : RaceError) → o ≡ Some e → MayExplain NoMemory o e
+explains_own o e h other = h
 
 -- ---- a finding
 
@@ -106,26 +108,29 @@ apart_race b object first end values one other leads led h =
 
 -- ---- errors
 
+-- where no refusal is due, none is told
+none_due : {A : Type 0} (e : RaceError) → None ≡ Some e → A
+none_due e h = absurd (cc)
+
 -- want of memory explains everything
-pub memory_refused : (o : Option RaceError) (e : RaceError) → e ≡ NoMemory → Explains o e
-memory_refused None e h = h
-memory_refused (Some r) e h = inr h
+pub memory_refused : (o : Option RaceError) (e : RaceError) → e ≡ NoMemory → MayExplain NoMemory o e
+memory_refused o e h other = absurd (other h)
 
 -- choices that are not those of steps are no order
-pub choices_refused : (o : Option State) (e : RaceError) → ExplainsChoices o e → Explains (order_refusal o) e
+pub choices_refused : (o : Option State) (e : RaceError) → MayExplain NoMemory (choices_refusal o) e → MayExplain NoMemory (order_refusal o) e
 choices_refused None e h = h
-choices_refused (Some s) e h = memory_refused (order_refusal (Some s)) e h
+choices_refused (Some s) e h = λ other. none_due e (h other)
 
 -- why choices are no order is why they are no race
-order_refused_at : (over differ : Bool) (e : RaceError) → Explains (if over then None else Some NotComplete) e → Explains (if not over then Some NotComplete else if differ then None else Some SameValue) e
-order_refused_at true differ e h = memory_refused (if differ then None else Some SameValue) e h
+order_refused_at : (over differ : Bool) (e : RaceError) → MayExplain NoMemory (if over then None else Some NotComplete) e → MayExplain NoMemory (if not over then Some NotComplete else if differ then None else Some SameValue) e
+order_refused_at true differ e h = λ other. none_due e (h other)
 order_refused_at false differ e h = h
 
-order_refused_by : (first : State) (o : Option State) (object : ℕ) (e : RaceError) → Explains (order_refusal o) e → Explains (refusal_behind (Some first) o object) e
+order_refused_by : (first : State) (o : Option State) (object : ℕ) (e : RaceError) → MayExplain NoMemory (order_refusal o) e → MayExplain NoMemory (refusal_behind (Some first) o object) e
 order_refused_by first None object e h = h
 order_refused_by first (Some end) object e h = order_refused_at (is_over end) (differs first end object) e h
 
-pub order_refused : (segment : Run) (choices : List ℕ) (object : ℕ) (first : State) (e : RaceError) → behind segment.start segment.order ≡ Some first → Explains (order_refusal (behind segment.start choices)) e → Explains (check_refusal segment choices object) e
+pub order_refused : (segment : Run) (choices : List ℕ) (object : ℕ) (first : State) (e : RaceError) → behind segment.start segment.order ≡ Some first → MayExplain NoMemory (order_refusal (behind segment.start choices)) e → MayExplain NoMemory (check_refusal segment choices object) e
 order_refused segment choices object first e leads h =
-    subst (λ (o : Option State). Explains (refusal_behind o (behind segment.start choices) object) e) (sym leads)
+    subst (λ (o : Option State). MayExplain NoMemory (refusal_behind o (behind segment.start choices) object) e) (sym leads)
     (order_refused_by first (behind segment.start choices) object e h)

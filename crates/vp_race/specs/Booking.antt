@@ -2,7 +2,7 @@
 use Rattle.std.specs.Prelude.{◌≡◌, ℕ, ◌==◌, ◌&&◌, nat_le, Bool, if◌then◌else◌, List, ◌∷◌, [], ◌++◌, length, Option, Some, None}
 use Rattle.std.specs.List.{list_any}
 use Rattle.vp_race.specs.declared.fault.RaceError.{RaceError}
-use Rattle.vp_race.specs.declared.fault.RaceError.TheVariants.{SegmentGone, Booked, BookFull, NoMemory}
+use Rattle.vp_race.specs.declared.fault.RaceError.TheVariants.{SegmentGone, Booked, BookFull}
 use Rattle.vp_race.specs.Same.{same_run}
 use Rattle.vp_race.specs.Segments.{Run, Told}
 
@@ -36,11 +36,6 @@ refusal_of_race book f =
 abbrev pub refusal_of_finding : BookState → Option Run → Told → Option RaceError
 refusal_of_finding book None f = Some SegmentGone
 refusal_of_finding book (Some run) f = if same_run run f.segment then refusal_of_race book f else Some SegmentGone
-
--- an error is the refusal; where there is none, it is want of memory
-abbrev pub Explains : Option RaceError → RaceError → Type 0
-Explains None e = e ≡ NoMemory
-Explains (Some r) e = e ≡ r
 
 -- a book with one race more
 abbrev pub with_race : BookState → Told → BookState

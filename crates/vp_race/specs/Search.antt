@@ -1,12 +1,14 @@
 -- The search for races of a time slot: orders by numbers that a seed begins, and the objects whose values differ behind them (profile).
 use Rattle.std.specs.Prelude.{◌≡◌, ℕ, ◌+◌, ◌-◌, ◌*◌, ◌/◌, ◌%◌, ◌^◌, ◌==◌, ◌<◌, ◌&&◌, zero, suc, Bool, false, not, if◌then◌else◌, List, [], ◌∷◌, ◌++◌, filter, length, map, min, Option, Some, None, option_map, Result, IfErr, IfOk, OnOk, slice_index_or}
 use Rattle.std.specs.List.{list_any}
+use Rattle.vp_race.specs.declared.fault.RaceError.TheVariants.{NoMemory}
+use Rattle.vp_list.specs.Refusals.{MayExplain}
 use Rattle.vp_elab.specs.Tree.{below}
 use Rattle.vp_elab.specs.declared.object.ObjectId.{ObjectId}
 use Rattle.vp_sim.specs.States.{State, eligible, step}
 use Rattle.vp_race.specs.declared.fault.RaceError.{RaceError}
 use Rattle.vp_race.specs.Orders.{behind, differs, is_over, reached, sources_of}
-use Rattle.vp_race.specs.Segments.{Explains, Run, Told, check_refusal}
+use Rattle.vp_race.specs.Segments.{Run, Told, check_refusal}
 
 -- the number behind one, in the sequence that a seed begins
 abbrev pub next_number : ℕ → ℕ
@@ -52,7 +54,7 @@ finding_of segment second object = record { segment = segment; object = record {
 pub record IsChecked (segment : Run) (choices : List ℕ) (object : ℕ) (r : Result Told RaceError) : Type 0 where
   pub found : IfOk r (λ f. f ≡ finding_of segment choices object)
   pub accepted : OnOk r (check_refusal segment choices object ≡ None)
-  pub refused : IfErr r (λ e. Explains (check_refusal segment choices object) e)
+  pub refused : IfErr r (MayExplain NoMemory (check_refusal segment choices object))
 
 -- what is found behind an order, where the run's order leads to the first state, beside what is known
 abbrev pub found_behind : Run → (known : List ℕ) → (first : State) → (second : List ℕ) → Option State → List Told

@@ -6,7 +6,7 @@ use Rattle.vp_elab.specs.declared.object.ObjectId.{ObjectId}
 use Rattle.vp_operand.specs.Values.{no_value}
 use Rattle.vp_sim.specs.States.{State}
 use Rattle.vp_race.specs.declared.fault.RaceError.{RaceError}
-use Rattle.vp_race.specs.declared.fault.RaceError.TheVariants.{NotAnOrder, NotComplete, SameValue, NoMemory}
+use Rattle.vp_race.specs.declared.fault.RaceError.TheVariants.{NotAnOrder, NotComplete, SameValue}
 use Rattle.vp_race.specs.Orders.{HasEnd, IsRace, behind, differs, is_over, sources_of, value_of}
 
 -- a segment: its number, the state with which it began, and the order that the run took from there (profile)
@@ -55,15 +55,10 @@ refusal_behind (Some first) (Some end) object =
 abbrev pub check_refusal : Run → (choices : List ℕ) → (object : ℕ) → Option RaceError
 check_refusal segment choices object = refusal_behind (behind segment.start segment.order) (behind segment.start choices) object
 
--- an error is the refusal, or want of memory
-abbrev pub Explains : Option RaceError → RaceError → Type 0
-Explains None e = e ≡ NoMemory
-Explains (Some r) e = (e ≡ r) ⊎ (e ≡ NoMemory)
-
--- an error says that choices are not those of steps, or want of memory
-abbrev pub ExplainsChoices : Option State → RaceError → Type 0
-ExplainsChoices None e = (e ≡ NotAnOrder) ⊎ (e ≡ NoMemory)
-ExplainsChoices (Some s) e = e ≡ NoMemory
+-- why choices are not those of steps, if they are not
+abbrev pub choices_refusal : Option State → Option RaceError
+choices_refusal None = Some NotAnOrder
+choices_refusal (Some end) = None
 
 -- both are orders of the segment's time slot, and these are the sources of their steps
 pub record AreOrders (b : Beside) (first_sources second_sources : List ObjectId) : Type 0 where

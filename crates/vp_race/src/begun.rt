@@ -26,7 +26,12 @@ impl Model for BegunSegment {
 
     ghost Value = { Begun };
 
-    ghost view = { λ b. record { start = arc_value b.start; order = b.order.items; has_choice = b.has_choice; room = vec_capacity b.order - vec_len b.order } };
+    ghost view = { λ b. record {
+      start = arc_value b.start;
+      order = b.order.items;
+      has_choice = b.has_choice;
+      room = vec_capacity b.order - vec_len b.order;
+    } };
 }
 
 impl BegunSegment {

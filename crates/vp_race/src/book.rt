@@ -1,6 +1,8 @@
 ghost use Rattle.std.specs.List.{list_any};
 ghost use Rattle.std.specs.Prelude.{◌≡◌, ◌∷◌, ◌++◌, [], false, None, Some, IfErr, IfSome, OnErr, OnOk, option_copied};
-ghost use Rattle.vp_race.specs.Booking.{Explains, is_booked, is_name, refusal_of_finding, with_race};
+ghost use Rattle.vp_race.specs.declared.fault.RaceError.TheVariants.{NoMemory};
+ghost use Rattle.vp_list.specs.Refusals.{Explains};
+ghost use Rattle.vp_race.specs.Booking.{is_booked, is_name, refusal_of_finding, with_race};
 
 use crate::fault::RaceError;
 use crate::finding::Finding;
@@ -102,7 +104,7 @@ impl Book {
             (refusal_of_finding self.old (option_copied kept.entry) finding ≡ None) }
         ensures added { OnOk result (self.new ≡ with_race self.old finding) }
         ensures refused { IfErr result
-            (λ e. Explains (refusal_of_finding self.old (option_copied kept.entry) finding) e) }
+            (Explains NoMemory (refusal_of_finding self.old (option_copied kept.entry) finding)) }
         ensures unchanged { OnErr result (self.new ≡ self.old) }
     {
         self.check(kept, finding.value())?;

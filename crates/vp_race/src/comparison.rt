@@ -1,9 +1,10 @@
 ghost use Rattle.std.specs.Prelude.{◌≡◌, if◌then◌else◌, true, None, Some, IfErr, IfOk, OnOk, IsOkUnless};
 ghost use Rattle.std.specs.Arc.{arc_value};
+ghost use Rattle.vp_list.specs.Refusals.{MayExplain};
 ghost use Rattle.vp_race.specs.declared.fault.RaceError.TheVariants.{NoMemory};
 ghost use Rattle.vp_race.specs.Orders.{behind, differs, is_over};
 ghost use Rattle.vp_race.specs.Search.{IsChecked, finding_of};
-ghost use Rattle.vp_race.specs.Segments.{Explains, apart, check_refusal, order_refusal};
+ghost use Rattle.vp_race.specs.Segments.{apart, check_refusal, order_refusal};
 
 use crate::fault::RaceError;
 use crate::finding::Finding;
@@ -80,8 +81,7 @@ fn pair_of(
     ensures second { OnOk result
         (behind (arc_value segment.now).start choices.items ≡ Some second.new) }
     ensures over { OnOk result (is_over second.new ≡ true) }
-    ensures refused { IfErr result (λ e.
-        Explains (order_refusal (behind (arc_value segment.now).start choices.items)) e) }
+    ensures refused { IfErr result (MayExplain NoMemory (order_refusal (behind (arc_value segment.now).start choices.items))) }
 {
     let _order = segment.order();
     let run = run_order(alloc, segment, first)?;
@@ -112,8 +112,7 @@ fn check_by(
         ≡ finding_of (arc_value segment.now) choices.items object.0) }
     ensures accepted { OnOk result
         (check_refusal (arc_value segment.now) choices.items object.0 ≡ None) }
-    ensures refused { IfErr result (λ e.
-        Explains (check_refusal (arc_value segment.now) choices.items object.0) e) }
+    ensures refused { IfErr result (MayExplain NoMemory (check_refusal (arc_value segment.now) choices.items object.0)) }
 {
     let _order = segment.order();
     let orders = pair_of(alloc, segment, first, second, choices)?;

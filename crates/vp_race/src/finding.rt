@@ -23,7 +23,11 @@ impl Model for Finding {
 
     ghost Value = { Told };
 
-    ghost view = { λ f. record { segment = f.orders.segment; object = f.object; second = f.orders.second } };
+    ghost view = { λ f. record {
+      segment = f.orders.segment;
+      object = f.object;
+      second = f.orders.second;
+    } };
 
     ghost invariant = { λ f. AreApart f.orders f.object f.values };
 }

@@ -1,8 +1,9 @@
 ghost use Rattle.std.specs.Prelude.{◌≡◌, ◌++◌, Some, IfErr, IfOk, OnOk, IsOkUnless};
+ghost use Rattle.vp_race.specs.Segments.{choices_refusal};
+ghost use Rattle.vp_list.specs.Refusals.{MayExplain};
 ghost use Rattle.vp_race.specs.declared.fault.RaceError.TheVariants.{NoMemory};
 ghost use Rattle.vp_race.specs.Orders.{behind, is_over, is_signal, reached, sources_of};
 ghost use Rattle.vp_sim.specs.States.{step};
-ghost use Rattle.vp_race.specs.Segments.{ExplainsChoices};
 
 use crate::fault::RaceError;
 use crate::segment::Segment;
@@ -37,7 +38,7 @@ pub fn is_signal(simulation: &Sim, object: ObjectId) -> bool
 /// Takes the event of a choice. Refused where the choice is no step's (1201), or for want of memory (1207).
 fn take(simulation: &mut Sim, choice: u32) -> Result<(), RaceError>
     ensures ok { OnOk result (reached (step simulation.old choice) ≡ Some simulation.new) }
-    ensures refused { IfErr result (λ e. ExplainsChoices (reached (step simulation.old choice)) e) }
+    ensures refused { IfErr result (MayExplain NoMemory (choices_refusal (reached (step simulation.old choice)))) }
 {
     match simulation.step(choice as usize) {
         Ok(_) => Ok(()),
@@ -56,7 +57,7 @@ pub fn follow(
     ensures leads { OnOk result (behind simulation.old choices.now ≡ Some simulation.new) }
     ensures sources { OnOk result (sources.new.items
         ≡ sources.old.items ++ sources_of simulation.old choices.now) }
-    ensures refused { IfErr result (λ e. ExplainsChoices (behind simulation.old choices.now) e) }
+    ensures refused { IfErr result (MayExplain NoMemory (choices_refusal (behind simulation.old choices.now))) }
 {
     for choice in choices {
         sources.push(simulation.source(*choice as usize))?;

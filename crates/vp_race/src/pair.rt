@@ -24,9 +24,14 @@ impl Model for OrderPair {
 
     ghost Value = { Beside };
 
-    ghost view = { λ p. record { segment = arc_value p.segment; second = (arc_value p.second).choices.items } };
+    ghost view = { λ p. record {
+      segment = arc_value p.segment;
+      second = (arc_value p.second).choices.items;
+    } };
 
-    ghost invariant = { λ p. AreOrders (record { segment = arc_value p.segment; second = (arc_value p.second).choices.items }) (arc_value p.first).sources.items (arc_value p.second).sources.items };
+    ghost invariant = { λ p. AreOrders
+        (record { segment = arc_value p.segment; second = (arc_value p.second).choices.items })
+        (arc_value p.first).sources.items (arc_value p.second).sources.items };
 }
 
 impl OrderPair {

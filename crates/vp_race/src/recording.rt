@@ -1,7 +1,9 @@
 ghost use Rattle.std.specs.Prelude.{◌≡◌, ◌<◌, ◌+◌, ◌^◌, None, option_copied, option_map, IfErr, IfOk, IsOkUnless, MatchOption, OnErr, OnOk};
 ghost use Rattle.std.specs.Arc.{arc_value};
+ghost use Rattle.vp_sim.specs.States.{refusal_in};
+ghost use Rattle.vp_list.specs.Refusals.{Explains};
 ghost use Rattle.vp_sim.specs.declared.fault.SimError.TheVariants.{NoMemory};
-ghost use Rattle.vp_sim.specs.States.{Explains, Goes, advance, put, start, step};
+ghost use Rattle.vp_sim.specs.States.{Goes, advance, put, start, step};
 ghost use Rattle.vp_race.specs.Recording.{first_segments, kept_of, next_job, with_anew, with_job, with_step};
 
 use crate::begun::{BegunSegment, close, make_ready, note};
@@ -35,7 +37,15 @@ impl Model for Recording {
 
     ghost Value = { Recorded };
 
-    ghost view = { λ r. record { simulation = r.simulation; segments = record { opened = opened_by r.begun r.simulation; count = r.closed.count; kept = r.closed.kept; last_job = r.last_job } } };
+    ghost view = { λ r. record {
+      simulation = r.simulation;
+      segments = record {
+        opened = opened_by r.begun r.simulation;
+        count = r.closed.count;
+        kept = r.closed.kept;
+        last_job = r.last_job;
+      };
+    } };
 
     ghost invariant = { λ r. Stands r.begun r.simulation };
 }
@@ -82,7 +92,7 @@ impl Recording {
             (λ change. step self.old.simulation k ≡ Goes self.new.simulation change) }
         ensures segments { OnOk result
             (self.new.segments ≡ with_step self.old.segments k self.new.simulation) }
-        ensures refused { IfErr result (λ e. Explains (step self.old.simulation k) e) }
+        ensures refused { IfErr result (Explains NoMemory (refusal_in (step self.old.simulation k))) }
         ensures unchanged { OnErr result (self.new ≡ self.old) }
     {
         if make_ready(self.alloc, &mut self.simulation, &mut self.begun).is_err() {
@@ -105,7 +115,8 @@ impl Recording {
         ensures ok { OnOk result (advance self.old.simulation ≡ Goes self.new.simulation None) }
         ensures segments { OnOk result
             (self.new.segments ≡ with_anew self.old.segments self.new.simulation) }
-        ensures refused { IfErr result (λ e. Explains (advance self.old.simulation) e) }
+        ensures refused { IfErr result (Explains NoMemory
+            (refusal_in (advance self.old.simulation))) }
         ensures unchanged { OnErr result (self.new ≡ self.old) }
     {
         self.simulation.advance()?;
@@ -120,7 +131,8 @@ impl Recording {
             (λ change. put self.old.simulation object.0 value ≡ Goes self.new.simulation change) }
         ensures segments { OnOk result
             (self.new.segments ≡ with_anew self.old.segments self.new.simulation) }
-        ensures refused { IfErr result (λ e. Explains (put self.old.simulation object.0 value) e) }
+        ensures refused { IfErr result (Explains NoMemory
+            (refusal_in (put self.old.simulation object.0 value))) }
         ensures unchanged { OnErr result (self.new ≡ self.old) }
     {
         let change = self.simulation.put(object, value)?;

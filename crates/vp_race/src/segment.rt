@@ -27,7 +27,11 @@ impl Model for Segment {
 
     ghost Value = { Run };
 
-    ghost view = { λ s. record { number = s.number; start = arc_value s.start; order = s.order.items } };
+    ghost view = { λ s. record {
+      number = s.number;
+      start = arc_value s.start;
+      order = s.order.items;
+    } };
 
     ghost invariant = { λ s. IsRun (arc_value s.start) s.order.items s.several };
 }

@@ -3,6 +3,7 @@ ghost use Rattle.std.specs.Prelude.{◌≡◌, IfOk};
 use std::alloc::{AllocError, Global};
 use std::marker::Model;
 use std::sync::Arc;
+use vp_list::Same;
 
 /// A value that several hold at once: one holder more costs a count and no copy. A contract sees the value.
 #[derive(Drop)]
@@ -43,5 +44,11 @@ impl<T: Drop> Shared<T> {
         ensures { result.now ≡ self.now }
     {
         &self.value
+    }
+}
+
+impl<T: Drop + Same> Same for Shared<T> {
+    fn is_same(&self, other: &Shared<T>) -> bool {
+        self.value().is_same(other.value())
     }
 }

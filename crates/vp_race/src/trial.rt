@@ -39,7 +39,8 @@ fn take_into(simulation: &mut Sim, order: &mut Order, choice: u32) -> Result<boo
     ensures choices { IfOk result (λ taken. taken ≡ true
         → order.new.choices.items ≡ order.old.choices.items ++ choice ∷ []) }
     ensures sources { IfOk result (λ taken. taken ≡ true
-        → order.new.sources.items ≡ order.old.sources.items ++ source_of simulation.old choice ∷ []) }
+        → order.new.sources.items
+        ≡ order.old.sources.items ++ source_of simulation.old choice ∷ []) }
     ensures refused { IfOk result (λ taken. taken ≡ false
         → reached (step simulation.old choice) ≡ None) }
     ensures design { simulation.new.design ≡ simulation.old.design }

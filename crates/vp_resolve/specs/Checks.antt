@@ -21,7 +21,7 @@ use Rattle.vp_elab.specs.Built.{Elaborated}
 use Rattle.vp_elab.specs.Elaboration.{range_width}
 use Rattle.vp_elab.specs.Tree.{below}
 use Rattle.vp_resolve.specs.declared.fault.ExprError.{ExprError}
-use Rattle.vp_resolve.specs.declared.fault.ExprError.TheVariants.{TooWide, SignedCompare, BadSelect, NoMemory}
+use Rattle.vp_resolve.specs.declared.fault.ExprError.TheVariants.{TooWide, SignedCompare, BadSelect}
 use Rattle.vp_operand.specs.Arena.{operand_size, signs_in}
 use Rattle.vp_resolve.specs.Names.{node_named, scope_of}
 use Rattle.vp_resolve.specs.Operands.{operand_of, operands_of}
@@ -214,10 +214,3 @@ refusal_of design =
     refused_at design.source (λ line. TooWide line) (first_wide design)
     (refused_at design.source (λ line. SignedCompare line) (first_signed design)
     (refused_at design.source (λ line. BadSelect line) (first_bad design) None))
-
--- an error is the refusal, or want of memory
-abbrev pub Explains : Option ExprError → ExprError → Type 0
-Explains refusal NoMemory = Unit {0}
-Explains refusal (TooWide line) = refusal ≡ Some (TooWide line)
-Explains refusal (SignedCompare line) = refusal ≡ Some (SignedCompare line)
-Explains refusal (BadSelect line) = refusal ≡ Some (BadSelect line)

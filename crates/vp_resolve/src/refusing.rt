@@ -1,6 +1,8 @@
 // Why the expressions of a design are refused: the first refusal that holds, each tested over the whole text.
+ghost use Rattle.vp_list.specs.Refusals.{MayExplain};
+ghost use Rattle.vp_resolve.specs.declared.fault.ExprError.TheVariants.{NoMemory};
 ghost use Rattle.std.specs.Prelude.{◌≡◌, true, None, IfErr, OnOk};
-ghost use Rattle.vp_resolve.specs.Checks.{Explains, refusal_of};
+ghost use Rattle.vp_resolve.specs.Checks.{refusal_of};
 ghost use Rattle.vp_resolve.specs.Operands.{all_fit, operands_of};
 
 use crate::checks::{first_bad, first_signed, first_wide};
@@ -15,7 +17,7 @@ pub fn refuse(alloc: Global, design: &Design, operands: &[Operand]) -> Result<()
     requires { operands.now ≡ operands_of design.now }
     ensures accepted { OnOk result (refusal_of design.now ≡ None) }
     ensures fit { OnOk result (all_fit design.now ≡ true) }
-    ensures refused { IfErr result (λ e. Explains (refusal_of design.now) e) }
+    ensures refused { IfErr result (MayExplain NoMemory (refusal_of design.now)) }
 {
     let source = design.source();
     if let Some(place) = first_wide(alloc, design)? {

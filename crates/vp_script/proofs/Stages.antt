@@ -1,5 +1,6 @@
 -- The stages of a text, each where those before it are right.
 use Rattle.std.proofs.Common.{◌≡◌, ◌∙◌, ◌≤◌, ℕ, List, length, None, Ok, sym, subst}
+use Rattle.vp_list.specs.Refusals.{MayExplain}
 use Rattle.vp_lex.specs.declared.token.Token.{Token}
 use Rattle.vp_lex.specs.Tokens.{AreTokens}
 use Rattle.vp_pragma.specs.declared.fault.PragmaError.{PragmaError}
@@ -15,6 +16,7 @@ use Rattle.vp_parse_expr.specs.Symbols.{symbols_of}
 use Rattle.vp_elab.specs.Built.{Elaborated, design_of}
 use Rattle.vp_elab.specs.Refusals.{refusal_of}
 use Rattle.vp_resolve.specs.declared.fault.ExprError.{ExprError}
+use Rattle.vp_resolve.specs.declared.fault.ExprError.TheVariants as expr_error
 use Rattle.vp_resolve.specs.Checks as expr
 use Rattle.vp_script.specs.declared.fault.ServeFault.TheVariants as fault
 use Rattle.vp_script.specs.Designs.{HasEnvelopes, HasSource, HasTokens, IsDesignOf, IsRefusedBy, text_limit}
@@ -47,9 +49,9 @@ module _ (text : List ℕ) (tokens : List Token) (fits : length text ≤ text_li
     }
 
 -- the expressions of a design are refused
-pub expressions_refused : (text : List ℕ) (source : Source) (protection : Protection) (design : Elaborated) (e : ExprError) → HasSource text source protection → refusal_of source protection ≡ None → design ≡ design_of source protection → expr.Explains (expr.refusal_of design) e → IsRefusedBy text (fault.Expressions e)
+pub expressions_refused : (text : List ℕ) (source : Source) (protection : Protection) (design : Elaborated) (e : ExprError) → HasSource text source protection → refusal_of source protection ≡ None → design ≡ design_of source protection → MayExplain expr_error.NoMemory (expr.refusal_of design) e → IsRefusedBy text (fault.Expressions e)
 expressions_refused text source protection design e parsed names is refused =
-    (source, protection, parsed, names, subst (λ (d : Elaborated). expr.Explains (expr.refusal_of d) e) is refused)
+    (source, protection, parsed, names, subst (λ (d : Elaborated). MayExplain expr_error.NoMemory (expr.refusal_of d) e) is refused)
 
 -- a text has a design
 pub has_design : (text : List ℕ) (source : Source) (protection : Protection) (design checked : Elaborated) → HasSource text source protection → refusal_of source protection ≡ None → design ≡ design_of source protection → checked ≡ design → expr.refusal_of design ≡ None → IsDesignOf text checked

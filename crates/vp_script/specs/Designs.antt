@@ -13,7 +13,9 @@ use Rattle.vp_parse_expr.specs.Symbols.{symbols_of}
 use Rattle.vp_parse.specs.Told.{IsUnderivable, Tells}
 use Rattle.vp_elab.specs.Built.{Elaborated, design_of}
 use Rattle.vp_elab.specs.Refusals.{refusal_of}
-use Rattle.vp_names.specs.Refusals as elab
+use Rattle.vp_list.specs.Refusals.{MayExplain}
+use Rattle.vp_names.specs.declared.fault.ElabError.TheVariants as elab_error
+use Rattle.vp_resolve.specs.declared.fault.ExprError.TheVariants as expr_error
 use Rattle.vp_resolve.specs.Checks as expr
 use Rattle.vp_script.specs.declared.fault.ServeFault.{ServeFault}
 use Rattle.vp_script.specs.declared.fault.ServeFault.TheVariants as fault
@@ -60,13 +62,14 @@ IsRefusedBy text (fault.Source e) =
     × IsUnderivable (symbols_of text tokens) e × Tells tokens (symbols_of text tokens) e (read (symbols_of text tokens))
 IsRefusedBy text (fault.Design e) =
     (source : Source) × (protection : Protection) × HasSource text source protection
-    × elab.Explains (refusal_of source protection) e
+    × MayExplain elab_error.NoMemory (refusal_of source protection) e
 IsRefusedBy text (fault.Expressions e) =
     (source : Source) × (protection : Protection) × HasSource text source protection
-    × (refusal_of source protection ≡ None) × expr.Explains (expr.refusal_of (design_of source protection)) e
+    × (refusal_of source protection ≡ None) × MayExplain expr_error.NoMemory (expr.refusal_of (design_of source protection)) e
 IsRefusedBy text fault.NoMemory = Unit {0}
 IsRefusedBy text (fault.Policy e) = ⊥
 IsRefusedBy text (fault.World e) = ⊥
 IsRefusedBy text (fault.Lines e) = ⊥
 IsRefusedBy text fault.BadBundle = ⊥
 IsRefusedBy text fault.ReadFailed = ⊥
+IsRefusedBy text fault.NoSuchUser = ⊥

@@ -9,7 +9,7 @@ use Rattle.vp_policy.specs.Faults as policy
 use Rattle.vp_world.specs.Faults as world
 use Rattle.vp_wire.specs.Faults as wire
 use Rattle.vp_script.specs.declared.fault.ServeFault.{ServeFault}
-use Rattle.vp_script.specs.declared.fault.ServeFault.TheVariants.{Tokens, Envelopes, Source, Design, Expressions, Policy, World, Lines, BadBundle, ReadFailed, TooLong, NoMemory}
+use Rattle.vp_script.specs.declared.fault.ServeFault.TheVariants.{Tokens, Envelopes, Source, Design, Expressions, Policy, World, Lines, BadBundle, ReadFailed, TooLong, NoSuchUser, NoMemory}
 
 -- the number of a fault (profile)
 abbrev pub code_of : ServeFault → ℕ
@@ -24,6 +24,7 @@ code_of (Lines e) = wire.code_of e
 code_of BadBundle = 1601
 code_of ReadFailed = 1602
 code_of TooLong = 1603
+code_of NoSuchUser = 1604
 code_of NoMemory = 1607
 
 -- its line in the design, 0 where none is known (profile)
@@ -39,4 +40,5 @@ line_of (Lines e) = 0
 line_of BadBundle = 0
 line_of ReadFailed = 0
 line_of TooLong = 0
+line_of NoSuchUser = 0
 line_of NoMemory = 0

@@ -3,3 +3,4 @@ pub mod Bundles
 pub mod Designs
 pub mod Scripts
 pub mod Keeping
+pub mod Views

@@ -1,8 +1,10 @@
 -- A script: the lines of one session with a world, in which the simulation runs behind each request (profile).
 use Rattle.std.specs.Prelude.{◌≡◌, ◌⊎◌, ◌<◌, ◌≤◌, IsUtf8, length, ℕ, zero, suc, Bool, true, if◌then◌else◌, List, [], ◌∷◌, Option, Some, None, is_none, Ok}
 use Rattle.std.specs.Option.{option_map_or}
+use Rattle.std.specs.Result.{result_err}
+use Rattle.vp_list.specs.Refusals.{MayExplain}
 use Rattle.vp_elab.specs.Built.{Elaborated}
-use Rattle.vp_policy.specs.Faults.{Explains}
+use Rattle.vp_policy.specs.declared.fault.PolicyError.TheVariants as policy_error
 use Rattle.vp_policy.specs.File.{PolicyFile, file_of, policy_for}
 use Rattle.vp_race.specs.Recording.{next_job}
 use Rattle.vp_race.specs.Search.{found}
@@ -176,7 +178,7 @@ pub record IsStopped (e : WireError) (script : Script) (unread still_unread held
 abbrev pub IsPolicyRefusedBy : Elaborated → List ℕ → ServeFault → Type 0
 IsPolicyRefusedBy design policy fault.TooLong = text_limit < length policy
 IsPolicyRefusedBy design policy (fault.Policy e) =
-    (length policy ≤ text_limit) × Explains (file_of (length design.tree.authors) policy) e
+    (length policy ≤ text_limit) × MayExplain policy_error.NoMemory (result_err (file_of (length design.tree.authors) policy)) e
 IsPolicyRefusedBy design policy (fault.World e) = e ≡ error.NoMemory
 IsPolicyRefusedBy design policy fault.NoMemory = Unit {0}
 IsPolicyRefusedBy design policy f = ⊥

@@ -40,6 +40,9 @@ pub enum ServeFault {
     /// A design or a policy of over 1,048,576 bytes, or a bundle of over 16,777,216 (1603).
     #[error("too long")]
     TooLong,
+    /// A user who is not in the policy (1604).
+    #[error("no such user")]
+    NoSuchUser,
     /// Want of memory (1607).
     #[error("no memory")]
     NoMemory,
@@ -64,6 +67,7 @@ impl ServeFault {
             ServeFault::BadBundle => 1601,
             ServeFault::ReadFailed => 1602,
             ServeFault::TooLong => 1603,
+            ServeFault::NoSuchUser => 1604,
             ServeFault::NoMemory => 1607,
         }
     }

@@ -1,12 +1,51 @@
-// Scripts over files and standard input.
+// Scripts, checks and views over files and standard input.
 use crate::bundle::run_bundle;
 use crate::fault::ServeFault;
 use crate::script::{Ran, run_script};
 use crate::sources::{BUNDLE_LIMIT, TEXT_LIMIT, read_at_most, text_of};
+use crate::views::{check_design, check_policy, view_text};
 use std::io::BufWriter;
 use std::rt::Files;
 use std::{fs, io};
+use vp_list::Text;
 use vp_wire::Counted;
+
+/// The bytes of the file of a design or a policy, at most one more than it may have; `ReadFailed` (1602) where it can't be read.
+fn file_bytes<R: AllocGlobal + Files>(rt: &R, path: &str) -> Result<Vec<u8>, ServeFault> {
+    let file = fs::open(rt, path).map_err(|_| ServeFault::ReadFailed)?;
+    read_at_most(rt.alloc(), file, TEXT_LIMIT)
+}
+
+/// Reads the file of a design, and that of a policy if there is one, as `run_files` does; or tells the first fault.
+pub fn check_files<R: AllocGlobal + Files>(
+    rt: &R,
+    design: &str,
+    policy: Option<&str>,
+) -> Result<(), ServeFault> {
+    let alloc = rt.alloc();
+    let design = file_bytes(rt, design)?;
+    match policy {
+        Some(policy) => {
+            let policy = file_bytes(rt, policy)?;
+            check_policy(alloc, text_of(&design, ServeFault::ReadFailed)?, &policy)
+        }
+        None => check_design(alloc, text_of(&design, ServeFault::ReadFailed)?),
+    }
+}
+
+/// What the user of a name sees of the design of a file under the policy of another; the faults are those of `check_files`, and then
+/// those of `view_text`.
+pub fn view_files<R: AllocGlobal + Files>(
+    rt: &R,
+    design: &str,
+    policy: &str,
+    user: &str,
+) -> Result<Text, ServeFault> {
+    let design = file_bytes(rt, design)?;
+    let policy = file_bytes(rt, policy)?;
+    let text = text_of(&design, ServeFault::ReadFailed)?;
+    view_text(rt.alloc(), text, &policy, user)
+}
 
 /// Runs the script of standard input over the files of a design and a policy; a file that can't be read is `ReadFailed`
 /// (1602), and then the faults are those of `run_script`.
@@ -16,10 +55,8 @@ pub fn run_files<R: AllocGlobal + Files + Input + Print>(
     policy: &str,
 ) -> Result<Ran, ServeFault> {
     let alloc = rt.alloc();
-    let design = fs::open(rt, design).map_err(|_| ServeFault::ReadFailed)?;
-    let design = read_at_most(alloc, design, TEXT_LIMIT)?;
-    let policy = fs::open(rt, policy).map_err(|_| ServeFault::ReadFailed)?;
-    let policy = read_at_most(alloc, policy, TEXT_LIMIT)?;
+    let design = file_bytes(rt, design)?;
+    let policy = file_bytes(rt, policy)?;
     let text = text_of(&design, ServeFault::ReadFailed)?;
     let mut reader = Counted::new(rt.reader());
     let mut writer = Counted::new(BufWriter::new(alloc, io::writer(rt)).map_err(

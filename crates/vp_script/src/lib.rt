@@ -7,9 +7,11 @@ mod files;
 mod keeper;
 mod script;
 mod sources;
+mod views;
 
 pub use bundle::run_bundle;
 pub use fault::ServeFault;
-pub use files::{run_files, run_input};
+pub use files::{check_files, run_files, run_input, view_files};
 pub use script::{Ran, run_script};
 pub use sources::{BUNDLE_LIMIT, TEXT_LIMIT};
+pub use views::{check_design, check_policy, view_text};

@@ -32,7 +32,7 @@ pub struct Ran {
 
 /// The checked design of a text; or the first fault of its tokens, its envelopes, its grammar, its names or its
 /// expressions, in this order.
-fn checked(alloc: Global, text: &str) -> Result<Checked, ServeFault>
+pub(crate) fn checked(alloc: Global, text: &str) -> Result<Checked, ServeFault>
     ensures design { IfOk result (λ checked. IsDesignOf text.now checked) }
     ensures refused { IfErr result (λ fault. IsRefusedBy text.now fault) }
 {
@@ -47,7 +47,7 @@ fn checked(alloc: Global, text: &str) -> Result<Checked, ServeFault>
 }
 
 /// The policy of a file, for a design.
-fn policy_of(alloc: Global, bytes: &[u8], design: &Design) -> Result<Policy, ServeFault>
+pub(crate) fn policy_of(alloc: Global, bytes: &[u8], design: &Design) -> Result<Policy, ServeFault>
     ensures file { IfOk result
         (λ policy. file_of (length design.now.tree.authors) bytes.now ≡ Ok (file_in policy)) }
     ensures design { IfOk result (λ policy. Fits policy design.now.tree) }

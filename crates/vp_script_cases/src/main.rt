@@ -1,7 +1,8 @@
 //! Runs the cases of the files that its words name: bundles, each with what it must print. A case is a line `## ` with its
 //! name, the bundle, a line `==`, and the lines that the bundle must print; behind a line `=/=` the bundle's last line lacks its
 //! newline. A line `%* COUNT TEXT` of a bundle stands for so many copies of the text, and a newline; of a line `%+ COUNT TEXT` the
-//! next line goes on. Then it runs designs and policies of files on the script of standard input.
+//! next line goes on. Then it runs designs and policies of files on the script of standard input, checks them, and tells what users
+//! see of them.
 #![tactic(auto)]
 
 mod cases;
@@ -10,7 +11,7 @@ use crate::cases::{Case, read_cases};
 use std::io::BufReader;
 use std::rt::Files;
 use std::{env, fs, io};
-use vp_script::run_files;
+use vp_script::{ServeFault, check_files, run_files, view_files};
 
 /// Whether a case prints what it must; what it prints is shown where it does not.
 fn is_as_wanted<R: AllocGlobal + Print>(rt: &R, case: &Case) -> io::Result<bool> {
@@ -38,6 +39,13 @@ fn check_file<R: AllocGlobal + Files + Print>(rt: &R, file: &str) -> io::Result<
     println!(rt; "{file}: {count} cases, {agreeing} as wanted")
 }
 
+/// Tells a fault.
+fn print_fault<R: Print>(rt: &R, fault: &ServeFault) -> io::Result<()> {
+    let code = fault.code();
+    let line = fault.line();
+    println!(rt; "fault {code} line {line}")
+}
+
 /// Runs a design and a policy of files, and tells the fault that ends the run, if one does.
 fn print_run<R: AllocGlobal + Files + Input + Print>(
     rt: &R,
@@ -47,11 +55,35 @@ fn print_run<R: AllocGlobal + Files + Input + Print>(
     println!(rt; "{design}, {policy}:")?;
     match run_files(rt, design, policy) {
         Ok(_) => Ok(()),
-        Err(fault) => {
-            let code = fault.code();
-            let line = fault.line();
-            println!(rt; "fault {code} line {line}")
-        }
+        Err(fault) => print_fault(rt, &fault),
+    }
+}
+
+/// Checks a design of a file, and a policy if there is one, and tells the fault, if there is one.
+fn print_check<R: AllocGlobal + Files + Print>(
+    rt: &R,
+    design: &str,
+    policy: Option<&str>,
+) -> io::Result<()> {
+    let named = policy.unwrap_or("no policy");
+    println!(rt; "check {design}, {named}:")?;
+    match check_files(rt, design, policy) {
+        Ok(()) => Ok(()),
+        Err(fault) => print_fault(rt, &fault),
+    }
+}
+
+/// Tells what a user sees of a design under a policy, or the fault for which that is not told.
+fn print_view<R: AllocGlobal + Files + Print>(
+    rt: &R,
+    design: &str,
+    policy: &str,
+    user: &str,
+) -> io::Result<()> {
+    println!(rt; "view {design}, {policy}, {user}:")?;
+    match view_files(rt, design, policy, user) {
+        Ok(text) => rt.print(text.as_str()),
+        Err(fault) => print_fault(rt, &fault),
     }
 }
 
@@ -63,5 +95,12 @@ fn main(rt: HostRuntime) -> io::Result<()> {
     print_run(&rt, "missing.v", "ann.json")?;
     print_run(&rt, "latin.v", "ann.json")?;
     print_run(&rt, "hidden.v", "missing.json")?;
-    print_run(&rt, "hidden.v", "ann.json")
+    print_run(&rt, "hidden.v", "ann.json")?;
+    print_check(&rt, "latin.v", None)?;
+    print_check(&rt, "hidden.v", Some("missing.json"))?;
+    print_check(&rt, "hidden.v", None)?;
+    print_check(&rt, "hidden.v", Some("ann.json"))?;
+    print_view(&rt, "hidden.v", "missing.json", "ann")?;
+    print_view(&rt, "hidden.v", "ann.json", "bob")?;
+    print_view(&rt, "hidden.v", "ann.json", "ann")
 }

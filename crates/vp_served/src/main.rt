@@ -10,11 +10,26 @@ use crate::parser::command;
 use crate::words::{Command, Misuse};
 use std::process::ExitCode;
 use std::{env, io};
-use vp_script::{Ran, ServeFault, run_files, run_input};
+use vp_list::Text;
+use vp_script::{Ran, ServeFault, check_files, run_files, run_input, view_files};
+
+/// Prints a text; the status is 0.
+fn print_text<R: Print>(rt: &R, text: &Text) -> io::Result<ExitCode> {
+    rt.print(text.as_str())?;
+    Ok(ExitCode::SUCCESS)
+}
+
+/// Prints a fault; the status is 1.
+fn print_fault<R: Print>(rt: &R, fault: &ServeFault) -> io::Result<ExitCode> {
+    let code = fault.code();
+    let line = fault.line();
+    println!(rt; "fault {code} line {line}")?;
+    Ok(ExitCode::FAILURE)
+}
 
 /// Prints the fault that ended a run, if one did; the status is 1 then. That there was no memory to let the simulation run on is
 /// told on standard error.
-fn ended<R: Print + Eprint>(rt: &R, ran: Result<Ran, ServeFault>) -> io::Result<ExitCode> {
+fn run_status<R: Print + Eprint>(rt: &R, ran: Result<Ran, ServeFault>) -> io::Result<ExitCode> {
     match ran {
         Ok(ran) => {
             if ran.starved {
@@ -22,12 +37,23 @@ fn ended<R: Print + Eprint>(rt: &R, ran: Result<Ran, ServeFault>) -> io::Result<
             }
             Ok(ExitCode::SUCCESS)
         }
-        Err(fault) => {
-            let code = fault.code();
-            let line = fault.line();
-            println!(rt; "fault {code} line {line}")?;
-            Ok(ExitCode::FAILURE)
-        }
+        Err(fault) => print_fault(rt, &fault),
+    }
+}
+
+/// Prints the fault of a design and a policy, if there is one; the status is 1 then.
+fn check_status<R: Print>(rt: &R, check: Result<(), ServeFault>) -> io::Result<ExitCode> {
+    match check {
+        Ok(()) => Ok(ExitCode::SUCCESS),
+        Err(fault) => print_fault(rt, &fault),
+    }
+}
+
+/// Prints what a user sees, or the fault for which that is not told; the status is 1 then.
+fn view_status<R: Print>(rt: &R, view: Result<Text, ServeFault>) -> io::Result<ExitCode> {
+    match view {
+        Ok(text) => print_text(rt, &text),
+        Err(fault) => print_fault(rt, &fault),
     }
 }
 
@@ -35,16 +61,24 @@ fn main(rt: HostRuntime) -> io::Result<ExitCode> {
     let alloc = rt.alloc();
     let words: Vec<String> = env::args(&rt)?.collect(alloc)?;
     match command(alloc, &words) {
-        Ok(Command::Run { design, policy }) => ended(&rt, run_files(&rt, design, policy)),
-        Ok(Command::Bundle) => ended(&rt, run_input(&rt)),
-        Ok(Command::Show(text)) => {
-            rt.print(text.as_str())?;
-            Ok(ExitCode::SUCCESS)
-        }
+        Ok(Command::Run { design, policy }) => run_status(&rt, run_files(&rt, design, policy)),
+        Ok(Command::Check { design, policy }) => check_status(
+            &rt,
+            check_files(&rt, design, policy),
+        ),
+        Ok(
+            Command::View {
+                design,
+                policy,
+                user,
+            },
+        ) => view_status(&rt, view_files(&rt, design, policy, user)),
+        Ok(Command::Bundle) => run_status(&rt, run_input(&rt)),
+        Ok(Command::Show(text)) => print_text(&rt, &text),
         Err(Misuse::BadWords(text)) => {
             rt.eprint(text.as_str())?;
             Ok(ExitCode::from(2))
         }
-        Err(Misuse::NoMemory) => ended(&rt, Err(ServeFault::NoMemory)),
+        Err(Misuse::NoMemory) => print_fault(&rt, &ServeFault::NoMemory),
     }
 }

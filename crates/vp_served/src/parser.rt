@@ -12,34 +12,81 @@ const BUNDLE_HELP: &str =
     "Without a command, a bundle is read from standard input: the design, a line %%, the policy, \
 a line %%, and the script of request lines. Each line of the script is answered by a line.
 
-Exit status: 0 after the script's end, 1 after a fault, which is printed as `fault CODE line N`, 2 after bad words.";
+Exit status: 0 after the script's end, 1 after a fault, which is printed as `fault CODE line N`, \
+2 after bad words.";
 
 const RUN_HELP: &str =
     "The script of request lines is read from standard input. Each line is answered by a line.
 
-A line is a JSON object whose `op` is one of: open, close, handle, iterate, get, get_str, value, put, compare, free, watch, \
-unwatch, poll, run, time. docs/FORMATS.md has the keys of each.";
+A line is a JSON object whose `op` is one of: open, close, handle, iterate, get, get_str, value, \
+put, compare, free, watch, unwatch, poll, races, race, run, time, grant. docs/FORMATS.md has the \
+keys of each.";
+
+const CHECK_HELP: &str =
+    "Nothing is printed and the status is 0 where both are right; else the first fault is printed, \
+as `run` prints it, and the status is 1.";
+
+const VIEW_HELP: &str =
+    "Each object that the user may list has a line, indented below the module in which it is \
+declared: its name, its type, the width of a value or the definition of a module, and his rights. \
+docs/FORMATS.md has the rest. A user who is not in the policy is fault 1604.";
+
+/// The file of a design.
+fn design_word<'a>(alloc: Global) -> Arg<'a> {
+    Arg::new(alloc, "DESIGN")
+        .help("The file of the Verilog text, at most 1,048,576 bytes")
+        .required(true)
+        .action(ArgAction::Set)
+}
+
+/// The file of a policy.
+fn policy_word<'a>(alloc: Global) -> Arg<'a> {
+    Arg::new(alloc, "POLICY")
+        .help("The file of the policy, in JSON, at most 1,048,576 bytes")
+        .action(ArgAction::Set)
+}
+
+/// The words of `run`.
+fn run_words<'a>(alloc: Global) -> Result<clap::Command<'a>, AllocError> {
+    clap::Command::new(alloc, "run")
+        .about("Runs a script over a design under a policy")
+        .after_help(RUN_HELP)
+        .arg(design_word(alloc))?
+        .arg(policy_word(alloc).required(true))
+}
+
+/// The words of `check`.
+fn check_words<'a>(alloc: Global) -> Result<clap::Command<'a>, AllocError> {
+    clap::Command::new(alloc, "check")
+        .about("Reads a design, and a policy if it is named, and prints the first fault")
+        .after_help(CHECK_HELP)
+        .arg(design_word(alloc))?
+        .arg(policy_word(alloc))
+}
+
+/// The words of `view`.
+fn view_words<'a>(alloc: Global) -> Result<clap::Command<'a>, AllocError> {
+    let user = Arg::new(alloc, "USER")
+        .help("The name of a user of the policy")
+        .required(true)
+        .action(ArgAction::Set);
+    clap::Command::new(alloc, "view")
+        .about("Prints what a user may see of a design under a policy")
+        .after_help(VIEW_HELP)
+        .arg(design_word(alloc))?
+        .arg(policy_word(alloc).required(true))?
+        .arg(user)
+}
 
 /// The program's words.
 fn grammar<'a>(alloc: Global) -> Result<clap::Command<'a>, AllocError> {
-    let design = Arg::new(alloc, "DESIGN")
-        .help("The file of the Verilog text, at most 1,048,576 bytes")
-        .required(true)
-        .action(ArgAction::Set);
-    let policy = Arg::new(alloc, "POLICY")
-        .help("The file of the policy, in JSON, at most 1,048,576 bytes")
-        .required(true)
-        .action(ArgAction::Set);
-    let run = clap::Command::new(alloc, "run")
-        .about("Runs a script over a design under a policy")
-        .after_help(RUN_HELP)
-        .arg(design)?
-        .arg(policy)?;
     clap::Command::new(alloc, "vp_served")
         .version("0.1.0")
         .about(ABOUT)
         .after_help(BUNDLE_HELP)
-        .subcommand(run)
+        .subcommand(run_words(alloc)?)?
+        .subcommand(check_words(alloc)?)?
+        .subcommand(view_words(alloc)?)
 }
 
 /// What the program's words ask, of which the first is the program's name; or what is wrong with them
@@ -56,10 +103,23 @@ pub fn command<'a>(alloc: Global, words: &'a [String]) -> Result<words::Command<
 
 /// What words ask that fit the grammar.
 fn asked<'a>(matches: &ArgMatches<'a>) -> words::Command<'a> {
-    match matches.subcommand_matches("run") {
-        Some(run) => words::Command::Run {
+    if let Some(run) = matches.subcommand_matches("run") {
+        return words::Command::Run {
             design: run.get_str("DESIGN").unwrap_or(""),
             policy: run.get_str("POLICY").unwrap_or(""),
+        };
+    }
+    if let Some(check) = matches.subcommand_matches("check") {
+        return words::Command::Check {
+            design: check.get_str("DESIGN").unwrap_or(""),
+            policy: check.get_str("POLICY"),
+        };
+    }
+    match matches.subcommand_matches("view") {
+        Some(view) => words::Command::View {
+            design: view.get_str("DESIGN").unwrap_or(""),
+            policy: view.get_str("POLICY").unwrap_or(""),
+            user: view.get_str("USER").unwrap_or(""),
         },
         None => words::Command::Bundle,
     }

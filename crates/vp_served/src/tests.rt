@@ -18,6 +18,25 @@ fn asked(alloc: Global, line: &[&str]) -> &'static str {
     match command(alloc, &words(alloc, line)) {
         Ok(Command::Bundle) => "bundle",
         Ok(Command::Run { design, policy }) if design == "d.v" && policy == "p.json" => "run",
+        Ok(
+            Command::Check {
+                design,
+                policy: None,
+            },
+        ) if design == "d.v" => "check",
+        Ok(
+            Command::Check {
+                design,
+                policy: Some(policy),
+            },
+        ) if design == "d.v" && policy == "p.json" => "check both",
+        Ok(
+            Command::View {
+                design,
+                policy,
+                user,
+            },
+        ) if design == "d.v" && policy == "p.json" && user == "ann" => "view",
         Ok(Command::Show(_)) => "show",
         Err(Misuse::BadWords(_)) => "misuse",
         _ => "other",
@@ -26,14 +45,22 @@ fn asked(alloc: Global, line: &[&str]) -> &'static str {
 
 #[test]
 fn command_lines(rt: HostRuntime) {
-    let rows: [(&[&str], &str); 8] = [
+    let rows: [(&[&str], &str); 16] = [
         (&["vp_served"], "bundle"),
         (&["vp_served", "run", "d.v", "p.json"], "run"),
+        (&["vp_served", "check", "d.v"], "check"),
+        (&["vp_served", "check", "d.v", "p.json"], "check both"),
+        (&["vp_served", "view", "d.v", "p.json", "ann"], "view"),
         (&["vp_served", "--help"], "show"),
         (&["vp_served", "run", "--help"], "show"),
+        (&["vp_served", "check", "--help"], "show"),
+        (&["vp_served", "view", "--help"], "show"),
         (&["vp_served", "--version"], "show"),
         (&["vp_served", "run", "d.v"], "misuse"),
         (&["vp_served", "run", "d.v", "p.json", "q"], "misuse"),
+        (&["vp_served", "check"], "misuse"),
+        (&["vp_served", "check", "d.v", "p.json", "q"], "misuse"),
+        (&["vp_served", "view", "d.v", "p.json"], "misuse"),
         (&["vp_served", "walk"], "misuse"),
     ];
     for (line, want) in rows {

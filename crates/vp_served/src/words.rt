@@ -4,7 +4,21 @@ use vp_list::Text;
 #[derive(Drop)]
 pub enum Command<'a> {
     /// To run the script of standard input over two files.
-    Run { design: &'a str, policy: &'a str },
+    Run {
+        design: &'a str,
+        policy: &'a str,
+    },
+    /// To read a design, and a policy if there is one, and to tell the first fault.
+    Check {
+        design: &'a str,
+        policy: Option<&'a str>,
+    },
+    /// To print what a user sees of a design under a policy.
+    View {
+        design: &'a str,
+        policy: &'a str,
+        user: &'a str,
+    },
     /// To run the bundle of standard input.
     Bundle,
     /// To print the help or the version.

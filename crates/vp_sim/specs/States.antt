@@ -28,7 +28,7 @@ use Rattle.vp_active.specs.Events.{process_of}
 use Rattle.vp_strata.specs.Queues.{Queue, activated, advanced, first_time, is_done, no_events, peeked, ready, scheduled, taken, with_active, with_future, with_inactive, with_nonblocking}
 use Rattle.vp_waking.specs.declared.change.Change.{Change}
 use Rattle.vp_sim.specs.declared.fault.SimError.{SimError}
-use Rattle.vp_sim.specs.declared.fault.SimError.TheVariants.{Finished, Idle, SlotNotDone, NoSuchChoice, TimeLimit, NoMemory}
+use Rattle.vp_sim.specs.declared.fault.SimError.TheVariants.{Finished, Idle, SlotNotDone, NoSuchChoice, TimeLimit}
 use Rattle.vp_waking.specs.declared.waiting.Waiting.{Waiting}
 use Rattle.vp_waking.specs.declared.waiting.Waiting.TheVariants as wait
 use Rattle.vp_waking.specs.Changes.{change_of, net_at, set_change, updated_by, values_behind}
@@ -324,10 +324,10 @@ abbrev pub IsStep : Outcome → Type 0
 IsStep (Goes s c) = Unit {0}
 IsStep (Refuses e) = ⊥
 
--- an error is what an outcome refuses; where it goes on, it is want of memory
-abbrev pub Explains : Outcome → SimError → Type 0
-Explains (Goes s c) e = e ≡ NoMemory
-Explains (Refuses r) e = e ≡ r
+-- why an outcome does not go on, if it does not
+abbrev pub refusal_in : Outcome → Option SimError
+refusal_in (Goes s c) = None
+refusal_in (Refuses e) = Some e
 
 -- ---- a state as it is kept
 

@@ -1,9 +1,11 @@
 ghost use Rattle.std.specs.Prelude.{◌≡◌, ◌<◌, ◌≤◌, ℕ, Bool, length, slice_get, slice_index_or, None, Some, IfErr, IfOk, IfSome, OnErr, OnOk, IsOkUnless};
+ghost use Rattle.vp_sim.specs.States.{refusal_in};
+ghost use Rattle.vp_list.specs.Refusals.{Explains};
 ghost use Rattle.vp_expr.specs.Tables.{tables_of};
 ghost use Rattle.vp_active.specs.declared.event.Event.TheVariants.{NetUpdate};
 ghost use Rattle.vp_sim.specs.declared.fault.SimError.TheVariants.{NoMemory};
 ghost use Rattle.vp_waking.specs.Changes.{change_of, net_at, updated_by};
-ghost use Rattle.vp_sim.specs.States.{Explains, Goes, IsStep, Refuses, with_activation, driven, evaluated, happened, without_event, step, turn, with_event};
+ghost use Rattle.vp_sim.specs.States.{Goes, IsStep, Refuses, with_activation, driven, evaluated, happened, without_event, step, turn, with_event};
 
 use crate::fault::SimError;
 use crate::machine::Machine;
@@ -108,9 +110,9 @@ impl Machine {
         ensures ok { IfOk result (λ change. turn (tables_of self.old.state.design)
             (with_activation self.old.state) k process instance repeats body
             (slice_index_or self.old.state.remaining process None) ≡ Goes self.new.state change) }
-        ensures refused { IfErr result (λ e. Explains
+        ensures refused { IfErr result (Explains NoMemory (refusal_in
             (turn (tables_of self.old.state.design) (with_activation self.old.state) k process
-            instance repeats body (slice_index_or self.old.state.remaining process None)) e) }
+            instance repeats body (slice_index_or self.old.state.remaining process None)))) }
         ensures unchanged { OnErr result (self.new.state ≡ self.old.state) }
     {
         let Some(next) = self.next_of(process) else {
@@ -132,9 +134,9 @@ impl Machine {
         requires { process < length (tables_of self.old.state.design).processes }
         ensures ok { IfOk result (λ change. evaluated (tables_of self.old.state.design)
             (with_activation self.old.state) k process (Some kind) ≡ Goes self.new.state change) }
-        ensures refused { IfErr result (λ e. Explains
+        ensures refused { IfErr result (Explains NoMemory (refusal_in
             (evaluated (tables_of self.old.state.design) (with_activation self.old.state) k process
-            (Some kind)) e) }
+            (Some kind)))) }
         ensures unchanged { OnErr result (self.new.state ≡ self.old.state) }
     {
         match kind {
@@ -168,9 +170,9 @@ impl Machine {
             (with_activation self.old.state) k process
             (slice_get (tables_of self.old.state.design).processes process)
             ≡ Goes self.new.state change) }
-        ensures refused { IfErr result (λ e. Explains
+        ensures refused { IfErr result (Explains NoMemory (refusal_in
             (evaluated (tables_of self.old.state.design) (with_activation self.old.state) k process
-            (slice_get (tables_of self.old.state.design).processes process)) e) }
+            (slice_get (tables_of self.old.state.design).processes process)))) }
         ensures unchanged { OnErr result (self.new.state ≡ self.old.state) }
     {
         match process_at(self.checked(), process) {
@@ -189,7 +191,8 @@ impl Machine {
             process instance repeats body (slice_index_or self.now.state.remaining process None))) }
         ensures refused { IfErr result (λ e. (k : ℕ) → (repeats : Bool) → (body : ℕ)
             → turn (tables_of self.now.state.design) (with_activation self.now.state) k process
-            instance repeats body (slice_index_or self.now.state.remaining process None) ≡ Refuses e) }
+            instance repeats body (slice_index_or self.now.state.remaining process None)
+            ≡ Refuses e) }
     {
         let Some(next) = self.next_of(process) else {
             return Ok(());

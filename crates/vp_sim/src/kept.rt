@@ -40,9 +40,18 @@ impl Model for KeptSim {
 
     ghost Value = { State };
 
-    ghost view = { λ k. record { design = arc_value k.checked; time = k.time; finished = k.finished; values = k.values; remaining = k.remaining; waiting = k.waiting; queue = k.queue.queue } };
+    ghost view = { λ k. record {
+      design = arc_value k.checked;
+      time = k.time;
+      finished = k.finished;
+      values = k.values;
+      remaining = k.remaining;
+      waiting = k.waiting;
+      queue = k.queue.queue;
+    } };
 
-    ghost invariant = { λ k. FitsDesign (arc_value k.checked) (arc_value k.flow) k.values k.queue.processes k.waiting };
+    ghost invariant = { λ k. FitsDesign (arc_value k.checked) (arc_value k.flow)
+        k.values k.queue.processes k.waiting };
 }
 
 impl KeptSim {
@@ -110,7 +119,8 @@ impl KeptSim {
     /// Listeners among which each process stands that waits so.
     fn listeners(&self, waiting: &[Waiting]) -> Result<Listeners, AllocError>
         ensures design { IfOk result (λ l. l.design ≡ self.now.design) }
-        ensures heard { IfOk result (λ l. AreHeard (tables_of self.now.design) l.lists waiting.now) }
+        ensures heard { IfOk result (λ l.
+            AreHeard (tables_of self.now.design) l.lists waiting.now) }
     {
         let checked = Arc::try_clone(&self.checked)?;
         let mut listeners = Listeners::new(self.alloc, checked)?;

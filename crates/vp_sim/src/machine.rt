@@ -42,9 +42,22 @@ impl Model for Machine {
 
     ghost Value = { Running };
 
-    ghost view = { λ m. record { state = record { design = m.listeners.design; time = m.time; finished = m.finished; values = m.values; remaining = m.remaining; waiting = m.waiting; queue = m.queue.queue }; spare = m.queue.spare; lists = m.listeners.lists } };
+    ghost view = { λ m. record {
+      state = record {
+        design = m.listeners.design;
+        time = m.time;
+        finished = m.finished;
+        values = m.values;
+        remaining = m.remaining;
+        waiting = m.waiting;
+        queue = m.queue.queue;
+      };
+      spare = m.queue.spare;
+      lists = m.listeners.lists;
+    } };
 
-    ghost invariant = { λ m. IsWhole m.listeners.design (arc_value m.flow) m.values m.queue.processes m.waiting m.listeners.lists };
+    ghost invariant = { λ m. IsWhole m.listeners.design (arc_value m.flow)
+        m.values m.queue.processes m.waiting m.listeners.lists };
 }
 
 impl Machine {

@@ -1,12 +1,14 @@
 ghost use Rattle.std.specs.Prelude.{◌≡◌, ◌≤◌, ◌<◌, ◌+◌, false, is_none, length, slice_index_or, slice_set, None, Some, IfErr, IfOk, IfSome, MatchOption, OnErr, OnOk, IsOkUnless};
 ghost use Rattle.std.specs.Option.{option_or};
+ghost use Rattle.vp_sim.specs.States.{refusal_in};
+ghost use Rattle.vp_list.specs.Refusals.{Explains};
 ghost use Rattle.vp_expr.specs.Tables.{tables_of};
 ghost use Rattle.vp_sim.specs.declared.fault.SimError.TheVariants.{NoMemory};
 ghost use Rattle.vp_statement.specs.declared.effect.Effect.TheVariants as effect;
 ghost use Rattle.vp_statement.specs.Walking.{behind_at, next_event};
 ghost use Rattle.vp_strata.specs.Queues.{taken};
 ghost use Rattle.vp_waking.specs.Changes.{set_change};
-ghost use Rattle.vp_sim.specs.States.{Explains, Goes, again, deferred, delay_of, delayed, is_late, next_effect, paused, performs, rest_of, taken_if, with_activation};
+ghost use Rattle.vp_sim.specs.States.{Goes, again, deferred, delay_of, delayed, is_late, next_effect, paused, performs, rest_of, taken_if, with_activation};
 
 use crate::fault::SimError;
 use crate::machine::Machine;
@@ -178,8 +180,9 @@ impl Machine {
     ) -> Result<Option<Change>, SimError>
         ensures ok { IfOk result (λ change. performs self.old.state k process rest
             (effect.Assigns object place value) ≡ Goes self.new.state change) }
-        ensures refused { IfErr result (λ e. Explains (performs self.old.state k process rest
-            (effect.Assigns object place value)) e) }
+        ensures refused { IfErr result (Explains NoMemory (refusal_in
+            (performs self.old.state k process rest
+            (effect.Assigns object place value)))) }
         ensures unchanged { OnErr result (self.new.state ≡ self.old.state) }
     {
         let change = self.set_change(object, place, value);
@@ -201,8 +204,9 @@ impl Machine {
         ensures ok { OnOk result (performs self.old.state k update.process rest
             (effect.Defers update.object update.place update.value delay)
             ≡ Goes self.new.state None) }
-        ensures refused { IfErr result (λ e. Explains (performs self.old.state k update.process rest
-            (effect.Defers update.object update.place update.value delay)) e) }
+        ensures refused { IfErr result (Explains NoMemory (refusal_in
+            (performs self.old.state k update.process rest
+            (effect.Defers update.object update.place update.value delay)))) }
         ensures unchanged { OnErr result (self.new.state ≡ self.old.state) }
     {
         if is_late(self.time, delay) {
@@ -226,8 +230,9 @@ impl Machine {
     fn delay(&mut self, k: usize, process: usize, amount: u32, next: u32) -> Result<(), SimError>
         ensures ok { OnOk result (performs self.old.state k process (Some next)
             (effect.Pauses amount next) ≡ Goes self.new.state None) }
-        ensures refused { IfErr result (λ e. Explains (performs self.old.state k process (Some next)
-            (effect.Pauses amount next)) e) }
+        ensures refused { IfErr result (Explains NoMemory (refusal_in
+            (performs self.old.state k process (Some next)
+            (effect.Pauses amount next)))) }
         ensures unchanged { OnErr result (self.new.state ≡ self.old.state) }
     {
         if is_late(self.time, amount) {
@@ -249,8 +254,9 @@ impl Machine {
     fn control(&mut self, k: usize, process: usize, place: u32, next: u32) -> Result<(), SimError>
         ensures ok { OnOk result (performs self.old.state k process (Some next)
             (effect.Awaits place next) ≡ Goes self.new.state None) }
-        ensures refused { IfErr result (λ e. Explains (performs self.old.state k process (Some next)
-            (effect.Awaits place next)) e) }
+        ensures refused { IfErr result (Explains NoMemory (refusal_in
+            (performs self.old.state k process (Some next)
+            (effect.Awaits place next)))) }
         ensures unchanged { OnErr result (self.new.state ≡ self.old.state) }
     {
         self.listen(process, Waiting::Statement(place))?;
@@ -273,9 +279,10 @@ impl Machine {
         ensures ok { IfOk result (λ change. performs self.old.state k process
             (rest_of (tables_of self.old.state.design) self.old.state.design.source repeats body
             event effect) effect ≡ Goes self.new.state change) }
-        ensures refused { IfErr result (λ e. Explains (performs self.old.state k process
+        ensures refused { IfErr result (Explains NoMemory (refusal_in
+            (performs self.old.state k process
             (rest_of (tables_of self.old.state.design) self.old.state.design.source repeats body
-            event effect) effect) e) }
+            event effect) effect))) }
         ensures unchanged { OnErr result (self.new.state ≡ self.old.state) }
     {
         match effect {

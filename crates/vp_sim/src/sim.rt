@@ -1,8 +1,10 @@
 ghost use Rattle.std.specs.Prelude.{◌≡◌, length, slice_index_or, None, IfErr, IfOk, OnErr, OnOk, IsOkUnless};
 ghost use Rattle.std.specs.Arc.{arc_value};
+ghost use Rattle.vp_sim.specs.States.{refusal_in};
+ghost use Rattle.vp_list.specs.Refusals.{Explains};
 ghost use Rattle.vp_operand.specs.Values.{no_value};
 ghost use Rattle.vp_sim.specs.declared.fault.SimError.TheVariants.{NoMemory};
-ghost use Rattle.vp_sim.specs.States.{Explains, Goes, IsStep, Refuses, advance, eligible, next_time, put, slot_done, source_of, start, step};
+ghost use Rattle.vp_sim.specs.States.{Goes, IsStep, Refuses, advance, eligible, next_time, put, slot_done, source_of, start, step};
 
 use crate::fault::SimError;
 use crate::kept::KeptSim;
@@ -135,7 +137,7 @@ impl Sim {
     /// 2^62 or later (805), or for want of memory (806). A refusal leaves the simulation as it was.
     pub fn step(&mut self, k: usize) -> Result<Option<Change>, SimError>
         ensures ok { IfOk result (λ change. step self.old k ≡ Goes self.new change) }
-        ensures refused { IfErr result (λ e. Explains (step self.old k) e) }
+        ensures refused { IfErr result (Explains NoMemory (refusal_in (step self.old k))) }
         ensures unchanged { OnErr result (self.new ≡ self.old) }
     {
         self.machine.step(k)
@@ -161,7 +163,7 @@ impl Sim {
     /// current time (803), where there is no future event (801), or for want of memory (806). A refusal leaves the simulation as it was.
     pub fn advance(&mut self) -> Result<(), SimError>
         ensures ok { OnOk result (advance self.old ≡ Goes self.new None) }
-        ensures refused { IfErr result (λ e. Explains (advance self.old) e) }
+        ensures refused { IfErr result (Explains NoMemory (refusal_in (advance self.old))) }
         ensures unchanged { OnErr result (self.new ≡ self.old) }
     {
         self.machine.advance()
@@ -171,7 +173,7 @@ impl Sim {
     /// `$finish` was executed (804), or for want of memory (806). A refusal leaves the simulation as it was.
     pub fn put(&mut self, object: ObjectId, value: Bits) -> Result<Option<Change>, SimError>
         ensures ok { IfOk result (λ change. put self.old object.0 value ≡ Goes self.new change) }
-        ensures refused { IfErr result (λ e. Explains (put self.old object.0 value) e) }
+        ensures refused { IfErr result (Explains NoMemory (refusal_in (put self.old object.0 value))) }
         ensures unchanged { OnErr result (self.new ≡ self.old) }
     {
         self.machine.put(object, value)

@@ -1,5 +1,7 @@
 ghost use Rattle.std.specs.Prelude.{◌≡◌, length, map, None, Some, IfErr, IfOk, OnErr, OnOk, IsOkUnless};
 ghost use Rattle.std.specs.Arc.{arc_value};
+ghost use Rattle.vp_sim.specs.States.{refusal_in};
+ghost use Rattle.vp_list.specs.Refusals.{Explains};
 ghost use Rattle.vp_elab.specs.Tree.{below};
 ghost use Rattle.vp_active.specs.declared.event.Event.TheVariants.{Evaluation};
 ghost use Rattle.vp_active.specs.Events.{process_of};
@@ -7,7 +9,7 @@ ghost use Rattle.vp_strata.specs.Queues.{no_events, with_active};
 ghost use Rattle.vp_expr.specs.Tables.{tables_of};
 ghost use Rattle.vp_statement.specs.Walking.{flow_of};
 ghost use Rattle.vp_sim.specs.declared.fault.SimError.TheVariants.{NoMemory};
-ghost use Rattle.vp_sim.specs.States.{Explains, Goes, IsStep, Refuses, advance, advanced_to, eligible, next_time, put, slot_done, source_of, start, step};
+ghost use Rattle.vp_sim.specs.States.{Goes, IsStep, Refuses, advance, advanced_to, eligible, next_time, put, slot_done, source_of, start, step};
 
 use crate::fault::SimError;
 use crate::lists::first_lists;
@@ -139,7 +141,7 @@ impl Machine {
     /// Takes the k-th of the events that a step can take, and tells what it changed; else the refusal (804, 801, 802, 805, 806).
     pub fn step(&mut self, k: usize) -> Result<Option<Change>, SimError>
         ensures ok { IfOk result (λ change. step self.old.state k ≡ Goes self.new.state change) }
-        ensures refused { IfErr result (λ e. Explains (step self.old.state k) e) }
+        ensures refused { IfErr result (Explains NoMemory (refusal_in (step self.old.state k))) }
         ensures unchanged { OnErr result (self.new.state ≡ self.old.state) }
     {
         let change = match self.event(k)? {
@@ -194,7 +196,7 @@ impl Machine {
     /// Goes on to the time of the next future event; else the refusal (804, 803, 801, 806).
     pub fn advance(&mut self) -> Result<(), SimError>
         ensures ok { OnOk result (advance self.old.state ≡ Goes self.new.state None) }
-        ensures refused { IfErr result (λ e. Explains (advance self.old.state) e) }
+        ensures refused { IfErr result (Explains NoMemory (refusal_in (advance self.old.state))) }
         ensures unchanged { OnErr result (self.new.state ≡ self.old.state) }
     {
         let time = self.time_ahead()?;
@@ -211,7 +213,8 @@ impl Machine {
     pub fn put(&mut self, object: ObjectId, value: Bits) -> Result<Option<Change>, SimError>
         ensures ok { IfOk result (λ change. put self.old.state object.0 value
             ≡ Goes self.new.state change) }
-        ensures refused { IfErr result (λ e. Explains (put self.old.state object.0 value) e) }
+        ensures refused { IfErr result (Explains NoMemory
+            (refusal_in (put self.old.state object.0 value))) }
         ensures unchanged { OnErr result (self.new.state ≡ self.old.state) }
     {
         if self.finished {

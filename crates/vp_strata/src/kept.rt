@@ -32,7 +32,15 @@ impl Model for KeptStrata {
 
     ghost Value = { KeptQueue };
 
-    ghost view = { λ k. record { queue = record { active = map Nonblocking k.assignments.items ++ k.active.items; inactive = k.inactive.items; nonblocking = k.nonblocking.items; future = k.future }; processes = k.processes } };
+    ghost view = { λ k. record {
+      queue = record {
+        active = map Nonblocking k.assignments.items ++ k.active.items;
+        inactive = k.inactive.items;
+        nonblocking = k.nonblocking.items;
+        future = k.future;
+      };
+      processes = k.processes;
+    } };
 
     ghost invariant = { λ k. All (λ e. IsPushed k.processes e) k.active.items };
 }

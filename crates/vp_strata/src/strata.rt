@@ -45,9 +45,21 @@ impl Model for Strata {
 
     ghost Value = { Regions };
 
-    ghost view = { λ s. record { queue = record { active = map Nonblocking s.assignments.items ++ s.active.events; inactive = s.inactive.items; nonblocking = s.nonblocking.items; future = s.future }; spare = s.spare; processes = s.active.processes } };
+    ghost view = { λ s. record {
+      queue = record {
+        active = map Nonblocking s.assignments.items ++ s.active.events;
+        inactive = s.inactive.items;
+        nonblocking = s.nonblocking.items;
+        future = s.future;
+      };
+      spare = s.spare;
+      processes = s.active.processes;
+    } };
 
-    ghost invariant = { λ s. (s.spare ≤ deque_capacity s.assignments) × (s.spare + deque_len s.inactive ≤ s.active.room) × (deque_len s.inactive + s.spare ≤ deque_capacity s.inactive) × (deque_len s.nonblocking + s.spare ≤ deque_capacity s.nonblocking) };
+    ghost invariant = { λ s. (s.spare ≤ deque_capacity s.assignments)
+        × (s.spare + deque_len s.inactive ≤ s.active.room)
+        × (deque_len s.inactive + s.spare ≤ deque_capacity s.inactive)
+        × (deque_len s.nonblocking + s.spare ≤ deque_capacity s.nonblocking) };
 }
 
 impl Strata {

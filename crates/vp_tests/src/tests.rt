@@ -1,11 +1,3 @@
-mod building;
-mod callbacks;
 mod designs;
-mod dialogues;
-mod grants;
 mod notices;
-mod segments;
-mod sessions;
 mod tokens;
-mod views;
-mod worlds;

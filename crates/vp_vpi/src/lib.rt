@@ -1,6 +1,7 @@
 //! A session: a user's handles and callbacks, and what he is answered.
 #![tactic(auto)]
 
+mod comparison;
 mod fault;
 mod iteration;
 mod notices;

@@ -1,3 +1,6 @@
+ghost use Rattle.std.specs.Prelude.{◌≡◌, IfOk};
+
+use std::alloc::{AllocError, Global};
 use vp_list::{Sequence, Text};
 
 /// A number that is asked of an object (clause 26.6).
@@ -36,4 +39,19 @@ pub enum PutValue {
     Digits(Text),
     /// By its words, least significant first.
     Words(Sequence<VectorWord>),
+}
+
+impl PutValue {
+    /// The same value once more. Takes memory.
+    pub fn try_clone(&self, alloc: Global) -> Result<PutValue, AllocError>
+        ensures { IfOk result (λ value. value ≡ self.now) }
+    {
+        match self {
+            PutValue::Digits(digits) => Ok(PutValue::Digits(Text::copy(alloc, digits.as_str())?)),
+            PutValue::Words(words) => {
+                let copied = Vec::from_slice(alloc, words.as_slice())?;
+                Ok(PutValue::Words(Sequence::from_vec(copied)))
+            }
+        }
+    }
 }

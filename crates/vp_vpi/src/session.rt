@@ -47,7 +47,11 @@ impl Model for Session {
 
     ghost Value = { Seat };
 
-    ghost view = { λ s. record { user = s.user.0; handles = s.handles.items; registry = s.registry } };
+    ghost view = { λ s. record {
+      user = s.user.0;
+      handles = s.handles.items;
+      registry = s.registry;
+    } };
 
     ghost invariant = { λ s. s.open_handles ≡ count_by is_some s.handles.items };
 }

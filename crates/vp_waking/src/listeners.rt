@@ -37,9 +37,15 @@ impl Model for Listeners {
 
     ghost Value = { Listening };
 
-    ghost view = { λ l. record { design = arc_value l.checked; lists = map (λ v. v.items) l.lists.items } };
+    ghost view = { λ l. record {
+      design = arc_value l.checked;
+      lists = map (λ v. v.items) l.lists.items;
+    } };
 
-    ghost invariant = { λ l. AreAllListeners (tables_of (arc_value l.checked)) (map (λ v. v.items) l.lists.items) × AreHeard (tables_of (arc_value l.checked)) (map (λ v. v.items) l.lists.items) l.known.items };
+    ghost invariant = { λ l.
+        AreAllListeners (tables_of (arc_value l.checked)) (map (λ v. v.items) l.lists.items)
+        × AreHeard (tables_of (arc_value l.checked)) (map (λ v. v.items) l.lists.items)
+        l.known.items };
 }
 
 /// Puts empty lists behind others, until there is one for an object.

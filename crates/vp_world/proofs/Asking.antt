@@ -90,13 +90,13 @@ module _
     found : slice_get (map session_shown sessions) place ≡ Some (session_shown session)
     found = session_found sessions place session (within_shown run book.races first policy limits sessions opens goal place w is inside) at
 
-    pub told_given : (run' : Recorded) (new : Seat) (a : Answer) → Gives due run run' new a → a.told ≡ asked_in w place r
+    pub told_given : (run' : Recorded) (new : Seat) (a : Answer) → Gives due run run' new a → a.reply ≡ asked_in w place r
     told_given run' new a given =
-        given.told ∙ ap (λ there. asked old.state there r) (sym found) ∙ ap (λ (v : Standing). asked_in v place r) is
+        given.gives_reply ∙ ap (λ there. asked old.state there r) (sym found) ∙ ap (λ (v : Standing). asked_in v place r) is
 
-    pub kept_given : (run' : Recorded) (new : Seat) (a : Answer) → Gives due run run' new a → a.kept ≡ asked_in w place r
+    pub kept_given : (run' : Recorded) (new : Seat) (a : Answer) → Gives due run run' new a → a.entry_reply ≡ asked_in w place r
     kept_given run' new a given =
-        given.kept ∙ ap (λ there. asked old.state there r) (sym found) ∙ ap (λ (v : Standing). asked_in v place r) is
+        given.gives_entry ∙ ap (λ there. asked old.state there r) (sym found) ∙ ap (λ (v : Standing). asked_in v place r) is
 
     pub changed_given : (run' : Recorded) (new : Seat) (a : Answer) → Gives due run run' new a → a.change ≡ changed_in w place r
     changed_given run' new a given =

@@ -1,6 +1,8 @@
 -- An error of the book explains its refusal.
 use Rattle.std.proofs.Common.{◌≡◌, ◌≢◌, ◌∙◌, Bool, true, false, Option, Some, None, sym, ap, refl}
 use Rattle.std.specs.Prelude.{if◌then◌else◌, nat_le, length, option_map}
+use Rattle.vp_world.specs.declared.fault.WorldError.TheVariants as world_error
+use Rattle.vp_list.specs.Refusals.{Explains}
 use Rattle.vp_race.specs.declared.fault.RaceError.{RaceError}
 use Rattle.vp_race.specs.declared.fault.RaceError.TheVariants.{NotAnOrder, NotComplete, SameValue, SegmentGone, Booked, BookFull, NoMemory}
 use Rattle.vp_race.specs.Booking as book
@@ -9,7 +11,6 @@ use Rattle.vp_race.specs.Same.{same_run}
 use Rattle.vp_race.specs.Segments.{Run, Told}
 use Rattle.vp_world.specs.declared.fault.WorldError.TheVariants.{Race}
 use Rattle.vp_world.specs.Faults.{error_of_race}
-use Rattle.vp_world.specs.History.{Explains}
 
 -- no want of memory
 abbrev IsOwn : Option RaceError → Type 0
@@ -37,10 +38,10 @@ told Booked h = refl
 told BookFull h = refl
 told NoMemory h = absurd (h refl)
 
-explained_by : (o : Option RaceError) (e : RaceError) → IsOwn o → book.Explains o e → Explains (option_map Race o) (error_of_race e)
+explained_by : (o : Option RaceError) (e : RaceError) → IsOwn o → Explains NoMemory o e → Explains world_error.NoMemory (option_map Race o) (error_of_race e)
 explained_by None e own h = ap error_of_race h
-explained_by (Some r) e own h = told r own ∙ ap error_of_race (sym h)
+explained_by (Some r) e own h = ap error_of_race h ∙ sym (told r own)
 
 -- an error of the book explains its refusal
-pub booking_explained : (b : BookState) (kept : Option Run) (f : Told) (e : RaceError) → book.Explains (refusal_of_finding b kept f) e → Explains (option_map Race (refusal_of_finding b kept f)) (error_of_race e)
+pub booking_explained : (b : BookState) (kept : Option Run) (f : Told) (e : RaceError) → Explains NoMemory (refusal_of_finding b kept f) e → Explains world_error.NoMemory (option_map Race (refusal_of_finding b kept f)) (error_of_race e)
 booking_explained b kept f e h = explained_by (refusal_of_finding b kept f) e (finding_own b kept f) h

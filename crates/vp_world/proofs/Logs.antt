@@ -1,13 +1,15 @@
 -- A log with one entry more.
 use Rattle.std.proofs.Common.{◌≡◌, ◌∙◌, Bool, List, [], ◌∷◌, ◌++◌, Option, Some, None, Result, Err, ℕ, refl, sym, ap, subst, append_assoc, append-nil}
 use Rattle.std.specs.Prelude.{fold}
+use Rattle.vp_world.specs.declared.fault.WorldError.TheVariants as world_error
+use Rattle.vp_list.specs.Refusals.{Explains}
 use Rattle.vp_waking.specs.declared.change.Change.{Change}
 use Rattle.vp_world.specs.declared.event.Event.{Event}
 use Rattle.vp_world.specs.declared.fault.WorldError.{WorldError}
 use Rattle.vp_world.specs.declared.reply.Reply.{Reply}
 use Rattle.vp_world.specs.Entries.{Entry}
 use Rattle.vp_world.specs.Events.{IsWellFormed}
-use Rattle.vp_world.specs.History.{Applies, Explains, IsLegal, Keeps, after, answer, changed, entry_of, refusal_behind, refused_by, state_behind, with_entry}
+use Rattle.vp_world.specs.History.{Applies, IsLegal, Keeps, after, answer, changed, entry_of, refusal_behind, refused_by, state_behind, with_entry}
 use Rattle.vp_world.specs.Worlds.{Logged, Opening, Standing, State, start}
 
 -- a left fold of one item more
@@ -63,7 +65,7 @@ refused_so v happens r e is told =
     (record {
       accepted = tt;
       logged = tt;
-      refused = subst (λ x. Explains x e) (sym told) refl;
+      refused = subst (λ x. Explains world_error.NoMemory x e) (sym told) refl;
       unchanged = refl;
     })
 

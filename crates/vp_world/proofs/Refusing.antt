@@ -33,13 +33,13 @@ refusal_given seat given (Err vpi.NoMemory) e told other = absurd (other told)
 -- a reply from which nothing else comes is given by it
 plain_gives : (run : Recorded) (seat new : Seat) (r : Reply) (a : Answer) → new ≡ seat → a ≡ plain r → Gives (only_told seat r) run run new a
 plain_gives run seat new r a same is = record {
-  told = ap (λ (x : Answer). x.told) is;
-  kept = ap (λ (x : Answer). x.kept) is;
+  gives_reply = ap (λ (x : Answer). x.reply) is;
+  gives_entry = ap (λ (x : Answer). x.entry_reply) is;
   goal = ap (λ (x : Answer). x.goal) is;
   seat = same;
   put = ap (λ (x : Answer). sim.Goes run.simulation x.change) (sym is);
   segments = refl;
-  done = subst (λ (x : Answer). IfSome x.change (λ c. x.told ≡ reply.Done)) (sym is) tt;
+  gives_done = subst (λ (x : Answer). IfSome x.change (λ c. x.reply ≡ reply.Done)) (sym is) tt;
 }
 
 -- the answer to a request that a session refuses is given by the refusal
@@ -90,11 +90,11 @@ iteration_gives run seat new due found (Err lacking) is answer made = tt
 iteration_gives run seat new due found (Ok a) is answer made =
     subst (λ (d : Result Iterated VpiError). Gives (response_by seat (scanned seat) d) run run new a) (sym is)
     (record {
-      told = ap (λ (x : Answer). x.told) answer;
-      kept = ap (λ (x : Answer). x.kept) answer;
+      gives_reply = ap (λ (x : Answer). x.reply) answer;
+      gives_entry = ap (λ (x : Answer). x.entry_reply) answer;
       goal = ap (λ (x : Answer). x.goal) answer;
       seat = made;
       put = ap (λ (x : Answer). sim.Goes run.simulation x.change) (sym answer);
       segments = refl;
-      done = subst (λ (x : Answer). IfSome x.change (λ c. x.told ≡ reply.Done)) (sym answer) tt;
+      gives_done = subst (λ (x : Answer). IfSome x.change (λ c. x.reply ≡ reply.Done)) (sym answer) tt;
     })

@@ -24,15 +24,15 @@ races_in r book policy user = races_seen r.simulation.design.tree (member_at pol
 
 -- a reply from which nothing else comes, told and kept
 abbrev pub plain : Reply → Answer
-plain r = record { told = r; kept = r; goal = None; change = None }
+plain r = record { reply = r; entry_reply = r; goal = None; change = None }
 
 -- an answer gives what comes of a request: its reply, told and kept, the goal that it sets, and what its put does to the simulation and
 -- changes, which only a request that is done does; and this is the session behind it
 pub record Gives (given : Response) (old new : Recorded) (session : Seat) (a : Answer) : Type 0 where
-  pub told : a.told ≡ given.reply
-  pub kept : a.kept ≡ given.reply
+  pub gives_reply : a.reply ≡ given.reply
+  pub gives_entry : a.entry_reply ≡ given.reply
   pub goal : a.goal ≡ given.goal
   pub seat : session ≡ given.seat
   pub put : outcome_of_put old.simulation given.put ≡ sim.Goes new.simulation a.change
   pub segments : new.segments ≡ segments_of_put old.segments given.put new.simulation
-  pub done : IfSome a.change (λ c. a.told ≡ reply.Done)
+  pub gives_done : IfSome a.change (λ c. a.reply ≡ reply.Done)

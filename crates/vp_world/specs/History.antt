@@ -2,6 +2,7 @@
 use Rattle.std.specs.Prelude.{◌≡◌, ℕ, ◌+◌, ◌==◌, ◌||◌, nat_le, nat_lt, max, Bool, true, false, if◌then◌else◌, List, [], ◌∷◌, ◌++◌, length, fold, map, slice_get, slice_index, slice_set, Option, Some, None, is_none, option_and_then, option_map, Result, IfErr, OnErr, OnOk}
 use Rattle.std.specs.List.{remove}
 use Rattle.std.specs.Option.{option_map_or}
+use Rattle.vp_list.specs.Refusals.{Explains}
 use Rattle.vp_bits.specs.declared.bit.Bit.{Bit}
 use Rattle.vp_policy.specs.PolicyState.{PolicyState}
 use Rattle.vp_policy.specs.Regrants.{is_operator, regranted}
@@ -114,11 +115,6 @@ refusal_of opening full s event.Advance =
 refusal_of opening full s event.TakeJob = refusal_of_job full (next_job s.segments)
 refusal_of opening full s (event.Book finding) = refusal_of_booking full (book_refusal opening s finding)
 
--- an error is the refusal; where there is none, it is want of memory
-abbrev pub Explains : Option WorldError → WorldError → Type 0
-Explains (Some refusal) e = refusal ≡ e
-Explains None e = e ≡ error.NoMemory
-
 -- ---- what an event that is accepted is answered
 
 -- the name of the next session of a user: how often he has opened one, and one more (profile)
@@ -205,12 +201,12 @@ raised goal None = goal
 raised goal (Some until) = Some (later goal until)
 
 -- an open session behind a change at a time, which is due to its callbacks (clause 27.33)
-abbrev pub told : Option Change → (time : ℕ) → SessionState → SessionState
-told change time s = record s { seat = with_due change time s.seat }
+abbrev pub with_notice : Option Change → (time : ℕ) → SessionState → SessionState
+with_notice change time s = record s { seat = with_due change time s.seat }
 
 -- the open sessions behind a change at a time: each of them is told, whoever made it (profile)
 abbrev pub noticed : Option Change → (time : ℕ) → List SessionState → List SessionState
-noticed change time sessions = map (told change time) sessions
+noticed change time sessions = map (with_notice change time) sessions
 
 -- the state behind what the simulation does, of whose change the open sessions are told; the segments behind it are a matter of what it did. A refusal
 -- changes nothing
@@ -339,7 +335,7 @@ with_entry w e = record w { log = w.log ++ entry_of w.opening (state_behind w.op
 pub record Applies {T : Type 0} (w : Logged) (e : Event) (result : Result T WorldError) (v : Logged) : Type 0 where
   pub accepted : OnOk result (refused_by w e ≡ None)
   pub logged : OnOk result (v ≡ with_entry w e)
-  pub refused : IfErr result (λ error. Explains (refused_by w e) error)
+  pub refused : IfErr result (Explains error.NoMemory (refused_by w e))
   pub unchanged : OnErr result (v ≡ w)
 
 -- ---- a world without its log, by how it began and its state

@@ -26,10 +26,10 @@ use vp_waking::Change;
 /// What a request is answered.
 #[derive(Drop)]
 pub struct Answer {
-    /// The reply to be told.
-    pub told: Reply,
-    /// The same to be kept.
-    pub kept: Reply,
+    /// The reply, for the session.
+    pub reply: Reply,
+    /// The same, for the log's entry.
+    pub entry_reply: Reply,
     /// The goal that it sets, if it sets one, in time units.
     pub goal: Option<u64>,
     /// What it changed.
@@ -37,14 +37,14 @@ pub struct Answer {
 }
 
 /// A reply from which nothing else comes; or want of memory.
-fn plain(told: Reply) -> Result<Answer, WorldError>
-    ensures answer { IfOk result (λ a. a ≡ plain told) }
+fn plain(reply: Reply) -> Result<Answer, WorldError>
+    ensures answer { IfOk result (λ a. a ≡ plain reply) }
     ensures refused { IsOkUnless result world_error.NoMemory }
 {
-    let kept = told.try_clone()?;
+    let entry_reply = reply.try_clone()?;
     Ok(Answer {
-        told,
-        kept,
+        reply,
+        entry_reply,
         goal: None,
         change: None,
     })
@@ -52,8 +52,8 @@ fn plain(told: Reply) -> Result<Answer, WorldError>
 
 /// The reply to a request that a session refused; want of memory is the world's.
 fn refusal_reply(error: VpiError) -> Result<Reply, WorldError>
-    ensures reply { IfOk result (λ told. told ≡ refused error) }
-    ensures told { OnOk result (error ≢ vpi_error.NoMemory) }
+    ensures reply { IfOk result (λ reply. reply ≡ refused error) }
+    ensures reason { OnOk result (error ≢ vpi_error.NoMemory) }
     ensures refused { IsOkUnless result world_error.NoMemory }
 {
     Ok(match error {
@@ -98,8 +98,8 @@ fn handle(
 {
     match session.handle_by_name(policy, run.simulation(), scope, name) {
         Ok(handle) => Ok(Answer {
-            told: Reply::Handle(handle),
-            kept: Reply::Handle(handle),
+            reply: Reply::Handle(handle),
+            entry_reply: Reply::Handle(handle),
             goal: None,
             change: None,
         }),
@@ -214,8 +214,8 @@ fn value(
 
 /// Gives an object a value, where `$finish` was not executed; or want of memory.
 fn set(run: &mut Recording, object: ObjectId, value: Bits) -> Result<Answer, WorldError>
-    ensures told { IfOk result (λ a. a.told ≡ reply.Done) }
-    ensures kept { IfOk result (λ a. a.kept ≡ reply.Done) }
+    ensures reply { IfOk result (λ a. a.reply ≡ reply.Done) }
+    ensures entry { IfOk result (λ a. a.entry_reply ≡ reply.Done) }
     ensures goal { IfOk result (λ a. a.goal ≡ None) }
     ensures put { IfOk result (λ a.
         sim.put run.old.simulation object.0 value ≡ sim.Goes run.new.simulation a.change) }
@@ -226,8 +226,8 @@ fn set(run: &mut Recording, object: ObjectId, value: Bits) -> Result<Answer, Wor
 {
     match run.put(object, value) {
         Ok(change) => Ok(Answer {
-            told: Reply::Done,
-            kept: Reply::Done,
+            reply: Reply::Done,
+            entry_reply: Reply::Done,
             goal: None,
             change,
         }),
@@ -290,8 +290,8 @@ fn free(
 {
     match session.free_object(handle) {
         Ok(()) => Ok(Answer {
-            told: Reply::Done,
-            kept: Reply::Done,
+            reply: Reply::Done,
+            entry_reply: Reply::Done,
             goal: None,
             change: None,
         }),
@@ -315,8 +315,8 @@ fn watch(
 {
     match session.register_cb(policy, run.simulation(), handle) {
         Ok(callback) => Ok(Answer {
-            told: Reply::Callback(callback),
-            kept: Reply::Callback(callback),
+            reply: Reply::Callback(callback),
+            entry_reply: Reply::Callback(callback),
             goal: None,
             change: None,
         }),
@@ -339,8 +339,8 @@ fn unwatch(
 {
     match session.remove_cb(callback) {
         Ok(()) => Ok(Answer {
-            told: Reply::Done,
-            kept: Reply::Done,
+            reply: Reply::Done,
+            entry_reply: Reply::Done,
             goal: None,
             change: None,
         }),
@@ -412,15 +412,15 @@ fn let_run(session: &Session, policy: &Policy, run: &Recording, until: u64) -> A
 {
     if policy.may_run(session.user()) {
         Answer {
-            told: Reply::Done,
-            kept: Reply::Done,
+            reply: Reply::Done,
+            entry_reply: Reply::Done,
             goal: Some(until),
             change: None,
         }
     } else {
         Answer {
-            told: Reply::RunDenied,
-            kept: Reply::RunDenied,
+            reply: Reply::RunDenied,
+            entry_reply: Reply::RunDenied,
             goal: None,
             change: None,
         }
@@ -436,8 +436,8 @@ fn time(session: &Session, policy: &Policy, run: &Recording) -> Answer
     let time = run.simulation().time();
     let finished = run.simulation().finished();
     Answer {
-        told: Reply::Time { time, finished },
-        kept: Reply::Time { time, finished },
+        reply: Reply::Time { time, finished },
+        entry_reply: Reply::Time { time, finished },
         goal: None,
         change: None,
     }

@@ -1,3 +1,6 @@
+ghost use Rattle.std.specs.Prelude.{◌≡◌, IfOk};
+
+use std::alloc::{AllocError, Global};
 use vp_elab::Kind;
 use vp_list::Text;
 use vp_policy::{Access, UserId};
@@ -31,6 +34,20 @@ pub struct GrantChange {
     pub envelope: u32,
     /// The grant, be it empty.
     pub access: Access,
+}
+
+impl GrantChange {
+    /// The same change once more. Takes memory.
+    pub fn try_clone(&self, alloc: Global) -> Result<GrantChange, AllocError>
+        ensures { IfOk result (λ change. change ≡ self.now) }
+    {
+        Ok(GrantChange {
+            token: Text::copy(alloc, self.token.as_str())?,
+            user: Text::copy(alloc, self.user.as_str())?,
+            envelope: self.envelope,
+            access: self.access.copy(),
+        })
+    }
 }
 
 /// What a line asks (docs/FORMATS.md, "Lines").
@@ -108,6 +125,46 @@ pub enum Request {
     },
     /// The current time, and whether `$finish` was executed.
     Time,
+}
+
+impl Request {
+    /// The same request once more. Takes memory for its texts.
+    pub fn try_clone(&self, alloc: Global) -> Result<Request, AllocError>
+        ensures { IfOk result (λ request. request ≡ self.now) }
+    {
+        Ok(match *self {
+            Request::Open {
+                ref user,
+                ref token,
+            } => Request::Open {
+                user: Text::copy(alloc, user.as_str())?,
+                token: Text::copy(alloc, token.as_str())?,
+            },
+            Request::Close => Request::Close,
+            Request::Grant(ref change) => Request::Grant(change.try_clone(alloc)?),
+            Request::Handle { ref name, scope } => Request::Handle {
+                name: Text::copy(alloc, name.as_str())?,
+                scope,
+            },
+            Request::Iterate { kind, scope } => Request::Iterate { kind, scope },
+            Request::Get { handle, property } => Request::Get { handle, property },
+            Request::GetStr { handle, property } => Request::GetStr { handle, property },
+            Request::Value { handle, format } => Request::Value { handle, format },
+            Request::Put { handle, ref value } => Request::Put {
+                handle,
+                value: value.try_clone(alloc)?,
+            },
+            Request::Compare { first, second } => Request::Compare { first, second },
+            Request::Free { handle } => Request::Free { handle },
+            Request::Watch { handle } => Request::Watch { handle },
+            Request::Unwatch { callback } => Request::Unwatch { callback },
+            Request::Poll => Request::Poll,
+            Request::Races { from } => Request::Races { from },
+            Request::Race { number } => Request::Race { number },
+            Request::Run { until } => Request::Run { until },
+            Request::Time => Request::Time,
+        })
+    }
 }
 
 /// What can happen to a world (docs/FORMATS.md, "Lines" and "Simulation").

@@ -2,6 +2,7 @@
 #![tactic(auto)]
 
 mod answering;
+mod comparison;
 mod entry;
 mod event;
 mod fault;

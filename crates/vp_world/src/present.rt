@@ -1,5 +1,6 @@
 ghost use Rattle.std.specs.Prelude.{◌≡◌, ◌<◌, ◌≤◌, ◌+◌, ◌^◌, false, true, length, slice_index, slice_set, None, Some, option_copied, option_map, IfErr, IfOk, IfSome, IsOkUnless, OnErr, OnOk};
 ghost use Rattle.std.specs.Arc.{arc_value};
+ghost use Rattle.vp_list.specs.Refusals.{Explains};
 ghost use Rattle.vp_policy.specs.PolicyState.{Fits};
 ghost use Rattle.vp_policy.specs.Users.{login_of, user_of};
 ghost use Rattle.vp_race.specs.Recording.{kept_of, next_job, with_anew, with_step};
@@ -8,7 +9,7 @@ ghost use Rattle.vp_world.specs.declared.event.Event.TheVariants as event;
 ghost use Rattle.vp_world.specs.declared.fault.WorldError.TheVariants as world_error;
 ghost use Rattle.vp_world.specs.declared.reply.Reply.TheVariants as reply;
 ghost use Rattle.vp_world.specs.Events.{IsAsked};
-ghost use Rattle.vp_world.specs.History.{Explains, asked_at, asked_in, book_refusal, change_of, changed_in, closed_at, granted_to, is_beyond, is_full, is_next_beyond, later, next_session, raised, opened_by, refusal_in, refusal_of_job, refusal_of_log, refusal_of_outcome, refusal_of_session, refusal_of_step, due_advance, due_step, stepped, with_booked, with_job_taken, with_state};
+ghost use Rattle.vp_world.specs.History.{asked_at, asked_in, book_refusal, change_of, changed_in, closed_at, granted_to, is_beyond, is_full, is_next_beyond, later, next_session, raised, opened_by, refusal_in, refusal_of_job, refusal_of_log, refusal_of_outcome, refusal_of_session, refusal_of_step, due_advance, due_step, stepped, with_booked, with_job_taken, with_state};
 ghost use Rattle.vp_world.specs.Worlds.{index_of, start};
 
 use crate::answering::{Answer, respond};
@@ -58,7 +59,8 @@ impl Model for Present {
 
     ghost Value = { Standing };
 
-    ghost view = { λ w. shown w.run w.book.races w.opening_policy.value w.policy w.limits w.sessions.items w.opens.items w.goal };
+    ghost view = { λ w. shown w.run w.book.races w.opening_policy.value w.policy w.limits
+        w.sessions.items w.opens.items w.goal };
 
     ghost invariant = { λ w. (all_marked w.watched.items w.sessions.items ≡ true)
         × (w.book.limit ≡ w.limits.book) × AreOfDesign w.run
@@ -394,7 +396,7 @@ impl Present {
             (stepped self.old.state (with_step self.old.state.segments k)
             (sim.step self.old.state.run k))) }
         ensures refused { IfErr result
-            (λ e. Explains (refusal_of_outcome (sim.step self.old.state.run k)) e) }
+            (Explains world_error.NoMemory (refusal_of_outcome (sim.step self.old.state.run k))) }
         ensures unchanged { OnErr result (self.new ≡ self.old) }
     {
         match self.run.step(k) {
@@ -419,7 +421,7 @@ impl Present {
             (stepped self.old.state (with_anew self.old.state.segments)
             (sim.advance self.old.state.run))) }
         ensures refused { IfErr result
-            (λ e. Explains (refusal_of_outcome (sim.advance self.old.state.run)) e) }
+            (Explains world_error.NoMemory (refusal_of_outcome (sim.advance self.old.state.run))) }
         ensures unchanged { OnErr result (self.new ≡ self.old) }
     {
         match self.run.advance() {
@@ -495,8 +497,8 @@ impl Present {
             (book_refusal self.old.opening self.old.state finding ≡ None) }
         ensures after { OnOk result
             (self.new ≡ with_state self.old (with_booked self.old.state finding)) }
-        ensures refused { IfErr result (λ e. Explains (option_map world_error.Race
-            (book_refusal self.old.opening self.old.state finding)) e) }
+        ensures refused { IfErr result (Explains world_error.NoMemory (option_map world_error.Race
+            (book_refusal self.old.opening self.old.state finding))) }
         ensures unchanged { OnErr result (self.new ≡ self.old) }
     {
         let kept = self.run.kept(finding.value().segment().number());
@@ -509,10 +511,10 @@ impl Present {
     pub fn ask(&mut self, place: usize, request: &Request) -> Result<Answer, WorldError>
         requires asked { IsAsked request.now }
         requires within { place < length self.old.state.sessions }
-        ensures told { IfOk result (λ a. a.told ≡ asked_in self.old place request.now) }
-        ensures kept { IfOk result (λ a. a.kept ≡ asked_in self.old place request.now) }
+        ensures reply { IfOk result (λ a. a.reply ≡ asked_in self.old place request.now) }
+        ensures entry { IfOk result (λ a. a.entry_reply ≡ asked_in self.old place request.now) }
         ensures change { IfOk result (λ a. a.change ≡ changed_in self.old place request.now) }
-        ensures done { IfOk result (λ a. IfSome a.change (λ c. a.kept ≡ reply.Done)) }
+        ensures done { IfOk result (λ a. IfSome a.change (λ c. a.entry_reply ≡ reply.Done)) }
         ensures after { OnOk result
             (self.new ≡ with_state self.old
             (asked_at self.old.state (Some place) request.now)) }

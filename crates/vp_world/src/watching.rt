@@ -56,7 +56,8 @@ fn is_watch(request: &Request) -> bool
 
 /// Behind a request of a session the objects of its callbacks may be watched, if they might before.
 pub fn mark_asked(watched: &mut Vec<bool>, session: &Session, request: &Request)
-    ensures marked { (eyes : Observer) → (seat : Seat) → session.now ≡ (respond eyes seat request.now).seat
+    ensures marked { (eyes : Observer) → (seat : Seat)
+        → session.now ≡ (respond eyes seat request.now).seat
         → are_marked watched.old.items seat.registry.callbacks ≡ true
         → are_marked watched.new.items session.now.registry.callbacks ≡ true }
     ensures grown { (object : ℕ) → may_be_watched watched.old.items object ≡ true

@@ -269,12 +269,12 @@ impl World {
         let asked = Arc::new(self.alloc, Asked { session, request })?;
         let answer = self.present.ask(place, &asked.request)?;
         let entry = Entry {
-            happening: Happening::of_asked(asked, answer.kept, answer.change),
+            happening: Happening::of_asked(asked, answer.entry_reply, answer.change),
             time: self.present.time(),
             finished: self.present.finished(),
         };
         self.log.push_reserved(entry);
-        Ok(answer.told)
+        Ok(answer.reply)
     }
 
     /// The same of a Close.

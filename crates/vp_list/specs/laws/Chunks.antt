@@ -1,21 +1,21 @@
 -- Laws of lists in chunks.
-use Rattle.std.proofs.Common.{◌≡◌, ℕ, zero, suc, ◌+◌, ◌-◌, ◌*◌, ◌/◌, ◌%◌, ◌<◌, ◌≤◌, List, [], ◌∷◌, ◌++◌, length, get_or, map, take, drop, Option, None, refl, ap, sym, subst, inl, inr, ◌∙◌, arith, length-append}
+use Rattle.std.proofs.Common.{◌≡◌, ℕ, zero, suc, ◌+◌, ◌-◌, ◌*◌, ◌/◌, ◌%◌, ◌<◌, ◌≤◌, List, [], ◌∷◌, ◌++◌, length, get_or, map, take, drop, Option, None, refl, ap, sym, subst, inl, inr, ◌∙◌, arith, length-append, append_assoc}
 use Rattle.std.specs.Prelude.{slice_get, slice_set, slice_index_or, option_and_then, option_map, ◌⊎◌, Result, Ok, Err, OnOk, OnErr}
 use Rattle.std.proofs.Math.Nat.{mod-lt, mod-eq_of_lt, eq-or-lt_of_le, mul-mod_left, lt_of_mul-lt-mul_right, add-mod_left, mul-le-mul_right}
-use Rattle.std.proofs.Math.Seq.{map-set_same, take-add, drop-append-add}
+use Rattle.std.proofs.Math.Seq.{map-set_same, take-add, take-append-add, drop-append-add, drop-append-le}
 use Rattle.std.proofs.lemmas.Nat.{div-add-mod'}
 use Rattle.std.proofs.lemmas.Option.{slice_get_past, slice_get_read, slice_get-map}
 use Rattle.std.proofs.lemmas.List.{length-take, drop-take, take-take, drop-drop, take_more, take_all, take-append-le, length-take-le, length-drop, take_rest, take-append-drop, map-append, length-map, length-set, get_or-map, map-set, set_past, append-nil, flat_map_more, set-append_left, set-append_right}
-use Rattle.vp_list.specs.Chunks.{joined, AreChunks}
+use Rattle.vp_list.specs.Chunks.{joined, with_items, AreChunks}
 
 -- the item at a place in the first of two lists
-get_front : {X : Type 0} (xs ys : List X) (k : ℕ) → k < length xs → slice_get (xs ++ ys) k ≡ slice_get xs k
+pub get_front : {X : Type 0} (xs ys : List X) (k : ℕ) → k < length xs → slice_get (xs ++ ys) k ≡ slice_get xs k
 get_front [] ys k h = absurd (omega arith)
 get_front (x ∷ xs) ys zero h = refl
 get_front (x ∷ xs) ys (suc k) h = get_front xs ys k (omega arith)
 
 -- and in the second
-get_back : {X : Type 0} (xs ys : List X) (k : ℕ) → slice_get (xs ++ ys) (length xs + k) ≡ slice_get ys k
+pub get_back : {X : Type 0} (xs ys : List X) (k : ℕ) → slice_get (xs ++ ys) (length xs + k) ≡ slice_get ys k
 get_back [] ys k = ap (slice_get ys) (omega arith)
 get_back (x ∷ xs) ys k =
     let e : length (x ∷ xs) + k ≡ suc (length xs + k) = omega arith in
@@ -65,18 +65,43 @@ length_chunks size (c ∷ d ∷ cs) h =
     let by : length (c ∷ d ∷ cs) * size ≡ size + m * size = ap (λ (l : ℕ). l * size) more ∙ omega arith in
     omega (arith, length-append c (joined (d ∷ cs)), h.0, by)
 
--- an item exchanged in the chunks is exchanged in its chunk
-pub set_at : {X : Type 0} (size q r k : ℕ) (cs : List (List X)) (e : List X) (x : X) → k ≡ q * size + r → r < size → q < length cs
-    → AreChunks size cs → slice_set (joined cs) k x ≡ joined (slice_set cs q (slice_set (slice_index_or cs q e) r x))
-set_at size q r k [] e x at l within h = absurd (omega arith)
-set_at size zero r k (c ∷ []) e x at l within h =
-    ap (λ xs. slice_set xs k x) (append-nil c) ∙ ap (λ (n : ℕ). slice_set c n x) (omega arith) ∙ sym (append-nil (slice_set c r x))
-set_at size (suc q) r k (c ∷ []) e x at l within h = absurd (omega arith)
-set_at size zero r k (c ∷ d ∷ cs) e x at l within h =
-    ap (λ (n : ℕ). slice_set (joined (c ∷ d ∷ cs)) n x) (omega arith) ∙ set-append_left c (joined (d ∷ cs)) r x (omega (arith, h.0))
-set_at size (suc q) r k (c ∷ d ∷ cs) e x at l within h =
-    set-append_right c (joined (d ∷ cs)) size k x h.0 (omega arith)
-    ∙ ap (λ xs. c ++ xs) (set_at size q r (k - size) (d ∷ cs) e x (omega arith) l (omega arith) h.1)
+-- others in place of items of the first of two lists
+with_front : {X : Type 0} (xs zs ys : List X) (k : ℕ) → k + length ys ≤ length xs
+    → with_items (xs ++ zs) k ys ≡ with_items xs k ys ++ zs
+with_front xs zs ys k l =
+    let rest = drop (k + length ys) xs in
+    ap (λ front. front ++ (ys ++ drop (k + length ys) (xs ++ zs))) (take-append-le k xs zs (omega arith))
+    ∙ ap (λ back. take k xs ++ (ys ++ back)) (drop-append-le (k + length ys) xs zs l)
+    ∙ ap (λ back. take k xs ++ back) (sym (append_assoc ys rest zs))
+    ∙ sym (append_assoc (take k xs) (ys ++ rest) zs)
+
+-- and of the second
+with_back : {X : Type 0} (xs zs ys : List X) (k n : ℕ) → n ≡ length xs + k
+    → with_items (xs ++ zs) n ys ≡ xs ++ with_items zs k ys
+with_back xs zs ys k n at =
+    let behind : n + length ys ≡ length xs + (k + length ys) = omega arith in
+    ap (λ m. take m (xs ++ zs) ++ (ys ++ drop (n + length ys) (xs ++ zs))) at
+    ∙ ap (λ front. front ++ (ys ++ drop (n + length ys) (xs ++ zs))) (take-append-add xs zs k)
+    ∙ ap (λ m. (xs ++ take k zs) ++ (ys ++ drop m (xs ++ zs))) behind
+    ∙ ap (λ back. (xs ++ take k zs) ++ (ys ++ back)) (drop-append-add xs zs (k + length ys))
+    ∙ append_assoc xs (take k zs) (ys ++ drop (k + length ys) zs)
+
+-- others in the list are others in its chunk
+with_at : {X : Type 0} (size q r k : ℕ) (cs : List (List X)) (e ys : List X) → k ≡ q * size + r → q < length cs
+    → r + length ys ≤ length (slice_index_or cs q e) → AreChunks size cs
+    → with_items (joined cs) k ys ≡ joined (slice_set cs q (with_items (slice_index_or cs q e) r ys))
+with_at size q r k [] e ys at within l h = absurd (omega arith)
+with_at size zero r k (c ∷ cs) e ys at within l h =
+    ap (λ (n : ℕ). with_items (joined (c ∷ cs)) n ys) (omega arith) ∙ with_front c (joined cs) ys r l
+with_at size (suc q) r k (c ∷ []) e ys at within l h = absurd (omega arith)
+with_at size (suc q) r k (c ∷ d ∷ cs) e ys at within l h =
+    with_back c (joined (d ∷ cs)) ys (q * size + r) k (omega (arith, h.0))
+    ∙ ap (λ xs. c ++ xs) (with_at size q r (q * size + r) (d ∷ cs) e ys refl (omega arith) l h.1)
+
+-- with others in place of its items a list is as long
+pub length_with : {X : Type 0} (xs ys : List X) (k : ℕ) → k + length ys ≤ length xs → length (with_items xs k ys) ≡ length xs
+length_with xs ys k l =
+    omega (arith, length-append (take k xs) (ys ++ drop (k + length ys) xs), length-append ys (drop (k + length ys) xs), length-take-le k xs (omega arith), length-drop (k + length ys) xs)
 
 -- chunks stay such where one is exchanged for one of the same length
 pub still_chunks : {X : Type 0} (size q : ℕ) (cs : List (List X)) (e new : List X) → q < length cs
@@ -91,26 +116,17 @@ still_chunks size (suc zero) (c ∷ d ∷ b ∷ cs) e new within l h = (h.0, sti
 still_chunks size (suc (suc q)) (c ∷ d ∷ b ∷ cs) e new within l h =
     (h.0, still_chunks size (suc q) (d ∷ b ∷ cs) e new (omega arith) l h.1)
 
--- an exchange at a place behind the chunks changes nothing
-pub item_past : {X P : Type 0} (f : P → List X) (bs : List P) (size k : ℕ) (x : X) → 0 < size → AreChunks size (map f bs)
-    → length bs ≤ k / size → joined (map f bs) ≡ slice_set (joined (map f bs)) k x
-item_past f bs size k x s h l =
-    let most : length bs * size ≤ k / size * size = mul-le-mul_right size l in
-    let long : length (joined (map f bs)) ≤ length bs * size =
-    subst (λ (n : ℕ). length (joined (map f bs)) ≤ n * size) (length-map bs f) (length_chunks size (map f bs) h) in
-    sym (set_past (joined (map f bs)) k x (omega (arith, long, div-add-mod' k size, most)))
-
--- an item exchanged in its part is exchanged in the list
-pub set_map : {X P : Type 0} (f : P → List X) (bs : List P) (size k : ℕ) (old new : P) (x : X) → 0 < size
-    → AreChunks size (map f bs) → k / size < length bs → old ≡ get_or bs (k / size) old → f new ≡ slice_set (f old) (k % size) x
-    → joined (map f (slice_set bs (k / size) new)) ≡ slice_set (joined (map f bs)) k x
-set_map f bs size k old new x s h within is by =
+-- others in a part are others in the list
+pub with_map : {X P : Type 0} (f : P → List X) (bs : List P) (size k : ℕ) (old new : P) (ys : List X) → AreChunks size (map f bs)
+    → k / size < length bs → old ≡ get_or bs (k / size) old → k % size + length ys ≤ length (f old)
+    → f new ≡ with_items (f old) (k % size) ys → joined (map f (slice_set bs (k / size) new)) ≡ with_items (joined (map f bs)) k ys
+with_map f bs size k old new ys h within is room by =
     let q : ℕ = k / size in
     let in_map : q < length (map f bs) = omega (arith, length-map bs f) in
     let e : slice_index_or (map f bs) q (f old) ≡ f old = get_or-map f bs q old (f old) within ∙ ap f (sym is) in
     ap joined (map-set f bs q new)
-    ∙ ap (λ c. joined (slice_set (map f bs) q c)) (by ∙ ap (λ c. slice_set c (k % size) x) (sym e))
-    ∙ sym (set_at size q (k % size) k (map f bs) (f old) x (sym (div-add-mod' k size)) (mod-lt k s) in_map h)
+    ∙ ap (λ c. joined (slice_set (map f bs) q c)) (by ∙ ap (λ c. with_items c (k % size) ys) (sym e))
+    ∙ sym (with_at size q (k % size) k (map f bs) (f old) ys (sym (div-add-mod' k size)) in_map (omega (arith, ap length e)) h)
 
 -- the parts stay chunks where one is exchanged for one of the same length
 pub set_still : {X P : Type 0} (f : P → List X) (bs : List P) (size q : ℕ) (old new : P) → AreChunks size (map f bs)
@@ -132,11 +148,11 @@ pub same_part : {X P : Type 0} (items : P → List X) (IsClone : P → P → Typ
 same_part items IsClone a b law (inl e) = ap items e
 same_part items IsClone a b law (inr h) = law a b h
 
--- a list with an item exchanged, or the list itself, has its length
-pub length_written : {X T E : Type 0} (r : Result T E) (xs ys : List X) (k : ℕ) (x : X) → OnOk r (ys ≡ slice_set xs k x)
-    → OnErr r (ys ≡ xs) → length ys ≡ length xs
-length_written (Ok a) xs ys k x set kept = ap length set ∙ length-set xs k x
-length_written (Err a) xs ys k x set kept = ap length kept
+-- a list with others in place of its items, or the list itself, has its length
+pub length_written : {X T E : Type 0} (r : Result T E) (xs new ys : List X) (k : ℕ) → k + length ys ≤ length xs
+    → OnOk r (new ≡ with_items xs k ys) → OnErr r (new ≡ xs) → length new ≡ length xs
+length_written (Ok a) xs new ys k l set unchanged = ap length set ∙ length_with xs ys k l
+length_written (Err a) xs new ys k l set unchanged = ap length unchanged
 
 -- what holds where an error is returned, at an error
 pub known_err : {T E Q : Type 0} (r : Result T E) (y : E) → r ≡ Err y → OnErr r Q → Q
@@ -286,3 +302,18 @@ pub place_in_part : {X : Type 0} (size skip from place : ℕ) (xs : List X) → 
     → place < length xs → skip < length (take size (drop from xs))
 place_in_part size skip from place xs s at l =
     omega (arith, length-take size (drop from xs), length-drop from xs)
+
+-- where items stand in one part of the list, there is that part
+pub room_within : {X P : Type 0} (f : P → List X) (bs : List P) (size k n : ℕ) → AreChunks size (map f bs) → 0 < n
+    → k + n ≤ length (joined (map f bs)) → k / size < length bs
+room_within f bs size k n h some l =
+    part_within f bs size (k / size) h (omega (arith, div-add-mod' k size))
+
+-- and it has room for them
+pub room_in_part : {X P : Type 0} (f : P → List X) (bs : List P) (size k n : ℕ) (p : P) → AreChunks size (map f bs) → 0 < n
+    → k % size + n ≤ size → k + n ≤ length (joined (map f bs)) → p ≡ get_or bs (k / size) p → k % size + n ≤ length (f p)
+room_in_part f bs size k n p h some one l e =
+    let from = size * (k / size) in
+    let all = joined (map f bs) in
+    let is = part_from f bs size (k / size) p h (room_within f bs size k n h some l) e in
+    omega (arith, ap length is, length-take size (drop from all), length-drop from all, div-add-mod' k size)

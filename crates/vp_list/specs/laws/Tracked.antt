@@ -1,13 +1,17 @@
 -- Laws of lists of which copies are kept.
-use Rattle.std.proofs.Common.{◌≡◌, ℕ, zero, suc, ◌+◌, ◌<◌, ◌≤◌, List, [], ◌∷◌, ◌++◌, length, Some, None, refl, ap, sym, subst, inl, inr, ◌∙◌, arith}
-use Rattle.std.specs.Prelude.{◌⊎◌, slice_get, slice_index_or, slice_set}
+use Rattle.std.proofs.Common.{◌≡◌, ℕ, zero, suc, ◌+◌, ◌-◌, ◌*◌, ◌/◌, ◌<◌, ◌≤◌, Bool, false, true, List, [], ◌∷◌, ◌++◌, length, min, take, drop, get_or, Option, Some, None, refl, ap, sym, subst, inl, inr, ◌∙◌, arith}
+use Rattle.std.specs.Prelude.{◌⊎◌, slice_get, slice_set, replicate}
+use Rattle.std.specs.Option.{option_to_list}
 use Rattle.std.specs.List.{Contains}
-use Rattle.std.proofs.lemmas.Bool.{cases_eq}
-use Rattle.std.proofs.lemmas.List.{get_or_default, length-set}
-use Rattle.std.proofs.lemmas.List.Elements.{Contains-append_left, Contains-push}
-use Rattle.std.proofs.lemmas.Option.{slice_get_cases, slice_get_past, slice_get_within}
-use Rattle.std.specs.Option.{option_map_or}
-use Rattle.vp_list.specs.Tracked.{AreKept, taken_over}
+use Rattle.std.proofs.Math.Nat.{mod-lt}
+use Rattle.std.proofs.lemmas.Bool.{cases_eq, cases_lt}
+use Rattle.std.proofs.lemmas.Nat.{div-add-mod'}
+use Rattle.std.proofs.lemmas.List.{length-set, length-take, length-take-le, length-drop}
+use Rattle.std.proofs.lemmas.List.Elements.{Contains-append_left, Contains-push, Contains-push_cases}
+use Rattle.std.proofs.lemmas.Option.{slice_get_past}
+use Rattle.vp_list.specs.Chunks.{with_items}
+use Rattle.vp_list.specs.Tracked.{AreCopied, AreMarked}
+use Rattle.vp_list.specs.laws.Chunks.{get_back, get_front}
 
 -- lists with the same item at each place are the same
 pub same_items : {X : Type 0} (xs ys : List X) → ((k : ℕ) → slice_get xs k ≡ slice_get ys k) → xs ≡ ys
@@ -33,123 +37,230 @@ get_other (y ∷ ys) zero (suc k) x h = refl
 get_other (y ∷ ys) (suc p) zero x h = refl
 get_other (y ∷ ys) (suc p) (suc k) x h = get_other ys p k x (λ e. h (ap suc e))
 
--- an item that is exchanged for itself
-set_same : {X : Type 0} (xs : List X) (p : ℕ) (x : X) → slice_get xs p ≡ Some x → slice_set xs p x ≡ xs
-set_same [] p x h = refl
-set_same (y ∷ ys) zero x h = let e : y ≡ x = cc in ap (λ z. z ∷ ys) (sym e)
-set_same (y ∷ ys) (suc p) x h = ap (λ zs. y ∷ zs) (set_same ys p x h)
+-- the first items of a list
+get_take : {X : Type 0} (n : ℕ) (xs : List X) (k : ℕ) → k < n → slice_get (take n xs) k ≡ slice_get xs k
+get_take zero xs k h = absurd (omega arith)
+get_take (suc n) [] k h = refl
+get_take (suc n) (x ∷ xs) zero h = refl
+get_take (suc n) (x ∷ xs) (suc k) h = get_take n xs k (omega arith)
 
--- nothing is exchanged where there is no item
-set_none : {X : Type 0} (xs : List X) (p : ℕ) (x : X) → slice_get xs p ≡ None → slice_set xs p x ≡ xs
-set_none [] p x h = refl
-set_none (y ∷ ys) zero x h = cc
-set_none (y ∷ ys) (suc p) x h = ap (λ zs. y ∷ zs) (set_none ys p x h)
+-- those behind a place
+get_drop : {X : Type 0} (n : ℕ) (xs : List X) (k : ℕ) → slice_get (drop n xs) k ≡ slice_get xs (n + k)
+get_drop zero xs k = ap (slice_get xs) (omega arith)
+get_drop (suc n) [] k = sym (slice_get_past [] (suc n + k) (omega arith))
+get_drop (suc n) (x ∷ xs) k = let e : suc n + k ≡ suc (n + k) = omega arith in get_drop n xs k ∙ ap (slice_get (x ∷ xs)) (sym e)
 
--- a place is written
-pub kept_written : {X : Type 0} (kept items : List X) (written : List ℕ) (p : ℕ) (x : X) → AreKept kept items written → AreKept kept (slice_set items p x) (written ++ p ∷ [])
-kept_written kept items written p x h k =
+-- the item at a place of the list that others were put in
+pub get_with : {X : Type 0} (xs ys : List X) (p j k : ℕ) → p + length ys ≤ length xs → k ≡ p + j → j < length ys
+    → slice_get (with_items xs p ys) k ≡ slice_get ys j
+get_with xs ys p j k l at h =
+    let front = length-take-le p xs (omega arith) in
+    let n : k ≡ length (take p xs) + j = omega (arith, front) in
+    ap (slice_get (with_items xs p ys)) n
+    ∙ get_back (take p xs) (ys ++ drop (p + length ys) xs) j
+    ∙ get_front ys (drop (p + length ys) xs) j h
+
+-- before them
+pub get_before : {X : Type 0} (xs ys : List X) (p k : ℕ) → p + length ys ≤ length xs → k < p
+    → slice_get (with_items xs p ys) k ≡ slice_get xs k
+get_before xs ys p k l h =
+    let front = length-take-le p xs (omega arith) in
+    get_front (take p xs) (ys ++ drop (p + length ys) xs) k (omega (arith, front)) ∙ get_take p xs k h
+
+-- and behind them
+pub get_behind : {X : Type 0} (xs ys : List X) (p k : ℕ) → p + length ys ≤ length xs → p + length ys ≤ k
+    → slice_get (with_items xs p ys) k ≡ slice_get xs k
+get_behind xs ys p k l h =
+    let front = length-take-le p xs (omega arith) in
+    let behind = drop (p + length ys) xs in
+    let n : k ≡ length (take p xs) + (k - p) = omega (arith, front) in
+    let m : k - p ≡ length ys + (k - (p + length ys)) = omega arith in
+    let e : p + length ys + (k - (p + length ys)) ≡ k = omega arith in
+    ap (slice_get (with_items xs p ys)) n
+    ∙ get_back (take p xs) (ys ++ behind) (k - p)
+    ∙ ap (slice_get (ys ++ behind)) m
+    ∙ get_back ys behind (k - (p + length ys))
+    ∙ get_drop (p + length ys) xs (k - (p + length ys))
+    ∙ ap (slice_get xs) e
+
+-- a chunk of a list, by its number
+abbrev pub chunk_of : {X : Type 0} → List X → ℕ → List X
+chunk_of xs number = take (min (length (drop (64 * number) xs)) 64) (drop (64 * number) xs)
+
+-- how long it is
+chunk_length : {X : Type 0} (xs : List X) (number : ℕ) → length (chunk_of xs number) ≡ min (length xs - 64 * number) 64
+chunk_length xs number =
+    omega (arith, length-take (min (length (drop (64 * number) xs)) 64) (drop (64 * number) xs), length-drop (64 * number) xs)
+
+-- an item of the list stands in its chunk
+get_chunk : {X : Type 0} (xs : List X) (number k : ℕ) → k / 64 ≡ number → k < length xs
+    → slice_get (chunk_of xs number) (k - 64 * number) ≡ slice_get xs k
+get_chunk xs number k own h =
+    let long = length-drop (64 * number) xs in
+    let rest = div-add-mod' k 64 in
+    let less = mod-lt k {m = 64} (omega arith) in
+    let e : 64 * number + (k - 64 * number) ≡ k = omega (arith, rest, less) in
+    get_take (min (length (drop (64 * number) xs)) 64) (drop (64 * number) xs) (k - 64 * number) (omega (arith, long, rest, less))
+    ∙ get_drop (64 * number) xs (k - 64 * number)
+    ∙ ap (slice_get xs) e
+
+-- where a copy has a chunk of the list already, its items are those of the list
+pub own_same : {X : Type 0} (copy items : List X) (number k : ℕ) → length copy ≡ length items
+    → take 64 (drop (64 * number) copy) ≡ chunk_of items number → k / 64 ≡ number → slice_get copy k ≡ slice_get items k
+own_same copy items number k same e own =
+    let rest = div-add-mod' k 64 in
+    let less = mod-lt k {m = 64} (omega arith) in
+    let at : 64 * number + (k - 64 * number) ≡ k = omega (arith, rest, less) in
+    elim (cases_lt k (length items)) [
+      | inl h ↦
+          sym (get_take 64 (drop (64 * number) copy) (k - 64 * number) (omega (arith, rest, less))
+          ∙ get_drop (64 * number) copy (k - 64 * number)
+          ∙ ap (slice_get copy) at)
+          ∙ ap (λ xs. slice_get xs (k - 64 * number)) e
+          ∙ get_chunk items number k own h
+      | inr h ↦ slice_get_past copy k (omega arith) ∙ sym (slice_get_past items k h)
+    ]
+
+-- a chunk is put in: its items are those of the list
+pub own_taken : {X : Type 0} (copy items new : List X) (number k : ℕ) → length copy ≡ length items → 64 * number < length items
+    → new ≡ with_items copy (64 * number) (chunk_of items number) → k / 64 ≡ number → slice_get new k ≡ slice_get items k
+own_taken copy items new number k same there e own =
+    let long = chunk_length items number in
+    let rest = div-add-mod' k 64 in
+    let less = mod-lt k {m = 64} (omega arith) in
+    elim (cases_lt k (length items)) [
+      | inl h ↦
+          ap (λ xs. slice_get xs k) e
+          ∙ get_with copy (chunk_of items number) (64 * number) (k - 64 * number) k (omega (arith, long)) (omega (arith, rest, less)) (omega (arith, long, rest, less))
+          ∙ get_chunk items number k own h
+      | inr h ↦
+          ap (λ xs. slice_get xs k) e
+          ∙ get_behind copy (chunk_of items number) (64 * number) k (omega (arith, long)) (omega (arith, long, rest))
+          ∙ slice_get_past copy k (omega arith) ∙ sym (slice_get_past items k h)
+    ]
+
+-- and the others stay
+pub others_taken : {X : Type 0} (copy items new : List X) (number k : ℕ) → length copy ≡ length items → 64 * number < length items
+    → new ≡ with_items copy (64 * number) (chunk_of items number) → (k / 64 ≡ number → ⊥) → slice_get new k ≡ slice_get copy k
+others_taken copy items new number k same there e other =
+    let long = chunk_length items number in
+    let rest = div-add-mod' k 64 in
+    let less = mod-lt k {m = 64} (omega arith) in
+    elim (cases_lt k (64 * number)) [
+      | inl h ↦ ap (λ xs. slice_get xs k) e ∙ get_before copy (chunk_of items number) (64 * number) k (omega (arith, long)) h
+      | inr h ↦ elim (cases_lt k (64 * number + 64)) [
+        | inl near ↦ absurd (other (omega (arith, rest, less, h, near)))
+        | inr far ↦
+            ap (λ xs. slice_get xs k) e
+            ∙ get_behind copy (chunk_of items number) (64 * number) k (omega (arith, long)) (omega (arith, long, far))
+      ]
+    ]
+
+-- where there is no such chunk, nothing is to be taken
+pub own_past : {X : Type 0} (copy items : List X) (number k : ℕ) → length copy ≡ length items → length items ≤ 64 * number
+    → k / 64 ≡ number → slice_get copy k ≡ slice_get items k
+own_past copy items number k same past own =
+    let rest = div-add-mod' k 64 in
+    slice_get_past copy k (omega (arith, rest)) ∙ sym (slice_get_past items k (omega (arith, rest)))
+
+-- an item is written in a chunk that is remembered
+pub copied_set : {X : Type 0} (copy items : List X) (changed remembered : List ℕ) (p : ℕ) (x : X) → AreCopied copy items changed
+    → ((k : ℕ) → Contains changed k → Contains remembered k) → Contains remembered (p / 64)
+    → AreCopied copy (slice_set items p x) remembered
+copied_set copy items changed remembered p x h more there k =
     elim (cases_eq k p) [
-      | inl e ↦ inr (subst (Contains (written ++ p ∷ [])) (sym e) (Contains-push written p))
+      | inl e ↦ inr (subst (λ (n : ℕ). Contains remembered (n / 64)) (sym e) there)
       | inr n ↦ elim (h k) [
         | inl e ↦ inl (e ∙ sym (get_other items p k x n))
-        | inr c ↦ inr (Contains-append_left written (p ∷ []) k c)
+        | inr c ↦ inr (more (k / 64) c)
       ]
     ]
 
--- a place is written, and remembered behind the others
-pub kept_set : {X : Type 0} (kept items : List X) (written remembered : List ℕ) (p : ℕ) (x : X) → remembered ≡ written ++ p ∷ [] → (length kept ≡ length items) × AreKept kept items written → (length kept ≡ length (slice_set items p x)) × AreKept kept (slice_set items p x) remembered
-kept_set kept items written remembered p x e h =
-    (h.0 ∙ sym (length-set items p x), subst (AreKept kept (slice_set items p x)) (sym e) (kept_written kept items written p x h.1))
-
--- one of the places from an index on
-abbrev pub IsFrom : (from : ℕ) → (written : List ℕ) → ℕ → Type 0
-IsFrom from written k = (i : ℕ) × (from ≤ i) × (i < length written) × (slice_index_or written i k ≡ k)
-
--- a copy has the items of a list but at the places from an index on
-abbrev pub AreKeptTo : {X : Type 0} → (from : ℕ) → (kept items : List X) → (written : List ℕ) → Type 0
-AreKeptTo from kept items written = (k : ℕ) → (slice_get kept k ≡ slice_get items k) ⊎ IsFrom from written k
-
--- at first those are all places
-pub kept_first : {X : Type 0} (kept items : List X) (written : List ℕ) → AreKept kept items written → AreKeptTo 0 kept items written
-kept_first kept items written h k =
-    elim (h k) [ inl e ↦ inl e | inr (i, within, e) ↦ inr (i, omega arith, within, e) ]
-
--- and they are some of the places
-pub kept_still : {X : Type 0} (from : ℕ) (kept items : List X) (written : List ℕ) → AreKeptTo from kept items written → AreKept kept items written
-kept_still from kept items written h k =
-    elim (h k) [ inl e ↦ inl e | inr (i, late, within, e) ↦ inr (i, within, e) ]
-
--- in the end there are none
-pub kept_whole : {X : Type 0} (from : ℕ) (kept items : List X) (written : List ℕ) → length written ≤ from → AreKeptTo from kept items written → kept ≡ items
-kept_whole from kept items written past h =
-    same_items kept items (λ k. elim (h k) [ inl e ↦ e | inr (i, late, within, e) ↦ absurd (omega (arith, past, late, within)) ])
-
--- a new copy is kept
-pub kept_anew : {X : Type 0} (items : List X) (written : List ℕ) → AreKept items items written
-kept_anew items written k = inl refl
-
--- a place that is not the next one is one of those behind it
-later : (from : ℕ) (written : List ℕ) (p k : ℕ) → p ≡ slice_index_or written from p → (k ≡ p → ⊥) → IsFrom from written k → IsFrom (from + 1) written k
-later from written p k here n (i, late, within, e) =
-    elim (cases_eq i from) [
-      | inl f ↦
-          let at : slice_index_or written from k ≡ k = subst (λ j. slice_index_or written j k ≡ k) f e in
-          let inside : from < length written = subst (λ j. j < length written) f within in
-          absurd (n (sym at ∙ get_or_default written from k p inside ∙ sym here))
-      | inr f ↦ (i, omega (arith, late, f), within, e)
+-- a chunk is marked that is remembered
+pub marked_more : (changed remembered : List ℕ) (marks new : List Bool) (number : ℕ) → AreMarked changed marks
+    → remembered ≡ changed ++ number ∷ [] → new ≡ slice_set marks number true → AreMarked remembered new
+marked_more changed remembered marks new number h e set n is =
+    elim (cases_eq n number) [
+      | inl same ↦ subst (λ (c : List ℕ). Contains c n) (sym e) (subst (Contains (changed ++ number ∷ [])) (sym same) (Contains-push changed number))
+      | inr other ↦
+          let was : slice_get marks n ≡ Some true = sym (get_other marks number n true other) ∙ ap (λ ms. slice_get ms n) (sym set) ∙ is in
+          subst (λ (c : List ℕ). Contains c n) (sym e) (Contains-append_left changed (number ∷ []) n (h n was))
     ]
 
--- the item at the next of the places is kept, too
-pub kept_next : {X : Type 0} (from : ℕ) (kept items : List X) (written : List ℕ) (p : ℕ) (x : X) → length kept ≡ length items → p ≡ slice_index_or written from p → slice_get items p ≡ Some x → AreKeptTo from kept items written → AreKeptTo (from + 1) (slice_set kept p x) items written
-kept_next from kept items written p x same here there h k =
-    elim (cases_eq k p) [
-      | inl e ↦
-          let within : p < length kept = subst (λ n. p < n) (sym same) (slice_get_within items p x there) in
-          inl (ap (slice_get (slice_set kept p x)) e ∙ get_same kept p x within ∙ sym there ∙ ap (slice_get items) (sym e))
-      | inr n ↦ elim (h k) [
-        | inl e ↦ inl (get_other kept p k x n ∙ e)
-        | inr w ↦ inr (later from written p k here n w)
+-- the last of those chunks is forgotten: the others still are all that are behind
+pub copied_less : {X : Type 0} (copy items new : List X) (changed rest : List ℕ) (number : ℕ) → AreCopied copy items changed
+    → changed ≡ rest ++ number ∷ [] → ((k : ℕ) → k / 64 ≡ number → slice_get new k ≡ slice_get items k)
+    → ((k : ℕ) → (k / 64 ≡ number → ⊥) → slice_get new k ≡ slice_get copy k) → AreCopied new items rest
+copied_less copy items new changed rest number h e own others k =
+    elim (cases_eq (k / 64) number) [
+      | inl same ↦ inl (own k same)
+      | inr other ↦ elim (h k) [
+        | inl same ↦ inl (others k other ∙ same)
+        | inr c ↦ elim (Contains-push_cases rest number (k / 64) (subst (λ (cs : List ℕ). Contains cs (k / 64)) e c)) [
+          | inl there ↦ inr there
+          | inr same ↦ absurd (other (sym same))
+        ]
       ]
     ]
 
--- at a place that is not there no item is to be kept
-pub kept_past : {X : Type 0} (from : ℕ) (kept items : List X) (written : List ℕ) (p : ℕ) → length kept ≡ length items → p ≡ slice_index_or written from p → length items ≤ p → AreKeptTo from kept items written → AreKeptTo (from + 1) kept items written
-kept_past from kept items written p same here past h k =
-    elim (cases_eq k p) [
-      | inl e ↦ inl (slice_get_past kept k (omega (arith, same, past, e)) ∙ sym (slice_get_past items k (omega (arith, past, e))))
-      | inr n ↦ elim (h k) [ inl e ↦ inl e | inr w ↦ inr (later from written p k here n w) ]
+-- a chunk whose mark is taken away is not marked
+not_marked : (marks : List Bool) (n : ℕ) → slice_get (slice_set marks n false) n ≡ Some true → ⊥
+not_marked [] n e = absurd (cc)
+not_marked (m ∷ marks) zero e = absurd (cc)
+not_marked (m ∷ marks) (suc n) e = not_marked marks n e
+
+-- and all that are marked
+pub marked_less : (changed rest : List ℕ) (marks new : List Bool) (number : ℕ) → AreMarked changed marks
+    → changed ≡ rest ++ number ∷ [] → new ≡ slice_set marks number false → AreMarked rest new
+marked_less changed rest marks new number h e set n is =
+    elim (cases_eq n number) [
+      | inl same ↦ absurd (not_marked marks number (sym (ap (λ ms. slice_get ms number) set) ∙ ap (slice_get new) (sym same) ∙ is))
+      | inr other ↦
+          let was : slice_get marks n ≡ Some true = sym (get_other marks number n false other) ∙ ap (λ ms. slice_get ms n) (sym set) ∙ is in
+          elim (Contains-push_cases rest number n (subst (λ (cs : List ℕ). Contains cs n) e (h n was))) [
+            | inl there ↦ there
+            | inr same ↦ absurd (other (sym same))
+          ]
     ]
 
--- the item at the next of the places is taken over
-pub taken_next : {X : Type 0} (from : ℕ) (kept items : List X) (written : List ℕ) (p : ℕ) → length kept ≡ length items → p ≡ slice_index_or written from p → AreKeptTo from kept items written → AreKeptTo (from + 1) (taken_over kept items p) items written
-taken_next from kept items written p same here h =
-    elim ((slice_get_cases items p).1) [
-      | inl (x, within, there, e) ↦
-          subst (λ o. AreKeptTo (from + 1) (option_map_or (slice_set kept p) o kept) items written) (sym there) (kept_next from kept items written p x same here there h)
-      | inr (past, there) ↦
-          subst (λ o. AreKeptTo (from + 1) (option_map_or (slice_set kept p) o kept) items written) (sym there) (kept_past from kept items written p same here past h)
-    ]
+-- a copy that is behind by no chunk has the items
+pub copied_whole : {X : Type 0} (copy items : List X) (changed : List ℕ) → AreCopied copy items changed → length changed ≡ 0
+    → copy ≡ items
+copied_whole copy items changed h none =
+    same_items copy items (λ k. elim (h k) [ inl e ↦ e | inr c ↦ absurd (omega (arith, c.1, none)) ])
 
--- a copy stays as long
-pub taken_length : {X : Type 0} (kept items : List X) (p : ℕ) → length (taken_over kept items p) ≡ length kept
-taken_length kept items p =
-    elim ((slice_get_cases items p).1) [
-      | inl (x, within, there, e) ↦ subst (λ o. length (option_map_or (slice_set kept p) o kept) ≡ length kept) (sym there) (length-set kept p x)
-      | inr (past, there) ↦ subst (λ o. length (option_map_or (slice_set kept p) o kept) ≡ length kept) (sym there) refl
-    ]
+-- a new copy is behind by none
+pub copied_anew : {X : Type 0} (items : List X) (changed : List ℕ) → AreCopied items items changed
+copied_anew items changed k = inl refl
 
--- an item that is the same is taken over as it is
-pub taken_same : {X : Type 0} (kept items : List X) (p : ℕ) (x y : X) → slice_get items p ≡ Some x → slice_get kept p ≡ Some y → y ≡ x → kept ≡ taken_over kept items p
-taken_same kept items p x y there was same =
-    sym (ap (λ o. option_map_or (slice_set kept p) o kept) there
-    ∙ ap (slice_set kept p) (sym same)
-    ∙ set_same kept p y was)
+not_in_none : (n k : ℕ) → slice_get (replicate n false) k ≡ Some true → ⊥
+not_in_none zero k e = absurd (cc)
+not_in_none (suc n) zero e = absurd (cc)
+not_in_none (suc n) (suc k) e = not_in_none n k e
 
--- no item is taken over where the copy has none
-pub taken_past : {X : Type 0} (kept items : List X) (p : ℕ) (x : X) → slice_get items p ≡ Some x → slice_get kept p ≡ None → kept ≡ taken_over kept items p
-taken_past kept items p x there none =
-    sym (ap (λ o. option_map_or (slice_set kept p) o kept) there ∙ set_none kept p x none)
+-- at first no chunk is marked
+pub none_marked : (n : ℕ) (marks : List Bool) (changed : List ℕ) → marks ≡ replicate n false → AreMarked changed marks
+none_marked n marks changed e k is = absurd (not_in_none n k (sym (ap (λ ms. slice_get ms k) e) ∙ is))
 
--- nor where the list has none
-pub taken_none : {X : Type 0} (kept items : List X) (p : ℕ) → slice_get items p ≡ None → kept ≡ taken_over kept items p
-taken_none kept items p none = sym (ap (λ o. option_map_or (slice_set kept p) o kept) none)
+-- the item that is read at a place
+get_read : {X : Type 0} (xs : List X) (i : ℕ) (x d : X) → slice_get xs i ≡ Some x → get_or xs i d ≡ x
+get_read [] i x d e = absurd (cc)
+get_read (y ∷ xs) zero x d e = cc
+get_read (y ∷ xs) (suc i) x d e = get_read xs i x d e
+
+-- the last item that was read is the one that is taken away
+pub last_taken : (xs ys : List ℕ) (o : Option ℕ) (m n : ℕ) → m ≡ length xs → slice_get xs (length xs - 1) ≡ Some n
+    → o ≡ Some (get_or xs (m - 1) n) → xs ≡ ys ++ option_to_list o → xs ≡ ys ++ n ∷ []
+last_taken xs ys o m n long there is e =
+    let read : get_or xs (m - 1) n ≡ n = ap (λ (k : ℕ). get_or xs (k - 1) n) long ∙ get_read xs (length xs - 1) n n there in
+    e ∙ ap (λ p. ys ++ option_to_list p) (is ∙ ap Some read)
+
+not_last : (x : ℕ) (xs : List ℕ) (k : ℕ) → k ≤ length xs → slice_get (x ∷ xs) k ≡ None → ⊥
+not_last x xs zero l e = absurd (cc)
+not_last x [] (suc k) l e = absurd (omega arith)
+not_last x (y ∷ xs) (suc k) l e = not_last y xs k (omega arith) e
+
+-- where there is no last item, there is none
+pub last_none : (xs : List ℕ) → slice_get xs (length xs - 1) ≡ None → length xs ≡ 0
+last_none [] e = refl
+last_none (x ∷ xs) e = absurd (not_last x xs (length xs) (omega arith) (ap (slice_get (x ∷ xs)) (omega arith) ∙ e))

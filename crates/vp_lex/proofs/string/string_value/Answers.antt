@@ -12,10 +12,10 @@ loop-at-preserved c =
     let rest = take_rest inner c.loop-at.at in
     let its = rw rest at c.element-character.ensures.value in
     let within = rw rest at c.element-character.ensures.within in
-    let left = value_more inner c.loop-at.at _ c.element-character.result c.loop-at-test.true its refl in
+    let remainder = value_more inner c.loop-at.at _ c.element-character.result c.loop-at-test.true its refl in
     record {
       within = omega (arith, within, length-drop c.loop-at.at inner);
-      so_far = encoded_more _ _ _ _ _ _ c.loop-at.invariant.so_far left c.in_ok-push.ensures.bytes;
+      so_far = encoded_more _ _ _ _ _ _ c.loop-at.invariant.so_far remainder c.in_ok-push.ensures.bytes;
     }
 
 pub returns : goal.returns

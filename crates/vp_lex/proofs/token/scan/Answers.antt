@@ -23,10 +23,10 @@ loop-here-preserved c =
       | in-Some+in_ok-push w ↦ rw (w.tokens-is, w.in-Some.is) w.in_ok-push.ensures.items
       | in_default w ↦ rw (w.tokens-is, w.in_default.is) (sym (append-nil c.loop-here.tokens.items))
     ] in
-    let left = left_moved c.args.text.now c.loop-here.here.at c.in-Ok.found.1 c.loop-here.here.directive (kind_of c.in-Ok.found.0) c.loop-here.tokens.items within.0 within.1 first c.loop-here.invariant.left c.token.result c.match-token.tokens.items c.behind-here.result.at c.behind-here.result.directive c.token.ensures pushed c.behind-here.ensures.at directive in
+    let remainder = left_moved c.args.text.now c.loop-here.here.at c.in-Ok.found.1 c.loop-here.here.directive (kind_of c.in-Ok.found.0) c.loop-here.tokens.items within.0 within.1 first c.loop-here.invariant.remainder c.token.result c.match-token.tokens.items c.behind-here.result.at c.behind-here.result.directive c.token.ensures pushed c.behind-here.ensures.at directive in
     let one_each : vec_len c.match-token.tokens ≤ c.behind-here.result.at =
     elim c.match-token.branch [
       | in-Some+in_ok-push w ↦ let one = w.in_ok-push.ensures.len in rw w.tokens-is (omega (arith, one, within.0))
       | in_default w ↦ rw w.tokens-is (omega (arith, within.0))
     ] in
-    record { one_each = one_each; place = place; left = left }
+    record { one_each = one_each; place = place; remainder = remainder }

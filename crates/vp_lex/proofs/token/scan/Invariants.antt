@@ -8,7 +8,7 @@ abbrev pub invariant-loop-here : goal.invariant-loop-here
 invariant-loop-here l = record {
   one_each : vec_len l.tokens ≤ l.here.at;
   place : IsPlace l.text l.here;
-  left : scan_of l.text ≡ on_tokens (λ more. l.tokens.items ++ more) (scan_left l.text l.here.at l.here.directive);
+  remainder : scan_of l.text ≡ on_tokens (λ more. l.tokens.items ++ more) (scan_left l.text l.here.at l.here.directive);
 }
 
 abbrev pub decreases-loop-here : goal.decreases-loop-here

@@ -1,10 +1,11 @@
-use Rattle.std.proofs.Common.{◌≡◌, length}
-use Rattle.vp_list.specs.laws.Tracked.{AreKeptTo}
+use Rattle.std.proofs.Common.{length}
+use Rattle.vp_list.specs.Tracked.{Lags}
 use Rattle.vp_list.proofs.tracked.renew.Given as goal
 
--- the copy has the items but at the places that are still to be taken over
-abbrev pub invariant-loop-place : goal.invariant-loop-place
-invariant-loop-place g l = record {
-  others : AreKeptTo l.place-index l.kept l.items l.written;
-  length : length l.kept ≡ length l.items;
-}
+-- one chunk less is to be taken
+abbrev pub decreases-loop-number : goal.decreases-loop-number
+decreases-loop-number g l = length l.changed.items
+
+-- the copy is behind by those that are still to be taken
+abbrev pub invariant-loop-number : goal.invariant-loop-number
+invariant-loop-number g l = Lags l.copy l.items l.changed.items l.marks.items

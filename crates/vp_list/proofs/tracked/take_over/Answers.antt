@@ -1,23 +1,37 @@
-use Rattle.std.proofs.Common.{◌≡◌, ◌∙◌, ap, length, refl, sym}
-use Rattle.std.specs.Prelude.{slice_set}
-use Rattle.std.specs.Option.{option_map_or}
-use Rattle.std.proofs.lemmas.Option.{slice_get_read}
+use Rattle.std.proofs.Common.{rules, ◌≡◌, ◌∙◌, ◌-◌, ◌*◌, ◌<◌, ℕ, List, length, min, take, drop, ap, arith}
+use Rattle.std.proofs.lemmas.List.{take_rest}
 use Rattle.std.proofs.lemmas.Result.{on_ok_weaker}
-use Rattle.vp_list.specs.laws.Tracked.{taken_same}
+use Rattle.vp_list.specs.Chunks.{with_items}
+use Rattle.vp_list.specs.laws.Tracked.{chunk_of, own_same, own_taken, others_taken}
 use Rattle.vp_list.proofs.tracked.take_over.Goals as goal
 
-pub returns-then-is_same-clause-there : goal.returns-then-is_same-clause-there
-returns-then-is_same-clause-there g c =
-    let a = c.in-Some-Some in
-    let found = (a.ensures {u = tt}).lookup in
-    let there = slice_get_read c.args.items.now (length c.args.items.now) c.args.place a.item.now refl found.3.0 found.1 in
-    taken_same c.args.kept.now c.args.items.now c.args.place a.item.now a.was there (sym (a.ensures' {u = tt})) (c.is_same.ensures.same c.if-is_same.true)
+-- the items behind the first of a chunk, cut at its end, are the chunk
+chunk_is : {X : Type 0} (items : List X) (number count : ℕ)
+    → count ≡ min (length (take (length items - 64 * number) (drop (64 * number) items))) 64
+    → take count (take (length items - 64 * number) (drop (64 * number) items)) ≡ chunk_of items number
+chunk_is items number count e =
+    ap (λ (n : ℕ). take n (take (length items - 64 * number) (drop (64 * number) items))) e
+    ∙ ap (λ xs. take (min (length xs) 64) xs) (take_rest items (64 * number))
 
-pub returns-clause-there : goal.returns-clause-there
-returns-clause-there g c =
-    let found = (c.in-Some-Some.ensures {u = tt}).lookup in
-    let there = slice_get_read c.args.items.now (length c.args.items.now) c.args.place c.in-Some-Some.item.now refl found.3.0 found.1 in
-    on_ok_weaker c.set.result
-    (λ (set : c.set.new.self ≡ slice_set c.args.kept.now c.args.place c.in-Some-Some.item.now).
-    set ∙ sym (ap (λ o. option_map_or (slice_set c.args.kept.now c.args.place) o c.args.kept.now) there))
-    c.set.ensures.set
+pub returns-then-has_chunk-clause-own : goal.returns-then-has_chunk-clause-own
+returns-then-has_chunk-clause-own g c k own =
+    let is = chunk_is c.args.items.now c.args.number c.min.result c.min.ensures in
+    own_same c.args.copy.now c.args.items.now c.args.number k c.requires.length (c.has_chunk.ensures c.if-has_chunk.true ∙ is) own
+
+pub returns-clause-own : goal.returns-clause-own
+returns-clause-own g c =
+    let is = chunk_is c.args.items.now c.args.number c.min.result c.min.ensures in
+    let there : 64 * c.args.number < length c.args.items.now = search rules in
+    on_ok_weaker c.set_chunk.result
+    (λ set k own. own_taken c.args.copy.now c.args.items.now c.set_chunk.new.self c.args.number k c.requires.length there
+    (set ∙ ap (with_items c.args.copy.now (64 * c.args.number)) is) own)
+    c.set_chunk.ensures.set
+
+pub returns-clause-others : goal.returns-clause-others
+returns-clause-others g c =
+    let is = chunk_is c.args.items.now c.args.number c.min.result c.min.ensures in
+    let there : 64 * c.args.number < length c.args.items.now = search rules in
+    on_ok_weaker c.set_chunk.result
+    (λ set k other. others_taken c.args.copy.now c.args.items.now c.set_chunk.new.self c.args.number k c.requires.length there
+    (set ∙ ap (with_items c.args.copy.now (64 * c.args.number)) is) other)
+    c.set_chunk.ensures.set

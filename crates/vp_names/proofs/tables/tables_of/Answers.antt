@@ -1,7 +1,9 @@
 use Rattle.std.proofs.Common.{◌<◌, ◌∷◌, List, length, get_or, subst, arith}
 use Rattle.std.proofs.lemmas.Result.{err_from_is_err_and}
+use Rattle.vp_list.specs.Refusals.{MayExplain}
+use Rattle.vp_names.specs.declared.fault.ElabError.TheVariants.{NoMemory}
 use Rattle.vp_source.specs.declared.source.Module.{Module}
-use Rattle.vp_names.specs.Refusals.{Explains, twice_in}
+use Rattle.vp_names.specs.Refusals.{twice_in}
 use Rattle.std.proofs.lemmas.Grind.{common_steps}
 use Rattle.vp_names.proofs.Looked.{nowhere}
 use Rattle.vp_names.proofs.Twice.{refused_at, twice_next}
@@ -25,4 +27,4 @@ returns-in_err-add_module-clause-twice c =
     let p = err_from_is_err_and c.from_residual.result c.from_residual.ensures.1 in
     rw (p.1, p.2)
     (refused_at c.args.source.now c.loop-module.modules c.args.source.now.modules c.loop-module.module-index nowhere c.in_err-add_module.field-0.0 (subst (λ (ms : List Module). c.loop-module.module-index < length ms) c.as_slice-module-items.ensures c.loop-module-test.true) c.loop-module.invariant.once
-    (subst (λ (ms : List Module). (rest : List Module) → Explains (twice_in c.args.source.now c.loop-module.modules (get_or ms c.loop-module.module-index nowhere ∷ rest)) c.in_err-add_module.field-0.0) c.as_slice-module-items.ensures (c.in_err-add_module.ensures {u = tt}).twice))
+    (subst (λ (ms : List Module). (rest : List Module) → MayExplain NoMemory (twice_in c.args.source.now c.loop-module.modules (get_or ms c.loop-module.module-index nowhere ∷ rest)) c.in_err-add_module.field-0.0) c.as_slice-module-items.ensures (c.in_err-add_module.ensures {u = tt}).twice))

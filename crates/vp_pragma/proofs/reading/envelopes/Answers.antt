@@ -2,7 +2,9 @@ use Rattle.std.proofs.Common.{Result, Ok, refl, sym, ap, subst, ◌∙◌}
 use Rattle.std.proofs.lemmas.Result.{MatchResult-weaker, err_from_is_err_and}
 use Rattle.vp_pragma.specs.declared.fault.PragmaError.{PragmaError}
 use Rattle.vp_pragma.specs.EnvelopesOf.{AreEnvelopes, Progress, after_deeds, at_start, envelopes_behind}
-use Rattle.vp_pragma.specs.Faults.{Explains}
+use Rattle.std.specs.Result.{result_err}
+use Rattle.vp_list.specs.Refusals.{MayExplain}
+use Rattle.vp_pragma.specs.declared.fault.PragmaError.TheVariants as error
 use Rattle.vp_pragma.specs.LineReading.{deeds_of_text, envelopes_read}
 use Rattle.vp_pragma.proofs.Refusals.{explains_through}
 use Rattle.vp_pragma.proofs.Lines.{are_read}
@@ -28,4 +30,4 @@ returns-clause-fault c =
     let text = c.args.text.now in
     let tokens = c.args.tokens.now in
     MatchResult-weaker c.ended.result (c.ended.ensures) (λ _ _. tt)
-    (λ e h. (envelopes_read text tokens, are_read text tokens, subst (λ (r : Result Progress PragmaError). Explains (envelopes_behind r) e) (sym c.in_ok-read.ensures.done) h))
+    (λ e h. (envelopes_read text tokens, are_read text tokens, subst (λ (r : Result Progress PragmaError). MayExplain error.NoMemory (result_err (envelopes_behind r)) e) (sym c.in_ok-read.ensures.done) h))

@@ -3,7 +3,9 @@ use Rattle.std.specs.Prelude.{not}
 use Rattle.std.proofs.lemmas.Result.{err_from_is_err_and}
 use Rattle.vp_pragma.specs.declared.fault.PragmaError.{PragmaError}
 use Rattle.vp_pragma.specs.EnvelopesOf.{Progress}
-use Rattle.vp_pragma.specs.Faults.{Explains}
+use Rattle.std.specs.Result.{result_err}
+use Rattle.vp_list.specs.Refusals.{MayExplain}
+use Rattle.vp_pragma.specs.declared.fault.PragmaError.TheVariants as error
 use Rattle.vp_pragma.specs.Reading.{progress_of}
 use Rattle.vp_pragma.proofs.Views.{in_envelope, one_more}
 use Rattle.vp_pragma.proofs.reading.open_view.Goals as goal
@@ -14,7 +16,7 @@ returns-in_err-read_view-clause-opened c =
     let text = c.args.line.text.now in
     let r = progress_of c.args.reading.now in
     rw (p.1, p.2)
-    (subst (λ (q : Result Progress PragmaError). Explains q c.in_err-read_view.field-0.0)
+    (subst (λ (q : Result Progress PragmaError). MayExplain error.NoMemory (result_err q) c.in_err-read_view.field-0.0)
     (sym (in_envelope text r c.args.line.directive.line c.args.view c.in-Some.view c.args.reading.now.«open» c.in-Some.is (c.is_none.ensures ∙ ap not c.if-is_none.false)))
     (c.in_err-read_view.ensures r))
 

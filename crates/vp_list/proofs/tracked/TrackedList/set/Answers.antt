@@ -1,8 +1,16 @@
-use Rattle.vp_list.specs.laws.Tracked.{kept_set}
+use Rattle.std.proofs.Common.{◌≡◌, ◌∙◌, sym}
+use Rattle.std.proofs.lemmas.List.{length-set}
+use Rattle.vp_list.specs.laws.Tracked.{copied_set}
 use Rattle.vp_list.proofs.tracked.TrackedList.set.Goals as goal
 
 pub invariant_of-self : goal.invariant_of-self
-invariant_of-self g c h =
+invariant_of-self g c =
     let old = c.self.inside in
-    let more = c.remember-self-inside.ensures h in
-    kept_set old.kept old.items.items old.written.items c.remember-self-inside.new.written.items c.args.place c.args.item more.1 (c.self.invariant more.0)
+    let told = c.remember-self-inside.ensures in (
+      told.marked,
+      λ h.
+          let complete = c.self.invariant.1 (told.there h).0 in (
+            complete.0 ∙ sym (length-set old.items.items c.args.place c.args.item),
+            copied_set old.copy old.items.items old.changed.items c.remember-self-inside.new.changed.items c.args.place c.args.item complete.1 told.others (told.there h).1,
+          ),
+    )

@@ -26,15 +26,15 @@ notify-requires c =
     (all_marked_more inside.watched.items marks sessions c.mark_asked.ensures.grown c.self.invariant.0)
     (c.mark_asked.ensures.marked (eyes_in (races_in inside.run inside.book inside.policy session.session.user) inside.run inside.policy session.session.user) session.session answered.seat own)
 
-pub returns-clause-told : goal.returns-clause-told
-returns-clause-told c =
+pub returns-clause-reply : goal.returns-clause-reply
+returns-clause-reply c =
     let inside = c.self.inside in
     told_given inside.run inside.book inside.opening_policy.value inside.policy inside.limits inside.sessions.items inside.opens.items inside.goal c.args.place c.index_mut.result.now c.args.request.now c.args.self.now c.self.view_is c.requires.within c.index_mut.ensures.value
     c.respond.new.run c.respond.new.session c.in_ok-answer.answer
     (c.in_ok-answer.ensures {u = tt}).given
 
-pub returns-clause-kept : goal.returns-clause-kept
-returns-clause-kept c =
+pub returns-clause-entry : goal.returns-clause-entry
+returns-clause-entry c =
     let inside = c.self.inside in
     kept_given inside.run inside.book inside.opening_policy.value inside.policy inside.limits inside.sessions.items inside.opens.items inside.goal c.args.place c.index_mut.result.now c.args.request.now c.args.self.now c.self.view_is c.requires.within c.index_mut.ensures.value
     c.respond.new.run c.respond.new.session c.in_ok-answer.answer

@@ -1,12 +1,15 @@
 use Rattle.std.proofs.Common.{◌≡◌, ◌∙◌, ℕ, Option, Err, IfErr, ap, rules, subst, sym}
 use Rattle.std.specs.Prelude.{option_copied, option_map}
+use Rattle.vp_race.specs.declared.fault.RaceError.TheVariants as race_error
+use Rattle.vp_world.specs.declared.fault.WorldError.TheVariants as world_error
+use Rattle.vp_list.specs.Refusals.{Explains}
 use Rattle.vp_race.specs.Booking as book
 use Rattle.vp_race.specs.Booking.{refusal_of_finding}
 use Rattle.vp_race.specs.Recording.{kept_of}
 use Rattle.vp_race.specs.Segments.{Run, Told}
 use Rattle.vp_world.specs.declared.fault.WorldError.TheVariants.{Race}
 use Rattle.vp_world.specs.Faults.{error_of_race}
-use Rattle.vp_world.specs.History.{Explains, book_refusal}
+use Rattle.vp_world.specs.History.{book_refusal}
 use Rattle.vp_world.specs.Worlds.{Standing}
 use Rattle.vp_world.proofs.Booking.{booking_explained}
 use Rattle.vp_world.proofs.Designs.{kept_design}
@@ -26,10 +29,10 @@ returns-in_err-add-clause-refused c =
     let number : c.number.result ≡ f.segment.number =
     c.number.ensures ∙ ap (λ (r : Run). r.number) (c.segment.ensures.segment ∙ ap (λ (t : Told). t.segment) c.value.ensures) in
     let kept : there ≡ kept_of inside.run.segments f.segment.number = c.kept-kept.ensures ∙ ap (λ (n : ℕ). kept_of inside.run.segments n) number in
-    let told : book.Explains (refusal_of_finding inside.book there f) e = search rules in
+    let told : Explains race_error.NoMemory (refusal_of_finding inside.book there f) e = search rules in
     let by_book = booking_explained inside.book there f e told in
-    let by_kept = subst (λ (k : Option Run). Explains (option_map Race (refusal_of_finding inside.book k f)) (error_of_race e)) kept by_book in
-    let by_limit = subst (λ (n : ℕ). Explains (option_map Race (refusal_of_finding (record { races = inside.book.races; limit = n }) (kept_of inside.run.segments f.segment.number) f)) (error_of_race e)) c.self.invariant.1 by_kept in
-    let why = subst (λ (v : Standing). Explains (option_map Race (book_refusal v.opening v.state f)) (error_of_race e)) c.self.view_is by_limit in
+    let by_kept = subst (λ (k : Option Run). Explains world_error.NoMemory (option_map Race (refusal_of_finding inside.book k f)) (error_of_race e)) kept by_book in
+    let by_limit = subst (λ (n : ℕ). Explains world_error.NoMemory (option_map Race (refusal_of_finding (record { races = inside.book.races; limit = n }) (kept_of inside.run.segments f.segment.number) f)) (error_of_race e)) c.self.invariant.1 by_kept in
+    let why = subst (λ (v : Standing). Explains world_error.NoMemory (option_map Race (book_refusal v.opening v.state f)) (error_of_race e)) c.self.view_is by_limit in
     let is : c.from_residual.result ≡ Err (error_of_race e) = search rules in
-    subst (λ r. IfErr r (λ x. Explains (option_map Race (book_refusal c.args.self.now.opening c.args.self.now.state f)) x)) (sym is) why
+    subst (λ r. IfErr r (λ x. Explains world_error.NoMemory (option_map Race (book_refusal c.args.self.now.opening c.args.self.now.state f)) x)) (sym is) why

@@ -21,7 +21,7 @@ module _ (c : goal.After-push_reserved) where
   happens = event.Ask c.args.session c.args.request
 
   abbrev entry : Entry
-  entry = record { event = happens; reply = c.in_ok-answer.answer.kept; change = c.in_ok-answer.answer.change; time = c.time.result; finished = c.finished.result }
+  entry = record { event = happens; reply = c.in_ok-answer.answer.entry_reply; change = c.in_ok-answer.answer.change; time = c.time.result; finished = c.finished.result }
 
   found : index_of w.state.sessions c.args.session ≡ Some c.in_ok-place.place
   found = (c.in_ok-place.ensures {u = tt}).place
@@ -35,9 +35,9 @@ module _ (c : goal.After-push_reserved) where
       ∙ ap (λ (r : Request). with_state w (asked_at w.state (Some c.in_ok-place.place) r)) same
       ∙ ap (λ (o : Option ℕ). with_state w (asked_at w.state o c.args.request)) (sym found)
 
-  kept : c.in_ok-answer.answer.kept ≡ answer w.opening w.state happens
+  kept : c.in_ok-answer.answer.entry_reply ≡ answer w.opening w.state happens
   kept =
-      (c.in_ok-answer.ensures {u = tt}).kept
+      (c.in_ok-answer.ensures {u = tt}).entry
       ∙ ap (λ (r : Request). asked_in w c.in_ok-place.place r) same
       ∙ ap (λ (o : Option ℕ). asked w.state (option_and_then (slice_get w.state.sessions) o) c.args.request) (sym found)
 

@@ -2,7 +2,7 @@
 ghost use Rattle.std.specs.Prelude.{◌≡◌, IfSome};
 ghost use Rattle.std.specs.Arc.{arc_value};
 
-use crate::tests::sessions::{ask, find, open, put, world_of};
+use crate::tests::sessions::{find_in, of_ann, open, order_in, put_in, world_of};
 use std::alloc::Global;
 use std::sync::Arc;
 use vp_elab::ObjectId;
@@ -25,17 +25,21 @@ fn steps(world: &mut World, count: u64) -> Option<()> {
 /// Ann opens a session and asks for a run until a time.
 fn begin_run(alloc: Global, world: &mut World, until: u64) -> Option<()> {
     open(alloc, world)?;
-    ask(world, 1, Request::Run { until })?;
-    Some(())
+    order_in(world, of_ann(1), Request::Run { until })
 }
 
-/// The simulation goes on to the time of the race, and Ann gives `top.a` a value behind its first step.
-fn put_in_race(alloc: Global, world: &mut World) -> Option<()> {
+/// The simulation goes on to the time of the race, and takes its first step.
+fn go_to_race(world: &mut World) -> Option<()> {
     steps(world, 6)?;
     world.apply(Event::Advance).ok()?;
-    steps(world, 1)?;
-    find(alloc, world, 1)?;
-    put(alloc, world, 1, "1")?;
+    steps(world, 1)
+}
+
+/// Behind that Ann gives `top.a` a value.
+fn put_in_race(alloc: Global, world: &mut World) -> Option<()> {
+    go_to_race(world)?;
+    find_in(alloc, world, of_ann(1), "top.a")?;
+    put_in(alloc, world, of_ann(1), "1")?;
     steps(world, 4)
 }
 

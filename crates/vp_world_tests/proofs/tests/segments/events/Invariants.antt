@@ -1,5 +1,5 @@
 use Rattle.std.proofs.Common.{◌≡◌}
-use Rattle.vp_tests.proofs.tests.segments.events.Given as goal
+use Rattle.vp_world_tests.proofs.tests.segments.events.Given as goal
 
 -- how the world began stays
 abbrev pub invariant-loop-event : goal.invariant-loop-event

@@ -1,16 +1,15 @@
 //! Grants that change: what they come to in a world of several sessions, and on a policy alone.
 ghost use Rattle.std.specs.Prelude.{IfSome};
 ghost use Rattle.vp_policy.specs.PolicyState.{Fits};
-ghost use Rattle.vp_world.specs.Events.{IsAsked};
 
+use crate::tests::sessions::{find_in, open_as, order_in, poll_in, put_in};
 use std::alloc::Global;
 use vp_elab::{Design, ObjectId};
 use vp_list::Text;
 use vp_policy::{Access, Policy, UserId, read_policy};
 use vp_pragma::{Right, access};
 use vp_samples::shared_of;
-use vp_vpi::PutValue;
-use vp_world::{Event, GrantChange, Limits, Reply, Request, SessionId, World};
+use vp_world::{Event, GrantChange, Limits, Request, SessionId, World};
 
 /// A module whose reg `k` stands in an envelope. Its objects are `top` (0) and `k` (1).
 const DESIGN: &str = "module top;
@@ -43,37 +42,18 @@ fn world(alloc: Global, log: usize) -> Option<World> {
     World::new(alloc, checked, policy, limits).ok()
 }
 
-/// Opens a session of a user by his name and token.
-fn open(alloc: Global, world: &mut World, user: &str, token: &str) -> Option<Reply> {
-    let user = Text::copy(alloc, user).ok()?;
-    let token = Text::copy(alloc, token).ok()?;
-    world.apply(Event::Open { user, token }).ok()
-}
-
-/// What the first session of the user of a number is answered to a request.
-fn ask(world: &mut World, user: usize, request: Request) -> Option<Reply>
-    requires { IsAsked request }
-{
-    let session = SessionId {
+/// The first session of the user of a number.
+fn session_of(user: usize) -> SessionId {
+    SessionId {
         user: UserId(user),
         opens: 1,
-    };
-    world.apply(Event::Ask { session, request }).ok()
+    }
 }
 
 /// The first session of the user of a number has a handle of `k` and watches it.
-fn watch(alloc: Global, world: &mut World, user: usize) -> Option<Reply> {
-    let name = Text::copy(alloc, "top.k").ok()?;
-    ask(world, user, Request::Handle { name, scope: None })?;
-    ask(world, user, Request::Watch { handle: 1 })
-}
-
-/// How many notices the first session of the user of a number is told.
-fn told(world: &mut World, user: usize) -> Option<usize> {
-    match ask(world, user, Request::Poll)? {
-        Reply::Notices(notices) => Some(notices.notices().len()),
-        _ => None,
-    }
+fn watch(alloc: Global, world: &mut World, user: usize) -> Option<()> {
+    find_in(alloc, world, session_of(user), "top.k")?;
+    order_in(world, session_of(user), Request::Watch { handle: 1 })
 }
 
 /// What a change of Ann's grant for an envelope comes to, by a token: 0, or the refusal's number.
@@ -96,23 +76,34 @@ fn grant(
     }
 }
 
-/// A world in which Ann and Bob each watch `k`, and Bob has put a value on it.
-fn watched(alloc: Global) -> Option<World> {
-    let mut world = world(alloc, 100)?;
-    open(alloc, &mut world, "ann", "t1")?;
-    open(alloc, &mut world, "bob", "t2")?;
-    watch(alloc, &mut world, 0)?;
-    watch(alloc, &mut world, 1)?;
-    let value = PutValue::Digits(Text::copy(alloc, "1").ok()?);
-    ask(&mut world, 1, Request::Put { handle: 1, value })?;
-    Some(world)
+/// Ann and Bob each open a session.
+fn open_both(alloc: Global, world: &mut World) -> Option<()> {
+    open_as(alloc, world, "ann", "t1")?;
+    open_as(alloc, world, "bob", "t2")
 }
 
-/// How many notices Ann and Bob are told behind a change of Ann's grant.
+/// Ann and Bob each watch `k`, and Bob puts a value on it.
+fn watch_both(alloc: Global, world: &mut World) -> Option<()> {
+    watch(alloc, world, 0)?;
+    watch(alloc, world, 1)?;
+    put_in(alloc, world, session_of(1), "1")
+}
+
+/// How many notices Ann and Bob are told then behind a change of Ann's grant.
+fn told_in(alloc: Global, world: &mut World, access: &str) -> Option<(usize, usize)> {
+    grant(alloc, world, "op", 1, access)?;
+    Some((
+        poll_in(world, session_of(0))?,
+        poll_in(world, session_of(1))?,
+    ))
+}
+
+/// The same in a new world.
 fn told_behind(alloc: Global, access: &str) -> Option<(usize, usize)> {
-    let mut world = watched(alloc)?;
-    grant(alloc, &mut world, "op", 1, access)?;
-    Some((told(&mut world, 0)?, told(&mut world, 1)?))
+    let mut world = world(alloc, 100)?;
+    open_both(alloc, &mut world)?;
+    watch_both(alloc, &mut world)?;
+    told_in(alloc, &mut world, access)
 }
 
 #[test]

@@ -1,0 +1,7 @@
+//! What a user sees of a design, as an indented text (docs/FORMATS.md, "What a user sees").
+#![tactic(auto)]
+
+mod lines;
+mod words;
+
+pub use lines::outline;

@@ -1,0 +1,8 @@
+mod building;
+mod callbacks;
+mod copies;
+mod grants;
+mod segments;
+mod sessions;
+mod views;
+mod worlds;
