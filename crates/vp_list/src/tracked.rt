@@ -1,11 +1,20 @@
-ghost use Rattle.std.specs.Prelude.{◌≡◌, ◌/◌, ℕ, [], length, slice_get, slice_set, true, IfOk, OnErr, OnOk};
+ghost use Rattle.std.specs.Prelude.{◌≡◌, ◌<◌, ◌≤◌, ◌+◌, ◌*◌, ◌/◌, ℕ, [], Some, drop, length, slice_get, slice_set, take, true, IfOk, OnErr, OnOk};
 ghost use Rattle.std.specs.List.{Contains};
-ghost use Rattle.vp_list.specs.Tracked.{AreCopied, AreMarked, Lags};
+ghost use Rattle.vp_list.specs.Tracked.{AreMarked, IsRenewed, IsWritten, Lags, Lets, MayBeWritten};
 
 use crate::chunks::SharedList;
 use crate::same::Same;
 use std::alloc::{AllocError, Global};
 use std::marker::Model;
+
+/// What is known to have been written in a chunk since the last copy.
+#[derive(Clone, Copy)]
+pub(crate) enum Written {
+    Nothing,
+    /// At most one place, by its number in the list.
+    Place(usize),
+    Any,
+}
 
 /// A list that is written in place, and of which copies are kept: a copy shares its chunks of 64 items with the one before it, but for
 /// those that were written since. A contract sees its items, in order.
@@ -17,8 +26,8 @@ pub struct TrackedList<T: Copy + Drop + Same> {
     copy: SharedList<T>,
     /// The numbers of the chunks that were written since.
     changed: Vec<usize>,
-    /// For each chunk, whether it is one of those.
-    marks: Vec<bool>,
+    /// What was written in each chunk.
+    marks: Vec<Written>,
     /// There was a copy, and each chunk that was written since is one of those.
     is_complete: bool,
 }
@@ -33,7 +42,7 @@ impl<T: Copy + Drop + Same> Model for TrackedList<T> {
 
     ghost invariant = { λ t. AreMarked t.changed.items t.marks.items
         × (t.is_complete ≡ true → (length t.copy ≡ length t.items.items)
-        × AreCopied t.copy t.items.items t.changed.items) };
+        × AreCopied t.copy t.items.items t.changed.items t.marks.items) };
 }
 
 impl<T: Copy + Drop + Same> TrackedList<T> {
@@ -41,7 +50,7 @@ impl<T: Copy + Drop + Same> TrackedList<T> {
     pub fn from_vec(alloc: Global, items: Vec<T>) -> Result<TrackedList<T>, AllocError>
         ensures { IfOk result (λ t. t ≡ items.items) }
     {
-        let marks = vec![in alloc; false; items.len().div_ceil(64)]?;
+        let marks = vec![in alloc; Written::Nothing; items.len().div_ceil(64)]?;
         Ok(TrackedList {
             alloc,
             items,
@@ -56,7 +65,7 @@ impl<T: Copy + Drop + Same> TrackedList<T> {
     pub fn of_kept(alloc: Global, kept: &SharedList<T>) -> Result<TrackedList<T>, AllocError>
         ensures { IfOk result (λ t. t ≡ kept.now) }
     {
-        let marks = vec![in alloc; false; kept.len().div_ceil(64)]?;
+        let marks = vec![in alloc; Written::Nothing; kept.len().div_ceil(64)]?;
         Ok(TrackedList {
             alloc,
             items: kept.to_vec(alloc)?,
@@ -82,12 +91,7 @@ impl<T: Copy + Drop + Same> TrackedList<T> {
             return;
         }
         self.items[place] = item;
-        self.is_complete = remember(
-            self.is_complete,
-            &mut self.changed,
-            &mut self.marks,
-            place / 64,
-        );
+        self.is_complete = remember(self.is_complete, &mut self.changed, &mut self.marks, place);
     }
 
     /// A copy to be kept, which shares the chunks that were not written since the last one; or an error where there is no memory, or the
@@ -110,52 +114,93 @@ impl<T: Copy + Drop + Same> TrackedList<T> {
     }
 }
 
-/// Remembers, once, that a chunk is written, where all others are, and tells so; but not where there is no memory for that.
-#[tactic(auto, using(crate::specs::laws::Tracked::marked_more))]
+/// Remembers that a place is written, where all others are, and tells so; but not where there is no memory for that.
 fn remember(
     is_complete: bool,
     changed: &mut Vec<usize>,
-    marks: &mut Vec<bool>,
-    number: usize,
+    marks: &mut Vec<Written>,
+    place: usize,
 ) -> bool
     requires marked { AreMarked changed.old.items marks.old.items }
     ensures marked { AreMarked changed.new.items marks.new.items }
-    ensures others { (k : ℕ) → Contains changed.old.items k → Contains changed.new.items k }
-    ensures there { result ≡ true → (is_complete ≡ true) × Contains changed.new.items number }
+    ensures others { (k : ℕ) → MayBeWritten changed.old.items marks.old.items k
+        → MayBeWritten changed.new.items marks.new.items k }
+    ensures there { result ≡ true → (is_complete ≡ true)
+        × MayBeWritten changed.new.items marks.new.items place }
 {
     if !is_complete {
         return false;
     }
-    if marks.get(number).copied() == Some(true) {
-        return true;
-    }
-    let Ok(()) = changed.push(number) else {
+    let number = place / 64;
+    let written = written_in(marks, number);
+    if !remember_chunk(changed, number, written) {
         return false;
-    };
-    mark(marks, number, true);
+    }
+    mark(marks, number, with_place(written, place));
     true
 }
 
-/// Sets the mark of a chunk, if it has one.
-fn mark(marks: &mut Vec<bool>, number: usize, is_changed: bool)
-    ensures { marks.new.items ≡ slice_set marks.old.items number is_changed }
+/// Remembers that a chunk is written, where it is not known yet, and tells so; but not where there is no memory for that.
+fn remember_chunk(changed: &mut Vec<usize>, number: usize, written: Option<Written>) -> bool
+    requires marked { IsWritten written → Contains changed.old.items number }
+    ensures others { (n : ℕ) → Contains changed.old.items n → Contains changed.new.items n }
+    ensures there { result ≡ true → Contains changed.new.items number }
 {
-    if number < marks.len() {
-        marks[number] = is_changed;
+    match written {
+        Some(Written::Place(_)) | Some(Written::Any) => true,
+        _ => changed.push(number).is_ok(),
     }
 }
 
-/// Takes a chunk of a list into a copy of it, if there is one of this number.
+/// What is known of a chunk when one place more is written.
+fn with_place(written: Option<Written>, place: usize) -> Written
+    ensures there { Lets (Some result) place }
+    ensures others { (k : ℕ) → Lets written k → Lets (Some result) k }
+{
+    match written {
+        Some(Written::Nothing) => Written::Place(place),
+        Some(Written::Place(other)) if other == place => Written::Place(place),
+        _ => Written::Any,
+    }
+}
+
+/// What is known of a chunk, if there is one of this number.
+fn written_in(marks: &Vec<Written>, number: usize) -> Option<Written>
+    ensures { result ≡ slice_get marks.now.items number }
+{
+    marks.get(number).copied()
+}
+
+/// Sets what is known of a chunk, if there is one of this number.
+fn mark(marks: &mut Vec<Written>, number: usize, written: Written)
+    ensures { marks.new.items ≡ slice_set marks.old.items number written }
+{
+    if number < marks.len() {
+        marks[number] = written;
+    }
+}
+
+/// A copy has the item of a list at a place where there is one.
+fn has_item<T: Copy + Drop + Same>(copy: &SharedList<T>, items: &[T], place: usize) -> bool
+    ensures { result ≡ true → slice_get copy.now place ≡ slice_get items.now place }
+{
+    match (copy.get(place), items.get(place)) {
+        (Some(first), Some(second)) => first.is_same(second),
+        _ => false,
+    }
+}
+
+/// Takes a chunk of a list, of which it is known what was written in it, into a copy of it, if there is one of this number.
 #[tactic(auto, using(crate::specs::laws::Tracked::own_past))]
 fn take_over<T: Copy + Drop + Same>(
     copy: &mut SharedList<T>,
     items: &[T],
     number: usize,
+    written: Option<Written>,
 ) -> Result<(), AllocError>
     requires length { length copy.old ≡ length items.now }
     ensures length { length copy.new ≡ length copy.old }
-    ensures own { OnOk result ((k : ℕ) → k / 64 ≡ number
-        → slice_get copy.new k ≡ slice_get items.now k) }
+    ensures own { OnOk result (IsRenewed copy.old copy.new items.now number written) }
     ensures others { OnOk result ((k : ℕ) → (k / 64 ≡ number → ⊥)
         → slice_get copy.new k ≡ slice_get copy.old k) }
     ensures unchanged { OnErr result (copy.new ≡ copy.old) }
@@ -163,13 +208,40 @@ fn take_over<T: Copy + Drop + Same>(
     if number >= items.len().div_ceil(64) {
         return Ok(());
     }
-    let rest = &items[64 * number..];
-    let chunk = &rest[..rest.len().min(64)];
     // What is the same again needs no copy.
-    if copy.has_chunk(number, chunk) {
+    if is_same_chunk(copy, items, number, written) {
         return Ok(());
     }
-    copy.set_chunk(number, chunk)
+    copy.set_chunk(number, chunk_of(items, number))
+}
+
+/// The chunk of 64 items, or fewer at the end, of a number.
+fn chunk_of<T>(items: &[T], number: usize) -> &[T]
+    requires { 64 * number < length items.now }
+    ensures items { result.now ≡ take 64 (drop (64 * number) items.now) }
+    ensures some { 0 < length result.now }
+    ensures most { length result.now ≤ 64 }
+    ensures there { 64 * number + length result.now ≤ length items.now }
+{
+    let rest = &items[64 * number..];
+    &rest[..rest.len().min(64)]
+}
+
+/// A copy has the items of a chunk, if it has those that were not written in it.
+fn is_same_chunk<T: Copy + Drop + Same>(
+    copy: &SharedList<T>,
+    items: &[T],
+    number: usize,
+    written: Option<Written>,
+) -> bool
+    requires there { 64 * number < length items.now }
+    requires length { length copy.now ≡ length items.now }
+    ensures { result ≡ true → IsRenewed copy.now copy.now items.now number written }
+{
+    match written {
+        Some(Written::Place(place)) => has_item(copy, items, place),
+        _ => copy.has_chunk(number, chunk_of(items, number)),
+    }
 }
 
 /// Takes the chunks that were written since into a copy, and forgets them; or as many as there is memory for.
@@ -178,15 +250,15 @@ fn renew<T: Copy + Drop + Same>(
     copy: &mut SharedList<T>,
     items: &[T],
     changed: &mut Vec<usize>,
-    marks: &mut Vec<bool>,
+    marks: &mut Vec<Written>,
 ) -> Result<(), AllocError>
     requires lags { Lags copy.old items.now changed.old.items marks.old.items }
     ensures all { OnOk result (copy.new ≡ items.now) }
     ensures lags { Lags copy.new items.now changed.new.items marks.new.items }
 {
     while let Some(number) = changed.as_slice().last().copied() {
-        take_over(copy, items, number)?;
-        mark(marks, number, false);
+        take_over(copy, items, number, written_in(marks, number))?;
+        mark(marks, number, Written::Nothing);
         let _ = changed.pop();
     }
     Ok(())

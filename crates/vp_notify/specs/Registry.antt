@@ -5,6 +5,7 @@ use Rattle.std.specs.List.{fold, list_any}
 use Rattle.std.specs.List.Sorted.{IsNonDecreasingBy}
 use Rattle.vp_notify.specs.declared.registry.Callback.{Callback}
 use Rattle.vp_notify.specs.declared.notice.Notice.{Notice}
+use Rattle.vp_notify.specs.declared.notice.PolledNotice.{PolledNotice}
 use Rattle.vp_waking.specs.declared.change.Change.{Change}
 use Rattle.vp_pragma.specs.declared.rights.Rights.{Rights}
 use Rattle.vp_pragma.specs.declared.rights.Right.TheVariants as right
@@ -80,6 +81,10 @@ without r number = record r { callbacks = filter (λ callback. not (is_numbered 
 -- what a callback is told of a change (clause 27.33.1)
 abbrev pub notice_of : Change → (time : ℕ) → Callback → Notice
 notice_of change time callback = record { callback = callback.number; object = change.object; time = time; value = change.value }
+
+-- a notice as a poll gives it: it names no object (clause 27.33.1, profile)
+abbrev pub polled_notice : Notice → PolledNotice
+polled_notice n = record { callback = n.callback; time = n.time; value = n.value }
 
 -- one more notice waits, or is lost where 4,096 wait (profile)
 abbrev pub with_notice : RegistryState → Notice → RegistryState

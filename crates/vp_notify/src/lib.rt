@@ -10,5 +10,5 @@ mod order;
 mod registry;
 
 pub use fault::NotifyError;
-pub use notice::{Notice, Notices};
+pub use notice::{Notice, Notices, PolledNotice};
 pub use registry::{CALLBACK_LIMIT, Callback, NOTICE_LIMIT, Registry};

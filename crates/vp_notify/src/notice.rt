@@ -1,3 +1,6 @@
+ghost use Rattle.std.specs.Prelude.{◌≡◌};
+ghost use Rattle.vp_notify.specs.Registry.{polled_notice};
+
 use vp_bits::Bits;
 use vp_elab::ObjectId;
 
@@ -11,9 +14,30 @@ pub struct Notice {
     pub value: Bits,
 }
 
+/// A notice as a poll gives it, which names no object: the number of its callback, the time in time units, and the new value.
+#[derive(Clone, Copy)]
+pub struct PolledNotice {
+    pub callback: u32,
+    pub time: u64,
+    pub value: Bits,
+}
+
+impl Notice {
+    /// The notice as a poll gives it.
+    pub fn polled(&self) -> PolledNotice
+        ensures { result ≡ polled_notice self.now }
+    {
+        PolledNotice {
+            callback: self.callback,
+            time: self.time,
+            value: self.value,
+        }
+    }
+}
+
 /// The notices that waited, oldest first, and how many were lost.
 #[derive(Drop)]
 pub struct Notices {
-    pub notices: Vec<Notice>,
+    pub notices: Vec<PolledNotice>,
     pub lost: u64,
 }

@@ -1,13 +1,13 @@
-ghost use Rattle.std.specs.Prelude.{◌≡◌, ◌+◌, ◌-◌, ◌^◌, ◌≤◌, ◌↔◌, ◌∷◌, ◌++◌, [], filter, length, min, not, nat_lt, false, true, if◌then◌else◌, option_copied, IfErr, IfOk, IsOk, OnErr, OnOk};
+ghost use Rattle.std.specs.Prelude.{◌≡◌, ◌+◌, ◌-◌, ◌^◌, ◌≤◌, ◌↔◌, ◌∷◌, ◌++◌, [], filter, length, map, min, not, nat_lt, false, true, if◌then◌else◌, option_copied, IfErr, IfOk, IsOk, OnErr, OnOk};
 ghost use Rattle.std.specs.List.{list_any};
 ghost use Rattle.vp_notify.specs.declared.fault.NotifyError.TheVariants.{NoMemory, NoSuchCallback, TooManyCallbacks};
-ghost use Rattle.vp_notify.specs.Registry.{AreOrdered, drained, due, empty_registry, has_number, is_full, is_numbered, lacks_watch, notice_of, registered, retired, watches, without};
+ghost use Rattle.vp_notify.specs.Registry.{AreOrdered, drained, due, empty_registry, has_number, is_full, is_numbered, lacks_watch, notice_of, polled_notice, registered, retired, watches, without};
 
 use crate::fault::NotifyError;
-use crate::notice::{Notice, Notices};
+use crate::notice::{Notice, Notices, PolledNotice};
 use crate::order::{count_by, on_object};
 use circular_buffer::HeapCircularBuffer;
-use std::alloc::Global;
+use std::alloc::{AllocError, Global};
 use std::marker::Model;
 use vp_elab::ObjectId;
 use vp_pragma::{Right, Rights};
@@ -114,6 +114,17 @@ fn retire_notices(waiting: &mut HeapCircularBuffer<Notice>, rights: &[Rights])
     }
 }
 
+/// Puts notices after others, as a poll gives them. Takes memory; where there is none, some of them may stand there.
+fn push_polled(notices: &mut Vec<PolledNotice>, waiting: &[Notice]) -> Result<(), AllocError>
+    ensures { OnOk result
+        (notices.new.items ≡ notices.old.items ++ map polled_notice waiting.now) }
+{
+    for notice in waiting {
+        notices.push(notice.polled())?;
+    }
+    Ok(())
+}
+
 impl Registry {
     /// A registry without callbacks, with room for as many notices as may wait. Refuses with `NoMemory` where there is none.
     pub fn new(alloc: Global) -> Result<Registry, NotifyError>
@@ -210,11 +221,15 @@ impl Registry {
 
     /// The notices that wait, oldest first, and how many were lost since the last drain. Refuses with `NoMemory` where there is none.
     pub fn notices(&self) -> Result<Notices, NotifyError>
-        ensures notices { IfOk result (λ n. n.notices.items ≡ self.now.waiting) }
+        ensures notices { IfOk result
+            (λ n. n.notices.items ≡ map polled_notice self.now.waiting) }
         ensures lost { IfOk result (λ n. n.lost ≡ self.now.lost) }
         ensures refusal { IfErr result (λ e. e ≡ NoMemory) }
     {
-        let notices = self.waiting.to_vec(self.alloc)?;
+        let (first, second) = self.waiting.as_slices();
+        let mut notices = Vec::with_capacity(self.alloc, self.waiting.len())?;
+        push_polled(&mut notices, first)?;
+        push_polled(&mut notices, second)?;
         let lost = self.lost;
         Ok(Notices { notices, lost })
     }
@@ -230,7 +245,8 @@ impl Registry {
     /// The notices that wait, oldest first, and how many were lost since the last drain; now none waits and none counts as lost. Refuses
     /// with `NoMemory` where there is none; then nothing is changed.
     pub fn drain(&mut self) -> Result<Notices, NotifyError>
-        ensures notices { IfOk result (λ n. n.notices.items ≡ self.old.waiting) }
+        ensures notices { IfOk result
+            (λ n. n.notices.items ≡ map polled_notice self.old.waiting) }
         ensures lost { IfOk result (λ n. n.lost ≡ self.old.lost) }
         ensures drained { OnOk result (self.new ≡ drained self.old) }
         ensures refusal { IfErr result (λ e. e ≡ NoMemory) }

@@ -81,7 +81,8 @@ fn pair_of(
     ensures second { OnOk result
         (behind (arc_value segment.now).start choices.items ≡ Some second.new) }
     ensures over { OnOk result (is_over second.new ≡ true) }
-    ensures refused { IfErr result (MayExplain NoMemory (order_refusal (behind (arc_value segment.now).start choices.items))) }
+    ensures refused { IfErr result (MayExplain NoMemory
+        (order_refusal (behind (arc_value segment.now).start choices.items))) }
 {
     let _order = segment.order();
     let run = run_order(alloc, segment, first)?;
@@ -112,7 +113,8 @@ fn check_by(
         ≡ finding_of (arc_value segment.now) choices.items object.0) }
     ensures accepted { OnOk result
         (check_refusal (arc_value segment.now) choices.items object.0 ≡ None) }
-    ensures refused { IfErr result (MayExplain NoMemory (check_refusal (arc_value segment.now) choices.items object.0)) }
+    ensures refused { IfErr result (MayExplain NoMemory
+        (check_refusal (arc_value segment.now) choices.items object.0)) }
 {
     let _order = segment.order();
     let orders = pair_of(alloc, segment, first, second, choices)?;

@@ -38,7 +38,8 @@ pub fn is_signal(simulation: &Sim, object: ObjectId) -> bool
 /// Takes the event of a choice. Refused where the choice is no step's (1201), or for want of memory (1207).
 fn take(simulation: &mut Sim, choice: u32) -> Result<(), RaceError>
     ensures ok { OnOk result (reached (step simulation.old choice) ≡ Some simulation.new) }
-    ensures refused { IfErr result (MayExplain NoMemory (choices_refusal (reached (step simulation.old choice)))) }
+    ensures refused { IfErr result (MayExplain NoMemory
+        (choices_refusal (reached (step simulation.old choice)))) }
 {
     match simulation.step(choice as usize) {
         Ok(_) => Ok(()),
@@ -57,7 +58,8 @@ pub fn follow(
     ensures leads { OnOk result (behind simulation.old choices.now ≡ Some simulation.new) }
     ensures sources { OnOk result (sources.new.items
         ≡ sources.old.items ++ sources_of simulation.old choices.now) }
-    ensures refused { IfErr result (MayExplain NoMemory (choices_refusal (behind simulation.old choices.now))) }
+    ensures refused { IfErr result (MayExplain NoMemory
+        (choices_refusal (behind simulation.old choices.now))) }
 {
     for choice in choices {
         sources.push(simulation.source(*choice as usize))?;

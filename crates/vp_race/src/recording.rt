@@ -92,7 +92,8 @@ impl Recording {
             (λ change. step self.old.simulation k ≡ Goes self.new.simulation change) }
         ensures segments { OnOk result
             (self.new.segments ≡ with_step self.old.segments k self.new.simulation) }
-        ensures refused { IfErr result (Explains NoMemory (refusal_in (step self.old.simulation k))) }
+        ensures refused { IfErr result (Explains NoMemory
+            (refusal_in (step self.old.simulation k))) }
         ensures unchanged { OnErr result (self.new ≡ self.old) }
     {
         if make_ready(self.alloc, &mut self.simulation, &mut self.begun).is_err() {

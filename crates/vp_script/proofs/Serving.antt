@@ -2,8 +2,8 @@
 use Rattle.std.proofs.Common.{inl, inr, ◌≡◌, ◌∙◌, ℕ, Bool, true, List, [], ◌∷◌, Option, ap}
 use Rattle.vp_wire.specs.declared.dialogue.Stage.{Stage}
 use Rattle.vp_wire.specs.declared.dialogue.Stage.TheVariants.{Before, Open, Closed}
-use Rattle.vp_world.specs.declared.event.Request.{Request}
-use Rattle.vp_world.specs.declared.reply.Reply.{Reply}
+use Rattle.vp_answer.specs.declared.request.Request.{Request}
+use Rattle.vp_answer.specs.declared.reply.Reply.{Reply}
 use Rattle.vp_world.specs.Worlds.{Logged}
 use Rattle.vp_wire.specs.declared.fault.WireError.{WireError}
 use Rattle.vp_wire.specs.declared.fault.WireError.TheVariants as wire
@@ -16,8 +16,8 @@ use Rattle.vp_script.specs.Scripts.{IsAnswered, IsStopped, Runs, Script, Serves}
 pub runs_more : (a b : Bool) (w v : Logged) → (a ≡ true → b ≡ true) → Runs a w v → Runs b w v
 runs_more a b w v up (n, rest, happened, ends) = (n, rest, happened, elim ends [ inl starved ↦ inl (up starved) | inr refused ↦ inr refused ])
 
-serves_more : (a b : Bool) (before after : Script) (r : Request) (told : Reply) → (a ≡ true → b ≡ true) → Serves a before r told after → Serves b before r told after
-serves_more a b before after r told up s = record {
+serves_more : (a b : Bool) (before after : Script) (r : Request) (answer : Reply) → (a ≡ true → b ≡ true) → Serves a before r answer after → Serves b before r answer after
+serves_more a b before after r answer up s = record {
   asked = s.asked;
   applied = s.applied;
   session = s.session;
@@ -36,25 +36,25 @@ fed_before : (p q : Point Keeper) (b : Bool) → q ≡ p → Fed q b → Fed p b
 fed_before p q b same fed = λ starved. fed (ap (λ (o : Point Keeper). o.caller.starved) same ∙ starved)
 
 module _ (b : Bool) where
-  one_served : (turn : Turn) (p q : Point Keeper) (told : List ℕ) → Answers Keeps turn p told q → Fed q b → Answers (Serves b) turn (point_of p) told (point_of q) × Fed p b
-  one_served (Tells text) p q told (is_told, same) fed = ((is_told, ap point_of same), fed_before p q b same fed)
-  one_served (Calls r) p q told (inl asked) fed = (
+  one_served : (turn : Turn) (p q : Point Keeper) (reply_line : List ℕ) → Answers Keeps turn p reply_line q → Fed q b → Answers (Serves b) turn (point_of p) reply_line (point_of q) × Fed p b
+  one_served (Tells text) p q reply_line (is_reply_line, same) fed = ((is_reply_line, ap point_of same), fed_before p q b same fed)
+  one_served (Calls r) p q reply_line (inl asked) fed = (
     inl (record {
       reply = asked.reply;
       called = serves_more q.caller.starved b (script_of p.caller) (script_of q.caller) r asked.reply fed asked.called.serves;
-      is_told = asked.is_told;
+      is_reply_line = asked.is_reply_line;
       stage = asked.stage;
     }),
     λ starved. fed (asked.called.starved starved),
   )
-  one_served (Calls r) p q told (inr (is_told, same)) fed = (inr (is_told, ap point_of same), fed_before p q b same fed)
+  one_served (Calls r) p q reply_line (inr (is_reply_line, same)) fed = (inr (is_reply_line, ap point_of same), fed_before p q b same fed)
 
-  all_served : (lines told : List (List ℕ)) (p q : Point Keeper) → AnswersAll Keeps lines p told q → Fed q b → AnswersAll (Serves b) lines (point_of p) told (point_of q) × Fed p b
+  all_served : (lines reply_lines : List (List ℕ)) (p q : Point Keeper) → AnswersAll Keeps lines p reply_lines q → Fed q b → AnswersAll (Serves b) lines (point_of p) reply_lines (point_of q) × Fed p b
   all_served [] [] p q same fed = (ap point_of same, fed_before p q b same fed)
-  all_served [] (t ∷ told) p q none fed = absurd none
+  all_served [] (t ∷ reply_lines) p q none fed = absurd none
   all_served (line ∷ lines) [] p q none fed = absurd none
-  all_served (line ∷ lines) (t ∷ told) p q (next, one, more) fed =
-      let rest = all_served lines told next q more fed in
+  all_served (line ∷ lines) (t ∷ reply_lines) p q (next, one, more) fed =
+      let rest = all_served lines reply_lines next q more fed in
       let first = one_served (turn_of p.stage line) p next t one rest.1 in
       ((point_of next, first.0, rest.0), first.1)
 
@@ -64,9 +64,9 @@ module _ (b : Bool) where
   closed Closed c d same fed = (ap script_of same, λ starved. fed (ap (λ (k : Keeper). k.starved) same ∙ starved))
 
   stopped_by : (unread still_unread held holds : Option (List ℕ)) (e : WireError) (c : Keeper) (end : Point Keeper) → Stops e Keeps unread still_unread held holds c end → Fed end b → Stops e (Serves b) unread still_unread held holds (script_of c) (point_of end)
-  stopped_by unread still_unread held holds wire.ReadFault c end d fed = record { input = d.input; read = d.read; lines = d.lines; are_its = d.are_its; told = d.told; answers = (all_served d.lines d.told (record { stage = Before; caller = c }) end d.answers fed).0; written = d.written; is_out = d.is_out; appended = d.appended }
-  stopped_by unread still_unread held holds wire.TurnLimit c end d fed = record { input = d.input; read = d.read; lines = d.lines; are_its = d.are_its; told = d.told; answers = (all_served d.lines d.told (record { stage = Before; caller = c }) end d.answers fed).0; written = d.written; is_out = d.is_out; appended = d.appended }
-  stopped_by unread still_unread held holds wire.WriteFault c end d fed = record { input = d.input; read = d.read; lines = d.lines; are_its = d.are_its; told = d.told; answers = (all_served d.lines d.told (record { stage = Before; caller = c }) end d.answers fed).0; written = d.written; is_out = d.is_out; appended = d.appended }
+  stopped_by unread still_unread held holds wire.ReadFault c end d fed = record { input = d.input; read = d.read; lines = d.lines; are_its = d.are_its; reply_lines = d.reply_lines; answers = (all_served d.lines d.reply_lines (record { stage = Before; caller = c }) end d.answers fed).0; written = d.written; is_out = d.is_out; appended = d.appended }
+  stopped_by unread still_unread held holds wire.TurnLimit c end d fed = record { input = d.input; read = d.read; lines = d.lines; are_its = d.are_its; reply_lines = d.reply_lines; answers = (all_served d.lines d.reply_lines (record { stage = Before; caller = c }) end d.answers fed).0; written = d.written; is_out = d.is_out; appended = d.appended }
+  stopped_by unread still_unread held holds wire.WriteFault c end d fed = record { input = d.input; read = d.read; lines = d.lines; are_its = d.are_its; reply_lines = d.reply_lines; answers = (all_served d.lines d.reply_lines (record { stage = Before; caller = c }) end d.answers fed).0; written = d.written; is_out = d.is_out; appended = d.appended }
   stopped_by unread still_unread held holds wire.LineTooLong c end none fed = absurd none
   stopped_by unread still_unread held holds wire.BadJson c end none fed = absurd none
   stopped_by unread still_unread held holds wire.BadRequest c end none fed = absurd none
@@ -77,7 +77,7 @@ pub served : {unread still_unread held holds : Option (List ℕ)} (c d : Keeper)
     → IsAnswered starved (script_of c) unread still_unread held holds lines
 served c d end lines starved same w closes =
     let last = closed starved end.stage end.caller d closes (λ lacking. same ∙ lacking) in
-    let all = all_served starved w.dialogue.lines w.dialogue.told (record { stage = Before; caller = c }) end w.dialogue.answers last.1 in
+    let all = all_served starved w.dialogue.lines w.dialogue.reply_lines (record { stage = Before; caller = c }) end w.dialogue.answers last.1 in
     record {
       end = point_of end;
       whole = record {
@@ -86,7 +86,7 @@ served c d end lines starved same w closes =
           read = w.dialogue.read;
           lines = w.dialogue.lines;
           are_its = w.dialogue.are_its;
-          told = w.dialogue.told;
+          reply_lines = w.dialogue.reply_lines;
           answers = all.0;
           written = w.dialogue.written;
           is_out = w.dialogue.is_out;

@@ -1,8 +1,8 @@
 -- A script that the program keeps.
 use Rattle.std.specs.Prelude.{◌≡◌, ◌⊎◌, ℕ, suc, Bool, true, List, []}
 use Rattle.vp_race.specs.Segments.{Told}
-use Rattle.vp_world.specs.declared.event.Request.{Request}
-use Rattle.vp_world.specs.declared.reply.Reply.{Reply}
+use Rattle.vp_answer.specs.declared.request.Request.{Request}
+use Rattle.vp_answer.specs.declared.reply.Reply.{Reply}
 use Rattle.vp_script.specs.declared.keeper.Keeper.{Keeper}
 use Rattle.vp_script.specs.Scripts.{Happen, Running, Script, Serves}
 use Rattle.vp_world.specs.Worlds.{Logged}
@@ -12,8 +12,8 @@ abbrev pub script_of : Keeper → Script
 script_of k = record { world = k.world; session = k.session }
 
 -- a kept script's request is answered as the script serves it; that there was no memory for the simulation is remembered
-pub record Keeps (k : Keeper) (r : Request) (told : Reply) (l : Keeper) : Type 0 where
-  pub serves : Serves l.starved (script_of k) r told (script_of l)
+pub record Keeps (k : Keeper) (r : Request) (answer : Reply) (l : Keeper) : Type 0 where
+  pub serves : Serves l.starved (script_of k) r answer (script_of l)
   pub starved : k.starved ≡ true → l.starved ≡ true
 
 -- what was found is booked in a world, or what there was memory for

@@ -12,15 +12,15 @@ use Rattle.vp_race.specs.Segments.{Told}
 use Rattle.vp_sim.specs.declared.fault.SimError.TheVariants.{Idle}
 use Rattle.vp_world.specs.declared.event.Event.{Event}
 use Rattle.vp_world.specs.declared.event.Event.TheVariants as event
-use Rattle.vp_world.specs.declared.event.Request.{Request}
-use Rattle.vp_world.specs.declared.event.Request.TheVariants as request
-use Rattle.vp_world.specs.declared.event.SessionId.{SessionId}
+use Rattle.vp_answer.specs.declared.request.Request.{Request}
+use Rattle.vp_answer.specs.declared.request.Request.TheVariants as request
+use Rattle.vp_answer.specs.declared.request.SessionId.{SessionId}
 use Rattle.vp_world.specs.declared.fault.WorldError.{WorldError}
 use Rattle.vp_world.specs.declared.fault.WorldError.TheVariants as error
 use Rattle.vp_world.specs.declared.limits.Limits.{Limits}
-use Rattle.vp_world.specs.declared.reply.Refusal.TheVariants as refusal
-use Rattle.vp_world.specs.declared.reply.Reply.{Reply}
-use Rattle.vp_world.specs.declared.reply.Reply.TheVariants as reply
+use Rattle.vp_answer.specs.declared.reply.Refusal.TheVariants as refusal
+use Rattle.vp_answer.specs.declared.reply.Reply.{Reply}
+use Rattle.vp_answer.specs.declared.reply.Reply.TheVariants as reply
 use Rattle.vp_world.specs.History.{answered_by, refused_by, state_behind, with_entry}
 use Rattle.vp_world.specs.Refusals.{refusal_of_error}
 use Rattle.vp_world.specs.Worlds.{Logged, Opening}
@@ -36,15 +36,15 @@ use Rattle.vp_script.specs.Designs.{IsDesignOf, IsRefusedBy, text_limit}
 -- what a world does with an event, by its refusal: it answers and logs it, or tells the refusal; or there is no memory, and
 -- nothing happens
 abbrev pub AppliedBy : Option WorldError → Logged → Event → Reply → Logged → Type 0
-AppliedBy (Some e) w happens told v = (told ≡ reply.Error (refusal_of_error e)) × (v ≡ w)
-AppliedBy None w happens told v =
-    ((told ≡ answered_by w happens) × (v ≡ with_entry w happens))
-    ⊎ ((told ≡ reply.Error refusal.NoMemory) × (v ≡ w))
+AppliedBy (Some e) w happens answer v = (answer ≡ reply.Error (refusal_of_error e)) × (v ≡ w)
+AppliedBy None w happens answer v =
+    ((answer ≡ answered_by w happens) × (v ≡ with_entry w happens))
+    ⊎ ((answer ≡ reply.Error refusal.NoMemory) × (v ≡ w))
 
 -- what a world does with an event, if there is one: a request of a session that was not opened is none
 abbrev pub Applied : Option Event → Logged → Reply → Logged → Type 0
-Applied None w told v = (told ≡ reply.Error refusal.NotOpen) × (v ≡ w)
-Applied (Some e) w told v = AppliedBy (refused_by w e) w e told v
+Applied None w answer v = (answer ≡ reply.Error refusal.NotOpen) × (v ≡ w)
+Applied (Some e) w answer v = AppliedBy (refused_by w e) w e answer v
 
 -- ---- the simulation runs
 
@@ -122,13 +122,13 @@ event_of (Some id) r = Some (event.Ask id r)
 -- the session of a script behind a reply
 abbrev pub session_behind : Option SessionId → Reply → Option SessionId
 session_behind session (reply.Opened id) = Some id
-session_behind session told = session
+session_behind session answer = session
 
 -- a script's request is answered by the world, and then the simulation runs
-pub record Serves (starved : Bool) (before : Script) (r : Request) (told : Reply) (after : Script) : Type 0 where
+pub record Serves (starved : Bool) (before : Script) (r : Request) (answer : Reply) (after : Script) : Type 0 where
   pub asked : Logged
-  pub applied : Applied (event_of before.session r) before.world told asked
-  pub session : after.session ≡ session_behind before.session told
+  pub applied : Applied (event_of before.session r) before.world answer asked
+  pub session : after.session ≡ session_behind before.session answer
   pub runs : Runs starved asked after.world
 
 -- a script in which nothing has happened

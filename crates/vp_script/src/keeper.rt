@@ -14,10 +14,11 @@ ghost use Rattle.vp_world.specs.History.{Applies, refused_by, state_behind, with
 use std::alloc::{AllocError, Global};
 use std::collections::VecDeque;
 use std::sync::Arc;
+use vp_answer::{Refusal, Reply, Request, SessionId};
 use vp_race::{Finding, OpenGate, Segment, Shared, search};
 use vp_sim::SimError;
 use vp_wire::Caller;
-use vp_world::{Event, Refusal, Reply, Request, SessionId, World, WorldError};
+use vp_world::{Event, World, WorldError};
 
 /// A search tries so many seeds.
 const SEED_COUNT: u64 = 16;

@@ -173,7 +173,8 @@ impl Sim {
     /// `$finish` was executed (804), or for want of memory (806). A refusal leaves the simulation as it was.
     pub fn put(&mut self, object: ObjectId, value: Bits) -> Result<Option<Change>, SimError>
         ensures ok { IfOk result (λ change. put self.old object.0 value ≡ Goes self.new change) }
-        ensures refused { IfErr result (Explains NoMemory (refusal_in (put self.old object.0 value))) }
+        ensures refused { IfErr result (Explains NoMemory
+            (refusal_in (put self.old object.0 value))) }
         ensures unchanged { OnErr result (self.new ≡ self.old) }
     {
         self.machine.put(object, value)

@@ -1,6 +1,6 @@
 -- Races in a list, one behind another.
-use Rattle.std.proofs.Common.{◌≡◌, ◌∙◌, ◌≤◌, ◌<◌, ◌-◌, ◌++◌, ℕ, zero, suc, Bool, true, false, if◌then◌else◌, List, [], ◌∷◌, Option, Some, None, Ok, drop, filter, length, map, refl, sym, ap, arith, ◌⊎◌, inl, inr}
-use Rattle.std.specs.Prelude.{max, nat_le, option_map, slice_get, take}
+use Rattle.std.proofs.Common.{◌≡◌, ◌∙◌, ◌≤◌, ◌<◌, ◌-◌, ◌++◌, ℕ, zero, suc, Bool, true, false, if◌then◌else◌, List, [], ◌∷◌, Some, drop, filter, length, map, refl, sym, ap, arith, ◌⊎◌, inl, inr}
+use Rattle.std.specs.Prelude.{max, nat_le, option_map, take}
 use Rattle.std.proofs.lemmas.Bool.{leb-true, leb-false}
 use Rattle.std.proofs.Math.ListN.{drop_of_length-le}
 use Rattle.std.proofs.lemmas.List.{append-nil, take-append-le, take_all}
@@ -11,9 +11,8 @@ use Rattle.vp_elab.specs.Tree.{Tree}
 use Rattle.vp_policy.specs.Users.{Member}
 use Rattle.vp_race.specs.Orders.{sources_of}
 use Rattle.vp_race.specs.Segments.{Told}
-use Rattle.vp_vpi.specs.declared.fault.VpiError.TheVariants.{NoSuchRace}
-use Rattle.vp_vpi.specs.Calls.{line_of, lines_from, or_refusal, race_of, race_told, shown_at}
-use Rattle.vp_vpi.specs.Observers.{Observer, RaceSeen, with_races}
+use Rattle.vp_vpi.specs.Calls.{line_of, lines_from, race_told, shown_at}
+use Rattle.vp_vpi.specs.Observers.{RaceSeen}
 use Rattle.vp_vpi.specs.Races.{is_shown, race_seen, races_seen, steps_seen}
 
 -- the races that are told from a number on, of those behind so many
@@ -63,11 +62,11 @@ whole n all lines rest h few (inr many) = ap (take n) h ∙ take-append-le n lin
 
 -- the race of a number, which is shown
 pub race_at :
-    (tree : Tree) (u : Member) (book : List Told) (eyes : Observer) (number : ℕ) (f : Told)
+    (tree : Tree) (u : Member) (book : List Told) (number : ℕ) (f : Told)
     → shown_at (filter (is_shown tree u) book) number ≡ Some f
-    → race_of (with_races (races_seen tree u book) eyes) number ≡ Ok (race_told number (race_seen tree u f))
-race_at tree u book eyes number f h =
-    ap (λ o. or_refusal (option_map (race_told number) o) NoSuchRace)
+    → option_map (race_told number) (shown_at (races_seen tree u book) number) ≡ Some (race_told number (race_seen tree u f))
+race_at tree u book number f h =
+    ap (option_map (race_told number))
     (shown_map (race_seen tree u) (filter (is_shown tree u) book) number ∙ ap (option_map (race_seen tree u)) h)
 
 abbrev pub told_of : RaceLine → (first second : List (List ℕ)) → RaceTold
@@ -75,12 +74,12 @@ told_of line first second = record { line = line; first_steps = first; second_st
 
 -- a race that is put together is the one that is shown
 pub told_same :
-    (number : ℕ) (tree other : Tree) (u : Member) (f : Told) (line : RaceLine) (first second : List (List ℕ)) (sources others : List ObjectId)
-    → other ≡ tree → line ≡ line_of number (race_seen other u f) → first ≡ steps_seen other u sources → second ≡ steps_seen other u others
+    (number : ℕ) (tree : Tree) (u : Member) (f : Told) (line : RaceLine) (first second : List (List ℕ)) (sources others : List ObjectId)
+    → line ≡ line_of number (race_seen tree u f) → first ≡ steps_seen tree u sources → second ≡ steps_seen tree u others
     → sources ≡ sources_of f.segment.start f.segment.order → others ≡ sources_of f.segment.start f.second
     → told_of line first second ≡ race_told number (race_seen tree u f)
-told_same number tree other u f line first second sources others same l s t p q =
+told_same number tree u f line first second sources others l s t p q =
     let seen = race_seen tree u f in
-    ap (λ x. told_of x first second) (l ∙ ap (λ d. line_of number (race_seen d u f)) same)
-    ∙ ap (λ x. told_of (line_of number seen) x second) (s ∙ ap (λ d. steps_seen d u sources) same ∙ ap (steps_seen tree u) p)
-    ∙ ap (λ x. told_of (line_of number seen) seen.first_steps x) (t ∙ ap (λ d. steps_seen d u others) same ∙ ap (steps_seen tree u) q)
+    ap (λ x. told_of x first second) l
+    ∙ ap (λ x. told_of (line_of number seen) x second) (s ∙ ap (steps_seen tree u) p)
+    ∙ ap (λ x. told_of (line_of number seen) seen.first_steps x) (t ∙ ap (steps_seen tree u) q)

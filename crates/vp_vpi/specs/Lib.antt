@@ -1,5 +1,6 @@
 pub mod Faults
 pub mod Observers
+pub mod Lookups
 pub mod Races
 pub mod Calls
 pub mod Seats

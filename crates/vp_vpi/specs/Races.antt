@@ -1,5 +1,5 @@
 -- What a user is shown of the races in the book (profile).
-use Rattle.std.specs.Prelude.{ℕ, Bool, true, false, if◌then◌else◌, List, [], ◌++◌, filter, map, codes, Option, Some, None, is_none}
+use Rattle.std.specs.Prelude.{ℕ, Bool, true, false, if◌then◌else◌, List, [], ◌++◌, filter, map, codes, Option, Some, is_none}
 use Rattle.vp_pragma.specs.declared.rights.Right.TheVariants as right
 use Rattle.vp_elab.specs.declared.object.Kind.{Kind}
 use Rattle.vp_elab.specs.declared.object.Kind.TheVariants as kind

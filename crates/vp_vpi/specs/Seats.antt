@@ -1,9 +1,9 @@
 -- A session: its user, his handles, and his callbacks.
-use Rattle.std.specs.Prelude.{ℕ, zero, suc, ◌+◌, ◌&&◌, not, nat_le, Bool, List, [], ◌∷◌, ◌++◌, length, count_by, slice_get, slice_set, Option, Some, None, is_some, option_map}
+use Rattle.std.specs.Prelude.{ℕ, zero, suc, ◌+◌, ◌&&◌, not, nat_le, Bool, List, [], ◌∷◌, ◌++◌, length, map, count_by, slice_get, slice_set, Option, Some, None, is_some, option_map}
 use Rattle.std.specs.Option.{option_flatten}
 use Rattle.vp_elab.specs.declared.object.ObjectId.{ObjectId}
 use Rattle.vp_waking.specs.declared.change.Change.{Change}
-use Rattle.vp_notify.specs.declared.notice.Notice.{Notice}
+use Rattle.vp_notify.specs.declared.notice.PolledNotice.{PolledNotice}
 use Rattle.vp_notify.specs.Registry as registry
 
 -- a session: its user; his handles in the order in which they were made, each with its object, or none where it was freed; and his
@@ -81,12 +81,12 @@ with_due change time s = record s { registry = registry.due s.registry change ti
 
 -- what a poll tells: the notices that wait, oldest first, and how many were lost since the last poll
 pub record Polled : Type 0 where
-  pub notices : List Notice
+  pub notices : List PolledNotice
   pub lost : ℕ
 
 -- what a session's poll tells (profile)
 abbrev pub polled : Seat → Polled
-polled s = record { notices = s.registry.waiting; lost = s.registry.lost }
+polled s = record { notices = map registry.polled_notice s.registry.waiting; lost = s.registry.lost }
 
 -- a session behind a poll: none waits any more, and none counts as lost (profile)
 abbrev pub drained : Seat → Seat

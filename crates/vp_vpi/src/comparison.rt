@@ -6,7 +6,7 @@ use crate::notices::SharedNotices;
 use crate::property::{PutValue, VectorWord};
 use crate::races::{RaceLine, RaceTold};
 use vp_list::Same;
-use vp_notify::Notice;
+use vp_notify::PolledNotice;
 
 impl Same for ListedObject {
     fn is_same(&self, other: &ListedObject) -> bool {
@@ -33,7 +33,7 @@ impl Same for SharedNotices {
 }
 
 /// Two lists have the same notices.
-fn are_same_notices(first: &[Notice], second: &[Notice]) -> bool
+fn are_same_notices(first: &[PolledNotice], second: &[PolledNotice]) -> bool
     ensures same { result ≡ true → first.now ≡ second.now }
     ensures differs { first.now ≡ second.now → result ≡ true }
 {
@@ -49,14 +49,11 @@ fn are_same_notices(first: &[Notice], second: &[Notice]) -> bool
 }
 
 /// Two notices are the same.
-fn is_same_notice(first: &Notice, second: &Notice) -> bool
+fn is_same_notice(first: &PolledNotice, second: &PolledNotice) -> bool
     ensures same { result ≡ true → first.now ≡ second.now }
     ensures differs { first.now ≡ second.now → result ≡ true }
 {
-    first.callback == second.callback
-        && first.object == second.object
-        && first.time == second.time
-        && first.value == second.value
+    first.callback == second.callback && first.time == second.time && first.value == second.value
 }
 
 impl Same for RaceLine {

@@ -1,14 +1,13 @@
 // What an iteration over a scope tells, and the handles that it makes (docs/FORMATS.md, "Lines").
 ghost use Rattle.std.specs.Prelude.{◌≡◌, ℕ, suc, ◌+◌, ◌≤◌, List, filter, length, map, IfOk};
-ghost use Rattle.vp_elab.specs.Tree.{name_at};
 ghost use Rattle.vp_vpi.specs.Calls.{is_of, is_same, items_from};
-ghost use Rattle.vp_vpi.specs.Observers.{kind_at};
 ghost use Rattle.vp_vpi.specs.Seats.{handle_to, number_limit};
 
+use crate::observer::Observe;
 use std::alloc::{AllocError, Global};
 use std::marker::Model;
 use std::sync::Arc;
-use vp_elab::{Design, Kind, ObjectId};
+use vp_elab::{Kind, ObjectId};
 use vp_list::{Sequence, Text};
 
 /// An object that is listed: the handle that is made of it, and its name.
@@ -87,25 +86,26 @@ impl Model for Iteration {
 
 impl Iteration {
     /// An iteration over these objects: it tells these numbers of envelopes, and the handles behind the last one. Takes memory.
-    pub(crate) fn new(
+    pub(crate) fn new<E: Observe>(
         alloc: Global,
-        design: &Design,
+        eyes: &E,
         closed: Sequence<u8>,
         last: u32,
         objects: &[ObjectId],
     ) -> Result<Iteration, AllocError>
-        requires { last + length objects.now ≤ number_limit }
+        requires sound { E.is_sound eyes.now }
+        requires room { last + length objects.now ≤ number_limit }
         ensures iteration { let ids : List ℕ = map (λ o. o.0) objects.now in
             IfOk result (λ i. i ≡ record {
               listing = record {
                 closed = closed;
-                items = items_from (name_at design.now.tree) (suc last) ids;
+                items = items_from (E.observer eyes.now).name (suc last) ids;
               };
               handles = map handle_to ids;
             }) }
         ensures count { IfOk result (λ i. length i.handles ≡ length objects.now) }
     {
-        let items = items_behind(alloc, design, last, objects)?;
+        let items = items_behind(alloc, eyes, last, objects)?;
         let listing = SharedListing::new(alloc, Listing { closed, items })?;
         let handles = handles_to(alloc, objects)?;
         Ok(Iteration { listing, handles })
@@ -144,18 +144,19 @@ fn is_of(kind: Kind, found: Option<Kind>) -> bool
 }
 
 /// Those objects that are of a kind. Takes memory.
-pub fn of_kind(
+pub fn of_kind<E: Observe>(
     alloc: Global,
-    design: &Design,
+    eyes: &E,
     kind: Kind,
     objects: &[ObjectId],
 ) -> Result<Sequence<ObjectId>, AllocError>
+    requires { E.is_sound eyes.now }
     ensures { IfOk result (λ ids. map (λ o. o.0) ids
-        ≡ filter (λ o. is_of kind (kind_at design.now.tree o)) (map (λ o. o.0) objects.now)) }
+        ≡ filter (λ o. is_of kind ((E.observer eyes.now).kind o)) (map (λ o. o.0) objects.now)) }
 {
     let mut ids = Vec::new(alloc);
     for object in objects {
-        if is_of(kind, design.kind(*object)) {
+        if is_of(kind, eyes.kind(*object)) {
             ids.push(*object)?;
         }
     }
@@ -163,21 +164,22 @@ pub fn of_kind(
 }
 
 /// The objects with their names, and with the handles behind the last one. Takes memory.
-fn items_behind(
+fn items_behind<E: Observe>(
     alloc: Global,
-    design: &Design,
+    eyes: &E,
     last: u32,
     objects: &[ObjectId],
 ) -> Result<Sequence<ListedObject>, AllocError>
-    requires { last + length objects.now ≤ number_limit }
+    requires sound { E.is_sound eyes.now }
+    requires room { last + length objects.now ≤ number_limit }
     ensures { IfOk result (λ items. items
-        ≡ items_from (name_at design.now.tree) (suc last) (map (λ o. o.0) objects.now)) }
+        ≡ items_from (E.observer eyes.now).name (suc last) (map (λ o. o.0) objects.now)) }
 {
     let mut items = Vec::new(alloc);
     for object in objects {
         items.push(ListedObject {
             handle: last + items.len() as u32 + 1,
-            name: Text::copy(alloc, design.name(*object))?,
+            name: Text::copy(alloc, eyes.name(*object))?,
         })?;
     }
     Ok(Sequence::from_vec(items))

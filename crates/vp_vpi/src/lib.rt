@@ -5,14 +5,18 @@ mod comparison;
 mod fault;
 mod iteration;
 mod notices;
+mod observer;
 mod property;
 mod put;
 mod races;
 mod session;
+mod user_observer;
 
 pub use fault::VpiError;
 pub use iteration::{Iteration, ListedObject, Listing, SharedListing};
 pub use notices::SharedNotices;
+pub use observer::{Found, Observe};
 pub use property::{NumberProperty, PutValue, TextProperty, VectorWord};
 pub use races::{RaceLine, RaceTold};
 pub use session::{HANDLE_LIMIT, Session};
+pub use user_observer::UserObserver;

@@ -4,7 +4,7 @@ ghost use Rattle.std.specs.Prelude.{◌≡◌, IfOk};
 use std::alloc::{AllocError, Global};
 use std::marker::Model;
 use std::sync::Arc;
-use vp_notify::{Notice, Notices};
+use vp_notify::{Notices, PolledNotice};
 
 /// What a poll tells, which several may hold. A contract sees the notices and how many were lost.
 #[derive(Drop)]
@@ -46,7 +46,7 @@ impl SharedNotices {
     }
 
     /// The notices, oldest first.
-    pub fn notices(&self) -> &[Notice]
+    pub fn notices(&self) -> &[PolledNotice]
         ensures { result.now ≡ self.now.notices }
     {
         self.notices.notices.as_slice()

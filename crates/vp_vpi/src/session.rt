@@ -1,11 +1,7 @@
 ghost use Rattle.std.specs.Option.{option_flatten};
 ghost use Rattle.std.specs.Prelude.{◌≡◌, [], count_by, is_some, length, map, None, option_map, slice_get, slice_set, Ok, IfErr, IfOk, IsOkAnd, IsOkUnless, IsSome, IsTrue, OnErr, OnOk};
-ghost use Rattle.vp_policy.specs.Filter.{words_of};
-ghost use Rattle.vp_policy.specs.PolicyState.{Fits};
-ghost use Rattle.vp_policy.specs.Users.{Member, member_at};
-ghost use Rattle.vp_sim.specs.States.{State};
-ghost use Rattle.vp_vpi.specs.Observers.{lookup_of, observer_of};
-ghost use Rattle.vp_vpi.specs.Calls.{Explains, ExplainsIteration, Refuses, Tells, allowed, handle_of, iterated, iteration, listed_of, number_of, object_found, put_of, same_of, scope_of, text_at, text_of, value_of};
+ghost use Rattle.vp_vpi.specs.Lookups.{found_shown};
+ghost use Rattle.vp_vpi.specs.Calls.{Explains, ExplainsIteration, Refuses, allowed, handle_of, iterated, iteration, listed_of, number_of, object_found, put_of, same_of, scope_of, text_at, text_of, value_of};
 ghost use Rattle.vp_vpi.specs.Seats.{has_room, new_seat, next_handle, object_of, with_handle, with_handles, without_handle};
 
 mod callbacks;
@@ -13,17 +9,17 @@ mod races;
 
 use crate::fault::VpiError;
 use crate::iteration::{Iteration, of_kind};
+use crate::observer::{Found, Observe};
 use crate::property::{NumberProperty, PutValue, TextProperty};
 use crate::put::put_bits;
 use std::alloc::{AllocError, Global};
 use std::marker::Model;
 use vp_bits::Bits;
-use vp_elab::{Design, Kind, ObjectId};
+use vp_elab::{Kind, ObjectId};
 use vp_list::{Sequence, SharedText, Text};
 use vp_notify::Registry;
-use vp_policy::{Denial, Look, Policy, UserId};
+use vp_policy::UserId;
 use vp_pragma::Right;
-use vp_sim::Sim;
 
 /// How many handles a session has at most at once.
 pub const HANDLE_LIMIT: usize = 65_536;
@@ -121,203 +117,159 @@ impl Session {
             && self.handles.len() <= u32::MAX as usize - more
     }
 
-    /// A denial, in words; or want of memory.
-    fn denied(&self, design: &Design, denial: Denial) -> VpiError
-        ensures { Tells (VpiError.Denied (words_of design.now.tree denial)) result }
-    {
-        match denial.words(self.alloc, design) {
-            Ok(words) => VpiError::Denied(words),
-            Err(_) => VpiError::NoMemory,
-        }
-    }
-
     /// The object of a handle, on which the user has a right. Refused where the number is no handle (1101), or the user lacks the
     /// right (1109), or for want of memory (1107).
-    fn allowed(
-        &self,
-        policy: &Policy,
-        sim: &Sim,
-        handle: u32,
-        right: Right,
-    ) -> Result<ObjectId, VpiError>
-        requires { Fits policy.now sim.now.design.tree }
-        ensures ok { IfOk result
-            (λ o. allowed (observer_of sim.now (member_at policy.now.members self.now.user)) right
+    fn allowed<E: Observe>(&self, eyes: &E, handle: u32, right: Right) -> Result<ObjectId, VpiError>
+        requires { E.is_sound eyes.now }
+        ensures ok { IfOk result (λ o. allowed (E.observer eyes.now) right
             (object_of self.now.handles handle) ≡ Ok o.0) }
-        ensures refused { IfErr result
-            (λ e. Refuses (allowed
-            (observer_of sim.now (member_at policy.now.members self.now.user)) right
+        ensures refused { IfErr result (λ e. Refuses (allowed (E.observer eyes.now) right
             (object_of self.now.handles handle)) e) }
     {
         let Some(object) = self.object(handle) else {
             return Err(VpiError::BadHandle);
         };
-        match policy.lacking(sim.design(), self.user, object, right) {
-            Some(denial) => Err(self.denied(sim.design(), denial)),
-            None => Ok(object),
+        match eyes.denied(self.alloc, right, object) {
+            Ok(None) => Ok(object),
+            Ok(Some(words)) => Err(VpiError::Denied(words)),
+            Err(_) => Err(VpiError::NoMemory),
         }
     }
 
     /// The scope of a handle, which is a module; without a handle that of the top modules. Refused where the number is no handle
     /// (1101), the user may not list it (1109), or it is no module (1102), or for want of memory (1107).
-    fn scope(
-        &self,
-        policy: &Policy,
-        sim: &Sim,
-        handle: Option<u32>,
-    ) -> Result<Option<ObjectId>, VpiError>
-        requires { Fits policy.now sim.now.design.tree }
-        ensures ok { IfOk result
-            (λ scope. scope_of (observer_of sim.now (member_at policy.now.members self.now.user))
-            self.now.handles handle ≡ Ok (option_map (λ o. o.0) scope)) }
+    fn scope<E: Observe>(&self, eyes: &E, handle: Option<u32>) -> Result<Option<ObjectId>, VpiError>
+        requires { E.is_sound eyes.now }
+        ensures ok { IfOk result (λ scope. scope_of (E.observer eyes.now) self.now.handles handle
+            ≡ Ok (option_map (λ o. o.0) scope)) }
         ensures refused { IfErr result
-            (λ e. Refuses (scope_of
-            (observer_of sim.now (member_at policy.now.members self.now.user))
-            self.now.handles handle) e) }
+            (λ e. Refuses (scope_of (E.observer eyes.now) self.now.handles handle) e) }
     {
         let Some(handle) = handle else {
             return Ok(None);
         };
-        let object = self.allowed(policy, sim, handle, Right::List)?;
-        match sim.design().kind(object) {
+        let object = self.allowed(eyes, handle, Right::List)?;
+        match eyes.kind(object) {
             Some(Kind::Module) => Ok(Some(object)),
             _ => Err(VpiError::WrongKind),
         }
     }
 
     /// The object of a look-up, for which there is room for a handle.
-    fn room_for(&self, design: &Design, found: Look) -> Result<ObjectId, VpiError>
+    fn room_for(&self, found: Found) -> Result<ObjectId, VpiError>
         ensures ok { IfOk result
-            (λ o. object_found self.now.handles (lookup_of design.now.tree found) ≡ Ok o.0) }
+            (λ o. object_found self.now.handles (found_shown found) ≡ Ok o.0) }
         ensures refused { IfErr result
-            (λ e. Refuses (object_found self.now.handles (lookup_of design.now.tree found)) e) }
+            (λ e. Refuses (object_found self.now.handles (found_shown found)) e) }
     {
         match found {
-            Look::Denied(denial) => Err(self.denied(design, denial)),
+            Found::Denied(words) => Err(VpiError::Denied(words)),
             _ if !self.has_room(1) => Err(VpiError::TooManyHandles),
-            Look::Found(object) => Ok(object),
-            Look::Absent => Err(VpiError::NoSuchName),
+            Found::Object(object) => Ok(object),
+            Found::Absent => Err(VpiError::NoSuchName),
         }
     }
 
     /// The object of a dotted name in a scope, for which there is room for a handle; the refusals are those of its handle.
-    fn named(
+    fn named<E: Observe>(
         &self,
-        policy: &Policy,
-        sim: &Sim,
+        eyes: &E,
         scope: Option<u32>,
         name: &str,
     ) -> Result<ObjectId, VpiError>
-        requires { Fits policy.now sim.now.design.tree }
+        requires { E.is_sound eyes.now }
         ensures ok { IfOk result
-            (λ o. handle_of (observer_of sim.now (member_at policy.now.members self.now.user))
-            self.now.handles scope name.now ≡ Ok o.0) }
+            (λ o. handle_of (E.observer eyes.now) self.now.handles scope name.now ≡ Ok o.0) }
         ensures refused { IfErr result
-            (λ e. Refuses (handle_of
-            (observer_of sim.now (member_at policy.now.members self.now.user))
-            self.now.handles scope name.now) e) }
+            (λ e. Refuses (handle_of (E.observer eyes.now) self.now.handles scope name.now) e) }
     {
-        let above = self.scope(policy, sim, scope)?;
-        let design = sim.design();
-        let found = policy.look(design, self.user, above, name);
-        self.room_for(design, found)
+        let above = self.scope(eyes, scope)?;
+        match eyes.find(self.alloc, above, name) {
+            Ok(found) => self.room_for(found),
+            Err(_) => Err(VpiError::NoMemory),
+        }
     }
 
     /// A new handle of the object of a dotted name, in the scope of a handle or among the top modules. Refused where the scope is
     /// no handle (1101), may not be listed (1109) or is no module (1102), the user may not list the object or the scope hides something
     /// (1109), with too many handles (1105), where nothing is there (1106), or for want of memory (1107). A refusal leaves the session
     /// as it was.
-    pub fn handle_by_name(
+    pub fn handle_by_name<E: Observe>(
         &mut self,
-        policy: &Policy,
-        sim: &Sim,
+        eyes: &E,
         scope: Option<u32>,
         name: &str,
     ) -> Result<u32, VpiError>
-        requires { Fits policy.now sim.now.design.tree }
+        requires { E.is_sound eyes.now }
         ensures handle { IfOk result (λ handle. handle ≡ next_handle self.old.handles) }
         ensures made { OnOk result
-            (IsOkAnd (handle_of (observer_of sim.now (member_at policy.now.members self.old.user))
-            self.old.handles scope name.now) (λ o. self.new ≡ with_handle o self.old)) }
+            (IsOkAnd (handle_of (E.observer eyes.now) self.old.handles scope name.now)
+            (λ o. self.new ≡ with_handle o self.old)) }
         ensures refused { IfErr result
-            (λ e. Explains (handle_of
-            (observer_of sim.now (member_at policy.now.members self.old.user))
-            self.old.handles scope name.now) e) }
+            (λ e. Explains (handle_of (E.observer eyes.now) self.old.handles scope name.now) e) }
         ensures unchanged { OnErr result (self.new ≡ self.old) }
     {
-        let object = self.named(policy, sim, scope, name)?;
+        let object = self.named(eyes, scope, name)?;
         self.handles.push(Some(object))?;
         self.open_handles += 1;
         Ok(self.handles.len() as u32)
     }
 
     /// The objects of a kind that are listed to the user in a scope.
-    fn listed(
+    fn listed<E: Observe>(
         &self,
-        policy: &Policy,
-        design: &Design,
+        eyes: &E,
         kind: Kind,
         scope: Option<ObjectId>,
     ) -> Result<Sequence<ObjectId>, AllocError>
-        requires { Fits policy.now design.now.tree }
-        ensures { (run : State) → run.design ≡ design.now → IfOk result
-            (λ ids. map (λ o. o.0) ids
-            ≡ listed_of (observer_of run (member_at policy.now.members self.now.user)) kind
-            (option_map (λ o. o.0) scope)) }
+        requires { E.is_sound eyes.now }
+        ensures { IfOk result (λ ids. map (λ o. o.0) ids
+            ≡ listed_of (E.observer eyes.now) kind (option_map (λ o. o.0) scope)) }
     {
-        match policy.listed(self.alloc, design, self.user, scope) {
-            Ok(objects) => of_kind(self.alloc, design, kind, objects.as_slice()),
-            Err(_) => Err(AllocError),
-        }
+        let objects = eyes.listed(self.alloc, scope)?;
+        of_kind(self.alloc, eyes, kind, objects.as_slice())
     }
 
     /// An iteration over these objects of a scope, for whose handles there is room.
-    fn iteration(
+    fn iteration<E: Observe>(
         &self,
-        policy: &Policy,
-        design: &Design,
+        eyes: &E,
         scope: Option<ObjectId>,
         objects: &[ObjectId],
     ) -> Result<Iteration, AllocError>
-        requires fits { Fits policy.now design.now.tree }
+        requires sound { E.is_sound eyes.now }
         requires room { IsTrue (has_room (length objects.now) self.now.handles) }
-        ensures iteration { (run : State) → run.design ≡ design.now → IfOk result
-            (λ i. i ≡ iteration (observer_of run (member_at policy.now.members self.now.user))
-            self.now.handles (option_map (λ o. o.0) scope) (map (λ o. o.0) objects.now)) }
+        ensures iteration { IfOk result (λ i. i ≡ iteration (E.observer eyes.now) self.now.handles
+            (option_map (λ o. o.0) scope) (map (λ o. o.0) objects.now)) }
         ensures count { IfOk result (λ i. length i.handles ≡ length objects.now) }
     {
-        let Ok(closed) = policy.closed(self.alloc, self.user, scope) else {
-            return Err(AllocError);
-        };
+        let closed = eyes.closed(self.alloc, scope)?;
         let last = self.handles.len() as u32;
-        Iteration::new(self.alloc, design, closed, last, objects)
+        Iteration::new(self.alloc, eyes, closed, last, objects)
     }
 
     /// An iteration over the objects of a kind in the scope of a handle, or over the top modules: of a list that is made at once,
     /// with a new handle of each object. `scan` makes the handles. Refused where the scope is no handle (1101), may not be listed (1109)
     /// or is no module (1102), with too many handles (1105), or for want of memory (1107), which may come before 1105.
-    pub fn iterate(
+    pub fn iterate<E: Observe>(
         &self,
-        policy: &Policy,
-        sim: &Sim,
+        eyes: &E,
         kind: Kind,
         scope: Option<u32>,
     ) -> Result<Iteration, VpiError>
-        requires { Fits policy.now sim.now.design.tree }
+        requires { E.is_sound eyes.now }
         ensures ok { IfOk result
-            (λ i. iterated (observer_of sim.now (member_at policy.now.members self.now.user))
-            self.now.handles kind scope ≡ Ok i) }
+            (λ i. iterated (E.observer eyes.now) self.now.handles kind scope ≡ Ok i) }
         ensures room { IfOk result (λ i. IsTrue (has_room (length i.handles) self.now.handles)) }
         ensures refused { IfErr result (λ e. ExplainsIteration
-            (iterated (observer_of sim.now (member_at policy.now.members self.now.user))
-            self.now.handles kind scope) e) }
+            (iterated (E.observer eyes.now) self.now.handles kind scope) e) }
     {
-        let above = self.scope(policy, sim, scope)?;
-        let objects = self.listed(policy, sim.design(), kind, above)?;
+        let above = self.scope(eyes, scope)?;
+        let objects = self.listed(eyes, kind, above)?;
         if !self.has_room(objects.len()) {
             return Err(VpiError::TooManyHandles);
         }
-        Ok(self.iteration(policy, sim.design(), above, objects.as_slice())?)
+        Ok(self.iteration(eyes, above, objects.as_slice())?)
     }
 
     /// Makes the handles of an iteration, all of them; or none, for want of memory.
@@ -333,52 +285,47 @@ impl Session {
 
     /// A number of a handle's object. Refused where the number is no handle (1101), the user may not list the object (1109), or it has no
     /// such number (1102), or for want of memory (1107).
-    pub fn get(
+    pub fn get<E: Observe>(
         &self,
-        policy: &Policy,
-        sim: &Sim,
+        eyes: &E,
         handle: u32,
         property: NumberProperty,
     ) -> Result<u32, VpiError>
-        requires { Fits policy.now sim.now.design.tree }
-        ensures ok { IfOk result
-            (λ n. number_of
-            (observer_of sim.now (member_at policy.now.members self.now.user)) property
+        requires { E.is_sound eyes.now }
+        ensures ok { IfOk result (λ n. number_of (E.observer eyes.now) property
             (object_of self.now.handles handle) ≡ Ok n) }
-        ensures refused { IfErr result
-            (λ e. Explains (number_of
-            (observer_of sim.now (member_at policy.now.members self.now.user))
-            property (object_of self.now.handles handle)) e) }
+        ensures refused { IfErr result (λ e. Explains (number_of (E.observer eyes.now) property
+            (object_of self.now.handles handle)) e) }
     {
-        let object = self.allowed(policy, sim, handle, Right::List)?;
-        let design = sim.design();
-        match (property, design.kind(object)) {
-            (NumberProperty::Line, _) => Ok(design.line(object)),
-            (NumberProperty::Size, Some(kind)) if kind.has_value() => Ok(design.width(object)),
+        let object = self.allowed(eyes, handle, Right::List)?;
+        match (property, eyes.kind(object)) {
+            (NumberProperty::Line, _) => Ok(eyes.line(object)),
+            (NumberProperty::Size, Some(kind)) if kind.has_value() => Ok(eyes.width(object)),
             (NumberProperty::Size, _) => Err(VpiError::WrongKind),
         }
     }
 
-    /// A text of an object of the design.
-    fn text(
+    /// A text of an object.
+    fn text<E: Observe>(
         &self,
-        design: &Design,
+        eyes: &E,
         object: ObjectId,
         property: TextProperty,
     ) -> Result<Text, VpiError>
-        ensures ok { (run : State) → (user : Member) → run.design ≡ design.now → IfOk result
-            (λ t. text_at (observer_of run user) property object.0 ≡ Ok t) }
-        ensures refused { (run : State) → (user : Member) → run.design ≡ design.now → IfErr result
-            (λ e. Explains (text_at (observer_of run user) property object.0) e) }
+        requires { E.is_sound eyes.now }
+        ensures ok { IfOk result
+            (λ t. text_at (E.observer eyes.now) property object.0 ≡ Ok t) }
+        ensures refused { IfErr result
+            (λ e. Explains (text_at (E.observer eyes.now) property object.0) e) }
     {
         match property {
-            TextProperty::Type => match design.kind(object) {
+            TextProperty::Type => match eyes.kind(object) {
                 Some(kind) => Ok(Text::copy(self.alloc, kind.type_name())?),
                 None => Err(VpiError::WrongKind),
             },
-            TextProperty::Name => Ok(Text::copy(self.alloc, design.name(object))?),
-            TextProperty::FullName => Ok(design.full_name(self.alloc, object)?),
-            TextProperty::DefinitionName => match design.def_name(object) {
+            TextProperty::Name => Ok(Text::copy(self.alloc, eyes.name(object))?),
+            TextProperty::FullName => Ok(eyes.full_name(self.alloc, object)?),
+            TextProperty::DefinitionName => match eyes.definition(object) {
                 Some(name) => Ok(Text::copy(self.alloc, name)?),
                 None => Err(VpiError::WrongKind),
             },
@@ -387,75 +334,62 @@ impl Session {
 
     /// A text of a handle's object, which several may hold. Refused where the number is no handle (1101), the user may not list the object
     /// (1109), or it has no such text (1102), or for want of memory (1107).
-    pub fn get_str(
+    pub fn get_str<E: Observe>(
         &self,
-        policy: &Policy,
-        sim: &Sim,
+        eyes: &E,
         handle: u32,
         property: TextProperty,
     ) -> Result<SharedText, VpiError>
-        requires { Fits policy.now sim.now.design.tree }
-        ensures ok { IfOk result
-            (λ t. text_of
-            (observer_of sim.now (member_at policy.now.members self.now.user)) property
+        requires { E.is_sound eyes.now }
+        ensures ok { IfOk result (λ t. text_of (E.observer eyes.now) property
             (object_of self.now.handles handle) ≡ Ok t) }
-        ensures refused { IfErr result
-            (λ e. Explains (text_of
-            (observer_of sim.now (member_at policy.now.members self.now.user))
-            property (object_of self.now.handles handle)) e) }
+        ensures refused { IfErr result (λ e. Explains (text_of (E.observer eyes.now) property
+            (object_of self.now.handles handle)) e) }
     {
-        let object = self.allowed(policy, sim, handle, Right::List)?;
-        let text = self.text(sim.design(), object, property)?;
+        let object = self.allowed(eyes, handle, Right::List)?;
+        let text = self.text(eyes, object, property)?;
         Ok(SharedText::new(self.alloc, text)?)
     }
 
     /// The value of a handle's object. Refused where the number is no handle (1101), the user lacks the right to read (1109), or the
     /// object is no net, reg or parameter (1102), or for want of memory (1107).
-    pub fn get_value(&self, policy: &Policy, sim: &Sim, handle: u32) -> Result<Bits, VpiError>
-        requires { Fits policy.now sim.now.design.tree }
-        ensures ok { IfOk result
-            (λ value. value_of (observer_of sim.now (member_at policy.now.members self.now.user))
+    pub fn get_value<E: Observe>(&self, eyes: &E, handle: u32) -> Result<Bits, VpiError>
+        requires { E.is_sound eyes.now }
+        ensures ok { IfOk result (λ value. value_of (E.observer eyes.now)
             (object_of self.now.handles handle) ≡ Ok value) }
-        ensures refused { IfErr result
-            (λ e. Explains (value_of
-            (observer_of sim.now (member_at policy.now.members self.now.user))
+        ensures refused { IfErr result (λ e. Explains (value_of (E.observer eyes.now)
             (object_of self.now.handles handle)) e) }
     {
-        let object = self.allowed(policy, sim, handle, Right::Read)?;
-        match sim.design().kind(object) {
-            Some(kind) if kind.has_value() => Ok(sim.value(object)),
-            _ => Err(VpiError::WrongKind),
+        let object = self.allowed(eyes, handle, Right::Read)?;
+        match eyes.value(object) {
+            Some(bits) => Ok(bits),
+            None => Err(VpiError::WrongKind),
         }
     }
 
     /// What a put of a value on a handle's object sets: the object, and the bits that it is given. Refused where the number is no handle (1101), the
     /// user lacks the right to put (1109), the object is no reg (1102), the value does not have its width (1103), or `$finish` was
     /// executed (1104), or for want of memory (1107).
-    pub fn put_value(
+    pub fn put_value<E: Observe>(
         &self,
-        policy: &Policy,
-        sim: &Sim,
+        eyes: &E,
         handle: u32,
         value: &PutValue,
     ) -> Result<(ObjectId, Bits), VpiError>
-        requires { Fits policy.now sim.now.design.tree }
-        ensures ok { IfOk result
-            (λ p. put_of
-            (observer_of sim.now (member_at policy.now.members self.now.user)) value.now
+        requires { E.is_sound eyes.now }
+        ensures ok { IfOk result (λ p. put_of (E.observer eyes.now) value.now
             (object_of self.now.handles handle) ≡ Ok (p.0.0, p.1)) }
-        ensures refused { IfErr result
-            (λ e. Refuses (put_of (observer_of sim.now (member_at policy.now.members self.now.user))
-            value.now (object_of self.now.handles handle)) e) }
+        ensures refused { IfErr result (λ e. Refuses (put_of (E.observer eyes.now) value.now
+            (object_of self.now.handles handle)) e) }
     {
-        let object = self.allowed(policy, sim, handle, Right::Put)?;
-        let design = sim.design();
-        let Some(Kind::Reg) = design.kind(object) else {
+        let object = self.allowed(eyes, handle, Right::Put)?;
+        let Some(Kind::Reg) = eyes.kind(object) else {
             return Err(VpiError::WrongKind);
         };
-        let Some(bits) = put_bits(design.width(object), value) else {
+        let Some(bits) = put_bits(eyes.width(object), value) else {
             return Err(VpiError::BadValue);
         };
-        if sim.finished() {
+        if eyes.finished() {
             return Err(VpiError::Finished);
         }
         Ok((object, bits))

@@ -2,9 +2,9 @@
 use Rattle.std.proofs.Common.{◌≡◌, [], ◌∷◌, refl}
 use Rattle.std.specs.Prelude.{codes}
 use Rattle.vp_pragma.specs.Rights.{nothing}
-use Rattle.vp_world.specs.declared.event.Request.TheVariants as request
-use Rattle.vp_world.specs.declared.reply.Refusal.TheVariants as refusal
-use Rattle.vp_world.specs.declared.reply.Reply.TheVariants as reply
+use Rattle.vp_answer.specs.declared.request.Request.TheVariants as request
+use Rattle.vp_answer.specs.declared.reply.Refusal.TheVariants as refusal
+use Rattle.vp_answer.specs.declared.reply.Reply.TheVariants as reply
 use Rattle.vp_wire.specs.declared.dialogue.Stage.TheVariants.{Before, Closed, Open}
 use Rattle.vp_wire.specs.Dialogue.{Calls, Tells, lines_of, stage_behind, turn_of_request, whole_lines}
 

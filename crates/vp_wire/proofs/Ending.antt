@@ -8,13 +8,13 @@ use Rattle.std.specs.Io.KnownBytes.{Consumes, IsAtEnd, Keeps}
 use Rattle.std.specs.Result.{MatchResult}
 use Rattle.std.specs.List.{concat}
 use Rattle.vp_list.specs.Texts.{parts}
-use Rattle.vp_world.specs.declared.event.Request.{Request}
-use Rattle.vp_world.specs.declared.reply.Reply.{Reply}
+use Rattle.vp_answer.specs.declared.request.Request.{Request}
+use Rattle.vp_answer.specs.declared.reply.Reply.{Reply}
 use Rattle.vp_wire.specs.declared.dialogue.Dialogue.{Dialogue}
 use Rattle.vp_wire.specs.declared.dialogue.Stage.TheVariants.{Before}
 use Rattle.vp_wire.specs.declared.fault.WireError.TheVariants as fault
 use Rattle.vp_wire.specs.Dialogue.{AreWhole, IsDialogue, IsOut, IsWhole, Point, Stops, lines_of, turn_of, without_empty_end}
-use Rattle.vp_wire.specs.Reading.{IsBegun, Progress, Told}
+use Rattle.vp_wire.specs.Reading.{IsBegun, Progress, AnswersLine}
 use Rattle.vp_wire.proofs.Answering.{answers_more, concat_more}
 use Rattle.vp_wire.proofs.Parting.{lines_ended, lines_first, lines_open, parts_more, whole_by_parts}
 
@@ -42,9 +42,9 @@ none_begun d begins p at_end tells none = record {
     read = p.read;
     lines = p.lines;
     are_its = sym (ended_lines p.input p.lines p.begun p.cut (sym (tells p.begun p.is_begun) ∙ none));
-    told = p.told;
+    reply_lines = p.reply_lines;
     answers = p.answers;
-    written = concat p.told;
+    written = concat p.reply_lines;
     is_out = refl;
     appended = p.appended;
   };
@@ -56,7 +56,7 @@ none_begun d begins p at_end tells none = record {
 pub last_begun : {C T E : Type 0} {calls : C → Request → Reply → C → Type 0} {unread still_unread held mid holds : Option (List ℕ)} {first before now : C} (d e : Dialogue) (begins : Bool) (result : Result T E)
     → Progress calls unread still_unread held mid first d before None → IsAtEnd still_unread
     → ((begun : List ℕ) → IsBegun d.line begun → begins ≡ nat_lt 0 (length begun)) → begins ≡ true
-    → ((begun : List ℕ) → IsBegun d.line begun → Told calls (turn_of d.stage begun) (record { stage = d.stage; caller = before }) (record { stage = e.stage; caller = now }) result mid holds)
+    → ((begun : List ℕ) → IsBegun d.line begun → AnswersLine calls (turn_of d.stage begun) (record { stage = d.stage; caller = before }) (record { stage = e.stage; caller = now }) result mid holds)
     → e.lines ≡ d.lines + 1
     → MatchResult result (λ u. IsWhole calls unread still_unread held holds first (record { stage = e.stage; caller = now }) e.lines) (λ x. Stops fault.WriteFault calls unread still_unread held holds first (record { stage = e.stage; caller = now }))
 last_begun {calls = calls} {held = held} {mid = mid} {holds = holds} d e begins (Ok x) p at_end is_begun some tells one =
@@ -67,11 +67,11 @@ last_begun {calls = calls} {held = held} {mid = mid} {holds = holds} d e begins 
         read = p.read;
         lines = p.lines ++ p.begun ∷ [];
         are_its = sym (begun_lines p.input p.lines p.begun p.cut (sym (is_begun p.begun p.is_begun) ∙ some));
-        told = p.told ++ t.told ∷ [];
-        answers = answers_more calls p.lines p.begun _ _ _ p.told t.told p.answers t.answers;
-        written = concat p.told ++ t.told;
-        is_out = sym (concat_more p.told t.told);
-        appended = Appends-trans held mid holds (concat p.told) t.told p.appended t.writes;
+        reply_lines = p.reply_lines ++ t.reply_line ∷ [];
+        answers = answers_more calls p.lines p.begun _ _ _ p.reply_lines t.reply_line p.answers t.answers;
+        written = concat p.reply_lines ++ t.reply_line;
+        is_out = sym (concat_more p.reply_lines t.reply_line);
+        appended = Appends-trans held mid holds (concat p.reply_lines) t.reply_line p.appended t.writes;
       };
       at_end = at_end;
       count = one ∙ ap (λ (n : ℕ). n + 1) p.count ∙ sym (length-append p.lines (p.begun ∷ []));
@@ -84,11 +84,11 @@ last_begun {calls = calls} {held = held} {mid = mid} {holds = holds} d e begins 
       read = p.read;
       lines = p.lines ++ p.begun ∷ [];
       are_its = ([], all ∙ sym (append-nil (p.lines ++ p.begun ∷ [])));
-      told = p.told ++ t.told ∷ [];
-      answers = answers_more calls p.lines p.begun _ _ _ p.told t.told p.answers t.answers;
-      written = concat p.told ++ t.writes.0;
-      is_out = inr (p.told, t.told, t.writes.0, refl, t.writes.1, refl);
-      appended = Appends-trans held mid holds (concat p.told) t.writes.0 p.appended t.writes.2;
+      reply_lines = p.reply_lines ++ t.reply_line ∷ [];
+      answers = answers_more calls p.lines p.begun _ _ _ p.reply_lines t.reply_line p.answers t.answers;
+      written = concat p.reply_lines ++ t.writes.0;
+      is_out = inr (p.reply_lines, t.reply_line, t.writes.0, refl, t.writes.1, refl);
+      appended = Appends-trans held mid holds (concat p.reply_lines) t.writes.0 p.appended t.writes.2;
     }
 
 -- what was written at the end is handed on, unless the writer fails
@@ -101,7 +101,7 @@ handed_on {held = held} {mid = mid} holds end answered (Ok x) w kept = record {
     read = w.dialogue.read;
     lines = w.dialogue.lines;
     are_its = w.dialogue.are_its;
-    told = w.dialogue.told;
+    reply_lines = w.dialogue.reply_lines;
     answers = w.dialogue.answers;
     written = w.dialogue.written;
     is_out = w.dialogue.is_out;
@@ -115,7 +115,7 @@ handed_on {held = held} {mid = mid} holds end answered (Err x) w kept = record {
   read = w.dialogue.read;
   lines = w.dialogue.lines;
   are_its = ([], sym w.dialogue.are_its ∙ sym (append-nil w.dialogue.lines));
-  told = w.dialogue.told;
+  reply_lines = w.dialogue.reply_lines;
   answers = w.dialogue.answers;
   written = w.dialogue.written;
   is_out = inl w.dialogue.is_out;
@@ -136,9 +136,9 @@ handed {held = held} {mid = mid} holds d (Ok x) p kept = record {
   cut = p.cut;
   no_newline = p.no_newline;
   is_begun = p.is_begun;
-  told = p.told;
+  reply_lines = p.reply_lines;
   answers = p.answers;
-  appended = Appends-kept held mid holds (concat p.told) p.appended kept;
+  appended = Appends-kept held mid holds (concat p.reply_lines) p.appended kept;
   count = p.count;
 }
 handed {held = held} {mid = mid} holds d (Err x) p kept = record {
@@ -146,11 +146,11 @@ handed {held = held} {mid = mid} holds d (Err x) p kept = record {
   read = p.read;
   lines = p.lines;
   are_its = (without_empty_end (p.begun ∷ []), lines_first p.input p.lines (p.begun ∷ []) p.cut (omega arith));
-  told = p.told;
+  reply_lines = p.reply_lines;
   answers = p.answers;
-  written = concat p.told;
+  written = concat p.reply_lines;
   is_out = inl refl;
-  appended = Appends-kept held mid holds (concat p.told) p.appended kept;
+  appended = Appends-kept held mid holds (concat p.reply_lines) p.appended kept;
 }
 
 -- more was read
@@ -165,7 +165,7 @@ read_more {unread = unread} {mid = mid} {still_unread = still_unread} d bytes p 
   cut = parts_more p.input bytes p.lines p.begun p.cut;
   no_newline = p.no_newline;
   is_begun = p.is_begun;
-  told = p.told;
+  reply_lines = p.reply_lines;
   answers = p.answers;
   appended = p.appended;
   count = p.count;
@@ -183,7 +183,7 @@ read_none {unread = unread} {mid = mid} {still_unread = still_unread} d p kept =
   cut = p.cut;
   no_newline = p.no_newline;
   is_begun = p.is_begun;
-  told = p.told;
+  reply_lines = p.reply_lines;
   answers = p.answers;
   appended = p.appended;
   count = p.count;
@@ -218,9 +218,9 @@ stopped d p = record {
   read = p.read;
   lines = p.lines;
   are_its = sym (whole_by_parts p.input p.lines p.begun p.cut);
-  told = p.told;
+  reply_lines = p.reply_lines;
   answers = p.answers;
-  written = concat p.told;
+  written = concat p.reply_lines;
   is_out = refl;
   appended = p.appended;
 }
@@ -235,7 +235,7 @@ not_begun {C} unread held first d stage lines begun = record {
   cut = refl;
   no_newline = refl;
   is_begun = begun;
-  told = [];
+  reply_lines = [];
   answers = ap (λ (s : _). let p : Point C = record { stage = s; caller = first } in p) stage;
   appended = Appends-nil held;
   count = lines;

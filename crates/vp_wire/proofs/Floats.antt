@@ -6,11 +6,11 @@ use Rattle.serde_json.specs.View.{items_of}
 use Rattle.serde_json.specs.Written.{has_float, items_have_float, members_have_float}
 use Rattle.vp_bits.specs.Vector.{aval_of, bval_of}
 use Rattle.vp_pragma.specs.Rights.{name_of}
-use Rattle.vp_notify.specs.declared.notice.Notice.{Notice}
+use Rattle.vp_notify.specs.declared.notice.PolledNotice.{PolledNotice}
 use Rattle.vp_vpi.specs.declared.iteration.ListedObject.{ListedObject}
 use Rattle.vp_vpi.specs.declared.races.RaceLine.{RaceLine}
-use Rattle.vp_world.specs.declared.reply.Reply.{Reply}
-use Rattle.vp_world.specs.declared.reply.Reply.TheVariants as reply
+use Rattle.vp_answer.specs.declared.reply.Reply.{Reply}
+use Rattle.vp_answer.specs.declared.reply.Reply.TheVariants as reply
 use Rattle.vp_wire.specs.Lines.{by_text, data_of, denial_members, listed_data, notice_data, pair_data, race_line_data, words_of}
 
 -- lists of numbers
@@ -24,7 +24,7 @@ listed_whole [] = refl
 listed_whole (o ∷ os) = listed_whole os
 
 -- notices
-notices_whole : (ns : List Notice) → items_have_float (items_of (map notice_data ns)) ≡ false
+notices_whole : (ns : List PolledNotice) → items_have_float (items_of (map notice_data ns)) ≡ false
 notices_whole [] = refl
 notices_whole (n ∷ ns) = notices_whole ns
 

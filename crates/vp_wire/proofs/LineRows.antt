@@ -8,10 +8,10 @@ use Rattle.vp_bits.specs.declared.bit.Bit.TheVariants.{Zero, One, Unknown, HighI
 use Rattle.vp_pragma.specs.declared.rights.Right.TheVariants as right
 use Rattle.vp_pragma.specs.Rights.{RightSet, nothing, with_right}
 use Rattle.vp_policy.specs.declared.denial.Barrier.TheVariants as by
-use Rattle.vp_world.specs.declared.event.Request.TheVariants as request
-use Rattle.vp_world.specs.declared.event.ValueFormat.TheVariants as format
-use Rattle.vp_world.specs.declared.reply.Refusal.TheVariants as refusal
-use Rattle.vp_world.specs.declared.reply.Reply.TheVariants as reply
+use Rattle.vp_answer.specs.declared.request.Request.TheVariants as request
+use Rattle.vp_answer.specs.declared.request.ValueFormat.TheVariants as format
+use Rattle.vp_answer.specs.declared.reply.Refusal.TheVariants as refusal
+use Rattle.vp_answer.specs.declared.reply.Reply.TheVariants as reply
 use Rattle.vp_wire.specs.Lines.{line_of, meaning_of, NotJson, NotRequest, Asks}
 
 done : line_of reply.Done ≡ codes "{\"ok\":true}\n"
@@ -43,7 +43,7 @@ unfolding serde_json_on_literals digits
 callback = refl
 
 notices :
-    line_of (reply.Notices (record { notices = record { callback = 1; object = record { 0 = 2 }; time = 5; value = HighImpedance ∷ Zero ∷ Unknown ∷ One ∷ [] } ∷ []; lost = 7 }))
+    line_of (reply.Notices (record { notices = record { callback = 1; time = 5; value = HighImpedance ∷ Zero ∷ Unknown ∷ One ∷ [] } ∷ []; lost = 7 }))
     ≡ codes "{\"lost\":7,\"notices\":[{\"cb\":1,\"time\":5,\"value\":\"1x0z\"}]}\n"
 unfolding serde_json_on_literals digits
 notices = refl

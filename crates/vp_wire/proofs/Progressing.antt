@@ -7,14 +7,14 @@ use Rattle.std.specs.Result.{IfOk, IsErr, MatchResult}
 use Rattle.std.specs.List.{concat}
 use Rattle.vp_list.specs.Texts.{behind_part, parts}
 use Rattle.vp_list.specs.laws.Texts.{parts_some}
-use Rattle.vp_world.specs.declared.event.Request.{Request}
-use Rattle.vp_world.specs.declared.reply.Reply.{Reply}
+use Rattle.vp_answer.specs.declared.request.Request.{Request}
+use Rattle.vp_answer.specs.declared.reply.Reply.{Reply}
 use Rattle.vp_wire.specs.declared.dialogue.Dialogue.{Dialogue}
 use Rattle.vp_wire.specs.declared.fault.WireError.TheVariants as fault
 use Rattle.vp_wire.specs.declared.line.Line.{Line}
 use Rattle.vp_wire.specs.Dialogue.{IsFront, Stops, turn_of, without_empty_end}
 use Rattle.vp_wire.specs.Failures.{failures_behind, one_more}
-use Rattle.vp_wire.specs.Reading.{IsBegun, Progress, Told, Writes}
+use Rattle.vp_wire.specs.Reading.{IsBegun, Progress, AnswersLine, Writes}
 use Rattle.vp_wire.proofs.Answering.{answers_more, concat_more}
 use Rattle.vp_wire.proofs.Parting.{joined_part, lines_first}
 
@@ -33,7 +33,7 @@ gathered d line bytes piece p cut whole gathers =
       cut = p.cut ∙ ap (λ (ps : List (List ℕ)). p.lines ++ ps) parted;
       no_newline = ap (λ (b : List ℕ). parts 10 (p.begun ++ b)) (sym whole) ∙ parted;
       is_begun = gathers p.begun p.is_begun;
-      told = p.told;
+      reply_lines = p.reply_lines;
       answers = p.answers;
       appended = p.appended;
       count = p.count;
@@ -45,11 +45,11 @@ line_more input begun bytes piece rest lines cut none parted =
     cut ∙ ap (λ (ps : List (List ℕ)). lines ++ ps) (joined_part begun bytes piece (Some rest) none parted)
     ∙ sym (append_assoc lines ((begun ++ piece) ∷ []) (parts 10 rest))
 
-written_ok : {T E : Type 0} (result : Result T E) (x : T) (told : List ℕ) (held holds : Option (List ℕ)) → result ≡ Ok x → Writes result told held holds → Appends held holds told
-written_ok result x told held holds is w = subst (λ (r : Result _ _). Writes r told held holds) is w
+written_ok : {T E : Type 0} (result : Result T E) (x : T) (reply_line : List ℕ) (held holds : Option (List ℕ)) → result ≡ Ok x → Writes result reply_line held holds → Appends held holds reply_line
+written_ok result x reply_line held holds is w = subst (λ (r : Result _ _). Writes r reply_line held holds) is w
 
-written_err : {T E : Type 0} (result : Result T E) (e : E) (told : List ℕ) (held holds : Option (List ℕ)) → result ≡ Err e → Writes result told held holds → (front : List ℕ) × IsFront front told × Appends held holds front
-written_err result e told held holds is w = subst (λ (r : Result _ _). Writes r told held holds) is w
+written_err : {T E : Type 0} (result : Result T E) (e : E) (reply_line : List ℕ) (held holds : Option (List ℕ)) → result ≡ Err e → Writes result reply_line held holds → (front : List ℕ) × IsFront front reply_line × Appends held holds front
+written_err result e reply_line held holds is w = subst (λ (r : Result _ _). Writes r reply_line held holds) is w
 
 -- what is left behind a newline is shorter
 pub rest_shorter : (bytes piece rest : List ℕ) → bytes ≡ piece ++ 10 ∷ rest → length rest + 1 ≤ length bytes
@@ -59,7 +59,7 @@ rest_shorter bytes piece rest whole = rw whole (rw length-append (omega arith))
 pub answered : {C T E : Type 0} {calls : C → Request → Reply → C → Type 0} {unread still_unread held mid holds : Option (List ℕ)} {first before now : C} (d e : Dialogue) (line : Line) (bytes piece rest : List ℕ) (result : Result T E) (x : T)
     → Progress calls unread still_unread held mid first d before (Some bytes) → parts 10 bytes ≡ behind_part 10 piece (Some rest)
     → ((begun : List ℕ) → IsBegun d.line begun → IsBegun line (begun ++ piece))
-    → ((begun : List ℕ) → IsBegun line begun → Told calls (turn_of d.stage begun) (record { stage = d.stage; caller = before }) (record { stage = e.stage; caller = now }) result mid holds)
+    → ((begun : List ℕ) → IsBegun line begun → AnswersLine calls (turn_of d.stage begun) (record { stage = d.stage; caller = before }) (record { stage = e.stage; caller = now }) result mid holds)
     → result ≡ Ok x → IsBegun e.line [] → e.lines ≡ d.lines + 1
     → Progress calls unread still_unread held holds first e now (Some rest)
 answered {C} {calls = calls} {held = held} {mid = mid} {holds = holds} d e line bytes piece rest result x p parted gathers tells is begun one =
@@ -73,9 +73,9 @@ answered {C} {calls = calls} {held = held} {mid = mid} {holds = holds} d e line 
       cut = line_more p.input p.begun bytes piece rest p.lines p.cut p.no_newline parted;
       no_newline = refl;
       is_begun = begun;
-      told = p.told ++ t.told ∷ [];
-      answers = answers_more calls p.lines whole _ _ _ p.told t.told p.answers t.answers;
-      appended = subst (Appends held holds) (sym (concat_more p.told t.told)) (Appends-trans held mid holds (concat p.told) t.told p.appended (written_ok result x t.told mid holds is t.writes));
+      reply_lines = p.reply_lines ++ t.reply_line ∷ [];
+      answers = answers_more calls p.lines whole _ _ _ p.reply_lines t.reply_line p.answers t.answers;
+      appended = subst (Appends held holds) (sym (concat_more p.reply_lines t.reply_line)) (Appends-trans held mid holds (concat p.reply_lines) t.reply_line p.appended (written_ok result x t.reply_line mid holds is t.writes));
       count = one ∙ ap (λ (n : ℕ). n + 1) p.count ∙ sym (length-append p.lines (whole ∷ []));
     }
 
@@ -83,24 +83,24 @@ answered {C} {calls = calls} {held = held} {mid = mid} {holds = holds} d e line 
 pub failed : {C T E : Type 0} {calls : C → Request → Reply → C → Type 0} {unread still_unread held mid holds : Option (List ℕ)} {first before now : C} (d e : Dialogue) (line : Line) (bytes piece rest : List ℕ) (result : Result T E) (x : E)
     → Progress calls unread still_unread held mid first d before (Some bytes) → parts 10 bytes ≡ behind_part 10 piece (Some rest)
     → ((begun : List ℕ) → IsBegun d.line begun → IsBegun line (begun ++ piece))
-    → ((begun : List ℕ) → IsBegun line begun → Told calls (turn_of d.stage begun) (record { stage = d.stage; caller = before }) (record { stage = e.stage; caller = now }) result mid holds)
+    → ((begun : List ℕ) → IsBegun line begun → AnswersLine calls (turn_of d.stage begun) (record { stage = d.stage; caller = before }) (record { stage = e.stage; caller = now }) result mid holds)
     → result ≡ Err x
     → Stops fault.WriteFault calls unread still_unread held holds first (record { stage = e.stage; caller = now })
 failed {C} {calls = calls} {held = held} {mid = mid} {holds = holds} d e line bytes piece rest result x p parted gathers tells is =
     let whole = p.begun ++ piece in
     let t = tells whole (gathers p.begun p.is_begun) in
-    let out = written_err result x t.told mid holds is t.writes in
+    let out = written_err result x t.reply_line mid holds is t.writes in
     let cut = line_more p.input p.begun bytes piece rest p.lines p.cut p.no_newline parted in
     record {
       input = p.input;
       read = p.read;
       lines = p.lines ++ whole ∷ [];
       are_its = (without_empty_end (parts 10 rest), lines_first p.input (p.lines ++ whole ∷ []) (parts 10 rest) cut (parts_some 10 rest));
-      told = p.told ++ t.told ∷ [];
-      answers = answers_more calls p.lines whole _ _ _ p.told t.told p.answers t.answers;
-      written = concat p.told ++ out.0;
-      is_out = inr (p.told, t.told, out.0, refl, out.1, refl);
-      appended = Appends-trans held mid holds (concat p.told) out.0 p.appended out.2;
+      reply_lines = p.reply_lines ++ t.reply_line ∷ [];
+      answers = answers_more calls p.lines whole _ _ _ p.reply_lines t.reply_line p.answers t.answers;
+      written = concat p.reply_lines ++ out.0;
+      is_out = inr (p.reply_lines, t.reply_line, out.0, refl, out.1, refl);
+      appended = Appends-trans held mid holds (concat p.reply_lines) out.0 p.appended out.2;
     }
 
 -- what holds at every error

@@ -5,10 +5,10 @@ use Rattle.std.specs.Io.KnownBytes.{Appends, Consumes, IsAtEnd}
 use Rattle.vp_list.specs.Texts.{parts}
 use Rattle.serde_json.specs.Data.{string}
 use Rattle.serde_json.specs.Written.{compact_text}
-use Rattle.vp_world.specs.declared.event.Request.{Request}
-use Rattle.vp_world.specs.declared.event.Request.TheVariants as request
-use Rattle.vp_world.specs.declared.reply.Reply.{Reply}
-use Rattle.vp_world.specs.declared.reply.Reply.TheVariants as reply
+use Rattle.vp_answer.specs.declared.request.Request.{Request}
+use Rattle.vp_answer.specs.declared.request.Request.TheVariants as request
+use Rattle.vp_answer.specs.declared.reply.Reply.{Reply}
+use Rattle.vp_answer.specs.declared.reply.Reply.TheVariants as reply
 use Rattle.vp_wire.specs.declared.dialogue.Stage.{Stage}
 use Rattle.vp_wire.specs.declared.dialogue.Stage.TheVariants.{Before, Open, Closed}
 use Rattle.vp_wire.specs.declared.fault.WireError.{WireError}
@@ -103,29 +103,29 @@ pub record Point (C : Type 0) : Type 0 where
   pub caller : C
 
 -- what is written to tell a line: that line, or, where memory runs out, the one that says so
-abbrev pub IsTold : List ℕ → List ℕ → Type 0
-IsTold line told = (told ≡ line) ⊎ (told ≡ error_line (codes "no memory"))
+abbrev pub IsReplyLine : List ℕ → List ℕ → Type 0
+IsReplyLine line reply_line = (reply_line ≡ line) ⊎ (reply_line ≡ error_line (codes "no memory"))
 
 -- a caller is asked, from one point of a dialogue to the next: its reply is told, and opens or closes the session
-pub record Asked {C : Type 0} (calls : C → Request → Reply → C → Type 0) (r : Request) (p : Point C) (told : List ℕ) (q : Point C) : Type 0 where
+pub record Asked {C : Type 0} (calls : C → Request → Reply → C → Type 0) (r : Request) (p : Point C) (reply_line : List ℕ) (q : Point C) : Type 0 where
   pub reply : Reply
   pub called : calls p.caller r reply q.caller
-  pub is_told : IsTold (line_of reply) told
+  pub is_reply_line : IsReplyLine (line_of reply) reply_line
   pub stage : q.stage ≡ stage_behind p.stage r reply
 
 -- a line is answered, from one point of a dialogue to the next: by its error, or by the caller's reply, who is not asked where
 -- there is no memory for the request
 abbrev pub Answers : {C : Type 0} → (C → Request → Reply → C → Type 0) → Turn → Point C → List ℕ → Point C → Type 0
-Answers calls (Tells text) p told q = IsTold (error_line text) told × (q ≡ p)
-Answers calls (Calls r) p told q = Asked calls r p told q ⊎ ((told ≡ error_line (codes "no memory")) × (q ≡ p))
+Answers calls (Tells text) p reply_line q = IsReplyLine (error_line text) reply_line × (q ≡ p)
+Answers calls (Calls r) p reply_line q = Asked calls r p reply_line q ⊎ ((reply_line ≡ error_line (codes "no memory")) × (q ≡ p))
 
 -- lines are answered in turn, each by one text
 abbrev pub AnswersAll : {C : Type 0} → (C → Request → Reply → C → Type 0) → List (List ℕ) → Point C → List (List ℕ) → Point C → Type 0
 AnswersAll calls [] p [] q = q ≡ p
-AnswersAll calls [] p (told ∷ more) q = ⊥
+AnswersAll calls [] p (reply_line ∷ more) q = ⊥
 AnswersAll calls (line ∷ lines) p [] q = ⊥
-AnswersAll {C} calls (line ∷ lines) p (told ∷ more) q =
-    (next : Point C) × Answers calls (turn_of p.stage line) p told next × AnswersAll calls lines next more q
+AnswersAll {C} calls (line ∷ lines) p (reply_line ∷ more) q =
+    (next : Point C) × Answers calls (turn_of p.stage line) p reply_line next × AnswersAll calls lines next more q
 
 -- at the end of a dialogue an open session is closed, and that reply is not told
 abbrev pub Closes : {C : Type 0} → (C → Request → Reply → C → Type 0) → Stage → C → C → Type 0
@@ -153,12 +153,12 @@ AreFirst input lines = (more : List (List ℕ)) × (lines_of input ≡ lines ++ 
 
 -- what goes out: all that was told
 abbrev pub IsOut : List (List ℕ) → List ℕ → Type 0
-IsOut told written = written ≡ concat told
+IsOut reply_lines written = written ≡ concat reply_lines
 
 -- what goes out where a writer fails: all that was told, or all but the end of the last line
 abbrev pub IsCutShort : List (List ℕ) → List ℕ → Type 0
-IsCutShort told written = (written ≡ concat told) ⊎ ((before : List (List ℕ)) × (last : List ℕ) × (front : List ℕ) ×
-    (told ≡ before ++ last ∷ []) × IsFront front last × (written ≡ concat before ++ front))
+IsCutShort reply_lines written = (written ≡ concat reply_lines) ⊎ ((before : List (List ℕ)) × (last : List ℕ) × (front : List ℕ) ×
+    (reply_lines ≡ before ++ last ∷ []) × IsFront front last × (written ≡ concat before ++ front))
 
 -- a dialogue from a caller to a point: what was read of a reader, the lines of that which were answered, what was told to them,
 -- and what of that went out of a writer
@@ -169,10 +169,10 @@ pub record IsDialogue {C : Type 0} (calls : C → Request → Reply → C → Ty
   pub read : Consumes unread still_unread input
   pub lines : List (List ℕ)
   pub are_its : are_lines input lines
-  pub told : List (List ℕ)
-  pub answers : AnswersAll calls lines (record { stage = Before; caller = caller }) told end
+  pub reply_lines : List (List ℕ)
+  pub answers : AnswersAll calls lines (record { stage = Before; caller = caller }) reply_lines end
   pub written : List ℕ
-  pub is_out : goes_out told written
+  pub is_out : goes_out reply_lines written
   pub appended : Appends held holds written
 
 -- a dialogue that read its input to the end, and answered so many lines: all

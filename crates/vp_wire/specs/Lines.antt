@@ -17,7 +17,7 @@ use Rattle.vp_policy.specs.declared.denial.Barrier.TheVariants as by
 use Rattle.vp_policy.specs.Denials.{DenialWords}
 use Rattle.vp_policy.specs.File.{each_of, opened_by}
 use Rattle.vp_policy.specs.Filter.{run_denied}
-use Rattle.vp_notify.specs.declared.notice.Notice.{Notice}
+use Rattle.vp_notify.specs.declared.notice.PolledNotice.{PolledNotice}
 use Rattle.vp_vpi.specs.declared.iteration.ListedObject.{ListedObject}
 use Rattle.vp_vpi.specs.declared.iteration.Listing.{Listing}
 use Rattle.vp_vpi.specs.declared.property.NumberProperty.{NumberProperty}
@@ -29,14 +29,14 @@ use Rattle.vp_vpi.specs.declared.property.PutValue.TheVariants as put
 use Rattle.vp_vpi.specs.declared.races.RaceLine.{RaceLine}
 use Rattle.vp_vpi.specs.declared.races.RaceTold.{RaceTold}
 use Rattle.vp_vpi.specs.Seats.{Polled}
-use Rattle.vp_world.specs.declared.event.ValueFormat.{ValueFormat}
-use Rattle.vp_world.specs.declared.event.ValueFormat.TheVariants as format
-use Rattle.vp_world.specs.declared.event.Request.{Request}
-use Rattle.vp_world.specs.declared.event.Request.TheVariants as request
-use Rattle.vp_world.specs.declared.reply.Refusal.{Refusal}
-use Rattle.vp_world.specs.declared.reply.Reply.{Reply}
-use Rattle.vp_world.specs.declared.reply.Reply.TheVariants as reply
-use Rattle.vp_world.specs.Refusals.{text_of}
+use Rattle.vp_answer.specs.declared.request.ValueFormat.{ValueFormat}
+use Rattle.vp_answer.specs.declared.request.ValueFormat.TheVariants as format
+use Rattle.vp_answer.specs.declared.request.Request.{Request}
+use Rattle.vp_answer.specs.declared.request.Request.TheVariants as request
+use Rattle.vp_answer.specs.declared.reply.Refusal.{Refusal}
+use Rattle.vp_answer.specs.declared.reply.Reply.{Reply}
+use Rattle.vp_answer.specs.declared.reply.Reply.TheVariants as reply
+use Rattle.vp_answer.specs.Refusals.{text_of}
 
 -- ---- replies
 
@@ -140,7 +140,7 @@ abbrev pub callback_data : ℕ → Data
 callback_data callback = only (codes "cb") (number (unsigned callback))
 
 -- a notice as JSON, its keys in the order of their bytes (profile)
-abbrev pub notice_data : Notice → Data
+abbrev pub notice_data : PolledNotice → Data
 notice_data n =
     object (member (codes "cb") (number (unsigned n.callback))
     (member (codes "time") (number (unsigned n.time)) (member (codes "value") (digits_data n.value) no_members)))

@@ -4,9 +4,9 @@ use Rattle.std.specs.Io.KnownBytes.{Appends, Consumes, IsAtEnd}
 use Rattle.std.specs.Result.{MatchResult}
 use Rattle.std.specs.List.{concat}
 use Rattle.vp_list.specs.Texts.{parts}
-use Rattle.vp_world.specs.declared.event.Request.{Request}
-use Rattle.vp_world.specs.declared.event.Request.TheVariants as request
-use Rattle.vp_world.specs.declared.reply.Reply.{Reply}
+use Rattle.vp_answer.specs.declared.request.Request.{Request}
+use Rattle.vp_answer.specs.declared.request.Request.TheVariants as request
+use Rattle.vp_answer.specs.declared.reply.Reply.{Reply}
 use Rattle.vp_wire.specs.declared.dialogue.Dialogue.{Dialogue}
 use Rattle.vp_wire.specs.declared.dialogue.Stage.TheVariants.{Before}
 use Rattle.vp_wire.specs.declared.fault.WireError.TheVariants as fault
@@ -41,9 +41,9 @@ turn_by (Ok r) = Calls r
 turn_by (Err e) = Tells (text_of e)
 
 -- the text that tells a reply's line, or an error
-abbrev pub text_told : {V : Type 0} → (V → List ℕ) → Result V LineError → List ℕ
-text_told items (Ok line) = items line
-text_told items (Err e) = error_line (text_of e)
+abbrev pub reply_text : {V : Type 0} → (V → List ℕ) → Result V LineError → List ℕ
+reply_text items (Ok line) = items line
+reply_text items (Err e) = error_line (text_of e)
 
 -- a request closes a session
 abbrev pub is_closing : Request → Bool
@@ -52,40 +52,40 @@ is_closing r = false
 
 -- what is written of a line that is told: all of it, or a front where the writer fails
 abbrev pub Writes : {T E : Type 0} → Result T E → List ℕ → Option (List ℕ) → Option (List ℕ) → Type 0
-Writes (Ok x) told held holds = Appends held holds told
-Writes (Err e) told held holds = (front : List ℕ) × IsFront front told × Appends held holds front
+Writes (Ok x) reply_line held holds = Appends held holds reply_line
+Writes (Err e) reply_line held holds = (front : List ℕ) × IsFront front reply_line × Appends held holds front
 
 -- a line is answered and written, from one point to the next
-pub record Told {C T E : Type 0} (calls : C → Request → Reply → C → Type 0) (turn : Turn) (p q : Point C) (result : Result T E) (held holds : Option (List ℕ)) : Type 0 where
-  pub told : List ℕ
-  pub answers : Answers calls turn p told q
-  pub writes : Writes result told held holds
+pub record AnswersLine {C T E : Type 0} (calls : C → Request → Reply → C → Type 0) (turn : Turn) (p q : Point C) (result : Result T E) (held holds : Option (List ℕ)) : Type 0 where
+  pub reply_line : List ℕ
+  pub answers : Answers calls turn p reply_line q
+  pub writes : Writes result reply_line held holds
 
 -- ---- how far a dialogue has come
 
 -- the parts of what was read that are no line yet: what has begun, and what is left of the last read
-abbrev pub parts_left : List ℕ → Option (List ℕ) → List (List ℕ)
-parts_left begun None = begun ∷ []
-parts_left begun (Some rest) = parts 10 (begun ++ rest)
+abbrev pub remaining_parts : List ℕ → Option (List ℕ) → List (List ℕ)
+remaining_parts begun None = begun ∷ []
+remaining_parts begun (Some rest) = parts 10 (begun ++ rest)
 
 -- how many bytes are left of the last read
-abbrev pub size_left : Option (List ℕ) → ℕ
-size_left None = 0
-size_left (Some rest) = length rest
+abbrev pub remaining_size : Option (List ℕ) → ℕ
+remaining_size None = 0
+remaining_size (Some rest) = length rest
 
 -- a dialogue has come so far: what was read is cut into the lines that were answered, the line that has begun, and what is left of
 -- the last read
-pub record Progress {C : Type 0} (calls : C → Request → Reply → C → Type 0) (unread still_unread held holds : Option (List ℕ)) (caller : C) (d : Dialogue) (now : C) (left : Option (List ℕ)) : Type 0 where
+pub record Progress {C : Type 0} (calls : C → Request → Reply → C → Type 0) (unread still_unread held holds : Option (List ℕ)) (caller : C) (d : Dialogue) (now : C) (remaining : Option (List ℕ)) : Type 0 where
   pub input : List ℕ
   pub read : Consumes unread still_unread input
   pub lines : List (List ℕ)
   pub begun : List ℕ
-  pub cut : parts 10 input ≡ lines ++ parts_left begun left
+  pub cut : parts 10 input ≡ lines ++ remaining_parts begun remaining
   pub no_newline : parts 10 begun ≡ begun ∷ []
   pub is_begun : IsBegun d.line begun
-  pub told : List (List ℕ)
-  pub answers : AnswersAll calls lines (record { stage = Before; caller = caller }) told (record { stage = d.stage; caller = now })
-  pub appended : Appends held holds (concat told)
+  pub reply_lines : List (List ℕ)
+  pub answers : AnswersAll calls lines (record { stage = Before; caller = caller }) reply_lines (record { stage = d.stage; caller = now })
+  pub appended : Appends held holds (concat reply_lines)
   pub count : d.lines ≡ length lines
 
 -- the point at which a dialogue is
@@ -94,9 +94,9 @@ point_of d caller = record { stage = d.stage; caller = caller }
 
 -- bytes are taken: a dialogue that had come so far up to them comes so far up to what is left of them, or the writer fails
 abbrev pub Takes : {C T E : Type 0} → (C → Request → Reply → C → Type 0) → (d : Dialogue) → C → (e : Dialogue) → C → (mid holds : Option (List ℕ)) → List ℕ → Result T E → (T → Option (List ℕ)) → Type 0
-Takes {C} calls d before e now mid holds bytes result left =
+Takes {C} calls d before e now mid holds bytes result remaining =
     (first : C) → (unread still_unread held : Option (List ℕ)) → Progress calls unread still_unread held mid first d before (Some bytes)
-    → MatchResult result (λ x. Progress calls unread still_unread held holds first e now (left x)) (λ x. Stops fault.WriteFault calls unread still_unread held holds first (point_of e now))
+    → MatchResult result (λ x. Progress calls unread still_unread held holds first e now (remaining x)) (λ x. Stops fault.WriteFault calls unread still_unread held holds first (point_of e now))
 
 -- a dialogue ends: one that had come so far at the end of its input has answered all of it, or the writer fails
 abbrev pub Finishes : {C T E : Type 0} → (C → Request → Reply → C → Type 0) → (d : Dialogue) → C → (e : Dialogue) → C → (mid holds : Option (List ℕ)) → Result T E → Type 0

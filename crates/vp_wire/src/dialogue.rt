@@ -1,10 +1,10 @@
 ghost use Rattle.std.specs.Prelude.{◌≡◌, ◌≤◌, ◌<◌, ◌+◌, ◌^◌, ◌%◌, [], ℕ, List, None, Option, Some, IfErr, IfOk, IfSome, OnOk, false, option_map, IsErrOf, MatchResult, length, not, vec_items};
 ghost use Rattle.std.specs.Io.KnownBytes.{IsAtEnd};
-ghost use Rattle.vp_world.specs.declared.event.Request.{Request};
-ghost use Rattle.vp_world.specs.declared.reply.Reply.{Reply};
+ghost use Rattle.vp_answer.specs.declared.request.Request.{Request};
+ghost use Rattle.vp_answer.specs.declared.reply.Reply.{Reply};
 ghost use Rattle.vp_wire.specs.Dialogue.{Answers, Asked, Closes, IsDialogue, IsWhole, Point, Stops, is_grant, is_opening, stage_behind, turn_of, turn_of_request};
 ghost use Rattle.vp_wire.specs.Failures.{failures_behind, one_more, reader_failures, writer_failures};
-ghost use Rattle.vp_wire.specs.Reading.{Finishes, Goes, IsBegun, Progress, Takes, Told, is_closing, point_of, size_left, text_told, turn_by};
+ghost use Rattle.vp_wire.specs.Reading.{Finishes, Goes, IsBegun, Progress, Takes, AnswersLine, is_closing, point_of, remaining_size, reply_text, turn_by};
 
 use crate::counted::{Counted, Failed};
 use crate::fault::WireError;
@@ -12,8 +12,8 @@ use crate::line::{Line, LineError};
 use crate::replies::reply_line;
 use std::alloc::Global;
 use std::io::{Read, Write};
+use vp_answer::{Reply, Request};
 use vp_list::first_piece;
-use vp_world::{Reply, Request};
 
 /// How often the reader is asked at most.
 pub const TURN_LIMIT: u32 = 16_777_216;
@@ -105,7 +105,7 @@ fn ask<C: Caller>(
     caller: &mut C,
 ) -> (Stage, Result<Vec<u8>, LineError>)
     ensures { Asked C.calls request (record { stage = stage; caller = caller.old })
-        (text_told vec_items result.1) (record { stage = result.0; caller = caller.new }) }
+        (reply_text vec_items result.1) (record { stage = result.0; caller = caller.new }) }
 {
     let opens = is_opening(&request);
     let closes = is_closing(&request);
@@ -141,10 +141,10 @@ impl Dialogue {
     }
 
     /// What the line that was read is answered. The next line begins.
-    fn told<C: Caller>(&mut self, caller: &mut C) -> Result<Vec<u8>, LineError>
-        ensures told { (line : List ℕ) → IsBegun self.old.line line
+    fn reply_line<C: Caller>(&mut self, caller: &mut C) -> Result<Vec<u8>, LineError>
+        ensures reply { (line : List ℕ) → IsBegun self.old.line line
             → Answers C.calls (turn_of self.old.stage line) (point_of self.old caller.old)
-            (text_told vec_items result) (point_of self.new caller.new) }
+            (reply_text vec_items result) (point_of self.new caller.new) }
         ensures begun { IsBegun self.new.line [] }
         ensures lines { self.new.lines ≡ self.old.lines }
     {
@@ -166,8 +166,8 @@ impl Dialogue {
         caller: &mut C,
     ) -> Result<(), Failed>
         requires { self.old.lines + 1 < 2 ^ 64 }
-        ensures told { (line : List ℕ) → IsBegun self.old.line line
-            → Told C.calls (turn_of self.old.stage line) (point_of self.old caller.old)
+        ensures reply { (line : List ℕ) → IsBegun self.old.line line
+            → AnswersLine C.calls (turn_of self.old.stage line) (point_of self.old caller.old)
             (point_of self.new caller.new) result (W.contents writer.old.inner)
             (W.contents writer.new.inner) }
         ensures begun { IsBegun self.new.line [] }
@@ -175,7 +175,7 @@ impl Dialogue {
         ensures failures { writer.new.failures ≡ failures_behind writer.old.failures result }
     {
         self.lines += 1;
-        match self.told(caller) {
+        match self.reply_line(caller) {
             Ok(line) => writer.write(&line),
             Err(error) => writer.write(error.line()),
         }
@@ -193,9 +193,10 @@ impl Dialogue {
             (W.contents writer.old.inner) (W.contents writer.new.inner) bytes.now result
             (option_map (λ l. l.now)) }
         ensures lines { IfOk result
-            (λ left. self.new.lines + size_left (option_map (λ l. l.now) left)
+            (λ remaining. self.new.lines + remaining_size (option_map (λ l. l.now) remaining)
             ≤ self.old.lines + length bytes.now) }
-        ensures shorter { IfOk result (λ left. IfSome left (λ l. length l.now < length bytes.now)) }
+        ensures shorter { IfOk result (λ remaining.
+            IfSome remaining (λ l. length l.now < length bytes.now)) }
         ensures failures { writer.new.failures ≡ failures_behind writer.old.failures result }
     {
         let (piece, behind) = first_piece(bytes, b'\n');
@@ -221,9 +222,9 @@ impl Dialogue {
         ensures lines { OnOk result (self.new.lines ≤ self.old.lines + length bytes.now) }
         ensures failures { writer.new.failures ≡ failures_behind writer.old.failures result }
     {
-        let mut left = Some(bytes);
-        while let Some(rest) = left {
-            left = self.take_first(rest, writer, caller)?;
+        let mut remaining = Some(bytes);
+        while let Some(rest) = remaining {
+            remaining = self.take_first(rest, writer, caller)?;
         }
         Ok(())
     }

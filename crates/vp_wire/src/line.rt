@@ -7,7 +7,7 @@ use crate::dialogue::Stage;
 use crate::fault::WireError;
 use crate::requests::request;
 use std::alloc::Global;
-use vp_world::Request;
+use vp_answer::Request;
 
 /// The greatest length of a line, in bytes without its newline.
 pub const LINE_LIMIT: usize = 65_536;

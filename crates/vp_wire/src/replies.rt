@@ -7,12 +7,12 @@ ghost use Rattle.vp_wire.specs.Lines.{both_steps_data, by_text, callback_data, d
 use crate::fault::WireError;
 use serde_json::{Map, Value, put};
 use std::alloc::{AllocError, Global};
+use vp_answer::{Refusal, Reply};
 use vp_bits::Bits;
 use vp_list::Text;
-use vp_notify::Notice;
+use vp_notify::PolledNotice;
 use vp_policy::{Barrier, DenialWords};
 use vp_vpi::{ListedObject, Listing, RaceLine, RaceTold, SharedNotices};
-use vp_world::{Refusal, Reply};
 
 /// An object of one member.
 fn only(alloc: Global, key: &str, value: Value) -> Result<Value, AllocError>
@@ -163,7 +163,7 @@ fn callback_value(alloc: Global, callback: u32) -> Result<Value, AllocError>
 }
 
 /// A notice.
-fn notice_value(alloc: Global, notice: &Notice) -> Result<Value, AllocError>
+fn notice_value(alloc: Global, notice: &PolledNotice) -> Result<Value, AllocError>
     ensures { IfOk result (λ v. view v ≡ notice_data notice.now) }
 {
     let mut members = Map::new(alloc);
@@ -179,7 +179,7 @@ fn notice_value(alloc: Global, notice: &Notice) -> Result<Value, AllocError>
 }
 
 /// Notices.
-fn notices_value(alloc: Global, notices: &[Notice]) -> Result<Value, AllocError>
+fn notices_value(alloc: Global, notices: &[PolledNotice]) -> Result<Value, AllocError>
     ensures { IfOk result (λ v. view v ≡ array (items_of (map notice_data notices.now))) }
 {
     let mut items = Vec::new(alloc);

@@ -8,12 +8,12 @@ ghost use Rattle.vp_wire.specs.Lines.{access_at, asked_of_op, close_request, com
 use crate::fault::WireError;
 use serde_json::Value;
 use std::alloc::{AllocError, Global};
+use vp_answer::{GrantChange, Request, ValueFormat};
 use vp_elab::Kind;
 use vp_json::{ReadError, has_keys, number, read, text};
 use vp_list::{Sequence, Text};
 use vp_policy::Access;
 use vp_vpi::{NumberProperty, PutValue, TextProperty, VectorWord};
-use vp_world::{GrantChange, Request, ValueFormat};
 
 /// Every time is below this one, in time units.
 const TIME_END: u64 = 1 << 62;

@@ -1,10 +1,11 @@
 -- A world behind a request of the session in a place.
 use Rattle.std.proofs.Common.{◌≡◌, ℕ, ◌<◌, Bool, true, false, List, length, map, Option, Some, None, refl, sym, ap, subst, ◌∙◌}
-use Rattle.std.specs.Prelude.{slice_get, slice_index_or, slice_set, if◌then◌else◌, option_map}
+use Rattle.std.specs.Prelude.{slice_get, slice_index_or, slice_set, if◌then◌else◌, option_map, IfSome, IsSome}
 use Rattle.std.proofs.lemmas.List.{length-map, map-set, set-get_or}
 use Rattle.std.proofs.lemmas.Option.{slice_get-map, slice_get-get_or}
 use Rattle.vp_bits.specs.declared.bit.Bit.{Bit}
 use Rattle.vp_elab.specs.Built.{Elaborated}
+use Rattle.vp_elab.specs.declared.object.ObjectId.{ObjectId}
 use Rattle.vp_policy.specs.PolicyState.{PolicyState}
 use Rattle.vp_race.specs.Booking.{BookState}
 use Rattle.vp_race.specs.Recording.{Recorded, Segments, with_step}
@@ -12,16 +13,22 @@ use Rattle.vp_race.specs.Segments.{Told}
 use Rattle.vp_sim.specs.declared.fault.SimError.{SimError}
 use Rattle.vp_sim.specs.States as sim
 use Rattle.vp_sim.specs.laws.Designs.{behind_step}
+use Rattle.vp_vpi.specs.Observers.{Observer}
 use Rattle.vp_vpi.specs.Seats.{Seat}
 use Rattle.vp_waking.specs.declared.change.Change.{Change}
-use Rattle.vp_world.specs.declared.answering.Answer.{Answer}
-use Rattle.vp_world.specs.declared.event.Request.{Request}
+use Rattle.vp_answer.specs.declared.answering.Answer.{Answer}
+use Rattle.vp_world.specs.declared.putting.AnswerWithChange.{AnswerWithChange}
+use Rattle.vp_answer.specs.declared.request.Request.{Request}
 use Rattle.vp_world.specs.declared.limits.Limits.{Limits}
+use Rattle.vp_answer.specs.declared.reply.Reply.{Reply}
+use Rattle.vp_answer.specs.declared.reply.Reply.TheVariants as reply
 use Rattle.vp_world.specs.declared.session.OpenSession.{OpenSession}
-use Rattle.vp_world.specs.Answers.{Response, respond}
-use Rattle.vp_world.specs.Given.{Gives, eyes_in, races_in}
+use Rattle.vp_answer.specs.Answers.{Response, respond}
+use Rattle.vp_answer.specs.Given.{IsGiven, put_shown}
+use Rattle.vp_world.specs.Given.{Gives, eyes_in}
 use Rattle.vp_world.specs.History.{asked, asked_at, asked_in, change_of, changed_by, changed_in, noticed, outcome_of_put, raised, segments_of_put, state_asked, stepped, with_state}
 use Rattle.vp_world.specs.Shown.{session_shown, shown}
+use Rattle.vp_answer.specs.laws.Puts.{put_only}
 use Rattle.vp_world.specs.Worlds.{SessionState, Standing, State}
 
 -- the session of a place, as it is shown
@@ -63,9 +70,55 @@ put_design : (run : sim.State) (p : Option (ℕ × List Bit)) → design_in run 
 put_design run None = refl
 put_design run (Some p) = chosen_design run _ _ _ run.finished refl
 
+-- what a put changes, if there is one, only a request that is done changes
+done_by : (put : Option (ℕ × List Bit)) (old new : sim.State) (change : Option Change) (r : Reply) → outcome_of_put old put ≡ sim.Goes new change → ((p : ℕ × List Bit) → put ≡ Some p → r ≡ reply.Done) → IfSome change (λ c. r ≡ reply.Done)
+done_by None old new change r goes done =
+    let none : None ≡ change = cc in
+    subst (λ (x : Option Change). IfSome x (λ c. r ≡ reply.Done)) none tt
+done_by (Some p) old new None r goes done = tt
+done_by (Some p) old new (Some c) r goes done = done p refl
+
+-- an answer with what its put changed
+abbrev pub with_change : Answer → Option Change → AnswerWithChange
+with_change a change = record { reply = a.reply; entry_reply = a.entry_reply; goal = a.goal; change = change }
+
+-- an answer, and what its put does, give what comes of a request
+pub put_gives :
+    (eyes : Observer) (seat : Seat) (r : Request) (old new : Recorded) (session : Seat) (a : Answer) (change : Option Change)
+    → IsGiven (respond eyes seat r) session a → outcome_of_put old.simulation (put_shown a.put) ≡ sim.Goes new.simulation change
+    → new.segments ≡ segments_of_put old.segments (put_shown a.put) new.simulation
+    → Gives (respond eyes seat r) old new session (with_change a change)
+put_gives eyes seat r old new session a change given goes closes =
+    let due = respond eyes seat r in
+    let put : outcome_of_put old.simulation due.put ≡ sim.Goes new.simulation change = ap (outcome_of_put old.simulation) (sym given.put) ∙ goes in
+    record {
+      gives_reply = given.gives_reply;
+      gives_entry = given.gives_entry;
+      goal = given.goal;
+      seat = given.seat;
+      put = put;
+      segments = closes ∙ ap (λ p. segments_of_put old.segments p new.simulation) given.put;
+      gives_done =
+          done_by due.put old.simulation new.simulation change a.reply put
+          (λ p is. given.gives_reply ∙ (put_only eyes seat r p is).is_done);
+    }
+
+-- a put that is there, as it is shown
+put_there : (put : Option (ObjectId × List Bit)) → IsSome put → (p : ℕ × List Bit) × (put_shown put ≡ Some p)
+put_there None there = cc
+put_there (Some p) there = ((p.0.0, p.1), refl)
+
+-- a request with a put leaves its session as it was
+pub put_keeps :
+    (eyes : Observer) (seat : Seat) (r : Request) (session : Seat) (a : Answer)
+    → IsGiven (respond eyes seat r) session a → IsSome a.put → session ≡ seat
+put_keeps eyes seat r session a given there =
+    let p = put_there a.put there in
+    given.seat ∙ (put_only eyes seat r p.0 (sym given.put ∙ p.1)).same
+
 -- what comes of a request of a session of this seat
 abbrev pub due_of : Recorded → BookState → (policy : PolicyState) → Seat → Request → Response
-due_of run book policy seat r = respond (eyes_in (races_in run book policy seat.user) run policy seat.user) seat r
+due_of run book policy seat r = respond (eyes_in run book policy seat.user) seat r
 
 -- a world with this design, simulation, segments and sessions
 abbrev pub with_run : Standing → Elaborated → sim.State → Segments → List SessionState → Standing
@@ -90,15 +143,15 @@ module _
     found : slice_get (map session_shown sessions) place ≡ Some (session_shown session)
     found = session_found sessions place session (within_shown run book.races first policy limits sessions opens goal place w is inside) at
 
-    pub told_given : (run' : Recorded) (new : Seat) (a : Answer) → Gives due run run' new a → a.reply ≡ asked_in w place r
+    pub told_given : (run' : Recorded) (new : Seat) (a : AnswerWithChange) → Gives due run run' new a → a.reply ≡ asked_in w place r
     told_given run' new a given =
         given.gives_reply ∙ ap (λ there. asked old.state there r) (sym found) ∙ ap (λ (v : Standing). asked_in v place r) is
 
-    pub kept_given : (run' : Recorded) (new : Seat) (a : Answer) → Gives due run run' new a → a.entry_reply ≡ asked_in w place r
+    pub kept_given : (run' : Recorded) (new : Seat) (a : AnswerWithChange) → Gives due run run' new a → a.entry_reply ≡ asked_in w place r
     kept_given run' new a given =
         given.gives_entry ∙ ap (λ there. asked old.state there r) (sym found) ∙ ap (λ (v : Standing). asked_in v place r) is
 
-    pub changed_given : (run' : Recorded) (new : Seat) (a : Answer) → Gives due run run' new a → a.change ≡ changed_in w place r
+    pub changed_given : (run' : Recorded) (new : Seat) (a : AnswerWithChange) → Gives due run run' new a → a.change ≡ changed_in w place r
     changed_given run' new a given =
         sym (ap change_of given.put) ∙ ap (λ there. changed_by old.state there r) (sym found) ∙ ap (λ (v : Standing). changed_in v place r) is
 
@@ -110,7 +163,7 @@ module _
     }
 
     pub state_given :
-        (run' : Recorded) (new : Seat) (told : List OpenSession) (goal' : Option ℕ) (a : Answer) → Gives due run run' new a → goal' ≡ raised goal a.goal
+        (run' : Recorded) (new : Seat) (told : List OpenSession) (goal' : Option ℕ) (a : AnswerWithChange) → Gives due run run' new a → goal' ≡ raised goal a.goal
         → map session_shown told ≡ noticed a.change run'.simulation.time (map session_shown (slice_set sessions place (seated session new)))
         → shown run' book.races first policy limits told opens goal' ≡ with_state w (asked_at w.state (Some place) r)
     state_given run' new told goal' a given raises tells =

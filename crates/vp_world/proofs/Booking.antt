@@ -5,7 +5,6 @@ use Rattle.vp_world.specs.declared.fault.WorldError.TheVariants as world_error
 use Rattle.vp_list.specs.Refusals.{Explains}
 use Rattle.vp_race.specs.declared.fault.RaceError.{RaceError}
 use Rattle.vp_race.specs.declared.fault.RaceError.TheVariants.{NotAnOrder, NotComplete, SameValue, SegmentGone, Booked, BookFull, NoMemory}
-use Rattle.vp_race.specs.Booking as book
 use Rattle.vp_race.specs.Booking.{BookState, is_booked, refusal_of_finding, refusal_of_race}
 use Rattle.vp_race.specs.Same.{same_run}
 use Rattle.vp_race.specs.Segments.{Run, Told}

@@ -8,10 +8,10 @@ use Rattle.vp_race.specs.Orders.{is_over}
 use Rattle.vp_race.specs.Recording.{Segments, next_job, with_anew, with_job, with_step}
 use Rattle.vp_race.specs.Segments.{Run}
 use Rattle.vp_sim.specs.States as sim
-use Rattle.vp_world.specs.declared.event.GrantChange.{GrantChange}
+use Rattle.vp_answer.specs.declared.request.GrantChange.{GrantChange}
 use Rattle.vp_world.specs.declared.event.Event.{Event}
 use Rattle.vp_world.specs.declared.event.Event.TheVariants as event
-use Rattle.vp_world.specs.declared.event.Request.{Request}
+use Rattle.vp_answer.specs.declared.request.Request.{Request}
 use Rattle.vp_world.specs.Entries.{Entry}
 use Rattle.vp_world.specs.History.{after, asked_at, closed_at, granted_to, opened_by, outcome_of_put, raised, response_of, segments_of_put, state_asked, state_behind, stepped}
 use Rattle.vp_world.specs.Worlds.{Opening, SessionState, State, index_of, start}

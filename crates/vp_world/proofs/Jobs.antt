@@ -3,8 +3,8 @@ use Rattle.std.proofs.Common.{◌≡◌, ℕ, Option, Some, None, ap}
 use Rattle.std.specs.Prelude.{option_map}
 use Rattle.std.specs.Option.{option_map_or}
 use Rattle.vp_race.specs.Segments.{Run}
-use Rattle.vp_world.specs.declared.reply.Refusal.TheVariants as refusal
-use Rattle.vp_world.specs.declared.reply.Reply.TheVariants as reply
+use Rattle.vp_answer.specs.declared.reply.Refusal.TheVariants as refusal
+use Rattle.vp_answer.specs.declared.reply.Reply.TheVariants as reply
 
 -- the number of a job
 abbrev pub number_of : Option Run → Option ℕ

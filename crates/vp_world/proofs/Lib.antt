@@ -5,7 +5,6 @@ pub mod Standings
 pub mod Noticing
 pub mod Marks
 pub mod MarksAsked
-pub mod Refusing
 pub mod Asking
 pub mod WorldRows
 pub mod Logs

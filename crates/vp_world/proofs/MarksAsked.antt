@@ -7,9 +7,9 @@ use Rattle.vp_vpi.specs.declared.fault.VpiError.TheVariants as vpi
 use Rattle.vp_vpi.specs.Calls.{handle_of, iterated, number_of, or_refusal, put_of, race_of, same_of, text_of, value_of}
 use Rattle.vp_vpi.specs.Observers.{Observer}
 use Rattle.vp_vpi.specs.Seats.{Seat, object_of}
-use Rattle.vp_world.specs.declared.event.Request.{Request}
-use Rattle.vp_world.specs.declared.event.Request.TheVariants as request
-use Rattle.vp_world.specs.Answers.{Response, respond, response_by}
+use Rattle.vp_answer.specs.declared.request.Request.{Request}
+use Rattle.vp_answer.specs.declared.request.Request.TheVariants as request
+use Rattle.vp_answer.specs.Answers.{Response, respond, response_by}
 use Rattle.vp_world.specs.Marks.{are_marked, is_watch}
 use Rattle.vp_world.proofs.Marks.{are_marked_filter}
 

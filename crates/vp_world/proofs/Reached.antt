@@ -11,10 +11,10 @@ use Rattle.vp_race.specs.Recording.{Segments, kept_of}
 use Rattle.vp_race.specs.Same.{same_run}
 use Rattle.vp_race.specs.Segments.{Run, Told}
 use Rattle.vp_sim.specs.States as sim
-use Rattle.vp_world.specs.declared.event.GrantChange.{GrantChange}
+use Rattle.vp_answer.specs.declared.request.GrantChange.{GrantChange}
 use Rattle.vp_world.specs.declared.event.Event.{Event}
 use Rattle.vp_world.specs.declared.event.Event.TheVariants as event
-use Rattle.vp_world.specs.declared.event.Request.{Request}
+use Rattle.vp_answer.specs.declared.request.Request.{Request}
 use Rattle.vp_world.specs.Entries.{Entry}
 use Rattle.vp_world.specs.Events.{IsWellFormed}
 use Rattle.vp_world.specs.History.{IsLegal, IsReached, after, asked_at, book_refusal, closed_at, granted_to, is_log_full, opened_by, refusal_behind, refusal_of, refusal_of_booking, state_asked, state_behind, stepped}

@@ -10,7 +10,7 @@ use Rattle.vp_race.specs.Recording.{Recorded, Segments, first_segments}
 use Rattle.vp_race.specs.Segments.{Told}
 use Rattle.vp_sim.specs.States as sim
 use Rattle.vp_vpi.specs.Seats.{new_seat}
-use Rattle.vp_world.specs.declared.event.GrantChange.{GrantChange}
+use Rattle.vp_answer.specs.declared.request.GrantChange.{GrantChange}
 use Rattle.vp_world.specs.declared.limits.Limits.{Limits}
 use Rattle.vp_world.specs.declared.session.OpenSession.{OpenSession}
 use Rattle.vp_world.specs.History.{granted_to, next_session, opened_by, under_policy, with_state}

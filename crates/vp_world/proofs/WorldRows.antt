@@ -24,15 +24,15 @@ use Rattle.vp_statement.specs.Walking.{flow_of}
 use Rattle.vp_policy.specs.declared.denial.Barrier.TheVariants as by
 use Rattle.vp_policy.specs.Users.{Member}
 use Rattle.vp_vpi.specs.declared.property.PutValue.TheVariants.{Digits}
-use Rattle.vp_world.specs.declared.event.SessionId.{SessionId}
-use Rattle.vp_world.specs.declared.event.Request.TheVariants as request
-use Rattle.vp_world.specs.declared.event.ValueFormat.TheVariants as format
+use Rattle.vp_answer.specs.declared.request.SessionId.{SessionId}
+use Rattle.vp_answer.specs.declared.request.Request.TheVariants as request
+use Rattle.vp_answer.specs.declared.request.ValueFormat.TheVariants as format
 use Rattle.vp_world.specs.declared.event.Event.{Event}
 use Rattle.vp_world.specs.declared.event.Event.TheVariants as event
 use Rattle.vp_world.specs.declared.fault.WorldError.TheVariants as error
-use Rattle.vp_world.specs.declared.reply.Refusal.TheVariants as refusal
-use Rattle.vp_world.specs.declared.reply.Reply.{Reply}
-use Rattle.vp_world.specs.declared.reply.Reply.TheVariants as reply
+use Rattle.vp_answer.specs.declared.reply.Refusal.TheVariants as refusal
+use Rattle.vp_answer.specs.declared.reply.Reply.{Reply}
+use Rattle.vp_answer.specs.declared.reply.Reply.TheVariants as reply
 use Rattle.vp_waking.specs.declared.change.Change.{Change}
 use Rattle.vp_sim.specs.declared.fault.SimError.TheVariants as sim
 use Rattle.vp_world.specs.Entries.{Entry}
@@ -293,7 +293,7 @@ answered_behind_a_put e =
     answer shared (after shared (fold (after shared) (start shared) watching) (event.Ask first (request.Put 1 (Digits (codes "1"))))) e
 
 -- the second is told of it, and the first has nothing to be told
-put_told : answered_behind_a_put (event.Ask second request.Poll) ≡ reply.Notices (record { notices = record { callback = 1; object = record { 0 = 1 }; time = 0; value = One ∷ [] } ∷ []; lost = 0 })
+put_told : answered_behind_a_put (event.Ask second request.Poll) ≡ reply.Notices (record { notices = record { callback = 1; time = 0; value = One ∷ [] } ∷ []; lost = 0 })
 unfolding digits is_utf8 chars encode sizes_in tables_of effect_at
 put_told = refl
 

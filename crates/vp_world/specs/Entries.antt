@@ -6,8 +6,8 @@ use Rattle.vp_world.specs.declared.entry.Happening.{Happening}
 use Rattle.vp_world.specs.declared.entry.Happening.TheVariants as happening
 use Rattle.vp_world.specs.declared.event.Event.{Event}
 use Rattle.vp_world.specs.declared.event.Event.TheVariants as event
-use Rattle.vp_world.specs.declared.reply.Reply.{Reply}
-use Rattle.vp_world.specs.declared.reply.Reply.TheVariants as reply
+use Rattle.vp_answer.specs.declared.reply.Reply.{Reply}
+use Rattle.vp_answer.specs.declared.reply.Reply.TheVariants as reply
 
 -- an entry of the log: an event, its reply, what it changed, and the time and whether $finish was executed after it
 pub record Entry : Type 0 where

@@ -1,18 +1,10 @@
--- Requests and events.
+-- Events.
 use Rattle.std.specs.Prelude.{◌≡◌}
 use Rattle.vp_elab.specs.Built.{Elaborated}
 use Rattle.vp_race.specs.Segments.{IsRaceOf}
-use Rattle.vp_world.specs.declared.event.Request.{Request}
-use Rattle.vp_world.specs.declared.event.Request.TheVariants.{Open, Close, Grant}
+use Rattle.vp_answer.specs.Requests.{IsAsked}
 use Rattle.vp_world.specs.declared.event.Event.{Event}
 use Rattle.vp_world.specs.declared.event.Event.TheVariants as event
-
--- a request that a session asks: neither its opening nor its closing nor a change of a grant
-abbrev pub IsAsked : Request → Type 0
-IsAsked (Open user token) = ⊥
-IsAsked Close = ⊥
-IsAsked (Grant change) = ⊥
-IsAsked r = Unit {0}
 
 -- an event of a world of a design: its request, if it has one, is asked, and its finding, if it has one, is a race of a segment of that design
 abbrev pub IsWellFormed : Elaborated → Event → Type 0

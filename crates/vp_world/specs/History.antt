@@ -18,19 +18,19 @@ use Rattle.vp_vpi.specs.Observers.{Observer, is_watch_denied}
 use Rattle.vp_vpi.specs.Races.{observer_with}
 use Rattle.vp_vpi.specs.Seats.{Seat, new_seat, retired, with_due}
 use Rattle.vp_world.specs.Entries.{Entry}
-use Rattle.vp_world.specs.declared.event.GrantChange.{GrantChange}
-use Rattle.vp_world.specs.declared.event.SessionId.{SessionId}
-use Rattle.vp_world.specs.declared.event.Request.{Request}
+use Rattle.vp_answer.specs.declared.request.GrantChange.{GrantChange}
+use Rattle.vp_answer.specs.declared.request.SessionId.{SessionId}
+use Rattle.vp_answer.specs.declared.request.Request.{Request}
 use Rattle.vp_world.specs.declared.event.Event.{Event}
 use Rattle.vp_world.specs.declared.event.Event.TheVariants as event
 use Rattle.vp_world.specs.declared.fault.WorldError.{WorldError}
 use Rattle.vp_world.specs.declared.fault.WorldError.TheVariants as error
-use Rattle.vp_world.specs.declared.reply.Refusal.TheVariants as refusal
-use Rattle.vp_world.specs.declared.reply.Reply.{Reply}
-use Rattle.vp_world.specs.declared.reply.Reply.TheVariants as reply
+use Rattle.vp_answer.specs.declared.reply.Refusal.TheVariants as refusal
+use Rattle.vp_answer.specs.declared.reply.Reply.{Reply}
+use Rattle.vp_answer.specs.declared.reply.Reply.TheVariants as reply
 use Rattle.vp_world.specs.Events.{IsWellFormed}
 use Rattle.vp_world.specs.Worlds.{Logged, Opening, SessionState, Standing, State, index_of, start}
-use Rattle.vp_world.specs.Answers.{Response, respond}
+use Rattle.vp_answer.specs.Answers.{Response, respond}
 
 -- ---- refusals
 

@@ -9,7 +9,6 @@ pub mod Faults
 pub mod Refusals
 pub mod Entries
 pub mod Worlds
-pub mod Answers
 pub mod History
 pub mod Shown
 pub mod Marks

@@ -3,8 +3,8 @@ use Rattle.std.specs.Prelude.{ℕ, Bool, true, false, List, slice_index_or}
 use Rattle.std.specs.List.{list_all, list_any}
 use Rattle.vp_notify.specs.declared.registry.Callback.{Callback}
 use Rattle.vp_notify.specs.Registry.{watches}
-use Rattle.vp_world.specs.declared.event.Request.{Request}
-use Rattle.vp_world.specs.declared.event.Request.TheVariants.{Watch}
+use Rattle.vp_answer.specs.declared.request.Request.{Request}
+use Rattle.vp_answer.specs.declared.request.Request.TheVariants.{Watch}
 use Rattle.vp_world.specs.declared.session.OpenSession.{OpenSession}
 
 -- some session may have a callback on an object, by a list that says so of each object; it may on what lies beyond the list

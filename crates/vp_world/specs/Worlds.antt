@@ -8,7 +8,7 @@ use Rattle.vp_race.specs.Segments.{Told}
 use Rattle.vp_sim.specs.States as sim
 use Rattle.vp_vpi.specs.Seats.{Seat}
 use Rattle.vp_world.specs.Entries.{Entry}
-use Rattle.vp_world.specs.declared.event.SessionId.{SessionId}
+use Rattle.vp_answer.specs.declared.request.SessionId.{SessionId}
 use Rattle.vp_world.specs.declared.limits.Limits.{Limits}
 
 -- how a world begins: a design, the policy with which it opens, and its limits

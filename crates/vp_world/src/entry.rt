@@ -1,7 +1,6 @@
-use crate::event::{GrantChange, Request, SessionId};
-use crate::reply::Reply;
 use std::marker::Model;
 use std::sync::Arc;
+use vp_answer::{GrantChange, Reply, Request, SessionId};
 use vp_list::Text;
 use vp_race::{Finding, Shared};
 use vp_waking::Change;
@@ -71,7 +70,7 @@ impl Happening {
     ghost use Rattle.std.specs.Prelude.{◌≡◌, IfSome};
     ghost use Rattle.std.specs.Arc.{arc_value};
     ghost use Rattle.vp_world.specs.declared.event.Event.TheVariants as event;
-    ghost use Rattle.vp_world.specs.declared.reply.Reply.TheVariants as reply;
+    ghost use Rattle.vp_answer.specs.declared.reply.Reply.TheVariants as reply;
     ghost use Rattle.vp_world.specs.Entries.{change_in, event_in, reply_in};
 
     /// The simulation took the k-th of the events, and this changed.

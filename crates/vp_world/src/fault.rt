@@ -1,10 +1,10 @@
 ghost use Rattle.std.specs.Prelude.{◌≡◌};
 ghost use Rattle.vp_world.specs.declared.fault.WorldError.TheVariants.{NoMemory};
 
-use crate::reply::Refusal;
 use std::alloc::{AllocError, AllocFailed};
 use std::error::Error;
 use std::fmt;
+use vp_answer::Refusal;
 use vp_race::RaceError;
 use vp_sim::SimError;
 
@@ -58,6 +58,29 @@ impl WorldError {
             WorldError::Sim(_) => 1308,
             WorldError::Race(_) => 1309,
             WorldError::NoMemory => 1307,
+        }
+    }
+}
+
+impl From<WorldError> for Refusal {
+    ghost use Rattle.vp_world.specs.Refusals.{refusal_of_error};
+
+    ghost from_gives = { λ error refusal. refusal ≡ refusal_of_error error };
+
+    fn from(error: WorldError) -> Refusal {
+        match error {
+            WorldError::BadToken => Refusal::BadToken,
+            WorldError::SessionsFull => Refusal::SessionsFull,
+            WorldError::NotOpen => Refusal::NotOpen,
+            WorldError::BadOperator => Refusal::BadOperator,
+            WorldError::NoSuchUser => Refusal::NoSuchUser,
+            WorldError::NoSuchEnvelope => Refusal::NoSuchEnvelope,
+            WorldError::LogFull => Refusal::LogFull,
+            WorldError::BeyondGoal => Refusal::BeyondGoal,
+            WorldError::NoJob => Refusal::NoJob,
+            WorldError::Sim(_) => Refusal::Simulation,
+            WorldError::Race(_) => Refusal::Race,
+            WorldError::NoMemory => Refusal::NoMemory,
         }
     }
 }

@@ -7,21 +7,21 @@ ghost use Rattle.vp_race.specs.Recording.{kept_of, next_job, with_anew, with_ste
 ghost use Rattle.vp_sim.specs.States as sim;
 ghost use Rattle.vp_world.specs.declared.event.Event.TheVariants as event;
 ghost use Rattle.vp_world.specs.declared.fault.WorldError.TheVariants as world_error;
-ghost use Rattle.vp_world.specs.declared.reply.Reply.TheVariants as reply;
-ghost use Rattle.vp_world.specs.Events.{IsAsked};
+ghost use Rattle.vp_answer.specs.declared.reply.Reply.TheVariants as reply;
+ghost use Rattle.vp_answer.specs.Requests.{IsAsked};
 ghost use Rattle.vp_world.specs.History.{asked_at, asked_in, book_refusal, change_of, changed_in, closed_at, granted_to, is_beyond, is_full, is_next_beyond, later, next_session, raised, opened_by, refusal_in, refusal_of_job, refusal_of_log, refusal_of_outcome, refusal_of_session, refusal_of_step, due_advance, due_step, stepped, with_booked, with_job_taken, with_state};
 ghost use Rattle.vp_world.specs.Worlds.{index_of, start};
 
-use crate::answering::{Answer, respond};
-use crate::event::{GrantChange, Request, SessionId};
 use crate::fault::WorldError;
 use crate::limits::Limits;
+use crate::putting::{AnswerWithChange, answer_request};
 use crate::session::{OpenSession, place_of, retire};
 use crate::watching::{mark_asked, notify};
 use std::alloc::Global;
 use std::marker::Model;
 use std::snapshot::Snapshot;
 use std::sync::Arc;
+use vp_answer::{GrantChange, Request, SessionId};
 use vp_expr::Checked;
 use vp_policy::{Policy, UserId};
 use vp_race::{Book, Finding, Recording, Segment, Shared};
@@ -508,7 +508,7 @@ impl Present {
 
     /// Answers a request of the session in a place, whose change is due to the callbacks on it; or want of memory (1307), which leaves
     /// the world as it was.
-    pub fn ask(&mut self, place: usize, request: &Request) -> Result<Answer, WorldError>
+    pub fn ask(&mut self, place: usize, request: &Request) -> Result<AnswerWithChange, WorldError>
         requires asked { IsAsked request.now }
         requires within { place < length self.old.state.sessions }
         ensures reply { IfOk result (λ a. a.reply ≡ asked_in self.old place request.now) }
@@ -522,7 +522,7 @@ impl Present {
         ensures unchanged { OnErr result (self.new ≡ self.old) }
     {
         let session = &mut self.sessions[place].session;
-        let answer = respond(session, &self.policy, &mut self.run, &self.book, request)?;
+        let answer = answer_request(session, &self.policy, &mut self.run, &self.book, request)?;
         mark_asked(&mut self.watched, session, request);
         self.goal = raised(self.goal, answer.goal);
         let change = answer.change.as_ref();

@@ -2,7 +2,7 @@ ghost use Rattle.std.specs.Prelude.{◌≡◌, ◌<◌, length, map, Some, IfSom
 ghost use Rattle.vp_world.specs.Shown.{retired_open, session_shown, told_open};
 ghost use Rattle.vp_world.specs.Worlds.{index_of, same_session};
 
-use crate::event::SessionId;
+use vp_answer::SessionId;
 use vp_policy::{Policy, UserId};
 use vp_vpi::Session;
 use vp_waking::Change;

@@ -2,13 +2,13 @@
 ghost use Rattle.std.specs.Prelude.{◌≡◌, ℕ, true, map, option_copied, slice_set, Some};
 ghost use Rattle.vp_vpi.specs.Observers.{Observer};
 ghost use Rattle.vp_vpi.specs.Seats.{Seat};
-ghost use Rattle.vp_world.specs.Answers.{respond};
+ghost use Rattle.vp_answer.specs.Answers.{respond};
 ghost use Rattle.vp_world.specs.History.{noticed};
 ghost use Rattle.vp_world.specs.Shown.{session_shown};
 ghost use Rattle.vp_world.specs.Marks.{all_marked, are_marked, is_watch, is_watched, may_be_watched};
 
-use crate::event::Request;
 use crate::session::{OpenSession, tell};
+use vp_answer::Request;
 use vp_elab::ObjectId;
 use vp_notify::Callback;
 use vp_vpi::Session;

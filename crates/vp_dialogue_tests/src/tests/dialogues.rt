@@ -3,9 +3,9 @@
 use std::alloc::Global;
 use std::io;
 use std::io::{ErrorKind, Read, Write};
+use vp_answer::{Refusal, Reply, Request, SessionId};
 use vp_policy::UserId;
 use vp_wire::{Caller, Counted, session};
-use vp_world::{Refusal, Reply, Request, SessionId};
 
 /// How many bytes one call reads or writes at most.
 const PIECE: usize = 7;

@@ -10,7 +10,9 @@ use Rattle.std.proofs.lemmas.List.{length-set, length-take, length-take-le, leng
 use Rattle.std.proofs.lemmas.List.Elements.{Contains-append_left, Contains-push, Contains-push_cases}
 use Rattle.std.proofs.lemmas.Option.{slice_get_past}
 use Rattle.vp_list.specs.Chunks.{with_items}
-use Rattle.vp_list.specs.Tracked.{AreCopied, AreMarked}
+use Rattle.vp_list.specs.declared.tracked.Written.{Written}
+use Rattle.vp_list.specs.declared.tracked.Written.TheVariants.{Nothing}
+use Rattle.vp_list.specs.Tracked.{AreCopied, AreMarked, IsRenewed, IsWritten, Lets, MayBeWritten}
 use Rattle.vp_list.specs.laws.Chunks.{get_back, get_front}
 
 -- lists with the same item at each place are the same
@@ -85,12 +87,12 @@ get_behind xs ys p k l h =
 
 -- a chunk of a list, by its number
 abbrev pub chunk_of : {X : Type 0} → List X → ℕ → List X
-chunk_of xs number = take (min (length (drop (64 * number) xs)) 64) (drop (64 * number) xs)
+chunk_of xs number = take 64 (drop (64 * number) xs)
 
 -- how long it is
 chunk_length : {X : Type 0} (xs : List X) (number : ℕ) → length (chunk_of xs number) ≡ min (length xs - 64 * number) 64
 chunk_length xs number =
-    omega (arith, length-take (min (length (drop (64 * number) xs)) 64) (drop (64 * number) xs), length-drop (64 * number) xs)
+    omega (arith, length-take 64 (drop (64 * number) xs), length-drop (64 * number) xs)
 
 -- an item of the list stands in its chunk
 get_chunk : {X : Type 0} (xs : List X) (number k : ℕ) → k / 64 ≡ number → k < length xs
@@ -100,7 +102,7 @@ get_chunk xs number k own h =
     let rest = div-add-mod' k 64 in
     let less = mod-lt k {m = 64} (omega arith) in
     let e : 64 * number + (k - 64 * number) ≡ k = omega (arith, rest, less) in
-    get_take (min (length (drop (64 * number) xs)) 64) (drop (64 * number) xs) (k - 64 * number) (omega (arith, long, rest, less))
+    get_take 64 (drop (64 * number) xs) (k - 64 * number) (omega (arith, long, rest, less))
     ∙ get_drop (64 * number) xs (k - 64 * number)
     ∙ ap (slice_get xs) e
 
@@ -163,60 +165,97 @@ own_past copy items number k same past own =
     let rest = div-add-mod' k 64 in
     slice_get_past copy k (omega (arith, rest)) ∙ sym (slice_get_past items k (omega (arith, rest)))
 
--- an item is written in a chunk that is remembered
-pub copied_set : {X : Type 0} (copy items : List X) (changed remembered : List ℕ) (p : ℕ) (x : X) → AreCopied copy items changed
-    → ((k : ℕ) → Contains changed k → Contains remembered k) → Contains remembered (p / 64)
-    → AreCopied copy (slice_set items p x) remembered
-copied_set copy items changed remembered p x h more there k =
+-- an item is written at a place of which that is remembered
+pub copied_set : {X : Type 0} (copy items : List X) (changed more : List ℕ) (marks new : List Written) (p : ℕ) (x : X) → AreCopied copy items changed marks
+    → ((k : ℕ) → MayBeWritten changed marks k → MayBeWritten more new k) → MayBeWritten more new p
+    → AreCopied copy (slice_set items p x) more new
+copied_set copy items changed more marks new p x h others there k =
     elim (cases_eq k p) [
-      | inl e ↦ inr (subst (λ (n : ℕ). Contains remembered (n / 64)) (sym e) there)
+      | inl e ↦ inr (subst (λ (n : ℕ). MayBeWritten more new n) (sym e) there)
       | inr n ↦ elim (h k) [
         | inl e ↦ inl (e ∙ sym (get_other items p k x n))
-        | inr c ↦ inr (more (k / 64) c)
+        | inr c ↦ inr (others k c)
       ]
     ]
 
+-- what is known of a chunk is what was set last, if there is such a chunk
+lets_set : (marks : List Written) (number : ℕ) (written : Written) (k : ℕ) → Lets (Some written) k → Lets (slice_get (slice_set marks number written) number) k
+lets_set [] number written k h = tt
+lets_set (m ∷ marks) zero written k h = h
+lets_set (m ∷ marks) (suc number) written k h = lets_set marks number written k h
+
+-- what is known of one chunk is set to what lets more places: of all others it stays
+pub written_more : (changed more : List ℕ) (marks new : List Written) (number : ℕ) (written : Written)
+    → ((n : ℕ) → Contains changed n → Contains more n) → ((k : ℕ) → Lets (slice_get marks number) k → Lets (Some written) k)
+    → new ≡ slice_set marks number written → (k : ℕ) → MayBeWritten changed marks k → MayBeWritten more new k
+written_more changed more marks new number written grow lets set k may =
+    let now = subst (λ (ms : List Written). Lets (slice_get ms (k / 64)) k) (sym set) in
+    elim (cases_eq (k / 64) number) [
+      | inl same ↦
+          let was = subst (λ (n : ℕ). Lets (slice_get marks n) k) same may.1 in
+          let here = subst (λ (n : ℕ). Lets (slice_get (slice_set marks number written) n) k) (sym same) (lets_set marks number written k (lets k was)) in
+          (grow (k / 64) may.0, now here)
+      | inr other ↦ (grow (k / 64) may.0, now (subst (λ w. Lets w k) (sym (get_other marks number (k / 64) written other)) may.1))
+    ]
+
+-- and the place that is written is let
+pub written_there : (more : List ℕ) (marks new : List Written) (number : ℕ) (written : Written) (place : ℕ) → number ≡ place / 64
+    → Contains more number → Lets (Some written) place → new ≡ slice_set marks number written → MayBeWritten more new place
+written_there more marks new number written place own there lets set =
+    let here = subst (λ (n : ℕ). Lets (slice_get (slice_set marks number written) n) place) own (lets_set marks number written place lets) in (
+      subst (λ (n : ℕ). Contains more n) own there,
+      subst (λ (ms : List Written). Lets (slice_get ms (place / 64)) place) (sym set) here,
+    )
+
 -- a chunk is marked that is remembered
-pub marked_more : (changed remembered : List ℕ) (marks new : List Bool) (number : ℕ) → AreMarked changed marks
-    → remembered ≡ changed ++ number ∷ [] → new ≡ slice_set marks number true → AreMarked remembered new
-marked_more changed remembered marks new number h e set n is =
+pub marked_more : (changed more : List ℕ) (marks new : List Written) (number : ℕ) (written : Written) → AreMarked changed marks
+    → ((n : ℕ) → Contains changed n → Contains more n) → Contains more number → new ≡ slice_set marks number written → AreMarked more new
+marked_more changed more marks new number written h grow there set n is =
     elim (cases_eq n number) [
-      | inl same ↦ subst (λ (c : List ℕ). Contains c n) (sym e) (subst (Contains (changed ++ number ∷ [])) (sym same) (Contains-push changed number))
+      | inl same ↦ subst (λ (m : ℕ). Contains more m) (sym same) there
       | inr other ↦
-          let was : slice_get marks n ≡ Some true = sym (get_other marks number n true other) ∙ ap (λ ms. slice_get ms n) (sym set) ∙ is in
-          subst (λ (c : List ℕ). Contains c n) (sym e) (Contains-append_left changed (number ∷ []) n (h n was))
+          let was = subst (λ w. IsWritten w) (get_other marks number n written other) (subst (λ (ms : List Written). IsWritten (slice_get ms n)) set is) in
+          grow n (h n was)
     ]
 
 -- the last of those chunks is forgotten: the others still are all that are behind
-pub copied_less : {X : Type 0} (copy items new : List X) (changed rest : List ℕ) (number : ℕ) → AreCopied copy items changed
-    → changed ≡ rest ++ number ∷ [] → ((k : ℕ) → k / 64 ≡ number → slice_get new k ≡ slice_get items k)
-    → ((k : ℕ) → (k / 64 ≡ number → ⊥) → slice_get new k ≡ slice_get copy k) → AreCopied new items rest
-copied_less copy items new changed rest number h e own others k =
+pub copied_less : {X : Type 0} (copy items taken : List X) (changed rest : List ℕ) (marks new : List Written) (number : ℕ) → AreCopied copy items changed marks
+    → changed ≡ rest ++ number ∷ []
+    → IsRenewed copy taken items number (slice_get marks number)
+    → ((k : ℕ) → (k / 64 ≡ number → ⊥) → slice_get taken k ≡ slice_get copy k)
+    → new ≡ slice_set marks number Nothing → AreCopied taken items rest new
+copied_less copy items taken changed rest marks new number h e own others set k =
     elim (cases_eq (k / 64) number) [
-      | inl same ↦ inl (own k same)
+      | inl same ↦ elim (h k) [
+        | inl equal ↦ inl (own k same (inl equal))
+        | inr c ↦ inl (own k same (inr (subst (λ (n : ℕ). Lets (slice_get marks n) k) same c.1)))
+      ]
       | inr other ↦ elim (h k) [
         | inl same ↦ inl (others k other ∙ same)
-        | inr c ↦ elim (Contains-push_cases rest number (k / 64) (subst (λ (cs : List ℕ). Contains cs (k / 64)) e c)) [
-          | inl there ↦ inr there
+        | inr c ↦ elim (Contains-push_cases rest number (k / 64) (subst (λ (cs : List ℕ). Contains cs (k / 64)) e c.0)) [
+          | inl there ↦
+              let still = subst (λ w. Lets w k) (sym (get_other marks number (k / 64) Nothing other)) c.1 in
+              inr (there, subst (λ (ms : List Written). Lets (slice_get ms (k / 64)) k) (sym set) still)
           | inr same ↦ absurd (other (sym same))
         ]
       ]
     ]
 
--- a chunk whose mark is taken away is not marked
-not_marked : (marks : List Bool) (n : ℕ) → slice_get (slice_set marks n false) n ≡ Some true → ⊥
-not_marked [] n e = absurd (cc)
-not_marked (m ∷ marks) zero e = absurd (cc)
-not_marked (m ∷ marks) (suc n) e = not_marked marks n e
+-- a chunk of which nothing is known to be written is not marked
+not_marked : (marks : List Written) (n : ℕ) → IsWritten (slice_get (slice_set marks n Nothing) n) → ⊥
+not_marked [] n is = is
+not_marked (m ∷ marks) zero is = is
+not_marked (m ∷ marks) (suc n) is = not_marked marks n is
 
 -- and all that are marked
-pub marked_less : (changed rest : List ℕ) (marks new : List Bool) (number : ℕ) → AreMarked changed marks
-    → changed ≡ rest ++ number ∷ [] → new ≡ slice_set marks number false → AreMarked rest new
+pub marked_less : (changed rest : List ℕ) (marks new : List Written) (number : ℕ) → AreMarked changed marks
+    → changed ≡ rest ++ number ∷ [] → new ≡ slice_set marks number Nothing → AreMarked rest new
 marked_less changed rest marks new number h e set n is =
+    let now = subst (λ (ms : List Written). IsWritten (slice_get ms n)) set is in
     elim (cases_eq n number) [
-      | inl same ↦ absurd (not_marked marks number (sym (ap (λ ms. slice_get ms number) set) ∙ ap (slice_get new) (sym same) ∙ is))
+      | inl same ↦ absurd (not_marked marks number (subst (λ (m : ℕ). IsWritten (slice_get (slice_set marks number Nothing) m)) same now))
       | inr other ↦
-          let was : slice_get marks n ≡ Some true = sym (get_other marks number n false other) ∙ ap (λ ms. slice_get ms n) (sym set) ∙ is in
+          let was = subst (λ w. IsWritten w) (get_other marks number n Nothing other) now in
           elim (Contains-push_cases rest number n (subst (λ (cs : List ℕ). Contains cs n) e (h n was))) [
             | inl there ↦ there
             | inr same ↦ absurd (other (sym same))
@@ -224,23 +263,23 @@ marked_less changed rest marks new number h e set n is =
     ]
 
 -- a copy that is behind by no chunk has the items
-pub copied_whole : {X : Type 0} (copy items : List X) (changed : List ℕ) → AreCopied copy items changed → length changed ≡ 0
-    → copy ≡ items
-copied_whole copy items changed h none =
-    same_items copy items (λ k. elim (h k) [ inl e ↦ e | inr c ↦ absurd (omega (arith, c.1, none)) ])
+pub copied_whole : {X : Type 0} (copy items : List X) (changed : List ℕ) (marks : List Written) → AreCopied copy items changed marks
+    → length changed ≡ 0 → copy ≡ items
+copied_whole copy items changed marks h none =
+    same_items copy items (λ k. elim (h k) [ inl e ↦ e | inr c ↦ absurd (omega (arith, c.0.1, none)) ])
 
 -- a new copy is behind by none
-pub copied_anew : {X : Type 0} (items : List X) (changed : List ℕ) → AreCopied items items changed
-copied_anew items changed k = inl refl
+pub copied_anew : {X : Type 0} (items : List X) (changed : List ℕ) (marks : List Written) → AreCopied items items changed marks
+copied_anew items changed marks k = inl refl
 
-not_in_none : (n k : ℕ) → slice_get (replicate n false) k ≡ Some true → ⊥
-not_in_none zero k e = absurd (cc)
-not_in_none (suc n) zero e = absurd (cc)
-not_in_none (suc n) (suc k) e = not_in_none n k e
+not_in_none : (n k : ℕ) → IsWritten (slice_get (replicate n Nothing) k) → ⊥
+not_in_none zero k is = is
+not_in_none (suc n) zero is = is
+not_in_none (suc n) (suc k) is = not_in_none n k is
 
 -- at first no chunk is marked
-pub none_marked : (n : ℕ) (marks : List Bool) (changed : List ℕ) → marks ≡ replicate n false → AreMarked changed marks
-none_marked n marks changed e k is = absurd (not_in_none n k (sym (ap (λ ms. slice_get ms k) e) ∙ is))
+pub none_marked : (n : ℕ) (marks : List Written) (changed : List ℕ) → marks ≡ replicate n Nothing → AreMarked changed marks
+none_marked n marks changed e k is = absurd (not_in_none n k (subst (λ (ms : List Written). IsWritten (slice_get ms k)) e is))
 
 -- the item that is read at a place
 get_read : {X : Type 0} (xs : List X) (i : ℕ) (x d : X) → slice_get xs i ≡ Some x → get_or xs i d ≡ x

@@ -8,56 +8,79 @@ use vp_samples::shared_of;
 
 /// The numbers up to 200.
 fn numbers(alloc: Global) -> Option<TrackedList<u32>> {
-    let mut items = Vec::new(alloc);
-    for number in 0..200 {
-        items.push(number).ok()?;
-    }
+    let items = (0..200).collect(alloc).ok()?;
     TrackedList::from_vec(alloc, items).ok()
 }
 
-/// What stands at two places, of two chunks.
-fn two_of(list: &SharedList<u32>) -> Option<(u32, u32)> {
+/// What stands at two places of a copy, of two chunks.
+fn two_of(copy: Option<&SharedList<u32>>) -> Option<(u32, u32)> {
+    let list = copy?;
     Some((list.get(70)?, list.get(150)?))
 }
 
 /// Two places of a copy, of a later copy between which both were written, and of the list, which was written again.
-fn copies_of(list: &mut TrackedList<u32>) -> Option<[(u32, u32); 3]> {
-    let first = list.keep().ok()?;
+fn copies_of(list: &mut TrackedList<u32>) -> [Option<(u32, u32)>; 3] {
+    let first = list.keep().ok();
     list.set(70, 7);
     list.set(150, 8);
-    let second = list.keep().ok()?;
+    let second = list.keep().ok();
     list.set(70, 9);
-    let third = list.keep().ok()?;
-    Some([two_of(&first)?, two_of(&second)?, two_of(&third)?])
+    let third = list.keep().ok();
+    let places = [
+        two_of(first.as_ref()),
+        two_of(second.as_ref()),
+        two_of(third.as_ref()),
+    ];
+    drop((first, second, third));
+    places
 }
 
 /// The same of the numbers.
-fn copies(alloc: Global) -> Option<[(u32, u32); 3]> {
-    copies_of(&mut numbers(alloc)?)
+fn copies(alloc: Global) -> Option<[Option<(u32, u32)>; 3]> {
+    let mut list = numbers(alloc)?;
+    let places = copies_of(&mut list);
+    drop(list);
+    Some(places)
 }
 
 #[test]
 fn copies_of_a_list(rt: HostRuntime) {
-    assert_eq!(rt; copies(rt.alloc()), Some([(70, 150), (7, 8), (9, 8)]));
+    let wanted = [Some((70, 150)), Some((7, 8)), Some((9, 8))];
+    assert_eq!(rt; copies(rt.alloc()), Some(wanted));
 }
 
-/// A copy of the values of a new design with a reg of two bits, `top.a` (1).
-fn kept(alloc: Global) -> Option<KeptValues> {
+/// The values of a new design with a reg of two bits, `top.a` (1).
+fn new_values(alloc: Global) -> Option<Values> {
     let checked = shared_of(alloc, "module top; reg [1:0] a; endmodule")?;
-    Values::new(alloc, &checked).ok()?.keep().ok()
+    Values::new(alloc, &checked).ok()
 }
 
-/// The value of the reg in the copy, and in its first chunk.
-fn kept_value(alloc: Global) -> Option<(Bits, Bits)> {
-    let kept = kept(alloc)?;
-    if kept.count() == 0 {
+/// A copy of them.
+fn copy_of_new(alloc: Global) -> Option<KeptValues> {
+    let mut values = new_values(alloc)?;
+    let copy = values.keep().ok();
+    drop(values);
+    copy
+}
+
+/// The value of the reg in a copy, and in its first chunk.
+fn value_in(copy: &KeptValues) -> Option<(Bits, Bits)> {
+    if copy.count() == 0 {
         return None;
     }
-    Some((kept.find(ObjectId(1))?, kept.chunk(0).get(1)?))
+    Some((copy.find(ObjectId(1))?, copy.chunk(0).get(1)?))
+}
+
+/// The same of the copy of the new values.
+fn copied_value(alloc: Global) -> Option<(Bits, Bits)> {
+    let copy = copy_of_new(alloc)?;
+    let value = value_in(&copy);
+    drop(copy);
+    value
 }
 
 #[test]
 fn copy_of_values(rt: HostRuntime) {
     let both = (Bits::unknown(2), Bits::unknown(2));
-    assert_eq!(rt; kept_value(rt.alloc()), Some(both));
+    assert_eq!(rt; copied_value(rt.alloc()), Some(both));
 }

@@ -2,40 +2,50 @@
 ghost use Rattle.std.specs.Prelude.{◌≡◌, IfOk, IfSome};
 ghost use Rattle.std.specs.Arc.{arc_value};
 
-use crate::tests::recordings::{kept, put_upon, raced, recording, steps};
+use crate::tests::recordings::{race, recording, segment_of, steps};
 use std::alloc::Global;
 use std::sync::Arc;
 use vp_bits::Bits;
 use vp_elab::ObjectId;
-use vp_race::{Book, Finding, OpenGate, Segment, Shared, check, search};
+use vp_race::{Book, Finding, OpenGate, RaceError, Recording, Segment, Shared, check, search};
 
-/// The finding of an object by an order, or the number of the refusal.
-fn checked(
+/// The finding of an object by an order, or the refusal.
+fn finding_at(
     alloc: Global,
     segment: &Arc<Segment>,
     order: &[u32],
     object: u32,
-) -> Result<Finding, u32>
+) -> Result<Finding, RaceError>
     ensures { IfOk result (λ f. f.segment ≡ arc_value segment.now) }
 {
     let Ok(choices) = Vec::from_slice(alloc, order) else {
-        return Err(0);
+        return Err(RaceError::NoMemory);
     };
-    check(alloc, segment, choices, ObjectId(object)).map_err(|error| error.code())
+    check(alloc, segment, choices, ObjectId(object))
 }
 
 /// The number of the refusal of an order at `top.a`; 0 where it is a race.
 fn refusal(alloc: Global, segment: &Arc<Segment>, order: &[u32]) -> u32 {
-    match checked(alloc, segment, order, 1) {
-        Ok(_) => 0,
-        Err(code) => code,
+    match finding_at(alloc, segment, order, 1).err() {
+        None => 0,
+        Some(error) => error.code(),
     }
 }
 
-/// The values of `top.a` behind the run and behind an order that is a race.
+/// The values of `top.a` after the run and after an order that is a race.
+fn values_in(alloc: Global, segment: &Arc<Segment>) -> Option<(Bits, Bits)> {
+    let finding = finding_at(alloc, segment, &[0, 1, 0, 0, 0], 1).ok()?;
+    let values = finding.values();
+    drop(finding);
+    Some(values)
+}
+
+/// The same in the segment of the race.
 fn values(alloc: Global) -> Option<(Bits, Bits)> {
-    let finding = checked(alloc, &raced(alloc)?, &[0, 1, 0, 0, 0], 1).ok()?;
-    Some(finding.values())
+    let segment = race(alloc)?;
+    let values = values_in(alloc, &segment);
+    drop(segment);
+    values
 }
 
 #[test]
@@ -44,14 +54,16 @@ fn order_with_other_values(rt: HostRuntime) {
     assert_eq!(rt; values(rt.alloc()), Some(wanted));
 }
 
-/// The refusals of choices behind which something is left to do, that are no step's, and that are the run's.
+/// The refusals of choices after which something is left to do, that are no step's, and that are the run's.
 fn refusals(alloc: Global) -> Option<[u32; 3]> {
-    let segment = raced(alloc)?;
-    Some([
+    let segment = race(alloc)?;
+    let refusals = [
         refusal(alloc, &segment, &[0, 1]),
         refusal(alloc, &segment, &[5]),
         refusal(alloc, &segment, &[0, 0, 0, 0, 0]),
-    ])
+    ];
+    drop(segment);
+    Some(refusals)
 }
 
 #[test]
@@ -59,21 +71,7 @@ fn orders_that_are_no_race(rt: HostRuntime) {
     assert_eq!(rt; refusals(rt.alloc()), Some([1202, 1201, 1203]));
 }
 
-/// The refusals of two orders of a segment that began anew when `top.a` was given a value: the second has the step before it.
-fn refusals_behind_put(alloc: Global) -> Option<[u32; 2]> {
-    let segment = put_upon(alloc)?;
-    Some([
-        refusal(alloc, &segment, &[1, 1, 0, 0]),
-        refusal(alloc, &segment, &[0, 0, 0, 0, 0]),
-    ])
-}
-
-#[test]
-fn orders_behind_a_put(rt: HostRuntime) {
-    assert_eq!(rt; refusals_behind_put(rt.alloc()), Some([1203, 1201]));
-}
-
-/// The finding of a place is of this object: 1 behind the run and 0 behind the first order that is tried, which takes the last event each time.
+/// The finding of a place is of this object: 1 after the run and 0 after the first order that is tried, which takes the last event each time.
 fn is_found(findings: &[Finding], place: usize, object: u32) -> bool {
     let Some(finding) = findings.get(place) else {
         return false;
@@ -85,11 +83,6 @@ fn is_found(findings: &[Finding], place: usize, object: u32) -> bool {
         && finding.second() == [0, 1, 1, 0, 0].as_slice()
 }
 
-/// What 16 seeds find in a segment.
-fn found(alloc: Global, segment: &Arc<Segment>) -> Option<Vec<Finding>> {
-    search(alloc, segment, 16, 10_000, &OpenGate).ok()
-}
-
 /// Two findings: of `top.a` and of `top.b`.
 fn are_both(findings: &[Finding]) -> [bool; 3] {
     [
@@ -99,43 +92,80 @@ fn are_both(findings: &[Finding]) -> [bool; 3] {
     ]
 }
 
-/// A search finds both in the segment of the race.
-fn found_both(alloc: Global) -> Option<[bool; 3]> {
-    let findings = found(alloc, &raced(alloc)?)?;
-    Some(are_both(&findings))
+/// What 16 seeds find in a segment.
+fn findings_in(alloc: Global, segment: &Arc<Segment>) -> Option<Vec<Finding>> {
+    search(alloc, segment, 16, 10_000, &OpenGate).ok()
+}
+
+/// A search finds both in a segment.
+fn both_found_in(alloc: Global, segment: &Arc<Segment>) -> Option<[bool; 3]> {
+    let findings = findings_in(alloc, segment)?;
+    let are_both = are_both(&findings);
+    drop(findings);
+    Some(are_both)
+}
+
+/// The same of the segment of the race.
+fn both_found(alloc: Global) -> Option<[bool; 3]> {
+    let segment = race(alloc)?;
+    let are_both = both_found_in(alloc, &segment);
+    drop(segment);
+    are_both
 }
 
 #[test]
 fn races_that_are_found(rt: HostRuntime) {
-    assert_eq!(rt; found_both(rt.alloc()), Some([true, true, true]));
+    assert_eq!(rt; both_found(rt.alloc()), Some([true, true, true]));
 }
 
 /// A process with two nonblocking assignments to one reg, which happen in their order.
 const DEFERRED: &str = "module top; reg a; initial begin a <= 0; a <= 1; end endmodule";
 
-/// How many races are found where there never was a choice.
-fn found_without_choice(alloc: Global) -> Option<usize> {
+/// The first segment of a run that takes four steps.
+fn first_segment(alloc: Global, run: &mut Recording) -> Option<Arc<Segment>> {
+    steps(run, 4)?;
+    segment_of(alloc, run, 1)
+}
+
+/// The same of a run in which there never was a choice.
+fn segment_without_choice(alloc: Global) -> Option<Arc<Segment>> {
     let mut run = recording(alloc, DEFERRED)?;
-    steps(&mut run, 4)?;
-    let segment = kept(alloc, &run, 1)?;
-    Some(found(alloc, &segment)?.len())
+    let segment = first_segment(alloc, &mut run);
+    drop(run);
+    segment
+}
+
+/// How many races are found in a segment.
+fn count_found_in(alloc: Global, segment: &Arc<Segment>) -> Option<usize> {
+    let findings = findings_in(alloc, segment)?;
+    let count = findings.len();
+    drop(findings);
+    Some(count)
+}
+
+/// How many races are found where there never was a choice.
+fn count_without_choice(alloc: Global) -> Option<usize> {
+    let segment = segment_without_choice(alloc)?;
+    let count = count_found_in(alloc, &segment);
+    drop(segment);
+    count
 }
 
 #[test]
 fn no_race_without_choice(rt: HostRuntime) {
-    assert_eq!(rt; found_without_choice(rt.alloc()), Some(0));
+    assert_eq!(rt; count_without_choice(rt.alloc()), Some(0));
 }
 
 /// A race of `SWAPPED` at an object, to be booked.
 fn race_at(alloc: Global, segment: &Arc<Segment>, object: u32) -> Option<Shared<Finding>>
     ensures { IfSome result (λ f. f.segment ≡ arc_value segment.now) }
 {
-    let finding = checked(alloc, segment, &[0, 1, 0, 0, 0], object).ok()?;
+    let finding = finding_at(alloc, segment, &[0, 1, 0, 0, 0], object).ok()?;
     Shared::new(alloc, finding).ok()
 }
 
 /// The refusal where a race at an object is booked beside its segment, which is kept; 0 where it is booked.
-fn booked(alloc: Global, book: &mut Book, segment: &Arc<Segment>, object: u32) -> Option<u32> {
+fn booking(alloc: Global, book: &mut Book, segment: &Arc<Segment>, object: u32) -> Option<u32> {
     let finding = race_at(alloc, segment, object)?;
     Some(match book.add(Some(segment), finding) {
         Ok(()) => 0,
@@ -144,7 +174,7 @@ fn booked(alloc: Global, book: &mut Book, segment: &Arc<Segment>, object: u32) -
 }
 
 /// The refusal where the segment of a race is no longer kept.
-fn booked_late(alloc: Global, book: &mut Book, segment: &Arc<Segment>) -> Option<u32> {
+fn late_booking(alloc: Global, book: &mut Book, segment: &Arc<Segment>) -> Option<u32> {
     let finding = race_at(alloc, segment, 1)?;
     book.add(None, finding).err().map(|error| error.code())
 }
@@ -152,16 +182,20 @@ fn booked_late(alloc: Global, book: &mut Book, segment: &Arc<Segment>) -> Option
 /// What a book of one race says of a race whose segment is gone, of one, of the same again, and of another.
 fn bookings_in(alloc: Global, book: &mut Book, segment: &Arc<Segment>) -> Option<[u32; 4]> {
     Some([
-        booked_late(alloc, book, segment)?,
-        booked(alloc, book, segment, 1)?,
-        booked(alloc, book, segment, 1)?,
-        booked(alloc, book, segment, 2)?,
+        late_booking(alloc, book, segment)?,
+        booking(alloc, book, segment, 1)?,
+        booking(alloc, book, segment, 1)?,
+        booking(alloc, book, segment, 2)?,
     ])
 }
 
 /// The same of a new book.
 fn bookings(alloc: Global) -> Option<[u32; 4]> {
-    bookings_in(alloc, &mut Book::new(alloc, 1), &raced(alloc)?)
+    let segment = race(alloc)?;
+    let mut book = Book::new(alloc, 1);
+    let bookings = bookings_in(alloc, &mut book, &segment);
+    drop((book, segment));
+    bookings
 }
 
 #[test]

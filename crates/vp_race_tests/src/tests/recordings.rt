@@ -4,8 +4,6 @@ ghost use Rattle.vp_lex.specs.declared.token.TheConstants.{TEXT_LIMIT};
 
 use std::alloc::Global;
 use std::sync::Arc;
-use vp_bits::Bits;
-use vp_elab::ObjectId;
 use vp_race::{Recording, Segment};
 use vp_samples::shared_of;
 
@@ -39,39 +37,43 @@ pub fn steps(run: &mut Recording, count: u64) -> Option<()> {
 }
 
 /// The run goes on to the time of the next event.
-pub fn advance(run: &mut Recording) -> Option<()> {
+fn advance(run: &mut Recording) -> Option<()> {
     run.advance().ok()
 }
 
 /// The run ends the slot of time 0, and goes on to the time at which the processes race.
-pub fn begin_race(run: &mut Recording) -> Option<()> {
+fn begin_race(run: &mut Recording) -> Option<()> {
     steps(run, 6)?;
     advance(run)
 }
 
 /// A kept segment, to be shared.
-pub fn kept(alloc: Global, run: &Recording, number: u64) -> Option<Arc<Segment>> {
+pub fn segment_of(alloc: Global, run: &Recording, number: u64) -> Option<Arc<Segment>> {
     let segment = run.kept(number)?.try_clone(alloc).ok()?;
     Arc::new(alloc, segment).ok()
 }
 
-/// The number, the time and the choices of a segment.
-fn told(segment: &Segment) -> (u64, u64, &[u32]) {
-    (segment.number(), segment.time(), segment.order())
+/// The segment in which the processes race, as the run goes through it.
+fn race_in(alloc: Global, run: &mut Recording) -> Option<Arc<Segment>> {
+    begin_race(run)?;
+    steps(run, 5)?;
+    segment_of(alloc, run, 2)
 }
 
-/// The segment in which the processes race, as the run went through it.
-pub fn raced(alloc: Global) -> Option<Arc<Segment>> {
+/// The same of a new run.
+pub fn race(alloc: Global) -> Option<Arc<Segment>> {
     let mut run = recording(alloc, SWAPPED)?;
-    begin_race(&mut run)?;
-    steps(&mut run, 5)?;
-    kept(alloc, &run, 2)
+    let segment = race_in(alloc, &mut run);
+    drop(run);
+    segment
 }
 
 /// The segment of the race has the number, the time and the choices that are expected.
 fn race_is(alloc: Global, number: u64, time: u64, order: &[u32]) -> Option<bool> {
-    let segment = raced(alloc)?;
-    Some(told(&segment) == (number, time, order))
+    let segment = race(alloc)?;
+    let is_expected = (segment.number(), segment.time(), segment.order()) == (number, time, order);
+    drop(segment);
+    Some(is_expected)
 }
 
 #[test]
@@ -79,40 +81,14 @@ fn segment_of_a_slot(rt: HostRuntime) {
     assert_eq!(rt; race_is(rt.alloc(), 2, 5, &[0, 0, 0, 0, 0]), Some(true));
 }
 
-/// The run takes one step of the slot of the race, and then `top.a` is given a value from outside.
-fn put_in_race(run: &mut Recording) -> Option<()> {
-    begin_race(run)?;
-    steps(run, 1)?;
-    run.put(ObjectId(1), Bits::of_number(1, 1)).ok()?;
-    steps(run, 4)
-}
-
-/// The segment of the race where `top.a` was given a value behind its first step.
-pub fn put_upon(alloc: Global) -> Option<Arc<Segment>> {
-    let mut run = recording(alloc, SWAPPED)?;
-    put_in_race(&mut run)?;
-    kept(alloc, &run, 2)
-}
-
-/// That segment has the number, the time and the choices that are expected.
-fn put_is(alloc: Global, number: u64, time: u64, order: &[u32]) -> Option<bool> {
-    let segment = put_upon(alloc)?;
-    Some(told(&segment) == (number, time, order))
-}
-
-#[test]
-fn segment_that_begins_anew(rt: HostRuntime) {
-    assert_eq!(rt; put_is(rt.alloc(), 2, 5, &[0, 0, 0, 0]), Some(true));
-}
-
-/// The number of the job that is handed out next, and behind it.
+/// The number of the job that is handed out next, and the number that is handed out.
 fn next_jobs(run: &mut Recording) -> (Option<u64>, Option<u64>) {
     let next = run.next_job().map(|segment| segment.number());
     (next, run.take_job())
 }
 
-/// What is handed out behind the first slot, twice, and behind the second.
-fn jobs_of(run: &mut Recording) -> Option<[(Option<u64>, Option<u64>); 3]> {
+/// What is handed out after the first slot, twice, and after the second.
+fn jobs_in(run: &mut Recording) -> Option<[(Option<u64>, Option<u64>); 3]> {
     begin_race(run)?;
     let first = next_jobs(run);
     let none = next_jobs(run);
@@ -122,7 +98,10 @@ fn jobs_of(run: &mut Recording) -> Option<[(Option<u64>, Option<u64>); 3]> {
 
 /// The same of a new run.
 fn jobs(alloc: Global) -> Option<[(Option<u64>, Option<u64>); 3]> {
-    jobs_of(&mut recording(alloc, SWAPPED)?)
+    let mut run = recording(alloc, SWAPPED)?;
+    let jobs = jobs_in(&mut run);
+    drop(run);
+    jobs
 }
 
 #[test]
@@ -143,12 +122,19 @@ fn next_slots(run: &mut Recording, count: u64) -> Option<()> {
     Some(())
 }
 
-/// Whether the first two segments are kept, behind the first slot and so many more.
+/// Whether the first two segments are kept, after the first slot and so many more.
+fn are_kept_in(run: &mut Recording, slots: u64) -> Option<(bool, bool)> {
+    steps(run, 1)?;
+    next_slots(run, slots)?;
+    Some((run.kept(1).is_some(), run.kept(2).is_some()))
+}
+
+/// The same of a new run.
 fn are_kept(alloc: Global, slots: u64) -> Option<(bool, bool)> {
     let mut run = recording(alloc, CLOCK)?;
-    steps(&mut run, 1)?;
-    next_slots(&mut run, slots)?;
-    Some((run.kept(1).is_some(), run.kept(2).is_some()))
+    let are_kept = are_kept_in(&mut run, slots);
+    drop(run);
+    are_kept
 }
 
 #[test]

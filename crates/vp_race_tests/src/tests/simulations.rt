@@ -28,7 +28,7 @@ fn simulation(alloc: Global, text: &str) -> Option<Sim>
 }
 
 /// The object that a step changes, or the number of its refusal.
-fn stepped(simulation: &mut Sim, k: usize) -> u32 {
+fn step(simulation: &mut Sim, k: usize) -> u32 {
     match simulation.step(k) {
         Ok(Some(change)) => change.object.0,
         Ok(None) => NOTHING,
@@ -37,7 +37,7 @@ fn stepped(simulation: &mut Sim, k: usize) -> u32 {
 }
 
 /// The number of the refusal of an advance.
-fn advanced(simulation: &mut Sim) -> u32 {
+fn advance(simulation: &mut Sim) -> u32 {
     match simulation.advance() {
         Ok(()) => NOTHING,
         Err(error) => error.code(),
@@ -56,14 +56,14 @@ fn put(simulation: &mut Sim) -> u32 {
 /// What comes of a step and an advance that are refused, of steps until nothing is left, and of two more calls.
 fn turns_of(simulation: &mut Sim) -> [u32; 8] {
     [
-        stepped(simulation, 9),
-        advanced(simulation),
-        stepped(simulation, 0),
-        stepped(simulation, 0),
-        stepped(simulation, 0),
-        stepped(simulation, 0),
-        stepped(simulation, 0),
-        advanced(simulation),
+        step(simulation, 9),
+        advance(simulation),
+        step(simulation, 0),
+        step(simulation, 0),
+        step(simulation, 0),
+        step(simulation, 0),
+        step(simulation, 0),
+        advance(simulation),
     ]
 }
 
@@ -71,7 +71,10 @@ fn turns_of(simulation: &mut Sim) -> [u32; 8] {
 fn turns(alloc: Global, text: &str) -> Option<[u32; 8]>
     requires { length text.now ≤ TEXT_LIMIT }
 {
-    Some(turns_of(&mut simulation(alloc, text)?))
+    let mut simulation = simulation(alloc, text)?;
+    let turns = turns_of(&mut simulation);
+    drop(simulation);
+    Some(turns)
 }
 
 #[test]
@@ -86,27 +89,30 @@ fn nonblocking_updates(rt: HostRuntime) {
     assert_eq!(rt; turns(rt.alloc(), DEFERRED), Some(wanted));
 }
 
-/// What comes of two puts of one value, a step, and what is asked behind `$finish`.
-fn ended_of(simulation: &mut Sim) -> [u32; 6] {
+/// What comes of two puts of one value, a step, and what is asked after `$finish`.
+fn answers_of(simulation: &mut Sim) -> [u32; 6] {
     [
         put(simulation),
         put(simulation),
-        stepped(simulation, 0),
+        step(simulation, 0),
         put(simulation),
-        stepped(simulation, 0),
-        advanced(simulation),
+        step(simulation, 0),
+        advance(simulation),
     ]
 }
 
 /// The same of a new simulation.
-fn ended(alloc: Global) -> Option<[u32; 6]> {
-    Some(ended_of(&mut simulation(alloc, FINISHES)?))
+fn answers(alloc: Global) -> Option<[u32; 6]> {
+    let mut simulation = simulation(alloc, FINISHES)?;
+    let answers = answers_of(&mut simulation);
+    drop(simulation);
+    Some(answers)
 }
 
 #[test]
 fn puts_and_finish(rt: HostRuntime) {
     let wanted = [1, NOTHING, NOTHING, 804, 804, 804];
-    assert_eq!(rt; ended(rt.alloc()), Some(wanted));
+    assert_eq!(rt; answers(rt.alloc()), Some(wanted));
 }
 
 /// The process whose event comes first in a simulation.
@@ -120,7 +126,10 @@ fn first_source_of(simulation: &Sim) -> Option<ObjectId> {
 
 /// The process whose event comes first.
 fn first_source(alloc: Global) -> Option<ObjectId> {
-    first_source_of(&simulation(alloc, TWICE)?)
+    let simulation = simulation(alloc, TWICE)?;
+    let source = first_source_of(&simulation);
+    drop(simulation);
+    source
 }
 
 #[test]
@@ -149,8 +158,11 @@ fn finish_slot(simulation: &mut Sim)
     }
 }
 
-/// The values of `top.a` and `top.b`, how many events can be taken, and the time of the next future event.
-fn seen(simulation: &Sim) -> (Bits, Bits, usize, Option<u64>) {
+/// What is compared of a simulation: the values of `top.a` and `top.b`, how many events can be taken, and the time of the next future event.
+type State = (Bits, Bits, usize, Option<u64>);
+
+/// The state of a simulation.
+fn state_of(simulation: &Sim) -> State {
     (
         simulation.value(ObjectId(1)),
         simulation.value(ObjectId(2)),
@@ -159,64 +171,107 @@ fn seen(simulation: &Sim) -> (Bits, Bits, usize, Option<u64>) {
     )
 }
 
-/// What is seen at the start.
-fn at_start() -> (Bits, Bits, usize, Option<u64>) {
+/// The state at the start.
+fn at_start() -> State {
     (Bits::unknown(1), Bits::unknown(1), 3, None)
 }
 
-/// What is seen at the end of the first time slot.
-fn at_end() -> (Bits, Bits, usize, Option<u64>) {
+/// The state at the end of the first time slot.
+fn at_end() -> State {
     (Bits::of_number(1, 1), Bits::of_number(1, 1), 0, Some(3))
 }
 
-/// A simulation that goes on from a copy is what the copied one was; it runs to the end of its slot, and the copied one is as before.
-fn copy_runs_alone(alloc: Global) -> Option<bool> {
+/// A simulation that goes on from a copy of another.
+fn copy_of(simulation: &mut Sim) -> Option<Sim> {
+    let copy = simulation.keep().ok()?;
+    let other = Sim::of_kept(&copy).ok();
+    drop(copy);
+    other
+}
+
+/// A simulation that goes on from a copy is what the original was; it runs to the end of its slot, and the original is as before.
+fn is_alone(original: &Sim, copy: &mut Sim) -> bool {
+    let same = state_of(copy) == at_start();
+    finish_slot(copy);
+    same && state_of(copy) == at_end() && state_of(original) == at_start()
+}
+
+/// The same of a simulation and its copy.
+fn copy_is_alone(simulation: &mut Sim) -> Option<bool> {
+    let mut copy = copy_of(simulation)?;
+    let is_alone = is_alone(simulation, &mut copy);
+    drop(copy);
+    Some(is_alone)
+}
+
+/// The same of a new simulation and its copy.
+fn copy_of_new_is_alone(alloc: Global) -> Option<bool> {
     let mut simulation = simulation(alloc, MIXED)?;
-    let mut other = Sim::of_kept(&simulation.keep().ok()?).ok()?;
-    let same = seen(&other) == at_start();
-    finish_slot(&mut other);
-    Some(same && seen(&other) == at_end() && seen(&simulation) == at_start())
+    let is_alone = copy_is_alone(&mut simulation);
+    drop(simulation);
+    is_alone
+}
+
+#[test]
+fn copy_of_a_simulation(rt: HostRuntime) {
+    assert_eq!(rt; copy_of_new_is_alone(rt.alloc()), Some(true));
 }
 
 /// A copy of a simulation that is restored later.
-fn kept(simulation: &mut Sim) -> Option<KeptSim>
+fn copy_to_restore(simulation: &mut Sim) -> Option<KeptSim>
     ensures copy { IfSome result (λ k. k.design ≡ simulation.old.design) }
     ensures same { simulation.new ≡ simulation.old }
 {
     simulation.keep().ok()
 }
 
-/// What is seen of a simulation that goes on from a copy.
-fn returned(simulation: &mut Sim, kept: &KeptSim) -> Option<(Bits, Bits, usize, Option<u64>)>
-    requires { simulation.old.design ≡ kept.now.design }
+/// The state of a simulation that goes on from a copy.
+fn state_from(simulation: &mut Sim, copy: &KeptSim) -> Option<State>
+    requires { simulation.old.design ≡ copy.now.design }
     ensures { OnSome result (simulation.new.design ≡ simulation.old.design) }
 {
-    simulation.restore(kept).ok()?;
-    Some(seen(simulation))
+    simulation.restore(copy).ok()?;
+    Some(state_of(simulation))
 }
 
-/// What is seen of a simulation that runs to the end of its slot and goes on from a copy that was made before, and from one that was made behind
-/// it.
-fn returns_of(simulation: &mut Sim) -> Option<[(Bits, Bits, usize, Option<u64>); 2]> {
-    let first = kept(simulation)?;
-    finish_slot(simulation);
-    let second = kept(simulation)?;
-    let at_first = returned(simulation, &first)?;
-    let at_second = returned(simulation, &second)?;
+/// The states of a simulation that goes on from a copy and then from another.
+fn states_from(simulation: &mut Sim, first: &KeptSim, second: &KeptSim) -> Option<[State; 2]>
+    requires first { simulation.old.design ≡ first.now.design }
+    requires second { simulation.old.design ≡ second.now.design }
+{
+    let at_first = state_from(simulation, first)?;
+    let at_second = state_from(simulation, second)?;
     Some([at_first, at_second])
 }
 
+/// The states of a simulation that runs to the end of its slot, and goes on from a copy that was made before and from one that is made then.
+fn states_after_slot(simulation: &mut Sim, first: &KeptSim) -> Option<[State; 2]>
+    requires { simulation.old.design ≡ first.now.design }
+{
+    finish_slot(simulation);
+    let second = copy_to_restore(simulation)?;
+    let states = states_from(simulation, first, &second);
+    drop(second);
+    states
+}
+
+/// The same of a simulation of which the first copy is made now.
+fn states_from_copies(simulation: &mut Sim) -> Option<[State; 2]> {
+    let first = copy_to_restore(simulation)?;
+    let states = states_after_slot(simulation, &first);
+    drop(first);
+    states
+}
+
 /// The same of a new simulation.
-fn returns(alloc: Global) -> Option<[(Bits, Bits, usize, Option<u64>); 2]> {
-    returns_of(&mut simulation(alloc, MIXED)?)
+fn states_of_new(alloc: Global) -> Option<[State; 2]> {
+    let mut simulation = simulation(alloc, MIXED)?;
+    let states = states_from_copies(&mut simulation);
+    drop(simulation);
+    states
 }
 
 #[test]
 fn simulation_that_goes_on_from_copies(rt: HostRuntime) {
-    assert_eq!(rt; returns(rt.alloc()), Some([at_start(), at_end()]));
-}
-
-#[test]
-fn copy_of_a_simulation(rt: HostRuntime) {
-    assert_eq!(rt; copy_runs_alone(rt.alloc()), Some(true));
+    assert_eq!(rt; states_of_new(rt.alloc()), Some([at_start(), at_end()]));
 }

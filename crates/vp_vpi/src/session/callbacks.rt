@@ -1,20 +1,19 @@
 // A session's callbacks on changes of values (IEEE Std 1364-2005, 27.33 and 27.34).
 ghost use Rattle.std.specs.Prelude.{◌≡◌, ◌+◌, false, true, option_copied, option_map, IfErr, IfOk, IsOk, IsOkAnd, IsOkUnless, OnErr, OnOk, ◌↔◌};
-ghost use Rattle.vp_policy.specs.PolicyState.{Fits};
 ghost use Rattle.vp_policy.specs.Users.{member_at};
 ghost use Rattle.vp_notify.specs.Registry as registry;
 ghost use Rattle.vp_vpi.specs.Calls.{Explains, Refuses, is_watchable, watchable_of, watched_of};
-ghost use Rattle.vp_vpi.specs.Observers.{is_watch_denied, observer_of};
+ghost use Rattle.vp_vpi.specs.Observers.{is_watch_denied};
 ghost use Rattle.vp_vpi.specs.Seats.{drained, object_of, polled, retired, with_callback, with_due, without_callback};
 
 use super::Session;
 use crate::fault::VpiError;
 use crate::notices::SharedNotices;
+use crate::observer::Observe;
 use vp_elab::{Kind, ObjectId};
 use vp_notify::Callback;
 use vp_policy::Policy;
 use vp_pragma::Right;
-use vp_sim::Sim;
 use vp_waking::Change;
 
 /// An object is there whose changes can be watched: a net or a reg.
@@ -30,18 +29,15 @@ fn is_watchable(kind: Option<Kind>) -> bool
 impl Session {
     /// The object of a handle, whose changes the user may watch. Refused where the number is no handle (1101), the user lacks the right
     /// to watch (1109), or the object is no net or reg (1102), or for want of memory (1107).
-    fn watchable(&self, policy: &Policy, sim: &Sim, handle: u32) -> Result<ObjectId, VpiError>
-        requires { Fits policy.now sim.now.design.tree }
-        ensures ok { IfOk result
-            (λ o. watchable_of (observer_of sim.now (member_at policy.now.members self.now.user))
+    fn watchable<E: Observe>(&self, eyes: &E, handle: u32) -> Result<ObjectId, VpiError>
+        requires { E.is_sound eyes.now }
+        ensures ok { IfOk result (λ o. watchable_of (E.observer eyes.now)
             (object_of self.now.handles handle) ≡ Ok o.0) }
-        ensures refused { IfErr result
-            (λ e. Refuses (watchable_of
-            (observer_of sim.now (member_at policy.now.members self.now.user))
+        ensures refused { IfErr result (λ e. Refuses (watchable_of (E.observer eyes.now)
             (object_of self.now.handles handle)) e) }
     {
-        let object = self.allowed(policy, sim, handle, Right::Watch)?;
-        if is_watchable(sim.design().kind(object)) {
+        let object = self.allowed(eyes, handle, Right::Watch)?;
+        if is_watchable(eyes.kind(object)) {
             Ok(object)
         } else {
             Err(VpiError::WrongKind)
@@ -51,20 +47,17 @@ impl Session {
     /// A callback on the changes of a handle's object, and its number (27.33). Refused where the number is no handle (1101), the user
     /// lacks the right to watch (1109), the object is no net or reg (1102), with too many callbacks (1001), or for want of memory (1107).
     /// A refusal leaves the session as it was.
-    pub fn register_cb(&mut self, policy: &Policy, sim: &Sim, handle: u32) -> Result<u32, VpiError>
-        requires { Fits policy.now sim.now.design.tree }
+    pub fn register_cb<E: Observe>(&mut self, eyes: &E, handle: u32) -> Result<u32, VpiError>
+        requires { E.is_sound eyes.now }
         ensures number { IfOk result (λ n. n ≡ self.old.registry.given + 1) }
         ensures registered { OnOk result
-            (IsOkAnd (watched_of (observer_of sim.now (member_at policy.now.members self.old.user))
-            self.old.registry (object_of self.old.handles handle))
-            (λ o. self.new ≡ with_callback o self.old)) }
-        ensures refused { IfErr result
-            (λ e. Explains (watched_of
-            (observer_of sim.now (member_at policy.now.members self.old.user))
+            (IsOkAnd (watched_of (E.observer eyes.now) self.old.registry
+            (object_of self.old.handles handle)) (λ o. self.new ≡ with_callback o self.old)) }
+        ensures refused { IfErr result (λ e. Explains (watched_of (E.observer eyes.now)
             self.old.registry (object_of self.old.handles handle)) e) }
         ensures unchanged { OnErr result (self.new ≡ self.old) }
     {
-        let object = self.watchable(policy, sim, handle)?;
+        let object = self.watchable(eyes, handle)?;
         Ok(self.registry.register(object)?)
     }
 

@@ -1,7 +1,8 @@
-//! Two sessions of one world, each told of the changes that the other makes.
-use crate::tests::sessions::{find_in, of_ann, open, order_in, poll_in, put_in, world_of};
+//! Two sessions of one world, each of which is given notices of the changes that the other makes.
+use crate::tests::sessions::{ann_world, find_in, of_ann, open, order_in, poll_in, put_in};
 use std::alloc::Global;
-use vp_world::{Request, World};
+use vp_answer::Request;
+use vp_world::World;
 
 /// A module with one reg.
 const DESIGN: &str = "module top; reg a; endmodule";
@@ -14,53 +15,72 @@ fn open_two(alloc: Global, world: &mut World) -> Option<()> {
     find_in(alloc, world, of_ann(2), "top.a")
 }
 
-/// A world with two such sessions, of which the first watches the reg.
-fn watched_world(alloc: Global) -> Option<World> {
-    let mut world = world_of(alloc, DESIGN)?;
-    open_two(alloc, &mut world)?;
-    order_in(&mut world, of_ann(1), Request::Watch { handle: 1 })?;
-    Some(world)
+/// The first session watches the reg.
+fn watch(world: &mut World) -> Option<()> {
+    order_in(world, of_ann(1), Request::Watch { handle: 1 })
 }
 
-/// How many notices each session is told of a put of the second.
-fn told_of_put(alloc: Global, world: &mut World, digits: &str) -> Option<(usize, usize)> {
+/// How many notices each session is given of a put of the second.
+fn counts_of_put(alloc: Global, world: &mut World, digits: &str) -> Option<(usize, usize)> {
     put_in(alloc, world, of_ann(2), digits)?;
     Some((poll_in(world, of_ann(1))?, poll_in(world, of_ann(2))?))
 }
 
-/// The same of a put of a world whose first session watches the reg.
-fn told_while_watched(alloc: Global) -> Option<(usize, usize)> {
-    let mut world = watched_world(alloc)?;
-    told_of_put(alloc, &mut world, "1")
+/// The same of a put while the first session watches the reg.
+fn counts_while_watched(alloc: Global, world: &mut World) -> Option<(usize, usize)> {
+    open_two(alloc, world)?;
+    watch(world)?;
+    counts_of_put(alloc, world, "1")
+}
+
+/// The same in a new world.
+fn counts_in_new_world(alloc: Global) -> Option<(usize, usize)> {
+    let mut world = ann_world(alloc, DESIGN)?;
+    let counts = counts_while_watched(alloc, &mut world);
+    drop(world);
+    counts
 }
 
 #[test]
 fn a_put_of_another_session_is_told(rt: HostRuntime) {
-    assert_eq!(rt; told_while_watched(rt.alloc()), Some((1, 0)));
+    assert_eq!(rt; counts_in_new_world(rt.alloc()), Some((1, 0)));
 }
 
-/// The same behind the removal of the callback.
-fn told_without(alloc: Global, world: &mut World) -> Option<(usize, usize)> {
+/// The same after the removal of the callback.
+fn counts_without_callback(alloc: Global, world: &mut World) -> Option<(usize, usize)> {
     order_in(world, of_ann(1), Request::Unwatch { callback: 1 })?;
-    told_of_put(alloc, world, "1")
+    counts_of_put(alloc, world, "1")
 }
 
-/// The same behind a new callback.
-fn told_anew(alloc: Global, world: &mut World) -> Option<(usize, usize)> {
-    order_in(world, of_ann(1), Request::Watch { handle: 1 })?;
-    told_of_put(alloc, world, "0")
+/// The same after a new callback.
+fn counts_with_new_callback(alloc: Global, world: &mut World) -> Option<(usize, usize)> {
+    watch(world)?;
+    counts_of_put(alloc, world, "0")
 }
 
-/// Both, one after the other.
-fn told_again(alloc: Global) -> Option<((usize, usize), (usize, usize))> {
-    let mut world = watched_world(alloc)?;
+/// Both, one after the other, where the first session watches the reg.
+fn counts_after_removal(
+    alloc: Global,
+    world: &mut World,
+) -> Option<((usize, usize), (usize, usize))> {
+    open_two(alloc, world)?;
+    watch(world)?;
     Some((
-        told_without(alloc, &mut world)?,
-        told_anew(alloc, &mut world)?,
+        counts_without_callback(alloc, world)?,
+        counts_with_new_callback(alloc, world)?,
     ))
 }
 
+/// The same in a new world.
+fn counts_after_removal_in_new_world(alloc: Global) -> Option<((usize, usize), (usize, usize))> {
+    let mut world = ann_world(alloc, DESIGN)?;
+    let counts = counts_after_removal(alloc, &mut world);
+    drop(world);
+    counts
+}
+
 #[test]
-fn a_callback_behind_one_that_was_removed(rt: HostRuntime) {
-    assert_eq!(rt; told_again(rt.alloc()), Some(((0, 0), (1, 0))));
+fn a_callback_after_one_that_was_removed(rt: HostRuntime) {
+    let wanted = Some(((0, 0), (1, 0)));
+    assert_eq!(rt; counts_after_removal_in_new_world(rt.alloc()), wanted);
 }

@@ -1,9 +1,9 @@
 //! Copies of requests, which have their contents.
 use std::alloc::Global;
+use vp_answer::{GrantChange, Request};
 use vp_list::{Same, Text};
 use vp_policy::Access;
 use vp_vpi::PutValue;
-use vp_world::{GrantChange, Request};
 
 /// A request to open a session.
 fn opening(alloc: Global) -> Option<Request> {
@@ -28,40 +28,34 @@ fn grant(alloc: Global) -> Option<Request> {
     }))
 }
 
+/// Whether two requests, if they are there, have the same contents.
+fn are_same(first: Option<&Request>, second: Option<&Request>) -> Option<bool> {
+    Some(first?.is_same(second?))
+}
+
+/// The same of two requests that are not used again.
+fn are_alike(first: Option<Request>, second: Option<Request>) -> Option<bool> {
+    let are_same = are_same(first.as_ref(), second.as_ref());
+    drop((first, second));
+    are_same
+}
+
+/// The copy of a request, if it is there.
+fn copy_of(alloc: Global, request: Option<&Request>) -> Option<Request> {
+    request?.try_clone(alloc).ok()
+}
+
 /// Whether the copy of a request has its contents.
-fn is_copied(alloc: Global, request: &Request) -> Option<bool> {
-    Some(request.try_clone(alloc).ok()?.is_same(request))
-}
-
-/// The same of the first.
-fn opening_is_copied(alloc: Global) -> Option<bool> {
-    is_copied(alloc, &opening(alloc)?)
-}
-
-/// The same of the second.
-fn put_is_copied(alloc: Global) -> Option<bool> {
-    is_copied(alloc, &put(alloc, "1")?)
-}
-
-/// The same of the third.
-fn grant_is_copied(alloc: Global) -> Option<bool> {
-    is_copied(alloc, &grant(alloc)?)
-}
-
-/// Whether a put has the contents of another.
-fn is_other_put(alloc: Global, request: &Request) -> Option<bool> {
-    Some(put(alloc, "0")?.is_same(request))
-}
-
-/// Whether puts of different digits have the same contents.
-fn are_puts_same(alloc: Global) -> Option<bool> {
-    is_other_put(alloc, &put(alloc, "1")?)
+fn is_copied(alloc: Global, request: Option<Request>) -> Option<bool> {
+    let copy = copy_of(alloc, request.as_ref());
+    are_alike(copy, request)
 }
 
 #[test]
 fn requests_are_copied(rt: HostRuntime) {
-    assert_eq!(rt; opening_is_copied(rt.alloc()), Some(true));
-    assert_eq!(rt; put_is_copied(rt.alloc()), Some(true));
-    assert_eq!(rt; grant_is_copied(rt.alloc()), Some(true));
-    assert_eq!(rt; are_puts_same(rt.alloc()), Some(false));
+    let alloc = rt.alloc();
+    assert_eq!(rt; is_copied(alloc, opening(alloc)), Some(true));
+    assert_eq!(rt; is_copied(alloc, put(alloc, "1")), Some(true));
+    assert_eq!(rt; is_copied(alloc, grant(alloc)), Some(true));
+    assert_eq!(rt; are_alike(put(alloc, "0"), put(alloc, "1")), Some(false));
 }

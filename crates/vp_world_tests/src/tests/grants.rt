@@ -1,15 +1,16 @@
 //! Grants that change: what they come to in a world of several sessions, and on a policy alone.
-ghost use Rattle.std.specs.Prelude.{IfSome};
 ghost use Rattle.vp_policy.specs.PolicyState.{Fits};
 
+use crate::tests::building::{policy_of, world_of};
 use crate::tests::sessions::{find_in, open_as, order_in, poll_in, put_in};
 use std::alloc::Global;
+use vp_answer::{GrantChange, Request, SessionId};
 use vp_elab::{Design, ObjectId};
 use vp_list::Text;
-use vp_policy::{Access, Policy, UserId, read_policy};
+use vp_policy::{Access, Policy, UserId};
 use vp_pragma::{Right, access};
 use vp_samples::shared_of;
-use vp_world::{Event, GrantChange, Limits, Request, SessionId, World};
+use vp_world::{Event, Limits, World};
 
 /// A module whose reg `k` stands in an envelope. Its objects are `top` (0) and `k` (1).
 const DESIGN: &str = "module top;
@@ -23,24 +24,6 @@ endmodule
 const POLICY: &[u8] = b"{\"operator\":\"op\",\"users\":[\
 {\"name\":\"ann\",\"token\":\"t1\",\"open\":\"watch+put\",\"grants\":[{\"envelope\":1,\"access\":\"watch+put\"}]},\
 {\"name\":\"bob\",\"token\":\"t2\",\"open\":\"watch+put\",\"grants\":[{\"envelope\":1,\"access\":\"watch+put\"}]}]}";
-
-/// The policy for a design, read.
-fn policy_of(alloc: Global, design: &Design) -> Option<Policy>
-    ensures { IfSome result (λ policy. Fits policy design.now.tree) }
-{
-    read_policy(alloc, POLICY, design).ok()
-}
-
-/// A world of the design and the policy, whose log has so many entries at most.
-fn world(alloc: Global, log: usize) -> Option<World> {
-    let checked = shared_of(alloc, DESIGN)?;
-    let policy = policy_of(alloc, checked.design())?;
-    let limits = Limits {
-        log: log.min(Limits::GREATEST.log),
-        ..Limits::GREATEST
-    };
-    World::new(alloc, checked, policy, limits).ok()
-}
 
 /// The first session of the user of a number.
 fn session_of(user: usize) -> SessionId {
@@ -56,7 +39,20 @@ fn watch(alloc: Global, world: &mut World, user: usize) -> Option<()> {
     order_in(world, session_of(user), Request::Watch { handle: 1 })
 }
 
-/// What a change of Ann's grant for an envelope comes to, by a token: 0, or the refusal's number.
+/// A change of Ann's grant for an envelope, by a token.
+fn change(alloc: Global, token: &str, envelope: u32, access: &str) -> Option<GrantChange> {
+    let access = Access::of_text(access)?;
+    let token = Text::copy(alloc, token).ok()?;
+    let user = Text::copy(alloc, "ann").ok()?;
+    Some(GrantChange {
+        token,
+        user,
+        envelope,
+        access,
+    })
+}
+
+/// What such a change comes to: 0, or the refusal's number.
 fn grant(
     alloc: Global,
     world: &mut World,
@@ -64,15 +60,10 @@ fn grant(
     envelope: u32,
     access: &str,
 ) -> Option<u32> {
-    let change = GrantChange {
-        token: Text::copy(alloc, token).ok()?,
-        user: Text::copy(alloc, "ann").ok()?,
-        envelope,
-        access: Access::of_text(access)?,
-    };
-    match world.apply(Event::Grant(change)) {
-        Ok(_) => Some(0),
-        Err(error) => Some(error.code()),
+    let change = change(alloc, token, envelope, access)?;
+    match world.apply(Event::Grant(change)).err() {
+        None => Some(0),
+        Some(error) => Some(error.code()),
     }
 }
 
@@ -89,8 +80,10 @@ fn watch_both(alloc: Global, world: &mut World) -> Option<()> {
     put_in(alloc, world, session_of(1), "1")
 }
 
-/// How many notices Ann and Bob are told then behind a change of Ann's grant.
-fn told_in(alloc: Global, world: &mut World, access: &str) -> Option<(usize, usize)> {
+/// How many notices Ann and Bob are given then after a change of Ann's grant.
+fn counts_after_grant(alloc: Global, world: &mut World, access: &str) -> Option<(usize, usize)> {
+    open_both(alloc, world)?;
+    watch_both(alloc, world)?;
     grant(alloc, world, "op", 1, access)?;
     Some((
         poll_in(world, session_of(0))?,
@@ -99,30 +92,41 @@ fn told_in(alloc: Global, world: &mut World, access: &str) -> Option<(usize, usi
 }
 
 /// The same in a new world.
-fn told_behind(alloc: Global, access: &str) -> Option<(usize, usize)> {
-    let mut world = world(alloc, 100)?;
-    open_both(alloc, &mut world)?;
-    watch_both(alloc, &mut world)?;
-    told_in(alloc, &mut world, access)
+fn counts_in_new_world(alloc: Global, access: &str) -> Option<(usize, usize)> {
+    let mut world = world_of(alloc, DESIGN, POLICY, Limits::GREATEST)?;
+    let counts = counts_after_grant(alloc, &mut world, access);
+    drop(world);
+    counts
 }
 
 #[test]
 fn a_grant_that_ends_silences_its_user_alone(rt: HostRuntime) {
-    assert_eq!(rt; told_behind(rt.alloc(), "put"), Some((0, 1)));
-    assert_eq!(rt; told_behind(rt.alloc(), "watch"), Some((1, 1)));
+    assert_eq!(rt; counts_in_new_world(rt.alloc(), "put"), Some((0, 1)));
+    assert_eq!(rt; counts_in_new_world(rt.alloc(), "watch"), Some((1, 1)));
 }
 
-/// What changes of Ann's grant come to in a world whose log is full behind the first, and how long it is.
-fn refusals(alloc: Global) -> Option<([Option<u32>; 5], usize)> {
-    let mut world = world(alloc, 1)?;
+/// What changes of Ann's grant come to in a world whose log is full after the first, and how long it is.
+fn refusals_in(alloc: Global, world: &mut World) -> ([Option<u32>; 5], usize) {
     let codes = [
-        grant(alloc, &mut world, "op", 1, ""),
-        grant(alloc, &mut world, "op", 1, ""),
-        grant(alloc, &mut world, "no", 1, ""),
-        grant(alloc, &mut world, "op", 2, ""),
-        grant(alloc, &mut world, "", 0, ""),
+        grant(alloc, world, "op", 1, ""),
+        grant(alloc, world, "op", 1, ""),
+        grant(alloc, world, "no", 1, ""),
+        grant(alloc, world, "op", 2, ""),
+        grant(alloc, world, "", 0, ""),
     ];
-    Some((codes, world.log().len()))
+    (codes, world.log().len())
+}
+
+/// The same in a new world.
+fn refusals(alloc: Global) -> Option<([Option<u32>; 5], usize)> {
+    let limits = Limits {
+        log: 1,
+        ..Limits::GREATEST
+    };
+    let mut world = world_of(alloc, DESIGN, POLICY, limits)?;
+    let refusals = refusals_in(alloc, &mut world);
+    drop(world);
+    Some(refusals)
 }
 
 #[test]
@@ -153,18 +157,34 @@ fn regrant(alloc: Global, design: &Design, policy: &mut Policy, envelope: u32) -
     }
 }
 
-/// Whether Ann may watch by a policy whose grant changed, and by its copy, and what a grant for an absent envelope comes to.
-fn changed_and_copy(alloc: Global) -> Option<(bool, bool, u32)> {
-    let checked = shared_of(alloc, DESIGN)?;
-    let design = checked.design();
-    let mut policy = policy_of(alloc, design)?;
+/// Whether Ann may watch by a policy whose grant changes, and by its copy, and what a grant for an absent envelope comes to.
+fn change_and_copy(alloc: Global, design: &Design, policy: &mut Policy) -> Option<(bool, bool, u32)>
+    requires { Fits policy.old design.now.tree }
+{
     let copy = policy.try_clone(alloc, design).ok()?;
-    regrant(alloc, design, &mut policy, 1);
-    let refused = regrant(alloc, design, &mut policy, 2);
-    Some((may_watch(&policy), may_watch(&copy), refused))
+    regrant(alloc, design, policy, 1);
+    let refused = regrant(alloc, design, policy, 2);
+    let answers = (may_watch(policy), may_watch(&copy), refused);
+    drop(copy);
+    Some(answers)
+}
+
+/// The same of the policy for a design.
+fn change_and_copy_for(alloc: Global, design: &Design) -> Option<(bool, bool, u32)> {
+    let mut policy = policy_of(alloc, POLICY, design)?;
+    let answers = change_and_copy(alloc, design, &mut policy);
+    drop(policy);
+    answers
+}
+
+/// The same for the design.
+fn change_and_copy_for_design(alloc: Global) -> Option<(bool, bool, u32)> {
+    let checked = shared_of(alloc, DESIGN)?;
+    change_and_copy_for(alloc, checked.design())
 }
 
 #[test]
 fn a_copy_of_a_policy_keeps_its_grants(rt: HostRuntime) {
-    assert_eq!(rt; changed_and_copy(rt.alloc()), Some((false, true, 903)));
+    let wanted = Some((false, true, 903));
+    assert_eq!(rt; change_and_copy_for_design(rt.alloc()), wanted);
 }

@@ -1,23 +1,30 @@
-//! Time slots of a world that are kept as segments, and what a race of one is answered that is no longer kept.
+//! Time slots of a world that are kept as segments, and what a race of one is answered that is no longer kept. A value is put in one of them, by
+//! the same calls of `vp_race` that its own tests would make, so that they have no put.
 ghost use Rattle.std.specs.Prelude.{◌≡◌, IfSome};
 ghost use Rattle.std.specs.Arc.{arc_value};
 
-use crate::tests::sessions::{find_in, of_ann, open, order_in, put_in, world_of};
+use crate::tests::sessions::{ann_world, find_in, of_ann, open, order_in, put_in};
 use std::alloc::Global;
 use std::sync::Arc;
+use vp_answer::Request;
 use vp_elab::ObjectId;
 use vp_race::{Finding, Segment, Shared, check};
-use vp_world::{Event, Request, World, WorldError};
+use vp_world::{Event, World, WorldError};
 
 /// Regs `top.a` (1), `top.b` (2) and `top.c` (3), and two processes that race for `a` and `b` at time 5.
 const SWAPPED: &str = "module top;\n  reg a, b, c;\n\
       initial begin a = 0; b = 1; c = 0; #5 c = 1; end\n\
       always @(posedge c) a = b;\n  always @(posedge c) b = a;\nendmodule\n";
 
+/// The simulation takes the first of its events.
+fn step(world: &mut World) -> Option<()> {
+    world.apply(Event::Step(0)).ok().and(Some(()))
+}
+
 /// The simulation takes the first of its events, so often.
 fn steps(world: &mut World, count: u64) -> Option<()> {
     for _step in 0..count {
-        world.apply(Event::Step(0)).ok()?;
+        step(world)?;
     }
     Some(())
 }
@@ -31,11 +38,11 @@ fn begin_run(alloc: Global, world: &mut World, until: u64) -> Option<()> {
 /// The simulation goes on to the time of the race, and takes its first step.
 fn go_to_race(world: &mut World) -> Option<()> {
     steps(world, 6)?;
-    world.apply(Event::Advance).ok()?;
+    world.apply(Event::Advance).ok().and(Some(()))?;
     steps(world, 1)
 }
 
-/// Behind that Ann gives `top.a` a value.
+/// After that Ann gives `top.a` a value.
 fn put_in_race(alloc: Global, world: &mut World) -> Option<()> {
     go_to_race(world)?;
     find_in(alloc, world, of_ann(1), "top.a")?;
@@ -44,51 +51,66 @@ fn put_in_race(alloc: Global, world: &mut World) -> Option<()> {
 }
 
 /// The kept segment of a number, to be shared.
-fn kept(alloc: Global, world: &World, number: u64) -> Option<Arc<Segment>> {
+fn segment_of(alloc: Global, world: &World, number: u64) -> Option<Arc<Segment>> {
     let segment = world.kept(number)?.try_clone(alloc).ok()?;
     Arc::new(alloc, segment).ok()
 }
 
-/// The second segment of the world where Ann gave `top.a` a value.
-fn put_upon(alloc: Global) -> Option<Arc<Segment>> {
-    let mut world = world_of(alloc, SWAPPED)?;
-    begin_run(alloc, &mut world, 10)?;
-    put_in_race(alloc, &mut world)?;
-    kept(alloc, &world, 2)
+/// The segment of the race after Ann gave `top.a` a value in it.
+fn race_in(alloc: Global, world: &mut World) -> Option<Arc<Segment>> {
+    begin_run(alloc, world, 10)?;
+    put_in_race(alloc, world)?;
+    segment_of(alloc, world, 2)
+}
+
+/// The same in a new world.
+fn race(alloc: Global) -> Option<Arc<Segment>> {
+    let mut world = ann_world(alloc, SWAPPED)?;
+    let segment = race_in(alloc, &mut world);
+    drop(world);
+    segment
+}
+
+/// How that segment begins: its number, its time, and whether these are its choices, of which the first comes after the put.
+fn beginning_after_put(alloc: Global, order: &[u32]) -> Option<(u64, u64, bool)> {
+    let segment = race(alloc)?;
+    let beginning = (segment.number(), segment.time(), segment.order() == order);
+    drop(segment);
+    Some(beginning)
+}
+
+#[test]
+fn a_segment_begins_anew_with_a_put(rt: HostRuntime) {
+    assert_eq!(rt;
+        beginning_after_put(rt.alloc(), &[0, 0, 0, 0]),
+        Some((2, 5, true))
+    );
 }
 
 /// The number of the refusal of an order at `top.a`; 0 where it is a race.
 fn refusal(alloc: Global, segment: &Arc<Segment>, order: &[u32]) -> Option<u32> {
     let choices = Vec::from_slice(alloc, order).ok()?;
-    match check(alloc, segment, choices, ObjectId(1)) {
-        Ok(_) => Some(0),
-        Err(error) => Some(error.code()),
+    match check(alloc, segment, choices, ObjectId(1)).err() {
+        None => Some(0),
+        Some(error) => Some(error.code()),
     }
 }
 
 /// The refusals of two orders of that segment: the second has the step before the put.
-fn refusals_behind_put(alloc: Global) -> Option<[u32; 2]> {
-    let segment = put_upon(alloc)?;
-    Some([
-        refusal(alloc, &segment, &[1, 1, 0, 0])?,
-        refusal(alloc, &segment, &[0, 0, 0, 0, 0])?,
-    ])
-}
-
-/// The segment begins behind the put.
-fn begins_behind_put(alloc: Global) -> Option<bool> {
-    let segment = put_upon(alloc)?;
-    Some(segment.time() == 5 && segment.order() == [0, 0, 0, 0].as_slice())
+fn refusals_after_put(alloc: Global) -> Option<[Option<u32>; 2]> {
+    let segment = race(alloc)?;
+    let refusals = [
+        refusal(alloc, &segment, &[1, 1, 0, 0]),
+        refusal(alloc, &segment, &[0, 0, 0, 0, 0]),
+    ];
+    drop(segment);
+    Some(refusals)
 }
 
 #[test]
-fn a_segment_begins_anew_with_a_put(rt: HostRuntime) {
-    assert_eq!(rt; begins_behind_put(rt.alloc()), Some(true));
-}
-
-#[test]
-fn orders_of_a_segment_behind_a_put(rt: HostRuntime) {
-    assert_eq!(rt; refusals_behind_put(rt.alloc()), Some([1203, 1201]));
+fn orders_of_a_segment_after_a_put(rt: HostRuntime) {
+    let wanted = [Some(1203), Some(1201)];
+    assert_eq!(rt; refusals_after_put(rt.alloc()), Some(wanted));
 }
 
 /// A reg `top.a` (1) for which two processes race at time 0, and one that changes at each time.
@@ -131,34 +153,39 @@ fn events(world: &mut World, count: u64)
 }
 
 /// What is answered where a race is booked: the number of the refusal, and that of the book; twice 0 where it is booked.
-fn booked(world: &mut World, race: Shared<Finding>) -> (u32, u32)
+fn booking(world: &mut World, race: Shared<Finding>) -> (u32, u32)
     requires { race.segment.start.design ≡ world.old.opening.design }
 {
     // Read, so that the check knows that it is a race.
     let _segment = race.value().segment();
-    match world.apply(Event::Book(race)) {
-        Ok(_) => (0, 0),
-        Err(WorldError::Race(error)) => (WorldError::Race(error).code(), error.code()),
-        Err(error) => (error.code(), 0),
+    match world.apply(Event::Book(race)).err() {
+        None => (0, 0),
+        Some(WorldError::Race(error)) => (WorldError::Race(error).code(), error.code()),
+        Some(error) => (error.code(), 0),
     }
 }
 
-/// What is answered where the race of the first time slot is booked behind so many more, of three events each.
-fn booked_in(alloc: Global, world: &mut World, slots: u64) -> Option<(u32, u32)> {
+/// What is answered where the race of the first time slot is booked after so many more, of three events each.
+fn booking_in(alloc: Global, world: &mut World, slots: u64) -> Option<(u32, u32)> {
     begin_run(alloc, world, 1_000)?;
     steps(world, 3)?;
     let segment = first_segment(alloc, world)?;
     events(world, slots.saturating_mul(3));
-    Some(booked(world, race_of(alloc, &segment)?))
+    let race = race_of(alloc, &segment);
+    drop(segment);
+    Some(booking(world, race?))
 }
 
 /// The same of a new world.
-fn booked_behind(alloc: Global, slots: u64) -> Option<(u32, u32)> {
-    booked_in(alloc, &mut world_of(alloc, RACED)?, slots)
+fn booking_after(alloc: Global, slots: u64) -> Option<(u32, u32)> {
+    let mut world = ann_world(alloc, RACED)?;
+    let answer = booking_in(alloc, &mut world, slots);
+    drop(world);
+    answer
 }
 
 #[test]
 fn race_of_a_segment_that_is_gone(rt: HostRuntime) {
-    assert_eq!(rt; booked_behind(rt.alloc(), 255), Some((0, 0)));
-    assert_eq!(rt; booked_behind(rt.alloc(), 256), Some((1309, 1204)));
+    assert_eq!(rt; booking_after(rt.alloc(), 255), Some((0, 0)));
+    assert_eq!(rt; booking_after(rt.alloc(), 256), Some((1309, 1204)));
 }

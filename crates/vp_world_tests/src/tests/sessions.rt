@@ -1,34 +1,32 @@
-//! Worlds of texts, and Ann's sessions there.
+//! Ann's worlds, and what sessions ask there.
 ghost use Rattle.std.specs.Prelude.{◌≤◌, length};
 ghost use Rattle.vp_lex.specs.declared.token.TheConstants.{TEXT_LIMIT};
-ghost use Rattle.vp_world.specs.Events.{IsAsked};
+ghost use Rattle.vp_answer.specs.Requests.{IsAsked};
 
+use crate::tests::building::world_of;
 use std::alloc::Global;
+use vp_answer::{Reply, Request, SessionId};
 use vp_list::Text;
-use vp_policy::{UserId, read_policy};
-use vp_samples::shared_of;
+use vp_policy::UserId;
 use vp_vpi::PutValue;
-use vp_world::{Event, Limits, Reply, Request, SessionId, World};
+use vp_world::{Event, Limits, World};
 
 /// A policy with one user, who may watch and put in the open text, and let the design run.
 const POLICY: &[u8] =
     b"{\"users\":[{\"name\":\"ann\",\"token\":\"t1\",\"open\":\"watch+put\",\"run\":true}]}";
 
-/// A world of a text in which nothing has happened.
-pub fn world_of(alloc: Global, text: &str) -> Option<World>
+/// A world of a text and that policy in which nothing has happened.
+pub fn ann_world(alloc: Global, text: &str) -> Option<World>
     requires { length text.now ≤ TEXT_LIMIT }
 {
-    let checked = shared_of(alloc, text)?;
-    let policy = read_policy(alloc, POLICY, checked.design()).ok()?;
-    World::new(alloc, checked, policy, Limits::GREATEST).ok()
+    world_of(alloc, text, POLICY, Limits::GREATEST)
 }
 
 /// A user opens a session by his name and token.
 pub fn open_as(alloc: Global, world: &mut World, user: &str, token: &str) -> Option<()> {
     let user = Text::copy(alloc, user).ok()?;
     let token = Text::copy(alloc, token).ok()?;
-    world.apply(Event::Open { user, token }).ok()?;
-    Some(())
+    world.apply(Event::Open { user, token }).ok().and(Some(()))
 }
 
 /// Ann opens a session.
@@ -37,7 +35,7 @@ pub fn open(alloc: Global, world: &mut World) -> Option<()> {
 }
 
 /// What a session is answered to a request.
-pub fn ask_in(world: &mut World, session: SessionId, request: Request) -> Option<Reply>
+fn ask_in(world: &mut World, session: SessionId, request: Request) -> Option<Reply>
     requires { IsAsked request }
 {
     world.apply(Event::Ask { session, request }).ok()
@@ -47,16 +45,23 @@ pub fn ask_in(world: &mut World, session: SessionId, request: Request) -> Option
 pub fn order_in(world: &mut World, session: SessionId, request: Request) -> Option<()>
     requires { IsAsked request }
 {
-    ask_in(world, session, request)?;
-    Some(())
+    ask_in(world, session, request).and(Some(()))
 }
 
-/// How many notices a session is told.
-pub fn poll_in(world: &mut World, session: SessionId) -> Option<usize> {
-    match ask_in(world, session, Request::Poll)? {
+/// How many notices a reply has; none where it has another kind.
+fn count_notices(reply: &Reply) -> Option<usize> {
+    match reply {
         Reply::Notices(notices) => Some(notices.notices().len()),
         _ => None,
     }
+}
+
+/// How many notices a session is given.
+pub fn poll_in(world: &mut World, session: SessionId) -> Option<usize> {
+    let reply = ask_in(world, session, Request::Poll)?;
+    let count = count_notices(&reply);
+    drop(reply);
+    count
 }
 
 /// A session has a handle of the object of a name among the top modules.

@@ -1,11 +1,9 @@
 //! What a user sees of a design.
-ghost use Rattle.vp_policy.specs.PolicyState.{Fits};
-
-use crate::tests::building::policy_for;
+use crate::tests::building::{READER, policy_of};
 use std::alloc::Global;
 use vp_elab::Design;
 use vp_list::Text;
-use vp_policy::{Policy, SeenObject, UserId, View};
+use vp_policy::{SeenObject, UserId, View};
 use vp_samples::shared_of;
 
 /// A design in which `acme` hides two regs, and opens one of them by a viewport.
@@ -19,32 +17,26 @@ const DESIGN: &str = "module top;
 endmodule
 ";
 
-/// What Ann sees of a design under a policy.
-fn view_under(alloc: Global, policy: &Policy, design: &Design) -> Option<View>
-    requires { Fits policy.now design.now.tree }
-{
-    policy.view(alloc, design, UserId(0)).ok()
-}
-
 /// What Ann sees of a design.
-fn view_in(alloc: Global, design: &Design) -> Option<View> {
-    view_under(alloc, &policy_for(alloc, design)?, design)
+fn view_of(alloc: Global, design: &Design) -> Option<View> {
+    let policy = policy_of(alloc, READER, design)?;
+    let view = policy.view(alloc, design, UserId(0)).ok();
+    drop(policy);
+    view
 }
 
 /// What Ann sees of the design.
 fn view(alloc: Global) -> Option<View> {
     let checked = shared_of(alloc, DESIGN)?;
-    view_in(alloc, checked.design())
-}
-
-/// How many objects a view has, and whether its user may let the design run.
-fn count_and_run_of(view: &View) -> (usize, bool) {
-    (view.objects().len(), view.may_run())
+    view_of(alloc, checked.design())
 }
 
 /// How many objects Ann sees, and whether she may let the design run.
 fn count_and_run(alloc: Global) -> Option<(usize, bool)> {
-    Some(count_and_run_of(&view(alloc)?))
+    let view = view(alloc)?;
+    let count_and_run = (view.objects().len(), view.may_run());
+    drop(view);
+    Some(count_and_run)
 }
 
 #[test]
@@ -57,9 +49,17 @@ fn first_viewport(alloc: Global, object: &SeenObject) -> Option<Text> {
     Text::copy(alloc, object.viewports.as_slice().first()?.object.as_str()).ok()
 }
 
+/// The object of the viewport through which the last object of a view is seen.
+fn viewport_of_last(alloc: Global, view: &View) -> Option<Text> {
+    first_viewport(alloc, view.objects().last()?)
+}
+
 /// The object of the viewport through which Ann sees the last object.
 fn last_viewport(alloc: Global) -> Option<Text> {
-    first_viewport(alloc, view(alloc)?.objects().last()?)
+    let view = view(alloc)?;
+    let object = viewport_of_last(alloc, &view);
+    drop(view);
+    object
 }
 
 #[test]

@@ -4,13 +4,14 @@ ghost use Rattle.std.specs.Prelude.{IfSome};
 ghost use Rattle.vp_elab.specs.Built.{Elaborated};
 ghost use Rattle.vp_world.specs.Events.{IsWellFormed};
 
-use crate::tests::building::policy_for;
+use crate::tests::building::{READER, policy_of, world_of};
 use std::alloc::Global;
+use vp_answer::{Reply, Request, SessionId};
 use vp_elab::{Design, ObjectId};
 use vp_list::{Sequence, Text};
-use vp_policy::{Policy, UserId};
+use vp_policy::UserId;
 use vp_samples::shared_of;
-use vp_world::{Event, Limits, Reply, Request, SessionId, World, WorldError};
+use vp_world::{Event, Limits, World, WorldError};
 
 /// The README's design. Its objects are `top` (0), `a` (1), `k` (2) and the process (3).
 const DESIGN: &str = "module top;
@@ -28,14 +29,12 @@ const ANN: SessionId = SessionId {
     opens: 1,
 };
 
-/// The envelopes of a scope that are closed to Ann under a policy.
-fn closed_under(alloc: Global, policy: &Policy, scope: Option<ObjectId>) -> Option<Sequence<u8>> {
-    policy.closed(alloc, UserId(0), scope).ok()
-}
-
 /// The envelopes of a scope of a design that are closed to Ann.
 fn closed_in(alloc: Global, design: &Design, scope: Option<ObjectId>) -> Option<Sequence<u8>> {
-    closed_under(alloc, &policy_for(alloc, design)?, scope)
+    let policy = policy_of(alloc, READER, design)?;
+    let closed = policy.closed(alloc, UserId(0), scope).ok();
+    drop(policy);
+    closed
 }
 
 /// The envelopes of a scope of the design that are closed to Ann.
@@ -106,18 +105,26 @@ fn event(alloc: Global, deed: Deed) -> Option<Event>
     }
 }
 
-/// What comes of an event: the how-many-th of its user's a session is, the number of a segment that is handed out, 0 for another reply, or a
-/// refusal's number, which is the simulation's where that refuses it.
-fn outcome(world: &mut World, event: Event) -> u64
-    requires { IsWellFormed world.old.opening.design event }
-{
-    match world.apply(event) {
+/// A number of what an event is answered: the how-many-th of its user's a session is, the number of a segment that is handed out, 0 for another
+/// reply, or a refusal's number, which is the simulation's where that refuses it.
+fn number_of(answer: &Result<Reply, WorldError>) -> u64 {
+    match answer {
         Ok(Reply::Opened(session)) => session.opens,
-        Ok(Reply::Job(number)) => number,
+        Ok(Reply::Job(number)) => *number,
         Ok(_) => 0,
         Err(WorldError::Sim(error)) => u64::from(error.code()),
         Err(error) => u64::from(error.code()),
     }
+}
+
+/// That number of what comes of an event.
+fn outcome(world: &mut World, event: Event) -> u64
+    requires { IsWellFormed world.old.opening.design event }
+{
+    let answer = world.apply(event);
+    let number = number_of(&answer);
+    drop(answer);
+    number
 }
 
 /// What comes of deeds in turn.
@@ -130,13 +137,6 @@ fn outcomes(alloc: Global, world: &mut World, deeds: &[Deed]) -> Option<Vec<u64>
     Some(outcomes)
 }
 
-/// A world of the design and the policy, with these limits.
-fn world(alloc: Global, limits: Limits) -> Option<World> {
-    let checked = shared_of(alloc, DESIGN)?;
-    let policy = policy_for(alloc, checked.design())?;
-    World::new(alloc, checked, policy, limits).ok()
-}
-
 /// What comes of deeds in a world, and how long its log is then.
 fn history_of(alloc: Global, world: &mut World, deeds: &[Deed]) -> Option<(Vec<u64>, usize)> {
     let outcomes = outcomes(alloc, world, deeds)?;
@@ -145,7 +145,10 @@ fn history_of(alloc: Global, world: &mut World, deeds: &[Deed]) -> Option<(Vec<u
 
 /// The same in a new world.
 fn history(alloc: Global, limits: Limits, deeds: &[Deed]) -> Option<(Vec<u64>, usize)> {
-    history_of(alloc, &mut world(alloc, limits)?, deeds)
+    let mut world = world_of(alloc, DESIGN, READER, limits)?;
+    let history = history_of(alloc, &mut world, deeds);
+    drop(world);
+    history
 }
 
 #[test]

@@ -1,6 +1,7 @@
 use Rattle.std.proofs.Common.{◌≡◌, ◌∙◌, ◌-◌, Some, None, length, subst, sym, arith}
 use Rattle.std.specs.Prelude.{slice_get}
 use Rattle.std.specs.Vec.{vec_len}
+use Rattle.vp_list.specs.Tracked.{IsRenewed}
 use Rattle.std.proofs.lemmas.Option.{slice_get_within}
 use Rattle.vp_list.specs.laws.Tracked.{copied_less, copied_whole, last_none, last_taken, marked_less}
 use Rattle.vp_list.proofs.tracked.renew.Goals as goal
@@ -16,7 +17,8 @@ loop-number-preserved g c =
     let taken = c.in_ok-take_over.ensures {u = tt} in
     record {
       length = taken.length ∙ c.loop-number.invariant.length;
-      others = copied_less c.loop-number.copy c.args.items.now c.take_over.new.copy xs c.pop.new.self.items number c.loop-number.invariant.others e taken.own taken.others;
+      others = copied_less c.loop-number.copy c.args.items.now c.take_over.new.copy xs c.pop.new.self.items c.loop-number.marks.items c.mark.new.marks.items number c.loop-number.invariant.others e
+          (subst (λ w. IsRenewed c.loop-number.copy c.take_over.new.copy c.args.items.now number w) c.written_in.ensures taken.own) taken.others c.mark.ensures;
       marked = marked_less xs c.pop.new.self.items c.loop-number.marks.items c.mark.new.marks.items number c.loop-number.invariant.marked e c.mark.ensures;
     }
 
@@ -24,4 +26,4 @@ pub returns-clause-all : goal.returns-clause-all
 returns-clause-all g c =
     let xs = c.loop-number.changed.items in
     let none = subst (λ s. slice_get s (length s - 1) ≡ None) c.as_slice.ensures.value (sym c.last.ensures.value ∙ sym c.copied.ensures ∙ c.in_default.is) in
-    copied_whole c.loop-number.copy c.args.items.now xs c.loop-number.invariant.others (last_none xs none)
+    copied_whole c.loop-number.copy c.args.items.now xs c.loop-number.marks.items c.loop-number.invariant.others (last_none xs none)

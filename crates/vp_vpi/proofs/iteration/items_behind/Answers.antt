@@ -1,16 +1,16 @@
 use Rattle.std.proofs.Common.{◌≡◌, ◌∙◌, ◌+◌, ◌<◌, ℕ, suc, List, [], ◌∷◌, ◌++◌, length, map, take, ap, sym, arith}
 use Rattle.vp_elab.specs.declared.object.ObjectId.{ObjectId}
-use Rattle.vp_elab.specs.Tree.{name_at}
 use Rattle.vp_vpi.specs.declared.iteration.ListedObject.{ListedObject}
 use Rattle.vp_vpi.specs.Calls.{items_from}
 use Rattle.vp_vpi.proofs.Iterations.{items_step}
 use Rattle.vp_vpi.proofs.iteration.items_behind.Goals as goal
 
 pub loop-object-preserved : goal.loop-object-preserved
-loop-object-preserved c =
+loop-object-preserved g c =
     let pushed = c.in_ok-push.ensures {u = tt} in
     let before = c.loop-object.invariant in
     let os = c.args.objects.now in
+    let named = (g.E.Observe.observer c.args.eyes.now).name in
     let k = c.loop-object.object-index in
     let n = c.args.last + c.len.result + 1 in
     let within : k < length os = omega arith in
@@ -19,7 +19,7 @@ loop-object-preserved c =
     record {
       items =
           pushed.items ∙ ap (λ xs. xs ++ item c.in_ok-copy.field-0 ∷ []) before.items
-          ∙ ap (λ name. items_from (name_at c.args.design.now.tree) (suc c.args.last) (map (λ (o : ObjectId). o.0) (take k os)) ++ item name ∷ []) ((c.in_ok-copy.ensures {u = tt}) ∙ c.name.ensures)
-          ∙ sym (items_step (name_at c.args.design.now.tree) c.args.last k n os (record { 0 = 0 }) within numbered);
+          ∙ ap (λ name. items_from named (suc c.args.last) (map (λ (o : ObjectId). o.0) (take k os)) ++ item name ∷ []) ((c.in_ok-copy.ensures {u = tt}) ∙ c.name.ensures)
+          ∙ sym (items_step named c.args.last k n os (record { 0 = 0 }) within numbered);
       count = pushed.len ∙ ap (λ j. j + 1) before.count;
     }

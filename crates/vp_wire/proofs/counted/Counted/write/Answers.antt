@@ -41,8 +41,8 @@ loop-preserved g c =
     elim c.match-write.branch [
       | in-Ok w ↦ (
           let more = wrote_more held mid holds bytes rest w.in-Ok.count c.loop.invariant.0 (w.in-Ok.ensures {u = tt}).bytes in
-          let left : c.match-write.rest.now ≡ drop w.in-Ok.count rest = ap (λ r. r.now) w.rest-is ∙ take_rest rest w.in-Ok.count in
-          (subst (Wrote held holds bytes) (sym left) more, c.loop.invariant.1, c.loop.invariant.2)
+          let remaining : c.match-write.rest.now ≡ drop w.in-Ok.count rest = ap (λ r. r.now) w.rest-is ∙ take_rest rest w.in-Ok.count in
+          (subst (Wrote held holds bytes) (sym remaining) more, c.loop.invariant.1, c.loop.invariant.2)
           )
       | in-Err w ↦ (
           let kept = wrote_kept held mid holds bytes rest c.loop.invariant.0 (w.in-Err.ensures {u = tt}).bytes in

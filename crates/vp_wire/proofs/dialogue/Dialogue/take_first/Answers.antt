@@ -20,7 +20,7 @@ returns-in_err-answer-clause-progress g c = λ first unread still_unread held p.
     let rest = c.in-Some.rest.now in
     let parted = c.first_piece.ensures.parts ∙ ap (λ o. behind_part 10 piece (option_map (λ r. r.now) o)) c.in-Some.is in
     matches_err _ c.from_residual.result c.from_residual.ensures.0
-    (failed c.args.self.now c.answer.new.self c.gather.new.self bytes piece rest c.answer.result _ p parted c.gather.ensures c.answer.ensures.told (c.in_err-answer.was {u = tt}))
+    (failed c.args.self.now c.answer.new.self c.gather.new.self bytes piece rest c.answer.result _ p parted c.gather.ensures c.answer.ensures.reply (c.in_err-answer.was {u = tt}))
 
 pub returns-clause-progress : goal.returns-clause-progress
 returns-clause-progress g c = λ first unread still_unread held p.
@@ -28,7 +28,7 @@ returns-clause-progress g c = λ first unread still_unread held p.
     let piece = c.first_piece.result.0.now in
     let rest = c.in-Some.rest.now in
     let parted = c.first_piece.ensures.parts ∙ ap (λ o. behind_part 10 piece (option_map (λ r. r.now) o)) c.in-Some.is in
-    answered c.args.self.now c.answer.new.self c.gather.new.self bytes piece rest c.answer.result _ p parted c.gather.ensures c.answer.ensures.told (c.in_ok-answer.was {u = tt}) c.answer.ensures.begun c.answer.ensures.lines
+    answered c.args.self.now c.answer.new.self c.gather.new.self bytes piece rest c.answer.result _ p parted c.gather.ensures c.answer.ensures.reply (c.in_ok-answer.was {u = tt}) c.answer.ensures.begun c.answer.ensures.lines
 
 pub returns-in_err-answer-clause-lines : goal.returns-in_err-answer-clause-lines
 returns-in_err-answer-clause-lines g c = none_ok _ c.from_residual.result c.from_residual.ensures.0

@@ -3,7 +3,6 @@ use Rattle.std.specs.Prelude.{option_copied, option_map}
 use Rattle.vp_race.specs.declared.fault.RaceError.TheVariants as race_error
 use Rattle.vp_world.specs.declared.fault.WorldError.TheVariants as world_error
 use Rattle.vp_list.specs.Refusals.{Explains}
-use Rattle.vp_race.specs.Booking as book
 use Rattle.vp_race.specs.Booking.{refusal_of_finding}
 use Rattle.vp_race.specs.Recording.{kept_of}
 use Rattle.vp_race.specs.Segments.{Run, Told}

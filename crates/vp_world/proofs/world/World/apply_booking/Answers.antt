@@ -3,7 +3,7 @@ use Rattle.vp_race.specs.Segments.{Told}
 use Rattle.vp_world.specs.Entries.{Entry}
 use Rattle.vp_world.specs.declared.event.Event.{Event}
 use Rattle.vp_world.specs.declared.event.Event.TheVariants as event
-use Rattle.vp_world.specs.declared.reply.Reply.TheVariants as reply
+use Rattle.vp_answer.specs.declared.reply.Reply.TheVariants as reply
 use Rattle.vp_world.specs.History.{after, entry_of, refusal_behind, state_behind, with_state}
 use Rattle.vp_world.specs.Events.{IsWellFormed}
 use Rattle.vp_world.specs.Worlds.{Logged, Standing}

@@ -1,7 +1,7 @@
 use Rattle.std.proofs.Common.{rules, ◌≡◌, ◌++◌, ◌∷◌, [], None, Some, Option, ℕ, refl, ap, sym, ◌∙◌}
 use Rattle.vp_world.specs.Entries.{Entry}
 use Rattle.vp_world.specs.declared.event.Event.TheVariants as event
-use Rattle.vp_world.specs.declared.reply.Reply.TheVariants as reply
+use Rattle.vp_answer.specs.declared.reply.Reply.TheVariants as reply
 use Rattle.vp_world.specs.History.{closed_at, refusal_behind, state_behind, with_state}
 use Rattle.vp_world.specs.Worlds.{index_of}
 use Rattle.vp_world.proofs.Logs.{entry_is, keeps_more}

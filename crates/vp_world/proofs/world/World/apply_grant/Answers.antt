@@ -1,11 +1,11 @@
 use Rattle.std.proofs.Common.{rules, ◌≡◌, ◌++◌, List, ◌∷◌, [], None, Some, Option, ℕ, refl, sym, ap, ◌∙◌}
 use Rattle.std.specs.Option.{option_map_or}
 use Rattle.vp_policy.specs.Users.{user_of}
-use Rattle.vp_world.specs.declared.event.GrantChange.{GrantChange}
+use Rattle.vp_answer.specs.declared.request.GrantChange.{GrantChange}
 use Rattle.vp_world.specs.Entries.{Entry}
 use Rattle.vp_world.specs.declared.event.Event.{Event}
 use Rattle.vp_world.specs.declared.event.Event.TheVariants as event
-use Rattle.vp_world.specs.declared.reply.Reply.TheVariants as reply
+use Rattle.vp_answer.specs.declared.reply.Reply.TheVariants as reply
 use Rattle.vp_world.specs.History.{after, entry_of, granted_to, refusal_behind, state_behind, with_state}
 use Rattle.vp_world.specs.Worlds.{Standing}
 use Rattle.vp_world.proofs.Logs.{entry_is, keeps_more}

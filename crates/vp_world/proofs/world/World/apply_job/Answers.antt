@@ -2,7 +2,7 @@ use Rattle.std.proofs.Common.{rules, ◌≡◌, ◌++◌, List, ◌∷◌, [], N
 use Rattle.vp_race.specs.Recording.{next_job}
 use Rattle.vp_world.specs.Entries.{Entry}
 use Rattle.vp_world.specs.declared.event.Event.TheVariants as event
-use Rattle.vp_world.specs.declared.reply.Reply.TheVariants as reply
+use Rattle.vp_answer.specs.declared.reply.Reply.TheVariants as reply
 use Rattle.vp_world.specs.History.{after, answer, entry_of, refusal_behind, state_behind, with_state}
 use Rattle.vp_world.specs.Worlds.{Standing}
 use Rattle.vp_world.proofs.Jobs.{job_told}

@@ -4,9 +4,9 @@ use Rattle.vp_policy.specs.Users.{login_of}
 use Rattle.vp_world.specs.Entries.{Entry}
 use Rattle.vp_world.specs.declared.event.Event.{Event}
 use Rattle.vp_world.specs.declared.event.Event.TheVariants as event
-use Rattle.vp_world.specs.declared.event.SessionId.{SessionId}
-use Rattle.vp_world.specs.declared.reply.Refusal.TheVariants as refusal
-use Rattle.vp_world.specs.declared.reply.Reply.TheVariants as reply
+use Rattle.vp_answer.specs.declared.request.SessionId.{SessionId}
+use Rattle.vp_answer.specs.declared.reply.Refusal.TheVariants as refusal
+use Rattle.vp_answer.specs.declared.reply.Reply.TheVariants as reply
 use Rattle.vp_world.specs.History.{after, answer, entry_of, next_session, opened_by, refusal_behind, state_behind, with_state}
 use Rattle.vp_world.specs.Worlds.{Standing}
 use Rattle.vp_world.proofs.Logs.{entry_is, keeps_more, refused_so, seen_more}

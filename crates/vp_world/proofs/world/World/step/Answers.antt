@@ -1,7 +1,7 @@
 use Rattle.std.proofs.Common.{rules, ◌≡◌, ◌++◌, ◌∷◌, [], None, refl, ap, arith}
 use Rattle.vp_world.specs.Entries.{Entry}
 use Rattle.vp_world.specs.declared.event.Event.TheVariants as event
-use Rattle.vp_world.specs.declared.reply.Reply.TheVariants as reply
+use Rattle.vp_answer.specs.declared.reply.Reply.TheVariants as reply
 use Rattle.vp_world.specs.History.{refusal_behind, state_behind}
 use Rattle.vp_world.specs.Worlds.{State}
 use Rattle.vp_world.proofs.Counting.{count_within}

@@ -1,0 +1,6 @@
+pub mod Requests
+pub mod Refusals
+pub mod Answers
+pub mod Given
+pub mod Renumbering
+pub mod laws

@@ -1,0 +1,381 @@
+// What a session's request is answered, and what comes of it (docs/FORMATS.md, "Lines").
+ghost use Rattle.std.specs.Prelude.{◌≡◌, ◌≢◌, length, IfOk, IsTrue, OnErr, OnOk};
+ghost use Rattle.vp_vpi.specs.declared.fault.VpiError.TheVariants as vpi_error;
+ghost use Rattle.vp_vpi.specs.Observers.{Observer};
+ghost use Rattle.vp_vpi.specs.Seats.{Seat, has_room, with_handles};
+ghost use Rattle.vp_answer.specs.declared.request.Request.TheVariants as request;
+ghost use Rattle.vp_answer.specs.declared.reply.Reply.TheVariants as reply;
+ghost use Rattle.vp_answer.specs.Answers.{refused, respond, value_in};
+ghost use Rattle.vp_answer.specs.Requests.{IsAsked};
+ghost use Rattle.vp_answer.specs.Given.{IsGiven, plain};
+
+use crate::reply::{Refusal, Reply};
+use crate::request::{Request, ValueFormat};
+use std::alloc::AllocError;
+use vp_bits::Bits;
+use vp_elab::{Kind, ObjectId};
+use vp_vpi::{Iteration, NumberProperty, Observe, PutValue, Session, TextProperty, VpiError};
+
+/// What a request is answered.
+#[derive(Drop)]
+pub struct Answer {
+    /// The reply, for the session.
+    pub reply: Reply,
+    /// The same, for the log's entry.
+    pub entry_reply: Reply,
+    /// The goal that it sets, if it sets one, in time units.
+    pub goal: Option<u64>,
+    /// The object that it gives a value, and the value, if it puts one.
+    pub put: Option<(ObjectId, Bits)>,
+}
+
+/// A reply from which nothing else comes; or want of memory.
+fn plain(reply: Reply) -> Result<Answer, AllocError>
+    ensures { IfOk result (λ a. a ≡ plain reply) }
+{
+    let entry_reply = reply.try_clone()?;
+    Ok(Answer {
+        reply,
+        entry_reply,
+        goal: None,
+        put: None,
+    })
+}
+
+/// The reply to a request that a session refused; want of memory stays so.
+fn refusal_reply(error: VpiError) -> Result<Reply, AllocError>
+    ensures reply { IfOk result (λ reply. reply ≡ refused error) }
+    ensures reason { OnOk result (error ≢ vpi_error.NoMemory) }
+{
+    Ok(match error {
+        VpiError::Denied(words) => Reply::Denied(words),
+        VpiError::BadHandle => Reply::Error(Refusal::BadHandle),
+        VpiError::WrongKind => Reply::Error(Refusal::WrongKind),
+        VpiError::BadValue => Reply::Error(Refusal::BadValue),
+        VpiError::Finished => Reply::Error(Refusal::Finished),
+        VpiError::TooManyHandles => Reply::Error(Refusal::TooManyHandles),
+        VpiError::NoSuchName => Reply::Error(Refusal::NoSuchName),
+        VpiError::TooManyCallbacks => Reply::Error(Refusal::TooManyCallbacks),
+        VpiError::NoSuchCallback => Reply::Error(Refusal::NoSuchCallback),
+        VpiError::NoSuchRace => Reply::Error(Refusal::NoSuchRace),
+        VpiError::NoMemory => return Err(AllocError),
+    })
+}
+
+/// The answer to a request that a session refused; want of memory stays so.
+fn refusal(error: VpiError) -> Result<Answer, AllocError>
+    ensures answer { IfOk result (λ a. a ≡ plain (refused error)) }
+    ensures reason { OnOk result (error ≢ vpi_error.NoMemory) }
+{
+    let reply = refusal_reply(error)?;
+    plain(reply)
+}
+
+/// Makes a handle of a name.
+fn handle<E: Observe>(
+    session: &mut Session,
+    eyes: &E,
+    name: &str,
+    scope: Option<u32>,
+) -> Result<Answer, AllocError>
+    requires { E.is_sound eyes.now }
+    ensures given { IfOk result (IsGiven (respond (E.observer eyes.now) session.old
+        (request.Handle name.now scope)) session.new) }
+    ensures unchanged { OnErr result (session.new ≡ session.old) }
+{
+    match session.handle_by_name(eyes, scope, name) {
+        Ok(handle) => Ok(Answer {
+            reply: Reply::Handle(handle),
+            entry_reply: Reply::Handle(handle),
+            goal: None,
+            put: None,
+        }),
+        Err(error) => refusal(error),
+    }
+}
+
+/// Makes the handles of an iteration that was found; or want of memory.
+fn scan(session: &mut Session, found: &Iteration) -> Result<Answer, AllocError>
+    requires { IsTrue (has_room (length found.now.handles) session.now.handles) }
+    ensures answer { IfOk result (λ a. a ≡ plain (reply.Listing found.now.listing)) }
+    ensures made { OnOk result (session.new ≡ with_handles found.now.handles session.old) }
+    ensures unchanged { OnErr result (session.new ≡ session.old) }
+{
+    let listing = found.listing().try_clone()?;
+    let answer = plain(Reply::Listing(listing))?;
+    session.scan(found)?;
+    Ok(answer)
+}
+
+/// Makes handles of all objects of a kind in a scope.
+fn iterate<E: Observe>(
+    session: &mut Session,
+    eyes: &E,
+    kind: Kind,
+    scope: Option<u32>,
+) -> Result<Answer, AllocError>
+    requires { E.is_sound eyes.now }
+    ensures given { IfOk result (IsGiven (respond (E.observer eyes.now) session.old
+        (request.Iterate kind scope)) session.new) }
+    ensures unchanged { OnErr result (session.new ≡ session.old) }
+{
+    match session.iterate(eyes, kind, scope) {
+        Ok(found) => scan(session, &found),
+        Err(error) => refusal(error),
+    }
+}
+
+/// Tells a number of a handle's object.
+fn get<E: Observe>(
+    session: &Session,
+    eyes: &E,
+    handle: u32,
+    property: NumberProperty,
+) -> Result<Answer, AllocError>
+    requires { E.is_sound eyes.now }
+    ensures { IfOk result (IsGiven (respond (E.observer eyes.now) session.now
+        (request.Get handle property)) session.now) }
+{
+    match session.get(eyes, handle, property) {
+        Ok(number) => plain(Reply::Number(number)),
+        Err(error) => refusal(error),
+    }
+}
+
+/// Tells a text of a handle's object.
+fn get_str<E: Observe>(
+    session: &Session,
+    eyes: &E,
+    handle: u32,
+    property: TextProperty,
+) -> Result<Answer, AllocError>
+    requires { E.is_sound eyes.now }
+    ensures { IfOk result (IsGiven (respond (E.observer eyes.now) session.now
+        (request.GetStr handle property)) session.now) }
+{
+    match session.get_str(eyes, handle, property) {
+        Ok(text) => plain(Reply::Text(text)),
+        Err(error) => refusal(error),
+    }
+}
+
+/// A value in a format.
+fn value_in(format: ValueFormat, bits: Bits) -> Reply
+    ensures { result ≡ value_in format bits }
+{
+    match format {
+        ValueFormat::Binary => Reply::Value(bits),
+        ValueFormat::Vector => Reply::Vector(bits),
+    }
+}
+
+/// Tells the value of a handle's object.
+fn value<E: Observe>(
+    session: &Session,
+    eyes: &E,
+    handle: u32,
+    format: ValueFormat,
+) -> Result<Answer, AllocError>
+    requires { E.is_sound eyes.now }
+    ensures { IfOk result (IsGiven (respond (E.observer eyes.now) session.now
+        (request.Value handle format)) session.now) }
+{
+    match session.get_value(eyes, handle) {
+        Ok(bits) => plain(value_in(format, bits)),
+        Err(error) => refusal(error),
+    }
+}
+
+/// Tells what a put of a value on a handle's object gives which object.
+fn put<E: Observe>(
+    session: &Session,
+    eyes: &E,
+    handle: u32,
+    value: &PutValue,
+) -> Result<Answer, AllocError>
+    requires { E.is_sound eyes.now }
+    ensures { IfOk result (IsGiven (respond (E.observer eyes.now) session.now
+        (request.Put handle value.now)) session.now) }
+{
+    match session.put_value(eyes, handle, value) {
+        Ok(put) => Ok(Answer {
+            reply: Reply::Done,
+            entry_reply: Reply::Done,
+            goal: None,
+            put: Some(put),
+        }),
+        Err(error) => refusal(error),
+    }
+}
+
+/// Tells whether two handles are of one object.
+fn compare(session: &Session, first: u32, second: u32) -> Result<Answer, AllocError>
+    ensures { (eyes : Observer) → IfOk result (IsGiven (respond eyes session.now
+        (request.Compare first second)) session.now) }
+{
+    match session.compare_objects(first, second) {
+        Ok(same) => plain(Reply::Same(same)),
+        Err(error) => refusal(error),
+    }
+}
+
+/// Frees a handle.
+fn free(session: &mut Session, handle: u32) -> Result<Answer, AllocError>
+    ensures given { (eyes : Observer) → IfOk result (IsGiven (respond eyes session.old
+        (request.Free handle)) session.new) }
+    ensures unchanged { OnErr result (session.new ≡ session.old) }
+{
+    match session.free_object(handle) {
+        Ok(()) => Ok(Answer {
+            reply: Reply::Done,
+            entry_reply: Reply::Done,
+            goal: None,
+            put: None,
+        }),
+        Err(error) => refusal(error),
+    }
+}
+
+/// Registers a callback on a handle's object.
+fn watch<E: Observe>(session: &mut Session, eyes: &E, handle: u32) -> Result<Answer, AllocError>
+    requires { E.is_sound eyes.now }
+    ensures given { IfOk result (IsGiven (respond (E.observer eyes.now) session.old
+        (request.Watch handle)) session.new) }
+    ensures unchanged { OnErr result (session.new ≡ session.old) }
+{
+    match session.register_cb(eyes, handle) {
+        Ok(callback) => Ok(Answer {
+            reply: Reply::Callback(callback),
+            entry_reply: Reply::Callback(callback),
+            goal: None,
+            put: None,
+        }),
+        Err(error) => refusal(error),
+    }
+}
+
+/// Removes a callback.
+fn unwatch(session: &mut Session, callback: u32) -> Result<Answer, AllocError>
+    ensures given { (eyes : Observer) → IfOk result (IsGiven (respond eyes session.old
+        (request.Unwatch callback)) session.new) }
+    ensures unchanged { OnErr result (session.new ≡ session.old) }
+{
+    match session.remove_cb(callback) {
+        Ok(()) => Ok(Answer {
+            reply: Reply::Done,
+            entry_reply: Reply::Done,
+            goal: None,
+            put: None,
+        }),
+        Err(error) => refusal(error),
+    }
+}
+
+/// Tells the notices that wait, which wait no more.
+fn poll(session: &mut Session) -> Result<Answer, AllocError>
+    ensures given { (eyes : Observer) → IfOk result (IsGiven (respond eyes session.old
+        request.Poll) session.new) }
+    ensures unchanged { OnErr result (session.new ≡ session.old) }
+{
+    let Ok(notices) = session.poll() else {
+        return Err(AllocError);
+    };
+    let answer = plain(Reply::Notices(notices))?;
+    session.drain();
+    Ok(answer)
+}
+
+/// Tells the races that are shown, from a number on.
+fn races<E: Observe>(session: &Session, eyes: &E, from: u64) -> Result<Answer, AllocError>
+    requires { E.is_sound eyes.now }
+    ensures { IfOk result (IsGiven (respond (E.observer eyes.now) session.now
+        (request.Races from)) session.now) }
+{
+    match session.races(eyes, from) {
+        Ok(races) => plain(Reply::Races(races)),
+        Err(_) => Err(AllocError),
+    }
+}
+
+/// Tells a race that is shown, by its number.
+fn race<E: Observe>(session: &Session, eyes: &E, number: u64) -> Result<Answer, AllocError>
+    requires { E.is_sound eyes.now }
+    ensures { IfOk result (IsGiven (respond (E.observer eyes.now) session.now
+        (request.Race number)) session.now) }
+{
+    match session.race(eyes, number) {
+        Ok(race) => plain(Reply::Race(race)),
+        Err(error) => refusal(error),
+    }
+}
+
+/// Lets the design run until a time, if it may be run.
+fn let_run<E: Observe>(eyes: &E, until: u64) -> Answer
+    requires { E.is_sound eyes.now }
+    ensures { (seat : Seat)
+        → IsGiven (respond (E.observer eyes.now) seat (request.Run until)) seat result }
+{
+    if eyes.may_run() {
+        Answer {
+            reply: Reply::Done,
+            entry_reply: Reply::Done,
+            goal: Some(until),
+            put: None,
+        }
+    } else {
+        Answer {
+            reply: Reply::RunDenied,
+            entry_reply: Reply::RunDenied,
+            goal: None,
+            put: None,
+        }
+    }
+}
+
+/// Tells the time.
+fn time<E: Observe>(eyes: &E) -> Answer
+    requires { E.is_sound eyes.now }
+    ensures { (seat : Seat)
+        → IsGiven (respond (E.observer eyes.now) seat request.Time) seat result }
+{
+    let time = eyes.time();
+    let finished = eyes.finished();
+    Answer {
+        reply: Reply::Time { time, finished },
+        entry_reply: Reply::Time { time, finished },
+        goal: None,
+        put: None,
+    }
+}
+
+/// What a session's request is answered, by what it can look up; or want of memory, which leaves the session as it was.
+pub fn respond<E: Observe>(
+    session: &mut Session,
+    eyes: &E,
+    request: &Request,
+) -> Result<Answer, AllocError>
+    requires asked { IsAsked request.now }
+    requires sound { E.is_sound eyes.now }
+    ensures given { IfOk result
+        (IsGiven (respond (E.observer eyes.now) session.old request.now) session.new) }
+    ensures unchanged { OnErr result (session.new ≡ session.old) }
+{
+    match request {
+        Request::Handle { name, scope } => handle(session, eyes, name.as_str(), *scope),
+        Request::Iterate { kind, scope } => iterate(session, eyes, *kind, *scope),
+        Request::Get { handle, property } => get(session, eyes, *handle, *property),
+        Request::GetStr { handle, property } => get_str(session, eyes, *handle, *property),
+        Request::Value { handle, format } => value(session, eyes, *handle, *format),
+        Request::Put { handle, value } => put(session, eyes, *handle, value),
+        Request::Compare { first, second } => compare(session, *first, *second),
+        Request::Free { handle } => free(session, *handle),
+        Request::Watch { handle } => watch(session, eyes, *handle),
+        Request::Unwatch { callback } => unwatch(session, *callback),
+        Request::Poll => poll(session),
+        Request::Races { from } => races(session, eyes, *from),
+        Request::Race { number } => race(session, eyes, *number),
+        Request::Run { until } => Ok(let_run(eyes, *until)),
+        Request::Time => Ok(time(eyes)),
+        Request::Open { .. } | Request::Close | Request::Grant(_) => unreachable!(),
+    }
+}

@@ -1,0 +1,140 @@
+ghost use Rattle.std.specs.Prelude.{◌≡◌, IfOk};
+
+use crate::request::SessionId;
+use std::alloc::AllocError;
+use vp_bits::Bits;
+use vp_list::{Sequence, SharedText};
+use vp_policy::DenialWords;
+use vp_race::Shared;
+use vp_vpi::{RaceLine, RaceTold, SharedListing, SharedNotices};
+
+/// What a line is told where it is refused.
+#[derive(Clone, Copy, Debug, PartialEq, Eq)]
+pub enum Refusal {
+    BadHandle,
+    WrongKind,
+    BadValue,
+    Finished,
+    TooManyHandles,
+    NoSuchName,
+    TooManyCallbacks,
+    NoSuchCallback,
+    NoSuchRace,
+    SessionsFull,
+    BadToken,
+    NotOpen,
+    BadOperator,
+    NoSuchUser,
+    NoSuchEnvelope,
+    LogFull,
+    BeyondGoal,
+    NoJob,
+    Simulation,
+    Race,
+    NoMemory,
+}
+
+impl Refusal {
+    ghost use Rattle.vp_answer.specs.Refusals.{text_of};
+
+    /// The refusal's text in lines.
+    pub fn text(self) -> &'static str
+        ensures { result.now ≡ text_of self }
+    {
+        match self {
+            Refusal::BadHandle => "bad handle",
+            Refusal::WrongKind => "wrong kind",
+            Refusal::BadValue => "bad value",
+            Refusal::Finished => "finished",
+            Refusal::TooManyHandles => "too many handles",
+            Refusal::NoSuchName => "no such name",
+            Refusal::TooManyCallbacks => "too many callbacks",
+            Refusal::NoSuchCallback => "no such callback",
+            Refusal::NoSuchRace => "no such race",
+            Refusal::SessionsFull => "sessions full",
+            Refusal::BadToken => "bad token",
+            Refusal::NotOpen => "not open",
+            Refusal::BadOperator => "bad operator",
+            Refusal::NoSuchUser => "no such user",
+            Refusal::NoSuchEnvelope => "no such envelope",
+            Refusal::LogFull => "log full",
+            Refusal::BeyondGoal => "beyond the goal",
+            Refusal::NoJob => "no job",
+            Refusal::Simulation => "simulation",
+            Refusal::Race => "race",
+            Refusal::NoMemory => "no memory",
+        }
+    }
+}
+
+/// What an event is answered.
+#[derive(Drop)]
+pub enum Reply {
+    /// A session was opened.
+    Opened(SessionId),
+    /// It was done.
+    Done,
+    /// A handle was made.
+    Handle(u32),
+    /// Handles of the objects that a scope lists were made.
+    Listing(SharedListing),
+    /// A number of an object.
+    Number(u32),
+    /// A text of an object.
+    Text(SharedText),
+    /// The value of an object, in binary digits.
+    Value(Bits),
+    /// The value of an object, in words of 32 bits.
+    Vector(Bits),
+    /// Whether two handles are of one object.
+    Same(bool),
+    /// A callback was registered.
+    Callback(u32),
+    /// The notices that waited.
+    Notices(SharedNotices),
+    /// Races that the user is shown.
+    Races(Shared<Sequence<RaceLine>>),
+    /// A race that the user is shown, with its steps.
+    Race(Shared<RaceTold>),
+    /// A closed segment is handed out, by its number.
+    Job(u64),
+    /// A right is lacking, in the words that the user is told.
+    Denied(DenialWords),
+    /// The user may not let the design run.
+    RunDenied,
+    /// The current time, in time units, and whether `$finish` was executed.
+    Time { time: u64, finished: bool },
+    /// Another refusal.
+    Error(Refusal),
+}
+
+impl Reply {
+    /// The same reply once more, whose texts are shared; or an error where their holders can't be counted.
+    pub fn try_clone(&self) -> Result<Reply, AllocError>
+        ensures { IfOk result (λ reply. reply ≡ self.now) }
+    {
+        Ok(match self {
+            Reply::Opened(session) => Reply::Opened(*session),
+            Reply::Done => Reply::Done,
+            Reply::Handle(handle) => Reply::Handle(*handle),
+            Reply::Listing(listing) => Reply::Listing(listing.try_clone()?),
+            Reply::Number(number) => Reply::Number(*number),
+            Reply::Text(text) => Reply::Text(text.try_clone()?),
+            Reply::Value(bits) => Reply::Value(*bits),
+            Reply::Vector(bits) => Reply::Vector(*bits),
+            Reply::Same(same) => Reply::Same(*same),
+            Reply::Callback(callback) => Reply::Callback(*callback),
+            Reply::Notices(notices) => Reply::Notices(notices.try_clone()?),
+            Reply::Races(races) => Reply::Races(races.try_clone()?),
+            Reply::Race(race) => Reply::Race(race.try_clone()?),
+            Reply::Job(number) => Reply::Job(*number),
+            Reply::Denied(words) => Reply::Denied(words.try_clone()?),
+            Reply::RunDenied => Reply::RunDenied,
+            Reply::Time { time, finished } => Reply::Time {
+                time: *time,
+                finished: *finished,
+            },
+            Reply::Error(refusal) => Reply::Error(*refusal),
+        })
+    }
+}

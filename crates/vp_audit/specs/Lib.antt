@@ -1,0 +1,5 @@
+pub mod Known
+pub mod Seen
+pub mod Parts
+pub mod Projections
+pub mod laws

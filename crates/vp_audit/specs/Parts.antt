@@ -1,0 +1,186 @@
+-- A user's part of a world, and what comes of it.
+use Rattle.std.specs.Prelude.{ℕ, ◌+◌, ◌-◌, nat_lt, Bool, if◌then◌else◌, List, [], ◌∷◌, ◌++◌, length, map, slice_get, slice_index_or, slice_set, Option, Some, None, is_some, option_and_then, option_map, unwrap_or}
+use Rattle.std.specs.List.{cons_option, remove}
+use Rattle.std.specs.Option.{option_map_or}
+use Rattle.vp_bits.specs.declared.bit.Bit.{Bit}
+use Rattle.vp_pragma.specs.declared.rights.Right.TheVariants as right
+use Rattle.vp_pragma.specs.Rights.{RightSet}
+use Rattle.vp_elab.specs.declared.object.ObjectId.{ObjectId}
+use Rattle.vp_policy.specs.View.{View}
+use Rattle.vp_waking.specs.declared.change.Change.{Change}
+use Rattle.vp_notify.specs.declared.notice.Notice.{Notice}
+use Rattle.vp_notify.specs.declared.registry.Callback.{Callback}
+use Rattle.vp_notify.specs.Registry.{RegistryState}
+use Rattle.vp_vpi.specs.Observers.{Observer, RaceSeen}
+use Rattle.vp_vpi.specs.Seats.{Seat, new_seat, retired, with_due}
+use Rattle.vp_answer.specs.declared.request.Request.{Request}
+use Rattle.vp_answer.specs.declared.request.SessionId.{SessionId}
+use Rattle.vp_answer.specs.declared.reply.Refusal.TheVariants as refusal
+use Rattle.vp_answer.specs.declared.reply.Reply.{Reply}
+use Rattle.vp_answer.specs.declared.reply.Reply.TheVariants as reply
+use Rattle.vp_answer.specs.Answers.{Response, respond}
+use Rattle.vp_world.specs.Worlds.{SessionState, index_of}
+use Rattle.vp_audit.specs.Seen.{denied_seen, observer_seen}
+
+-- ---- what goes to a user
+
+-- an event of his own
+pub data Own : Type 0 where
+  Opens : SessionId → Own
+  Asks : SessionId → Request → Own
+  Closes : SessionId → Own
+
+-- a change of his own grants: the envelope and what he is granted there now; what he sees then of all objects that he knows; the number, there, of
+-- each that he knew before; the values of those that he may read; and the races that he is shown
+pub record Granted : Type 0 where
+  pub envelope : ℕ
+  pub access : RightSet
+  pub view : View
+  pub moved : List ℕ
+  pub values : List (Option (List Bit))
+  pub races : List RaceSeen
+
+-- what of an entry of the log goes to a user: his own event, a change of his grants, the change of an object that he knows and may read or watch,
+-- the time and $finish where they are others than before, and a race that he is shown
+pub record Item : Type 0 where
+  pub own : Option Own
+  pub granted : Option Granted
+  pub change : Option Change
+  pub time : Option ℕ
+  pub finished : Option Bool
+  pub race : Option RaceSeen
+
+-- nothing
+abbrev pub empty_item : Item
+empty_item = record { own = None; granted = None; change = None; time = None; finished = None; race = None }
+
+-- ---- a part
+
+-- a user's part of a world: what he sees of the objects that he knows, how often he has opened a session, his open sessions, in which objects have
+-- their numbers in that view, the values that are known, the time, whether $finish was executed, and the races that he is shown
+pub record Part : Type 0 where
+  pub view : View
+  pub opens : ℕ
+  pub sessions : List SessionState
+  pub values : List (Option (List Bit))
+  pub time : ℕ
+  pub finished : Bool
+  pub races : List RaceSeen
+
+-- what can be looked up in a part
+abbrev pub eyes_of_part : Part → Observer
+eyes_of_part p = observer_seen p.view p.values p.time p.finished p.races
+
+-- ---- objects that are renumbered
+
+-- the number of an object now, by the numbers of those that were known before
+abbrev pub moved_to : (moved : List ℕ) → (count : ℕ) → ℕ → ℕ
+moved_to moved count k = if nat_lt k (length moved) then slice_index_or moved k 0 else count + (k - length moved)
+
+-- a handle, a callback, a notice and a session with other numbers of objects
+abbrev pub moved_handle : (ℕ → ℕ) → Option ObjectId → Option ObjectId
+moved_handle f h = option_map (λ o. record { 0 = f o.0 }) h
+
+-- a callback
+abbrev pub moved_callback : (ℕ → ℕ) → Callback → Callback
+moved_callback f c = record { number = c.number; object = record { 0 = f c.object.0 } }
+
+-- a notice
+abbrev pub moved_notice : (ℕ → ℕ) → Notice → Notice
+moved_notice f t = record { callback = t.callback; object = record { 0 = f t.object.0 }; time = t.time; value = t.value }
+
+-- the callbacks and notices of a session
+abbrev pub moved_registry : (ℕ → ℕ) → RegistryState → RegistryState
+moved_registry f r = record { callbacks = map (moved_callback f) r.callbacks; given = r.given; waiting = map (moved_notice f) r.waiting; lost = r.lost }
+
+-- a session
+abbrev pub moved_seat : (ℕ → ℕ) → Seat → Seat
+moved_seat f s = record { user = s.user; handles = map (moved_handle f) s.handles; registry = moved_registry f s.registry }
+
+-- ---- what comes of an item
+
+-- what comes of a request of the session in a place of a part; none where no session is
+abbrev pub response_in : Part → Option SessionState → Request → Option Response
+response_in p session r = option_map (λ (t : SessionState). respond (eyes_of_part p) t.seat r) session
+
+-- the session of a name, if it is open
+abbrev pub session_in : Part → SessionId → Option SessionState
+session_in p id = option_and_then (slice_get p.sessions) (index_of p.sessions id)
+
+-- the reply to an event of his own
+abbrev pub reply_of : Part → Own → Reply
+reply_of p (Opens id) = reply.Opened (record { user = id.user; opens = p.opens + 1 })
+reply_of p (Asks id r) = option_map_or (λ g. g.reply) (response_in p (session_in p id) r) (reply.Error refusal.NotOpen)
+reply_of p (Closes id) = reply.Done
+
+-- sessions of which the one in a place is as a response leaves it
+abbrev pub with_answer : List SessionState → (place : ℕ) → Option SessionState → Option Response → List SessionState
+with_answer sessions place None given = sessions
+with_answer sessions place (Some session) None = sessions
+with_answer sessions place (Some session) (Some given) = slice_set sessions place (record session { seat = given.seat })
+
+-- the open sessions behind an event of his own
+abbrev pub sessions_behind : Part → Own → List SessionState
+sessions_behind p (Opens id) = p.sessions ++ record { id = record { user = id.user; opens = p.opens + 1 }; seat = new_seat id.user.0 } ∷ []
+sessions_behind p (Asks id r) =
+    option_map_or (λ place. with_answer p.sessions place (slice_get p.sessions place) (response_in p (slice_get p.sessions place) r)) (index_of p.sessions id) p.sessions
+sessions_behind p (Closes id) = option_map_or (remove p.sessions) (index_of p.sessions id) p.sessions
+
+-- how often he has opened a session behind an event of his own
+abbrev pub opens_behind : Part → Own → ℕ
+opens_behind p (Opens id) = p.opens + 1
+opens_behind p (Asks id r) = p.opens
+opens_behind p (Closes id) = p.opens
+
+-- a session behind a change
+abbrev pub session_notified : Option Change → (time : ℕ) → SessionState → SessionState
+session_notified change time t = record t { seat = with_due change time t.seat }
+
+-- the values behind a change
+abbrev pub values_after : List (Option (List Bit)) → Option Change → List (Option (List Bit))
+values_after values None = values
+values_after values (Some c) = slice_set values c.object.0 (Some c.value)
+
+-- races, and one more that is shown
+abbrev pub races_after : List RaceSeen → Option RaceSeen → List RaceSeen
+races_after races None = races
+races_after races (Some race) = races ++ race ∷ []
+
+-- a session behind a change of grants: its objects have their numbers in the new view, and what may not be watched any more is out of it
+abbrev pub granted_session : Granted → SessionState → SessionState
+granted_session g t = record t {
+  seat = retired (λ o. is_some (denied_seen g.view right.Watch o)) (moved_seat (moved_to g.moved (length g.view.nodes)) t.seat);
+}
+
+-- the part behind a change of grants
+abbrev pub part_granted : Part → Granted → Part
+part_granted p g = record {
+  view = g.view;
+  opens = p.opens;
+  sessions = map (granted_session g) p.sessions;
+  values = g.values;
+  time = p.time;
+  finished = p.finished;
+  races = g.races;
+}
+
+-- the part behind what of an entry with an event of his own, or of nobody's, goes to him
+abbrev pub part_after_entry : Part → Option Own → Item → Part
+part_after_entry p own i = record {
+  view = p.view;
+  opens = option_map_or (opens_behind p) own p.opens;
+  sessions = map (session_notified i.change (unwrap_or i.time p.time)) (option_map_or (sessions_behind p) own p.sessions);
+  values = values_after p.values i.change;
+  time = unwrap_or i.time p.time;
+  finished = unwrap_or i.finished p.finished;
+  races = races_after p.races i.race;
+}
+
+-- the part behind what of an entry goes to him
+abbrev pub part_after : Part → Item → Part
+part_after p i = option_map_or (part_granted p) i.granted (part_after_entry p i.own i)
+
+-- the replies to his own events, in turn, from a part on
+abbrev pub replies_from : Part → List Item → List Reply
+replies_from p [] = []
+replies_from p (i ∷ items) = cons_option (option_map (reply_of p) i.own) (replies_from (part_after p i) items)

@@ -1,0 +1,171 @@
+-- What of a log goes to a user.
+use Rattle.std.specs.Prelude.{ℕ, zero, suc, ◌==◌, ◌&&◌, ◌||◌, Bool, true, false, if◌then◌else◌, List, [], ◌∷◌, length, map, slice_index_or, Option, Some, None, is_none, option_map}
+use Rattle.std.specs.List.{cons_option, filter_map}
+use Rattle.std.specs.Option.{option_map_or}
+use Rattle.vp_bits.specs.declared.bit.Bit.{Bit}
+use Rattle.vp_bits.specs.declared.bit.Bit.TheVariants.{Unknown}
+use Rattle.vp_pragma.specs.declared.rights.Right.TheVariants as right
+use Rattle.vp_elab.specs.Tree.{Tree, below}
+use Rattle.vp_policy.specs.Filter.{denial_at}
+use Rattle.vp_policy.specs.PolicyState.{PolicyState}
+use Rattle.vp_policy.specs.Users.{Member, member_at, user_of}
+use Rattle.vp_policy.specs.View.{View}
+use Rattle.vp_sim.specs.States as sim
+use Rattle.vp_waking.specs.declared.change.Change.{Change}
+use Rattle.vp_vpi.specs.Observers.{RaceSeen, is_readable, kind_at}
+use Rattle.vp_vpi.specs.Races.{is_shown, race_seen, races_seen}
+use Rattle.vp_answer.specs.declared.request.GrantChange.{GrantChange}
+use Rattle.vp_answer.specs.declared.request.SessionId.{SessionId}
+use Rattle.vp_answer.specs.declared.reply.Reply.{Reply}
+use Rattle.vp_answer.specs.declared.reply.Reply.TheVariants as reply
+use Rattle.vp_world.specs.Entries.{Entry}
+use Rattle.vp_world.specs.declared.event.Event.{Event}
+use Rattle.vp_world.specs.declared.event.Event.TheVariants as event
+use Rattle.vp_world.specs.History.{after}
+use Rattle.vp_world.specs.Worlds.{Opening, State, start}
+use Rattle.vp_audit.specs.Known.{known_also, known_view, listed_marks, marked, place_of}
+use Rattle.vp_audit.specs.Parts.{Asks, Closes, Granted, Item, Opens, Own, Part}
+
+-- ---- numbers
+
+-- the number of the object in a place among those that are known; none where it is not
+abbrev pub number_in : (known : List Bool) → (object : ℕ) → Option ℕ
+number_in [] o = None
+number_in (true ∷ known) zero = Some zero
+number_in (false ∷ known) zero = None
+number_in (true ∷ known) (suc o) = option_map suc (number_in known o)
+number_in (false ∷ known) (suc o) = number_in known o
+
+-- the numbers, among what is known now, of what was known before
+abbrev pub moved_numbers : (known now : List Bool) → List ℕ
+moved_numbers known now = map (λ k. option_map_or (λ n. n) (number_in now (place_of known k)) 0) (below (length (marked known known)))
+
+-- ---- what a user may know of it
+
+-- the values of the known objects that a user may read
+abbrev pub values_seen : sim.State → Member → (known : List Bool) → List (Option (List Bit))
+values_seen run u known =
+    map (λ k. if is_readable (kind_at run.design.tree (place_of known k)) && is_none (denial_at run.design.tree u right.Read (place_of known k))
+    then Some (slice_index_or run.values (place_of known k) (Unknown ∷ [])) else None)
+    (below (length (marked known known)))
+
+-- a user may read or watch an object
+abbrev pub is_followed : Tree → Member → ℕ → Bool
+is_followed tree u o = is_none (denial_at tree u right.Read o) || is_none (denial_at tree u right.Watch o)
+
+-- a change of an object that a user knows and may read or watch, under its number
+abbrev pub change_seen : Tree → Member → (known : List Bool) → Option Change → Option Change
+change_seen tree u known None = None
+change_seen tree u known (Some c) =
+    option_map (λ k. record { object = record { 0 = k }; value = c.value })
+    (if is_followed tree u c.object.0 then number_in known c.object.0 else None)
+
+-- ---- items
+
+-- a session is one of a user
+abbrev pub own_if : (user : ℕ) → SessionId → Own → Option Own
+own_if u id own = if id.user.0 == u then Some own else None
+
+-- an opening of a session, by its reply
+abbrev pub opened_by_reply : (user : ℕ) → Reply → Option Own
+opened_by_reply u (reply.Opened id) = own_if u id (Opens id)
+opened_by_reply u r = None
+
+-- an event, if it is a user's own
+abbrev pub own_of : (user : ℕ) → Event → Reply → Option Own
+own_of u (event.Open name token) r = opened_by_reply u r
+own_of u (event.Ask id request) r = own_if u id (Asks id request)
+own_of u (event.Close id) r = own_if u id (Closes id)
+own_of u (event.Grant change) r = None
+own_of u (event.Step k) r = None
+own_of u event.Advance r = None
+own_of u event.TakeJob r = None
+own_of u (event.Book finding) r = None
+
+-- a change of grants, if it is one of a user's
+abbrev pub regrant_of : (user : ℕ) → PolicyState → Event → Option GrantChange
+regrant_of u policy (event.Grant change) = if option_map_or (λ v. v == u) (user_of policy.members change.user) false then Some change else None
+regrant_of u policy e = None
+
+-- what a user knows behind an event
+abbrev pub known_behind : (user : ℕ) → (before behind : State) → (known : List Bool) → Event → List Bool
+known_behind u s t known e =
+    option_map_or (λ g. known_also t.run.design.tree (member_at t.policy.members u) known t.run.design.tree.nodes) (regrant_of u s.policy e) known
+
+-- what goes to him of a change of his grants
+abbrev pub granted_of : (user : ℕ) → (behind : State) → (known now : List Bool) → GrantChange → Granted
+granted_of u t known now change = record {
+  envelope = change.envelope;
+  access = change.access;
+  view = known_view t.run.design (member_at t.policy.members u) now;
+  moved = moved_numbers known now;
+  values = values_seen t.run (member_at t.policy.members u) now;
+  races = races_seen t.run.design.tree (member_at t.policy.members u) t.book;
+}
+
+-- a number, and whether something is so, if they are others than before
+abbrev pub other_number : (before behind : ℕ) → Option ℕ
+other_number before behind = if before == behind then None else Some behind
+
+-- whether something is so, if that is other than before
+abbrev pub other_flag : (before behind : Bool) → Option Bool
+other_flag true true = None
+other_flag false false = None
+other_flag true false = Some false
+other_flag false true = Some true
+
+-- a race that is booked, if a user is shown it
+abbrev pub race_of_event : Tree → Member → Event → Option RaceSeen
+race_of_event tree u (event.Book finding) = if is_shown tree u finding then Some (race_seen tree u finding) else None
+race_of_event tree u e = None
+
+-- what of an entry goes to a user, by the states before and behind it
+abbrev pub item_of : (user : ℕ) → (before behind : State) → (known now : List Bool) → Entry → Item
+item_of u s t known now e = record {
+  own = own_of u e.event e.reply;
+  granted = option_map (granted_of u t known now) (regrant_of u s.policy e.event);
+  change = change_seen s.run.design.tree (member_at s.policy.members u) known e.change;
+  time = other_number s.run.time e.time;
+  finished = other_flag s.run.finished e.finished;
+  race = race_of_event s.run.design.tree (member_at s.policy.members u) e.event;
+}
+
+-- an item, if it is any
+abbrev pub item_if : Item → Option Item
+item_if i =
+    if is_none i.own && is_none i.granted && is_none i.change && is_none i.time && is_none i.finished && is_none i.race then None else Some i
+
+-- what of entries goes to a user, from a state on: an entry of which nothing goes to him leaves no trace
+abbrev pub items_from : Opening → (user : ℕ) → State → (known : List Bool) → List Entry → List Item
+items_from opening u s known [] = []
+items_from opening u s known (e ∷ log) =
+    cons_option (item_if (item_of u s (after opening s e.event) known (known_behind u s (after opening s e.event) known e.event) e))
+    (items_from opening u (after opening s e.event) (known_behind u s (after opening s e.event) known e.event) log)
+
+-- what a user knows at the opening
+abbrev pub known_at_first : Opening → (user : ℕ) → List Bool
+known_at_first opening u = listed_marks opening.design.tree (member_at opening.policy.members u) opening.design.tree.nodes
+
+-- what of a log goes to a user: the values that he may read at the opening, and the items
+pub record Projection : Type 0 where
+  pub values : List (Option (List Bit))
+  pub items : List Item
+
+-- what of a log goes to a user
+abbrev pub projection : Opening → (user : ℕ) → List Entry → Projection
+projection opening u log = record {
+  values = values_seen (sim.start opening.design) (member_at opening.policy.members u) (known_at_first opening u);
+  items = items_from opening u (start opening) (known_at_first opening u) log;
+}
+
+-- the part of a world in which nothing has happened, by its view and the values
+abbrev pub first_part : View → List (Option (List Bit)) → Part
+first_part v values = record { view = v; opens = 0; sessions = []; values = values; time = 0; finished = false; races = [] }
+
+-- the reply, if the event is a user's own
+abbrev pub own_reply : (user : ℕ) → Entry → Option Reply
+own_reply u e = option_map (λ o. e.reply) (own_of u e.event e.reply)
+
+-- the replies in a log to a user's own events, in order
+abbrev pub replies_of : (user : ℕ) → List Entry → List Reply
+replies_of u log = filter_map (own_reply u) log

@@ -1,0 +1,15 @@
+pub mod Names
+pub mod Known
+pub mod Denials
+pub mod Looks
+pub mod Alike
+pub mod Sims
+pub mod Sessions
+pub mod Behind
+pub mod Events
+pub mod Cases
+pub mod Grants
+pub mod Promise
+pub mod Openings
+pub mod Logs
+pub mod Traces

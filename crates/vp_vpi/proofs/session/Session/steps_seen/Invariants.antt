@@ -1,9 +1,0 @@
-use Rattle.std.proofs.Common.{◌≡◌, ◌++◌, drop}
-use Rattle.vp_policy.specs.Users.{member_at}
-use Rattle.vp_vpi.specs.Races.{steps_seen}
-use Rattle.vp_vpi.proofs.session.Session.steps_seen.Given as goal
-
--- the names so far, and those of what is left
-abbrev pub invariant-loop-object : goal.invariant-loop-object
-invariant-loop-object l =
-    steps_seen l.design.tree (member_at l.policy.members l.self.user) l.sources ≡ l.names.items ++ steps_seen l.design.tree (member_at l.policy.members l.self.user) (drop l.object-index l.sources)

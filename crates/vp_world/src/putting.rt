@@ -1,0 +1,83 @@
+// What a session's request is answered by a world, and what it changes there.
+ghost use Rattle.std.specs.Prelude.{◌≡◌, IfOk, IsOkUnless, IsSome, OnErr, OnOk};
+ghost use Rattle.vp_policy.specs.PolicyState.{Fits};
+ghost use Rattle.vp_sim.specs.States as sim;
+ghost use Rattle.vp_world.specs.declared.fault.WorldError.TheVariants as world_error;
+ghost use Rattle.vp_answer.specs.Answers.{respond};
+ghost use Rattle.vp_answer.specs.Requests.{IsAsked};
+ghost use Rattle.vp_answer.specs.Given.{put_shown};
+ghost use Rattle.vp_world.specs.Given.{Gives, eyes_in};
+ghost use Rattle.vp_world.specs.History.{outcome_of_put, segments_of_put};
+
+use crate::fault::WorldError;
+use vp_answer::{Reply, Request, respond};
+use vp_bits::Bits;
+use vp_elab::ObjectId;
+use vp_policy::Policy;
+use vp_race::{Book, Recording};
+use vp_vpi::{Session, UserObserver};
+use vp_waking::Change;
+
+/// What a request is answered, and what it changed.
+#[derive(Drop)]
+pub struct AnswerWithChange {
+    /// The reply, for the session.
+    pub reply: Reply,
+    /// The same, for the log's entry.
+    pub entry_reply: Reply,
+    /// The goal that it sets, if it sets one, in time units.
+    pub goal: Option<u64>,
+    /// What it changed.
+    pub change: Option<Change>,
+}
+
+/// Makes a put, if there is one, where `$finish` was not executed, and tells what it changes; or want of memory (1307), which leaves the
+/// simulation as it was.
+fn make_put(
+    run: &mut Recording,
+    put: Option<(ObjectId, Bits)>,
+) -> Result<Option<Change>, WorldError>
+    ensures change { IfOk result (λ change.
+        outcome_of_put run.old.simulation (put_shown put) ≡ sim.Goes run.new.simulation change) }
+    ensures segments { OnOk result (run.new.segments
+        ≡ segments_of_put run.old.segments (put_shown put) run.new.simulation) }
+    ensures refused { IsOkUnless result world_error.NoMemory }
+    ensures asked { OnErr result (IsSome put) }
+    ensures unchanged { OnErr result (run.new ≡ run.old) }
+{
+    let Some((object, value)) = put else {
+        return Ok(None);
+    };
+    match run.put(object, value) {
+        Ok(change) => Ok(change),
+        Err(_) => Err(WorldError::NoMemory),
+    }
+}
+
+/// Answers a session's request by what its user can look up, and makes its put, if it has one; or want of memory (1307), which leaves the
+/// session and the simulation as they were.
+pub fn answer_request(
+    session: &mut Session,
+    policy: &Policy,
+    run: &mut Recording,
+    book: &Book,
+    request: &Request,
+) -> Result<AnswerWithChange, WorldError>
+    requires asked { IsAsked request.now }
+    requires fits { Fits policy.now run.old.simulation.design.tree }
+    ensures given { let eyes = eyes_in run.old book.now policy.now session.old.user in IfOk result
+        (Gives (respond eyes session.old request.now) run.old run.new session.new) }
+    ensures refused { IsOkUnless result world_error.NoMemory }
+    ensures session { OnErr result (session.new ≡ session.old) }
+    ensures run { OnErr result (run.new ≡ run.old) }
+{
+    let eyes = UserObserver::new(policy, session.user(), run.simulation(), book);
+    let answer = respond(session, &eyes, request)?;
+    let change = make_put(run, answer.put)?;
+    Ok(AnswerWithChange {
+        reply: answer.reply,
+        entry_reply: answer.entry_reply,
+        goal: answer.goal,
+        change,
+    })
+}
