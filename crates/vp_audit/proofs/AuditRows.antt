@@ -1,11 +1,10 @@
 -- What goes to two users of a log, and what one of them is told by it. Each row is an equation that holds by computation.
-use Rattle.std.proofs.Common.{◌≡◌, ℕ, Bool, true, false, List, [], ◌∷◌, ◌++◌, map, Option, Some, None, refl}
-use Rattle.std.specs.Prelude.{codes, option_map}
+use Rattle.std.proofs.Common.{◌≡◌, ℕ, Bool, true, false, List, [], ◌∷◌, ◌++◌, map, Some, None, refl}
+use Rattle.std.specs.Prelude.{codes}
 use Rattle.std.specs.List.{filter_map}
 use Rattle.std.specs.Fmt.{digits}
 use Rattle.std.specs.Str.{chars, is_utf8}
 use Rattle.std.proofs.Math.Utf8.{encode}
-use Rattle.vp_bits.specs.declared.bit.Bit.{Bit}
 use Rattle.vp_bits.specs.declared.bit.Bit.TheVariants.{Unknown, One}
 use Rattle.vp_pragma.specs.declared.rights.Right.TheVariants as right
 use Rattle.vp_pragma.specs.Rights.{RightSet, nothing, with_right}
@@ -18,7 +17,7 @@ use Rattle.vp_expr.specs.Tables.{tables_of}
 use Rattle.vp_statement.specs.Effects.{effect_at}
 use Rattle.vp_policy.specs.declared.denial.Barrier.TheVariants as by
 use Rattle.vp_policy.specs.Users.{Member}
-use Rattle.vp_policy.specs.View.{SeenNode, view_of}
+use Rattle.vp_policy.specs.View.{SeenNode, view_of, marked}
 use Rattle.vp_waking.specs.declared.change.Change.{Change}
 use Rattle.vp_vpi.specs.declared.property.PutValue.TheVariants.{Digits}
 use Rattle.vp_answer.specs.declared.request.SessionId.{SessionId}
@@ -30,8 +29,8 @@ use Rattle.vp_world.specs.declared.event.Event.{Event}
 use Rattle.vp_world.specs.declared.event.Event.TheVariants as event
 use Rattle.vp_world.specs.Entries.{Entry}
 use Rattle.vp_world.specs.Worlds.{Opening}
-use Rattle.vp_audit.specs.Known.{marked, place_of}
-use Rattle.vp_audit.specs.Parts.{Asks, Item, Opens, Own, replies_from}
+use Rattle.vp_audit.specs.Known.{place_of}
+use Rattle.vp_audit.specs.Parts.{Asks, Opens, replies_from}
 use Rattle.vp_audit.specs.Projections.{first_part, moved_numbers, number_in, projection, replies_of}
 
 -- ---- objects that are known

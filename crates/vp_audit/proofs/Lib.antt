@@ -1,1 +1,10 @@
 pub mod AuditRows
+pub mod Comparing
+pub mod EntryReading
+pub mod Following
+pub mod Granting
+pub mod LogReading
+pub mod Marks
+pub mod Moving
+pub mod PartSteps
+pub mod Turns

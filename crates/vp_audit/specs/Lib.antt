@@ -1,5 +1,8 @@
+pub mod Audits
+pub mod Faults
 pub mod Known
-pub mod Seen
+pub mod Openings
 pub mod Parts
 pub mod Projections
+pub mod Readings
 pub mod laws

@@ -1,18 +1,16 @@
 -- A user's part of a world, and what comes of it.
-use Rattle.std.specs.Prelude.{ℕ, ◌+◌, ◌-◌, nat_lt, Bool, if◌then◌else◌, List, [], ◌∷◌, ◌++◌, length, map, slice_get, slice_index_or, slice_set, Option, Some, None, is_some, option_and_then, option_map, unwrap_or}
-use Rattle.std.specs.List.{cons_option, remove}
+use Rattle.std.specs.Prelude.{ℕ, ◌+◌, ◌-◌, ◌^◌, ◌&&◌, nat_lt, Bool, false, true, if◌then◌else◌, List, [], ◌∷◌, ◌++◌, length, map, slice_get, slice_index_or, slice_set, Option, Some, None, is_some, option_and_then, option_map, unwrap_or}
+use Rattle.std.specs.List.{cons_option, list_all, remove}
 use Rattle.std.specs.Option.{option_map_or}
 use Rattle.vp_bits.specs.declared.bit.Bit.{Bit}
 use Rattle.vp_pragma.specs.declared.rights.Right.TheVariants as right
-use Rattle.vp_pragma.specs.Rights.{RightSet}
-use Rattle.vp_elab.specs.declared.object.ObjectId.{ObjectId}
 use Rattle.vp_policy.specs.View.{View}
 use Rattle.vp_waking.specs.declared.change.Change.{Change}
-use Rattle.vp_notify.specs.declared.notice.Notice.{Notice}
-use Rattle.vp_notify.specs.declared.registry.Callback.{Callback}
-use Rattle.vp_notify.specs.Registry.{RegistryState}
-use Rattle.vp_vpi.specs.Observers.{Observer, RaceSeen}
-use Rattle.vp_vpi.specs.Seats.{Seat, new_seat, retired, with_due}
+use Rattle.vp_notify.specs.Renumbered.{rises}
+use Rattle.vp_vpi.specs.declared.races.SeenRace.{SeenRace}
+use Rattle.vp_vpi.specs.Observers.{Observer}
+use Rattle.vp_vpi.specs.Renumbered.{is_seat_within, moved_seat}
+use Rattle.vp_vpi.specs.Seats.{new_seat, retired, with_due}
 use Rattle.vp_answer.specs.declared.request.Request.{Request}
 use Rattle.vp_answer.specs.declared.request.SessionId.{SessionId}
 use Rattle.vp_answer.specs.declared.reply.Refusal.TheVariants as refusal
@@ -20,35 +18,13 @@ use Rattle.vp_answer.specs.declared.reply.Reply.{Reply}
 use Rattle.vp_answer.specs.declared.reply.Reply.TheVariants as reply
 use Rattle.vp_answer.specs.Answers.{Response, respond}
 use Rattle.vp_world.specs.Worlds.{SessionState, index_of}
-use Rattle.vp_audit.specs.Seen.{denied_seen, observer_seen}
+use Rattle.vp_view.specs.Seen.{denied_seen, observer_seen}
+pub use Rattle.vp_audit.specs.declared.item.Own.{Own}
+pub use Rattle.vp_audit.specs.declared.item.Own.TheVariants.{Asks, Closes, Opens}
+pub use Rattle.vp_audit.specs.declared.item.Granted.{Granted}
+pub use Rattle.vp_audit.specs.declared.item.Item.{Item}
 
 -- ---- what goes to a user
-
--- an event of his own
-pub data Own : Type 0 where
-  Opens : SessionId → Own
-  Asks : SessionId → Request → Own
-  Closes : SessionId → Own
-
--- a change of his own grants: the envelope and what he is granted there now; what he sees then of all objects that he knows; the number, there, of
--- each that he knew before; the values of those that he may read; and the races that he is shown
-pub record Granted : Type 0 where
-  pub envelope : ℕ
-  pub access : RightSet
-  pub view : View
-  pub moved : List ℕ
-  pub values : List (Option (List Bit))
-  pub races : List RaceSeen
-
--- what of an entry of the log goes to a user: his own event, a change of his grants, the change of an object that he knows and may read or watch,
--- the time and $finish where they are others than before, and a race that he is shown
-pub record Item : Type 0 where
-  pub own : Option Own
-  pub granted : Option Granted
-  pub change : Option Change
-  pub time : Option ℕ
-  pub finished : Option Bool
-  pub race : Option RaceSeen
 
 -- nothing
 abbrev pub empty_item : Item
@@ -65,7 +41,7 @@ pub record Part : Type 0 where
   pub values : List (Option (List Bit))
   pub time : ℕ
   pub finished : Bool
-  pub races : List RaceSeen
+  pub races : List SeenRace
 
 -- what can be looked up in a part
 abbrev pub eyes_of_part : Part → Observer
@@ -76,26 +52,6 @@ eyes_of_part p = observer_seen p.view p.values p.time p.finished p.races
 -- the number of an object now, by the numbers of those that were known before
 abbrev pub moved_to : (moved : List ℕ) → (count : ℕ) → ℕ → ℕ
 moved_to moved count k = if nat_lt k (length moved) then slice_index_or moved k 0 else count + (k - length moved)
-
--- a handle, a callback, a notice and a session with other numbers of objects
-abbrev pub moved_handle : (ℕ → ℕ) → Option ObjectId → Option ObjectId
-moved_handle f h = option_map (λ o. record { 0 = f o.0 }) h
-
--- a callback
-abbrev pub moved_callback : (ℕ → ℕ) → Callback → Callback
-moved_callback f c = record { number = c.number; object = record { 0 = f c.object.0 } }
-
--- a notice
-abbrev pub moved_notice : (ℕ → ℕ) → Notice → Notice
-moved_notice f t = record { callback = t.callback; object = record { 0 = f t.object.0 }; time = t.time; value = t.value }
-
--- the callbacks and notices of a session
-abbrev pub moved_registry : (ℕ → ℕ) → RegistryState → RegistryState
-moved_registry f r = record { callbacks = map (moved_callback f) r.callbacks; given = r.given; waiting = map (moved_notice f) r.waiting; lost = r.lost }
-
--- a session
-abbrev pub moved_seat : (ℕ → ℕ) → Seat → Seat
-moved_seat f s = record { user = s.user; handles = map (moved_handle f) s.handles; registry = moved_registry f s.registry }
 
 -- ---- what comes of an item
 
@@ -132,6 +88,10 @@ opens_behind p (Opens id) = p.opens + 1
 opens_behind p (Asks id r) = p.opens
 opens_behind p (Closes id) = p.opens
 
+-- the part behind an event of his own, of which nothing else came to him yet
+abbrev pub with_own : Part → Own → Part
+with_own p own = record p { opens = opens_behind p own; sessions = sessions_behind p own }
+
 -- a session behind a change
 abbrev pub session_notified : Option Change → (time : ℕ) → SessionState → SessionState
 session_notified change time t = record t { seat = with_due change time t.seat }
@@ -142,15 +102,17 @@ values_after values None = values
 values_after values (Some c) = slice_set values c.object.0 (Some c.value)
 
 -- races, and one more that is shown
-abbrev pub races_after : List RaceSeen → Option RaceSeen → List RaceSeen
+abbrev pub races_after : List SeenRace → Option SeenRace → List SeenRace
 races_after races None = races
 races_after races (Some race) = races ++ race ∷ []
 
+-- an open session whose objects have other numbers, and out of which is taken what may not be watched any more
+abbrev pub moved_session : (ℕ → ℕ) → (gone : ℕ → Bool) → SessionState → SessionState
+moved_session f gone t = record t { seat = retired gone (moved_seat f t.seat) }
+
 -- a session behind a change of grants: its objects have their numbers in the new view, and what may not be watched any more is out of it
 abbrev pub granted_session : Granted → SessionState → SessionState
-granted_session g t = record t {
-  seat = retired (λ o. is_some (denied_seen g.view right.Watch o)) (moved_seat (moved_to g.moved (length g.view.nodes)) t.seat);
-}
+granted_session g t = moved_session (moved_to g.moved (length g.view.nodes)) (λ o. is_some (denied_seen g.view right.Watch o)) t
 
 -- the part behind a change of grants
 abbrev pub part_granted : Part → Granted → Part
@@ -184,3 +146,35 @@ part_after p i = option_map_or (part_granted p) i.granted (part_after_entry p i.
 abbrev pub replies_from : Part → List Item → List Reply
 replies_from p [] = []
 replies_from p (i ∷ items) = cons_option (option_map (reply_of p) i.own) (replies_from (part_after p i) items)
+
+-- ---- what a part can take up
+
+-- an event of his own: there is a number for a session that he opens, and one that asks or is closed is open
+abbrev pub takes_own : Part → Own → Bool
+takes_own p (Opens id) = nat_lt p.opens (2 ^ 64 - 1)
+takes_own p (Asks id r) = is_some (index_of p.sessions id)
+takes_own p (Closes id) = is_some (index_of p.sessions id)
+
+-- all objects of an open session are among so many
+abbrev pub is_session_within : (count : ℕ) → SessionState → Bool
+is_session_within count t = is_seat_within count t.seat
+
+-- a change of his grants: the numbers rise, and each object of his sessions has one
+abbrev pub takes_grant : Part → Granted → Bool
+takes_grant p g = rises g.moved && list_all (is_session_within (length g.moved)) p.sessions
+
+-- one of them, or none; no entry is both
+abbrev pub takes_by : Part → Option Own → Option Granted → Bool
+takes_by p None None = true
+takes_by p (Some own) None = takes_own p own
+takes_by p None (Some g) = takes_grant p g
+takes_by p (Some own) (Some g) = false
+
+-- what of an entry goes to him
+abbrev pub takes : Part → Item → Bool
+takes p i = takes_by p i.own i.granted
+
+-- all items, in turn
+abbrev pub takes_all : Part → List Item → Bool
+takes_all p [] = true
+takes_all p (i ∷ items) = takes p i && takes_all (part_after p i) items

@@ -1,5 +1,5 @@
 -- What of a log goes to a user.
-use Rattle.std.specs.Prelude.{ℕ, zero, suc, ◌==◌, ◌&&◌, ◌||◌, Bool, true, false, if◌then◌else◌, List, [], ◌∷◌, length, map, slice_index_or, Option, Some, None, is_none, option_map}
+use Rattle.std.specs.Prelude.{ℕ, zero, suc, ◌==◌, ◌&&◌, ◌||◌, Bool, true, false, if◌then◌else◌, List, [], ◌∷◌, length, map, slice_index_or, Option, Some, None, is_none, is_some, option_map}
 use Rattle.std.specs.List.{cons_option, filter_map}
 use Rattle.std.specs.Option.{option_map_or}
 use Rattle.vp_bits.specs.declared.bit.Bit.{Bit}
@@ -9,10 +9,11 @@ use Rattle.vp_elab.specs.Tree.{Tree, below}
 use Rattle.vp_policy.specs.Filter.{denial_at}
 use Rattle.vp_policy.specs.PolicyState.{PolicyState}
 use Rattle.vp_policy.specs.Users.{Member, member_at, user_of}
-use Rattle.vp_policy.specs.View.{View}
+use Rattle.vp_policy.specs.View.{View, known_view, listed_marks, marked}
 use Rattle.vp_sim.specs.States as sim
 use Rattle.vp_waking.specs.declared.change.Change.{Change}
-use Rattle.vp_vpi.specs.Observers.{RaceSeen, is_readable, kind_at}
+use Rattle.vp_vpi.specs.declared.races.SeenRace.{SeenRace}
+use Rattle.vp_vpi.specs.Observers.{is_readable, kind_at}
 use Rattle.vp_vpi.specs.Races.{is_shown, race_seen, races_seen}
 use Rattle.vp_answer.specs.declared.request.GrantChange.{GrantChange}
 use Rattle.vp_answer.specs.declared.request.SessionId.{SessionId}
@@ -23,7 +24,8 @@ use Rattle.vp_world.specs.declared.event.Event.{Event}
 use Rattle.vp_world.specs.declared.event.Event.TheVariants as event
 use Rattle.vp_world.specs.History.{after}
 use Rattle.vp_world.specs.Worlds.{Opening, State, start}
-use Rattle.vp_audit.specs.Known.{known_also, known_view, listed_marks, marked, place_of}
+use Rattle.vp_audit.specs.Known.{known_also, place_of}
+pub use Rattle.vp_audit.specs.declared.item.Projection.{Projection}
 use Rattle.vp_audit.specs.Parts.{Asks, Closes, Granted, Item, Opens, Own, Part}
 
 -- ---- numbers
@@ -115,7 +117,7 @@ other_flag true false = Some false
 other_flag false true = Some true
 
 -- a race that is booked, if a user is shown it
-abbrev pub race_of_event : Tree → Member → Event → Option RaceSeen
+abbrev pub race_of_event : Tree → Member → Event → Option SeenRace
 race_of_event tree u (event.Book finding) = if is_shown tree u finding then Some (race_seen tree u finding) else None
 race_of_event tree u e = None
 
@@ -146,11 +148,6 @@ items_from opening u s known (e ∷ log) =
 abbrev pub known_at_first : Opening → (user : ℕ) → List Bool
 known_at_first opening u = listed_marks opening.design.tree (member_at opening.policy.members u) opening.design.tree.nodes
 
--- what of a log goes to a user: the values that he may read at the opening, and the items
-pub record Projection : Type 0 where
-  pub values : List (Option (List Bit))
-  pub items : List Item
-
 -- what of a log goes to a user
 abbrev pub projection : Opening → (user : ℕ) → List Entry → Projection
 projection opening u log = record {
@@ -161,6 +158,10 @@ projection opening u log = record {
 -- the part of a world in which nothing has happened, by its view and the values
 abbrev pub first_part : View → List (Option (List Bit)) → Part
 first_part v values = record { view = v; opens = 0; sessions = []; values = values; time = 0; finished = false; races = [] }
+
+-- an entry is of a user's own event
+abbrev pub is_own : (user : ℕ) → Entry → Bool
+is_own u e = is_some (own_of u e.event e.reply)
 
 -- the reply, if the event is a user's own
 abbrev pub own_reply : (user : ℕ) → Entry → Option Reply

@@ -1,2 +1,17 @@
 //! What one user can know of a world: what goes to him of a log, and that this, with what he sees at the opening, is all that he is told.
 #![tactic(auto)]
+
+mod audit;
+mod fault;
+mod item;
+mod part;
+mod part_session;
+mod projecting;
+mod reading;
+mod replaying;
+
+pub use audit::{Audit, audit_user};
+pub use fault::AuditError;
+pub use item::{Granted, Item, Own, Projection};
+pub use projecting::project;
+pub use replaying::replay;

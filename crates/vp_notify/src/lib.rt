@@ -8,7 +8,9 @@ mod fault;
 mod notice;
 mod order;
 mod registry;
+mod renumbering;
 
 pub use fault::NotifyError;
 pub use notice::{Notice, Notices, PolledNotice};
 pub use registry::{CALLBACK_LIMIT, Callback, NOTICE_LIMIT, Registry};
+pub use renumbering::{number_now, rises};

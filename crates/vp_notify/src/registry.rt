@@ -1,11 +1,13 @@
 ghost use Rattle.std.specs.Prelude.{◌≡◌, ◌+◌, ◌-◌, ◌^◌, ◌≤◌, ◌↔◌, ◌∷◌, ◌++◌, [], filter, length, map, min, not, nat_lt, false, true, if◌then◌else◌, option_copied, IfErr, IfOk, IsOk, OnErr, OnOk};
-ghost use Rattle.std.specs.List.{list_any};
+ghost use Rattle.std.specs.List.{list_all, list_any};
 ghost use Rattle.vp_notify.specs.declared.fault.NotifyError.TheVariants.{NoMemory, NoSuchCallback, TooManyCallbacks};
 ghost use Rattle.vp_notify.specs.Registry.{AreOrdered, drained, due, empty_registry, has_number, is_full, is_numbered, lacks_watch, notice_of, polled_notice, registered, retired, watches, without};
+ghost use Rattle.vp_notify.specs.Renumbered.{is_callback_within, is_notice_within, is_within, moved_callback, moved_notice, moved_registry, number_now, rises};
 
 use crate::fault::NotifyError;
 use crate::notice::{Notice, Notices, PolledNotice};
 use crate::order::{count_by, on_object};
+use crate::renumbering::number_now;
 use circular_buffer::HeapCircularBuffer;
 use std::alloc::{AllocError, Global};
 use std::marker::Model;
@@ -114,6 +116,58 @@ fn retire_notices(waiting: &mut HeapCircularBuffer<Notice>, rights: &[Rights])
     }
 }
 
+/// Gives the objects of the notices that wait their numbers now.
+fn renumber_notices(waiting: &mut HeapCircularBuffer<Notice>, numbers: &[u32])
+    ensures waiting { waiting.new.items
+        ≡ map (moved_notice (number_now numbers.now)) waiting.old.items }
+    ensures capacity { waiting.new.capacity ≡ waiting.old.capacity }
+{
+    for _turn in 0..waiting.len() {
+        if let Some(mut notice) = waiting.pop_front() {
+            notice.object = number_now(numbers, notice.object);
+            waiting.push_back(notice);
+        }
+    }
+}
+
+/// A callback whose object has its number now.
+fn renumbered(callback: Callback, numbers: &[u32]) -> Callback
+    ensures { result ≡ moved_callback (number_now numbers.now) callback }
+{
+    Callback {
+        number: callback.number,
+        object: number_now(numbers, callback.object),
+    }
+}
+
+/// Gives the objects of callbacks their numbers now.
+fn renumber_callbacks(callbacks: &mut Vec<Callback>, numbers: &[u32])
+    ensures { callbacks.new.items
+        ≡ map (moved_callback (number_now numbers.now)) callbacks.old.items }
+{
+    for place in 0..callbacks.len() {
+        callbacks[place] = renumbered(callbacks[place], numbers);
+    }
+}
+
+/// The objects of callbacks are among so many.
+fn are_callbacks_within(callbacks: &[Callback], count: usize) -> bool
+    ensures { result ≡ list_all (is_callback_within count) callbacks.now }
+{
+    callbacks
+        .iter()
+        .all(|callback| (callback.object.0 as usize) < count)
+}
+
+/// The objects of notices are among so many.
+fn are_notices_within(notices: &[Notice], count: usize) -> bool
+    ensures { result ≡ list_all (is_notice_within count) notices.now }
+{
+    notices
+        .iter()
+        .all(|notice| (notice.object.0 as usize) < count)
+}
+
 /// Puts notices after others, as a poll gives them. Takes memory; where there is none, some of them may stand there.
 fn push_polled(notices: &mut Vec<PolledNotice>, waiting: &[Notice]) -> Result<(), AllocError>
     ensures { OnOk result
@@ -193,6 +247,26 @@ impl Registry {
         self.callbacks
             .retain(|callback| !lacks_watch(rights, callback.object));
         retire_notices(&mut self.waiting, rights);
+    }
+
+    /// The objects of its callbacks and of the notices that wait are among so many.
+    pub fn is_within(&self, count: usize) -> bool
+        ensures { result ≡ is_within count self.now }
+    {
+        let (first, second) = self.waiting.as_slices();
+        are_callbacks_within(&self.callbacks, count)
+            && are_notices_within(first, count)
+            && are_notices_within(second, count)
+    }
+
+    /// Gives the objects of its callbacks and of the notices that wait their numbers now. Takes no memory.
+    pub fn renumber(&mut self, numbers: &[u32])
+        requires rises { rises numbers.now ≡ true }
+        requires within { is_within (length numbers.now) self.old ≡ true }
+        ensures { self.new ≡ moved_registry (number_now numbers.now) self.old }
+    {
+        renumber_callbacks(&mut self.callbacks, numbers);
+        renumber_notices(&mut self.waiting, numbers);
     }
 
     /// Some callback is on an object.

@@ -18,7 +18,7 @@ use Rattle.vp_elab.specs.Tree.{Tree}
 use Rattle.vp_policy.specs.declared.view.SeenObject.{SeenObject}
 use Rattle.vp_policy.specs.SeenObjects.{nodes_from, numbers_from}
 use Rattle.vp_policy.specs.Users.{Member}
-use Rattle.vp_policy.specs.View.{SeenNode, SeenStep, view_of}
+use Rattle.vp_policy.specs.View.{SeenNode, SeenStep, listed_marks, view_of}
 use Rattle.vp_policy.proofs.FilterRows.{ann, bob, cem, eve, instance_design, nested_design, reading}
 
 -- a step that no viewport matches
@@ -179,7 +179,7 @@ value_without_read = refl
 
 -- what is listed is numbered without what is not
 numbers_for_ann :
-    numbers_from instance_design ann 0 instance_design.nodes
+    numbers_from 0 (listed_marks instance_design ann instance_design.nodes)
     ≡ Some 0 ∷ Some 1 ∷ Some 2 ∷ Some 3 ∷ Some 4 ∷ Some 5 ∷ None ∷ Some 6 ∷ None ∷ None ∷ Some 7 ∷ []
 numbers_for_ann = refl
 

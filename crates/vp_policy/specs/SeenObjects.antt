@@ -2,12 +2,9 @@
 use Rattle.std.specs.Prelude.{ℕ, ◌+◌, Bool, if◌then◌else◌, List, [], ◌∷◌, ◌++◌, map, slice_get, Option, Some, None, option_and_then}
 use Rattle.std.specs.Option.{option_map_or}
 use Rattle.vp_pragma.specs.Rights.{set_of}
-use Rattle.vp_elab.specs.Tree.{Node, Tree}
 use Rattle.vp_policy.specs.declared.view.SeenEnvelope.{SeenEnvelope}
 use Rattle.vp_policy.specs.declared.view.SeenObject.{SeenObject}
 use Rattle.vp_policy.specs.declared.view.SeenViewport as declared
-use Rattle.vp_policy.specs.Users.{Member}
-use Rattle.vp_policy.specs.Filter.{is_listed}
 use Rattle.vp_policy.specs.View.{SeenNode, SeenStep, SeenViewport, View}
 
 -- the path to the object of a number among these; the path of no step where no number is given, and where no object is
@@ -58,12 +55,11 @@ view_shown objects closed_list envelopes run = record {
   run = run;
 }
 
--- of each of these objects its number among those that are listed to a user, from this number on; none where it is not listed
-abbrev pub numbers_from : Tree → Member → ℕ → List Node → List (Option ℕ)
-numbers_from tree u n [] = []
-numbers_from tree u n (node ∷ nodes) =
-    if is_listed tree u node then Some n ∷ numbers_from tree u (n + 1) nodes else None ∷ numbers_from tree u n nodes
+-- of each of these marks its number among those that are set, from this number on; none of one that is not
+abbrev pub numbers_from : ℕ → (marks : List Bool) → List (Option ℕ)
+numbers_from n [] = []
+numbers_from n (m ∷ marks) = if m then Some n ∷ numbers_from (n + 1) marks else None ∷ numbers_from n marks
 
--- the number, among those listed, of the object in which another is declared
+-- the number, among those marked, of the object in which another is declared
 abbrev pub number_in : List (Option ℕ) → Option ℕ → Option ℕ
 number_in numbers parent = option_and_then (λ p. option_and_then (λ n. n) (slice_get numbers p)) parent

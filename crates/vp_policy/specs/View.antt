@@ -1,5 +1,5 @@
 -- What a user sees of a design: all that he is ever told of it but the values that change.
-use Rattle.std.specs.Prelude.{ℕ, ◌&&◌, Bool, true, false, if◌then◌else◌, List, [], ◌∷◌, ◌++◌, map, filter, Option, Some, None}
+use Rattle.std.specs.Prelude.{◌≡◌, ℕ, ◌<◌, ◌&&◌, Bool, true, false, if◌then◌else◌, List, [], ◌∷◌, ◌++◌, map, filter, length, slice_get, Option, Some, None}
 use Rattle.std.specs.List.{enumerate_from}
 use Rattle.vp_bits.specs.declared.bit.Bit.{Bit}
 use Rattle.vp_pragma.specs.declared.rights.Right.TheVariants as right
@@ -109,6 +109,41 @@ seen_nodes design u nodes = map (seen_node design u) (filter (is_listed design.t
 abbrev pub view_of : Elaborated → Member → View
 view_of design u = record {
   nodes = seen_nodes design u design.tree.nodes;
+  closed_list = closed design.tree u [];
+  envelopes = seen_envelopes u 1 design.tree.authors;
+  run = u.run;
+}
+
+-- ---- objects that are known
+
+-- of these objects, which are listed to a user
+abbrev pub listed_marks : Tree → Member → List Node → List Bool
+listed_marks tree u nodes = map (is_listed tree u) nodes
+
+-- those of a list that are marked
+abbrev pub marked : {X : Type 0} → (marks : List Bool) → List X → List X
+marked [] xs = []
+marked (m ∷ marks) [] = []
+marked (m ∷ marks) (x ∷ xs) = if m then x ∷ marked marks xs else marked marks xs
+
+-- among as many objects as there are marks, the one in which an object is declared is marked
+abbrev pub HasScope : List Node → (marks : List Bool) → Node → Type 0
+HasScope nodes marks node =
+    (p : ℕ) → (scope : Node) → (s : Step) → p < length marks → slice_get nodes p ≡ Some scope → node.path ≡ scope.path ++ s ∷ []
+    → slice_get marks p ≡ Some true
+
+-- with each marked object the one in which it is declared is marked
+abbrev pub HoldScopes : List Node → (marks : List Bool) → Type 0
+HoldScopes nodes marks = (n : ℕ) → (node : Node) → slice_get marks n ≡ Some true → slice_get nodes n ≡ Some node → HasScope nodes marks node
+
+-- the objects that a user knows, as he sees them
+abbrev pub known_nodes : Elaborated → Member → (known : List Bool) → List Node → List SeenNode
+known_nodes design u known nodes = map (seen_node design u) (marked known nodes)
+
+-- what a user sees of the objects that he knows, as his rights are now: a view, of which some objects may not be listed any more (profile)
+abbrev pub known_view : Elaborated → Member → (known : List Bool) → View
+known_view design u known = record {
+  nodes = known_nodes design u known design.tree.nodes;
   closed_list = closed design.tree u [];
   envelopes = seen_envelopes u 1 design.tree.authors;
   run = u.run;

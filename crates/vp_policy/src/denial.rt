@@ -96,21 +96,51 @@ impl Denial {
         ensures { IfOk result (λ words. words ≡ words_of design.now.tree self) }
     {
         let envelope = self.envelope;
-        let words = Words {
-            by: self.by.barrier(),
+        let author = design.shared_author(envelope)?;
+        let object = viewport_object(design, self.by)?;
+        DenialWords::new(
+            alloc,
+            self.by.barrier(),
             envelope,
-            right: self.right,
-            author: design.shared_author(envelope)?,
-            object: viewport_object(design, self.by)?,
+            self.right,
+            author,
+            object,
+        )
+    }
+}
+
+impl DenialWords {
+    /// The words of a denial: what keeps the user out of which envelope, the right that he lacks, the envelope's author, and the object
+    /// of a viewport that keeps him out. Takes memory.
+    pub fn new(
+        alloc: Global,
+        by: Barrier,
+        envelope: u8,
+        right: Right,
+        author: SharedText,
+        object: Option<SharedText>,
+    ) -> Result<DenialWords, AllocError>
+        ensures { IfOk result (λ w. w ≡ record {
+          by = by;
+          envelope = envelope;
+          right = right;
+          author = author;
+          object = object;
+        }) }
+    {
+        let words = Words {
+            by,
+            envelope,
+            right,
+            author,
+            object,
         };
         match Arc::new(alloc, words) {
             Ok(words) => Ok(DenialWords { words }),
             Err(_) => Err(AllocError),
         }
     }
-}
 
-impl DenialWords {
     /// The same words for one holder more; or an error where the holders can't be counted.
     pub fn try_clone(&self) -> Result<DenialWords, AllocError>
         ensures { IfOk result (λ words. words ≡ self.now) }

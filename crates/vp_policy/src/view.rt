@@ -1,13 +1,12 @@
 // What a user sees of a design: all that he is ever told of it but the values that change.
-ghost use Rattle.std.specs.Prelude.{◌≡◌, [], IfOk, IfSome, IsOkUnless, List, None, Some, filter, if◌then◌else◌, map, option_map, slice_get, take, true};
+ghost use Rattle.std.specs.Prelude.{◌≡◌, ◌<◌, ◌^◌, [], IfOk, IfSome, IsOkUnless, List, None, Some, false, filter, if◌then◌else◌, is_some, length, map, option_map, slice_get, take, unwrap_or};
 ghost use Rattle.vp_elab.specs.Tree.{Node, matches_at};
 ghost use Rattle.vp_pragma.specs.Rights.{set_of};
 ghost use Rattle.vp_resolve.specs.Constants.{constant_at};
-ghost use Rattle.vp_policy.specs.Filter.{is_listed_at};
 ghost use Rattle.vp_policy.specs.PolicyState.{Fits};
 ghost use Rattle.vp_policy.specs.SeenObjects.{envelope_shown, node_behind, nodes_from, number_in, numbers_from, view_shown, viewport_shown};
 ghost use Rattle.vp_policy.specs.Users.{Member, member_at};
-ghost use Rattle.vp_policy.specs.View.{is_parameter, is_value_seen, seen_envelopes, seen_node, seen_nodes, seen_viewport, view_of};
+ghost use Rattle.vp_policy.specs.View.{HasScope, HoldScopes, is_parameter, is_value_seen, known_nodes, known_view, listed_marks, seen_envelopes, seen_node, seen_viewport, view_of};
 
 use crate::copying::copied;
 use crate::fault::PolicyError;
@@ -79,6 +78,10 @@ impl Model for View {
     ghost Value = { View };
 
     ghost view = { λ v. view_shown v.objects v.closed v.envelopes v.run };
+
+    ghost use Rattle.std.specs.Prelude.{◌<◌, ◌^◌, length};
+
+    ghost invariant = { λ v. length v.objects < 2 ^ 32 };
 }
 
 impl View {
@@ -87,6 +90,13 @@ impl View {
         ensures { nodes_from [] result.now ≡ self.now.nodes }
     {
         self.objects.as_slice()
+    }
+
+    /// How many they are: each has a number of 32 bits.
+    pub fn count(&self) -> u32
+        ensures { result ≡ length self.now.nodes }
+    {
+        self.objects.as_slice().len() as u32
     }
 
     /// The numbers of the envelopes of the top modules that are closed to him: rising, each once.
@@ -161,9 +171,15 @@ fn number_in(numbers: &[Option<u32>], parent: Option<ObjectId>) -> Option<u32>
     numbers.get(parent?.0 as usize).copied()?
 }
 
+/// The object of a number is one of those of these marks.
+fn is_marked(marks: &[bool], number: u32) -> bool
+    ensures { result ≡ unwrap_or (slice_get marks.now number) false }
+{
+    marks.get(number as usize).copied().unwrap_or(false)
+}
+
 impl Policy {
-    /// An object that is listed to a user, as he sees it, where these are the numbers in his view of the objects before
-    /// it.
+    /// An object that a user knows, as he sees it, where these are the numbers in his view of the objects before it.
     fn seen_object(
         &self,
         alloc: Global,
@@ -173,15 +189,15 @@ impl Policy {
         numbers: &[Option<u32>],
     ) -> Result<SeenObject, PolicyError>
         requires fits { Fits self.now design.now.tree }
-        requires listed { is_listed_at design.now.tree (member_at self.now.members user.0) id.0
-            ≡ true }
-        requires numbers { numbers.now
-            ≡ numbers_from design.now.tree (member_at self.now.members user.0) 0
-            (take id.0 design.now.tree.nodes) }
+        requires there { id.0 < length design.now.tree.nodes }
+        requires before { length numbers.now ≡ id.0 }
+        requires numbers { numbers.now ≡ numbers_from 0 (map is_some numbers.now) }
+        requires scope { IfSome (slice_get design.now.tree.nodes id.0)
+            (HasScope design.now.tree.nodes (map is_some numbers.now)) }
         ensures node { let user : Member = member_at self.now.members user.0 in
             let before : List Node = take id.0 design.now.tree.nodes in
             IfOk result (λ o. IfSome (slice_get design.now.tree.nodes id.0)
-            (λ node. node_behind (seen_nodes design.now user before) o
+            (λ node. node_behind (known_nodes design.now user (map is_some numbers.now) before) o
             ≡ seen_node design.now user node)) }
         ensures err { IsOkUnless result PolicyError.NoMemory }
     {
@@ -204,23 +220,28 @@ impl Policy {
         })
     }
 
-    /// The objects that are listed to a user, as he sees them, in preorder.
-    fn seen_objects(
+    /// The objects that a user knows, as he sees them, in preorder.
+    fn known_objects(
         &self,
         alloc: Global,
         design: &Design,
         user: UserId,
+        known: &[bool],
     ) -> Result<Sequence<SeenObject>, PolicyError>
-        requires { Fits self.now design.now.tree }
-        ensures nodes { IfOk result (λ objects. nodes_from [] objects
-            ≡ seen_nodes design.now (member_at self.now.members user.0) design.now.tree.nodes) }
+        requires fits { Fits self.now design.now.tree }
+        requires all { length known.now ≡ length design.now.tree.nodes }
+        requires scopes { HoldScopes design.now.tree.nodes known.now }
+        ensures nodes { let user : Member = member_at self.now.members user.0 in
+            IfOk result (λ objects. nodes_from [] objects
+            ≡ known_nodes design.now user known.now design.now.tree.nodes) }
+        ensures few { IfOk result (λ objects. length objects < 2 ^ 32) }
         ensures err { IsOkUnless result PolicyError.NoMemory }
     {
         let mut objects = Vec::new(alloc);
         let mut numbers = Vec::new(alloc);
         for number in 0..design.count() {
-            let id = ObjectId(number);
-            if self.is_listed(user, id) {
+            if is_marked(known, number) {
+                let id = ObjectId(number);
                 let object = self.seen_object(alloc, design, user, id, numbers.as_slice())?;
                 numbers.push(Some(objects.len() as u32))?;
                 objects.push(object)?;
@@ -254,6 +275,49 @@ impl Policy {
         Ok(Sequence::from_vec(envelopes))
     }
 
+    /// Of each object whether it is listed to a user. Takes memory (905).
+    pub fn listed_marks(
+        &self,
+        alloc: Global,
+        design: &Design,
+        user: UserId,
+    ) -> Result<Vec<bool>, PolicyError>
+        requires { Fits self.now design.now.tree }
+        ensures marks { let user : Member = member_at self.now.members user.0 in IfOk result
+            (λ marks. marks.items ≡ listed_marks design.now.tree user design.now.tree.nodes) }
+        ensures err { IsOkUnless result PolicyError.NoMemory }
+    {
+        let mut marks = Vec::new(alloc);
+        for number in 0..design.count() {
+            marks.push(self.is_listed(user, ObjectId(number)))?;
+        }
+        Ok(marks)
+    }
+
+    /// What a user sees of the objects that he knows, which are marked: these with the closed lists of their scopes, the
+    /// closed list of the top modules, the envelopes, and whether he may let the design run. Takes memory (905).
+    pub fn known_view(
+        &self,
+        alloc: Global,
+        design: &Design,
+        user: UserId,
+        known: &[bool],
+    ) -> Result<View, PolicyError>
+        requires fits { Fits self.now design.now.tree }
+        requires all { length known.now ≡ length design.now.tree.nodes }
+        requires scopes { HoldScopes design.now.tree.nodes known.now }
+        ensures view { IfOk result (λ view. view
+            ≡ known_view design.now (member_at self.now.members user.0) known.now) }
+        ensures err { IsOkUnless result PolicyError.NoMemory }
+    {
+        Ok(View {
+            objects: self.known_objects(alloc, design, user, known)?,
+            closed: self.closed(alloc, user, None)?,
+            envelopes: self.seen_envelopes(alloc, design, user)?,
+            run: self.may_run(user),
+        })
+    }
+
     /// What a user sees of a design: the objects that are listed to him with the closed lists of their scopes, the
     /// closed list of the top modules, the envelopes, and whether he may let the design run. Takes memory (905).
     pub fn view(&self, alloc: Global, design: &Design, user: UserId) -> Result<View, PolicyError>
@@ -262,11 +326,7 @@ impl Policy {
             (λ view. view ≡ view_of design.now (member_at self.now.members user.0)) }
         ensures err { IsOkUnless result PolicyError.NoMemory }
     {
-        Ok(View {
-            objects: self.seen_objects(alloc, design, user)?,
-            closed: self.closed(alloc, user, None)?,
-            envelopes: self.seen_envelopes(alloc, design, user)?,
-            run: self.may_run(user),
-        })
+        let listed = self.listed_marks(alloc, design, user)?;
+        self.known_view(alloc, design, user, &listed)
     }
 }

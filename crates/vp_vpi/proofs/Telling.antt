@@ -5,27 +5,24 @@ use Rattle.std.proofs.lemmas.Bool.{leb-true, leb-false}
 use Rattle.std.proofs.Math.ListN.{drop_of_length-le}
 use Rattle.std.proofs.lemmas.List.{append-nil, take-append-le, take_all}
 use Rattle.vp_vpi.specs.declared.races.RaceLine.{RaceLine}
-use Rattle.vp_vpi.specs.declared.races.RaceTold.{RaceTold}
-use Rattle.vp_elab.specs.declared.object.ObjectId.{ObjectId}
 use Rattle.vp_elab.specs.Tree.{Tree}
 use Rattle.vp_policy.specs.Users.{Member}
-use Rattle.vp_race.specs.Orders.{sources_of}
 use Rattle.vp_race.specs.Segments.{Told}
 use Rattle.vp_vpi.specs.Calls.{line_of, lines_from, race_told, shown_at}
-use Rattle.vp_vpi.specs.Observers.{RaceSeen}
-use Rattle.vp_vpi.specs.Races.{is_shown, race_seen, races_seen, steps_seen}
+use Rattle.vp_vpi.specs.declared.races.SeenRace.{SeenRace}
+use Rattle.vp_vpi.specs.Races.{is_shown, race_seen, races_seen}
 
 -- the races that are told from a number on, of those behind so many
-abbrev pub told_from : (from number : ℕ) → List RaceSeen → List RaceLine
+abbrev pub told_from : (from number : ℕ) → List SeenRace → List RaceLine
 told_from from number [] = []
 told_from from number (s ∷ ss) = (if nat_le from (suc number) then line_of (suc number) s ∷ [] else []) ++ told_from from (suc number) ss
 
-drop_nil : (n : ℕ) (ss : List RaceSeen) → ss ≡ [] → drop n ss ≡ []
+drop_nil : (n : ℕ) (ss : List SeenRace) → ss ≡ [] → drop n ss ≡ []
 drop_nil n [] h = drop_of_length-le [] (omega arith)
 drop_nil n (s ∷ ss) h = cc
 
 told_by :
-    (b : Bool) (from number : ℕ) (s : RaceSeen) (ss : List RaceSeen) → nat_le from (suc number) ≡ b
+    (b : Bool) (from number : ℕ) (s : SeenRace) (ss : List SeenRace) → nat_le from (suc number) ≡ b
     → told_from from (suc number) ss ≡ lines_from (max (suc (suc number)) from) (drop (from - suc (suc number)) ss)
     → (if b then line_of (suc number) s ∷ [] else []) ++ told_from from (suc number) ss ≡ lines_from (max (suc number) from) (drop (from - suc number) (s ∷ ss))
 told_by true from number s ss is h =
@@ -44,7 +41,7 @@ told_by false from number s ss is h =
     ∙ sym (ap (λ n. lines_from (max (suc number) from) (drop n (s ∷ ss))) more)
 
 -- told one by one they are those from a number on
-pub told_all : (from number : ℕ) (races : List RaceSeen) → told_from from number races ≡ lines_from (max (suc number) from) (drop (from - suc number) races)
+pub told_all : (from number : ℕ) (races : List SeenRace) → told_from from number races ≡ lines_from (max (suc number) from) (drop (from - suc number) races)
 told_all from number [] = sym (ap (lines_from (max (suc number) from)) (drop_nil (from - suc number) [] refl))
 told_all from number (s ∷ ss) = told_by (nat_le from (suc number)) from number s ss refl (told_all from (suc number) ss)
 
@@ -68,18 +65,3 @@ pub race_at :
 race_at tree u book number f h =
     ap (option_map (race_told number))
     (shown_map (race_seen tree u) (filter (is_shown tree u) book) number ∙ ap (option_map (race_seen tree u)) h)
-
-abbrev pub told_of : RaceLine → (first second : List (List ℕ)) → RaceTold
-told_of line first second = record { line = line; first_steps = first; second_steps = second }
-
--- a race that is put together is the one that is shown
-pub told_same :
-    (number : ℕ) (tree : Tree) (u : Member) (f : Told) (line : RaceLine) (first second : List (List ℕ)) (sources others : List ObjectId)
-    → line ≡ line_of number (race_seen tree u f) → first ≡ steps_seen tree u sources → second ≡ steps_seen tree u others
-    → sources ≡ sources_of f.segment.start f.segment.order → others ≡ sources_of f.segment.start f.second
-    → told_of line first second ≡ race_told number (race_seen tree u f)
-told_same number tree u f line first second sources others l s t p q =
-    let seen = race_seen tree u f in
-    ap (λ x. told_of x first second) l
-    ∙ ap (λ x. told_of (line_of number seen) x second) (s ∙ ap (steps_seen tree u) p)
-    ∙ ap (λ x. told_of (line_of number seen) seen.first_steps x) (t ∙ ap (steps_seen tree u) q)

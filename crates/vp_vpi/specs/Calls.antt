@@ -24,7 +24,8 @@ use Rattle.vp_vpi.specs.declared.property.PutValue.{PutValue}
 use Rattle.vp_vpi.specs.declared.property.PutValue.TheVariants as put
 use Rattle.vp_vpi.specs.declared.races.RaceLine.{RaceLine}
 use Rattle.vp_vpi.specs.declared.races.RaceTold.{RaceTold}
-use Rattle.vp_vpi.specs.Observers.{Absent, Denied, Found, Lookup, Observer, RaceSeen, is_readable}
+use Rattle.vp_vpi.specs.declared.races.SeenRace.{SeenRace}
+use Rattle.vp_vpi.specs.Observers.{Absent, Denied, Found, Lookup, Observer, is_readable}
 use Rattle.vp_vpi.specs.Seats.{handle_to, has_room, is_full, next_handle, object_of}
 
 -- what comes next of a value; a refusal stays
@@ -231,11 +232,11 @@ watched_of eyes r found =
 -- ---- races
 
 -- a race in a list, by its number there
-abbrev pub line_of : (number : ℕ) → RaceSeen → RaceLine
+abbrev pub line_of : (number : ℕ) → SeenRace → RaceLine
 line_of number seen = record { name = seen.name; number = number; time = seen.time; values = seen.values }
 
 -- races in a list, by their numbers from one on
-abbrev pub lines_from : (number : ℕ) → List RaceSeen → List RaceLine
+abbrev pub lines_from : (number : ℕ) → List SeenRace → List RaceLine
 lines_from number [] = []
 lines_from number (seen ∷ rest) = line_of number seen ∷ lines_from (suc number) rest
 
@@ -253,7 +254,7 @@ shown_at races zero = None
 shown_at races (suc n) = slice_get races n
 
 -- a race with its steps, by its number
-abbrev pub race_told : (number : ℕ) → RaceSeen → RaceTold
+abbrev pub race_told : (number : ℕ) → SeenRace → RaceTold
 race_told number seen = record { line = line_of number seen; first_steps = seen.first_steps; second_steps = seen.second_steps }
 
 -- the race of a number; or that there is none (profile)

@@ -4,3 +4,4 @@ pub mod Lookups
 pub mod Races
 pub mod Calls
 pub mod Seats
+pub mod Renumbered

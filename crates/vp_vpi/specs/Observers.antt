@@ -14,21 +14,13 @@ use Rattle.vp_policy.specs.declared.denial.Look.TheVariants as look
 use Rattle.vp_policy.specs.Users.{Member}
 use Rattle.vp_policy.specs.Filter.{closed_in, denial_at, listed, look_in, words_of}
 use Rattle.vp_sim.specs.States as sim
+use Rattle.vp_vpi.specs.declared.races.SeenRace.{SeenRace}
 
 -- what is found under a name: an object, a denial in words, or nothing
 pub data Lookup : Type 0 where
   Found : ℕ → Lookup
   Denied : DenialWords → Lookup
   Absent : Lookup
-
--- a race as a user is shown it: the full name of its object, the time of its segment, the object's values behind the run's order and behind the
--- other, and of the steps of both orders the names of those that he may list
-pub record RaceSeen : Type 0 where
-  pub name : List ℕ
-  pub time : ℕ
-  pub values : List Bit × List Bit
-  pub first_steps : List (List ℕ)
-  pub second_steps : List (List ℕ)
 
 -- what a session can look up: what is found under a dotted name in a scope, which is an object or contains the top modules; the
 -- objects that are listed there, rising, and the numbers of the envelopes that are closed there, rising; why a right on an object
@@ -50,7 +42,7 @@ pub record Observer : Type 0 where
   pub may_run : Bool
   pub time : ℕ
   pub finished : Bool
-  pub races : List RaceSeen
+  pub races : List SeenRace
 
 -- what the filter finds under a name, in words
 abbrev pub lookup_of : Tree → Look → Lookup
@@ -106,5 +98,5 @@ observer_of run u = record {
 }
 
 -- the same with the races that are shown
-abbrev pub with_races : List RaceSeen → Observer → Observer
+abbrev pub with_races : List SeenRace → Observer → Observer
 with_races races eyes = record eyes { races = races }

@@ -10,7 +10,8 @@ use Rattle.vp_policy.specs.Users.{Member}
 use Rattle.vp_race.specs.Orders.{sources_of}
 use Rattle.vp_race.specs.Segments.{Told, value_behind}
 use Rattle.vp_sim.specs.States.{State}
-use Rattle.vp_vpi.specs.Observers.{Observer, RaceSeen, kind_at, observer_of, with_races}
+use Rattle.vp_vpi.specs.declared.races.SeenRace.{SeenRace}
+use Rattle.vp_vpi.specs.Observers.{Observer, kind_at, observer_of, with_races}
 
 -- a kind is that of a net or a reg: a step of such an object is that of a connection, which is named by its port
 abbrev pub is_port : Option Kind → Bool
@@ -31,7 +32,7 @@ abbrev pub is_shown : Tree → Member → Told → Bool
 is_shown tree u f = is_none (denial_at tree u right.Race f.object.0)
 
 -- a race as a user is shown it
-abbrev pub race_seen : Tree → Member → Told → RaceSeen
+abbrev pub race_seen : Tree → Member → Told → SeenRace
 race_seen tree u f = record {
   name = full_name_at tree f.object.0;
   time = f.segment.start.time;
@@ -42,7 +43,7 @@ race_seen tree u f = record {
 }
 
 -- the races of a book that a user is shown, in the order in which they were booked
-abbrev pub races_seen : Tree → Member → List Told → List RaceSeen
+abbrev pub races_seen : Tree → Member → List Told → List SeenRace
 races_seen tree u book = map (race_seen tree u) (filter (is_shown tree u) book)
 
 -- what a session can look up of a simulation and a book of races, by a user of its policy

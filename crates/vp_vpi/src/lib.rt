@@ -10,6 +10,7 @@ mod property;
 mod put;
 mod races;
 mod session;
+mod shown_races;
 mod user_observer;
 
 pub use fault::VpiError;
@@ -17,6 +18,7 @@ pub use iteration::{Iteration, ListedObject, Listing, SharedListing};
 pub use notices::SharedNotices;
 pub use observer::{Found, Observe};
 pub use property::{NumberProperty, PutValue, TextProperty, VectorWord};
-pub use races::{RaceLine, RaceTold};
+pub use races::{RaceLine, RaceTold, SeenRace};
 pub use session::{HANDLE_LIMIT, Session};
+pub use shown_races::{is_race_shown, seen_race, seen_races};
 pub use user_observer::UserObserver;

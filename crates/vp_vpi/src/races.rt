@@ -1,8 +1,25 @@
 // What a user is told of races (docs/FORMATS.md, "Lines").
-ghost use Rattle.std.specs.Prelude.{◌≡◌, IfOk};
+ghost use Rattle.std.specs.Prelude.{◌≡◌};
+ghost use Rattle.vp_vpi.specs.Calls.{race_told};
 
 use vp_bits::Bits;
 use vp_list::{Sequence, Text};
+
+/// A race as a user is shown it, which his list numbers.
+#[derive(Drop)]
+pub struct SeenRace {
+    /// The full name of its net or reg.
+    pub name: Text,
+    /// The time of its segment, in time units.
+    pub time: u64,
+    /// Its values behind the run's order and behind the other.
+    pub values: (Bits, Bits),
+    /// Of the steps of the run's order those that he may list: the full name of each one's process, or `port ` and the full name of
+    /// the port of a connection.
+    pub first_steps: Sequence<Text>,
+    /// The same of the other order.
+    pub second_steps: Sequence<Text>,
+}
 
 /// A race in the list that a user is told.
 #[derive(Drop)]
@@ -25,4 +42,22 @@ pub struct RaceTold {
     pub first_steps: Sequence<Text>,
     /// The same of the other order.
     pub second_steps: Sequence<Text>,
+}
+
+impl SeenRace {
+    /// The race of this number in a list, with its steps.
+    pub fn numbered(self, number: u64) -> RaceTold
+        ensures { result ≡ race_told number self }
+    {
+        RaceTold {
+            line: RaceLine {
+                name: self.name,
+                number,
+                time: self.time,
+                values: self.values,
+            },
+            first_steps: self.first_steps,
+            second_steps: self.second_steps,
+        }
+    }
 }

@@ -6,6 +6,7 @@ ghost use Rattle.vp_vpi.specs.Seats.{has_room, new_seat, next_handle, object_of,
 
 mod callbacks;
 mod races;
+mod renumbering;
 
 use crate::fault::VpiError;
 use crate::iteration::{Iteration, of_kind};

@@ -3,10 +3,11 @@ ghost use Rattle.std.specs.Prelude.{◌≡◌, filter, option_copied, IfOk};
 ghost use Rattle.vp_policy.specs.PolicyState.{Fits};
 ghost use Rattle.vp_policy.specs.Users.{member_at};
 ghost use Rattle.vp_vpi.specs.Calls.{line_of, shown_at};
-ghost use Rattle.vp_vpi.specs.Races.{is_shown, observer_with, race_seen, step_name, steps_seen};
+ghost use Rattle.vp_vpi.specs.Races.{is_shown, observer_with, race_seen};
 
 use crate::observer::{Found, Observe};
 use crate::races::{RaceLine, RaceTold};
+use crate::shown_races::{is_race_shown, seen_race};
 use std::alloc::{AllocError, Global};
 use vp_bits::Bits;
 use vp_elab::{Kind, ObjectId};
@@ -47,46 +48,12 @@ impl<'a> UserObserver<'a> {
 }
 
 impl UserObserver<'_> {
-    /// The name of a step of an object; or want of memory.
-    fn step_name(&self, alloc: Global, object: ObjectId) -> Result<Text, AllocError>
-        ensures { IfOk result (λ name. name ≡ step_name self.now.sim.now.design.tree object.0) }
-    {
-        let design = self.sim.design();
-        let name = design.full_name(alloc, object)?;
-        match design.kind(object) {
-            Some(Kind::Net | Kind::Reg) => {
-                let mut port = String::from_str(alloc, "port ")?;
-                port.push_str(name.as_str())?;
-                Ok(Text::from_string(port))
-            }
-            _ => Ok(name),
-        }
-    }
-
-    /// The names of those of some steps whose object the user may list; or want of memory.
-    fn steps_seen(&self, alloc: Global, sources: &[ObjectId]) -> Result<Sequence<Text>, AllocError>
-        requires { Fits self.now.policy.now self.now.sim.now.design.tree }
-        ensures { let member = member_at self.now.policy.now.members self.now.user.0 in
-            IfOk result (λ names. names
-            ≡ steps_seen self.now.sim.now.design.tree member sources.now) }
-    {
-        let mut names = Vec::new(alloc);
-        for object in sources {
-            if !self.policy.is_denied(self.user, *object, Right::List) {
-                names.push(self.step_name(alloc, *object)?)?;
-            }
-        }
-        Ok(Sequence::from_vec(names))
-    }
-
-    /// The user is shown a race: he has the race right on its object.
+    /// The user is shown a race.
     fn is_shown(&self, finding: &Finding) -> bool
         ensures { let member = member_at self.now.policy.now.members self.now.user.0 in
             result ≡ is_shown self.now.policy.now.tree member finding.now }
     {
-        !self
-            .policy
-            .is_denied(self.user, finding.object(), Right::Race)
+        is_race_shown(self.policy, self.user, finding)
     }
 
     /// A race in the user's list, by its number there; or want of memory.
@@ -248,10 +215,8 @@ impl Observe for UserObserver<'_> {
         let Some(finding) = self.finding_at(number) else {
             return Ok(None);
         };
-        Ok(Some(RaceTold {
-            line: self.race_line(alloc, finding, number)?,
-            first_steps: self.steps_seen(alloc, finding.first_sources())?,
-            second_steps: self.steps_seen(alloc, finding.second_sources())?,
-        }))
+        let design = self.sim.design();
+        let race = seen_race(alloc, design, self.policy, self.user, finding)?;
+        Ok(Some(race.numbered(number)))
     }
 }

@@ -1,3 +1,8 @@
+ghost use Rattle.std.specs.Prelude.{◌≡◌, ◌<◌, ◌++◌, ◌∷◌, []};
+ghost use Rattle.std.specs.Vec.{vec_capacity, vec_len};
+ghost use Rattle.vp_world.specs.declared.event.Event.TheVariants as event;
+ghost use Rattle.vp_answer.specs.declared.reply.Reply.TheVariants as reply;
+
 use std::marker::Model;
 use std::sync::Arc;
 use vp_answer::{GrantChange, Reply, Request, SessionId};
@@ -73,18 +78,6 @@ impl Happening {
     ghost use Rattle.vp_answer.specs.declared.reply.Reply.TheVariants as reply;
     ghost use Rattle.vp_world.specs.Entries.{change_in, event_in, reply_in};
 
-    /// The simulation took the k-th of the events, and this changed.
-    pub fn of_step(k: u32, change: Option<Change>) -> Happening
-        ensures event { event_in result ≡ event.Step k }
-        ensures reply { reply_in result ≡ reply.Done }
-        ensures change { change_in result ≡ change }
-    {
-        match change {
-            Some(change) => Happening::StepWithChange { k, change },
-            None => Happening::Step { k },
-        }
-    }
-
     /// A session asked, was answered so, and changed this; only what is done changes something.
     pub fn of_asked(asked: Arc<Asked>, answer: Reply, change: Option<Change>) -> Happening
         requires { IfSome change (λ c. answer ≡ reply.Done) }
@@ -120,4 +113,30 @@ impl Model for Entry {
     ghost Value = { Entry };
 
     ghost view = { λ e. entry_shown e.happening e.time e.finished };
+}
+
+/// Adds the entry of a step to a log with room for it: the simulation took the k-th of the events, this changed, and such are the time and
+/// `$finish` after it. Each kind of entry is written at once where it stays.
+pub fn add_step(log: &mut Vec<Entry>, k: u32, change: Option<Change>, time: u64, finished: bool)
+    requires { vec_len log.old < vec_capacity log.old }
+    ensures { log.new.items ≡ log.old.items ++ record {
+      event = event.Step k;
+      reply = reply.Done;
+      change = change;
+      time = time;
+      finished = finished;
+    } ∷ [] }
+{
+    match change {
+        Some(change) => log.push_reserved(Entry {
+            happening: Happening::StepWithChange { k, change },
+            time,
+            finished,
+        }),
+        None => log.push_reserved(Entry {
+            happening: Happening::Step { k },
+            time,
+            finished,
+        }),
+    }
 }

@@ -75,20 +75,31 @@ fn is_watched(sessions: &[OpenSession], object: ObjectId) -> bool
     sessions.iter().any(|open| open.session.watches(object))
 }
 
-/// A change at a time is due to the callbacks of all open sessions. The sessions are looked at only where its object may be watched, and
-/// then it is known whether it is.
+/// A change at a time is due to the callbacks of all open sessions, and then it is known whether its object is watched. The change goes by
+/// value, so that one that nobody watches need not lie in memory.
+#[cold]
+#[inline(never)]
+fn notify_watchers(sessions: &mut [OpenSession], watched: &mut Vec<bool>, change: Change, time: u64)
+    requires { all_marked watched.old.items sessions.old ≡ true }
+    ensures told { map session_shown sessions.new
+        ≡ noticed (Some change) time (map session_shown sessions.old) }
+    ensures marked { all_marked watched.new.items sessions.new ≡ true }
+{
+    tell(sessions, &change, time);
+    let mark = is_watched(sessions, change.object);
+    set_mark(watched, change.object, mark);
+}
+
+/// A change at a time is due to the callbacks of all open sessions. The sessions are looked at only where its object may be watched.
 fn notify_of(sessions: &mut [OpenSession], watched: &mut Vec<bool>, change: &Change, time: u64)
     requires { all_marked watched.old.items sessions.old ≡ true }
     ensures told { map session_shown sessions.new
         ≡ noticed (Some change.now) time (map session_shown sessions.old) }
     ensures marked { all_marked watched.new.items sessions.new ≡ true }
 {
-    if !may_be_watched(watched, change.object) {
-        return;
+    if may_be_watched(watched, change.object) {
+        notify_watchers(sessions, watched, *change, time);
     }
-    tell(sessions, change, time);
-    let mark = is_watched(sessions, change.object);
-    set_mark(watched, change.object, mark);
 }
 
 /// A change at a time is due to the callbacks of all open sessions; no change is due to none. Takes no memory.

@@ -9,7 +9,7 @@ ghost use Rattle.vp_world.specs.Events.{IsWellFormed};
 ghost use Rattle.vp_answer.specs.Requests.{IsAsked};
 ghost use Rattle.vp_world.specs.History.{Applies, IsLegal, IsReached, answered_by, is_log_full, state_behind};
 
-use crate::entry::{Asked, Entry, Happening, Login};
+use crate::entry::{Asked, Entry, Happening, Login, add_step};
 use crate::event::Event;
 use crate::fault::WorldError;
 use crate::limits::Limits;
@@ -131,11 +131,9 @@ impl World {
             return Err(WorldError::from(lacking));
         }
         let change = self.present.step(k)?;
-        self.log.push_reserved(Entry {
-            happening: Happening::of_step(k, change),
-            time: self.present.time(),
-            finished: self.present.finished(),
-        });
+        let time = self.present.time();
+        let finished = self.present.finished();
+        add_step(&mut self.log, k, change, time, finished);
         Ok(())
     }
 

@@ -1,3 +1,4 @@
+mod audits;
 mod building;
 mod callbacks;
 mod copies;

@@ -11,15 +11,15 @@ use Rattle.vp_elab.specs.Tree.{path_of, Node, dotted, names_of, node_name}
 use Rattle.vp_elab.specs.Built.{Elaborated}
 use Rattle.vp_policy.specs.Filter.{denial_at, words_of}
 use Rattle.vp_policy.specs.Users.{Member}
-use Rattle.vp_policy.specs.View.{seen_node}
+use Rattle.vp_policy.specs.View.{seen_node, known_view}
 use Rattle.vp_sim.specs.States.{State}
 use Rattle.vp_race.specs.Segments.{Told}
 use Rattle.vp_vpi.specs.Calls.{is_module}
 use Rattle.vp_vpi.specs.Observers.{value_read, is_readable, kind_at, line_at, width_at}
 use Rattle.vp_vpi.specs.Races.{observer_with, races_seen}
 use Rattle.vp_answer.specs.Renumbering.{IsOpen, IsSeenAs}
-use Rattle.vp_audit.specs.Known.{known_view, place_of}
-use Rattle.vp_audit.specs.Seen.{denied_seen, kind_seen, last_name, names_seen, observer_seen, value_seen}
+use Rattle.vp_audit.specs.Known.{place_of}
+use Rattle.vp_view.specs.Seen.{denied_seen, kind_seen, last_name, names_seen, observer_seen, value_seen}
 use Rattle.vp_audit.specs.laws.Denials.{AllInEnvelopes, denied_seen_at, node_seen}
 use Rattle.vp_audit.specs.laws.Known.{by_place}
 use Rattle.vp_audit.specs.laws.Looks.{AreKnown, Stands, closed_is, last_same, listed_in_is, named_is, names_are}

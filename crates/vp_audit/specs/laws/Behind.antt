@@ -12,7 +12,7 @@ use Rattle.vp_elab.specs.Built.{Elaborated}
 use Rattle.vp_policy.specs.Denials.{DenialWords}
 use Rattle.vp_policy.specs.Filter.{denial_at, words_of}
 use Rattle.vp_policy.specs.Users.{Member}
-use Rattle.vp_policy.specs.View.{View}
+use Rattle.vp_policy.specs.View.{View, known_view}
 use Rattle.vp_notify.specs.declared.registry.Callback.{Callback}
 use Rattle.vp_notify.specs.declared.notice.Notice.{Notice}
 use Rattle.vp_notify.specs.Registry as registry
@@ -21,7 +21,8 @@ use Rattle.vp_waking.specs.Changes.{values_behind}
 use Rattle.vp_vpi.specs.declared.fault.VpiError.{VpiError}
 use Rattle.vp_vpi.specs.declared.fault.VpiError.TheVariants as vpi
 use Rattle.vp_vpi.specs.Calls.{allowed, handle_of, is_watchable, iterated, number_of, or_refusal, put_of, race_of, same_of, text_of, then_by, undenied, value_of, watchable_of, watched_of}
-use Rattle.vp_vpi.specs.Observers.{Observer, RaceSeen, is_readable}
+use Rattle.vp_vpi.specs.declared.races.SeenRace.{SeenRace}
+use Rattle.vp_vpi.specs.Observers.{Observer, is_readable}
 use Rattle.vp_vpi.specs.Seats.{Seat, object_of, with_due, without_callback}
 use Rattle.vp_answer.specs.declared.request.Request.{Request}
 use Rattle.vp_answer.specs.declared.request.Request.TheVariants as request
@@ -29,10 +30,10 @@ use Rattle.vp_answer.specs.declared.reply.Reply.TheVariants as reply
 use Rattle.vp_answer.specs.Answers.{Response, freed, made, only_told, putting, refused, respond, response_by, scanned, value_in, watching}
 use Rattle.vp_answer.specs.Renumbering as under
 use Rattle.vp_answer.specs.laws.Renumbering.{due_under}
-use Rattle.vp_audit.specs.Known.{known_view, place_of}
+use Rattle.vp_audit.specs.Known.{place_of}
 use Rattle.vp_audit.specs.Parts.{values_after}
 use Rattle.vp_audit.specs.Projections.{change_seen, is_followed, number_in}
-use Rattle.vp_audit.specs.Seen.{denied_seen, kind_seen, observer_seen}
+use Rattle.vp_view.specs.Seen.{denied_seen, kind_seen, observer_seen}
 use Rattle.vp_audit.specs.laws.Alike.{AreValues}
 use Rattle.vp_audit.specs.laws.Known.{by_place}
 use Rattle.vp_audit.specs.laws.Looks.{filter_mapped}
@@ -301,7 +302,7 @@ watched_by v seat h given (Ok x) k = k x refl
 watched_by v seat h given (Err e) k = h
 
 -- so each request does
-pub watched_kept : (v : View) (values : List (Option (List Bit))) (time : ℕ) (finished : Bool) (races : List RaceSeen) (seat : Seat) (r : Request)
+pub watched_kept : (v : View) (values : List (Option (List Bit))) (time : ℕ) (finished : Bool) (races : List SeenRace) (seat : Seat) (r : Request)
     → AreWatched v seat.registry.callbacks → KeepsWatched v seat (respond (observer_seen v values time finished races) seat r)
 watched_kept v values time finished races seat (request.Open user token) h = h
 watched_kept v values time finished races seat request.Close h = h

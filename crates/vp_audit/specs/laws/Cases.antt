@@ -9,13 +9,14 @@ use Rattle.std.proofs.lemmas.Iterator.Adapters.{position_from-zero}
 use Rattle.std.proofs.lemmas.Option.{slice_get-map}
 use Rattle.vp_bits.specs.declared.bit.Bit.{Bit}
 use Rattle.vp_elab.specs.Built.{Elaborated}
+use Rattle.vp_policy.specs.View.{known_view}
 use Rattle.vp_policy.specs.Users.{member_at}
 use Rattle.vp_sim.specs.States as sim
 use Rattle.vp_sim.specs.laws.Designs.{Leaves, put_leaves}
 use Rattle.vp_race.specs.Recording.{Segments}
 use Rattle.vp_race.specs.Segments.{Told}
 use Rattle.vp_waking.specs.declared.change.Change.{Change}
-use Rattle.vp_vpi.specs.Observers.{RaceSeen}
+use Rattle.vp_vpi.specs.declared.races.SeenRace.{SeenRace}
 use Rattle.vp_vpi.specs.Races.{is_shown, observer_with, race_seen, races_seen}
 use Rattle.vp_vpi.specs.Seats.{Seat, new_seat}
 use Rattle.vp_answer.specs.declared.request.Request.{Request}
@@ -28,10 +29,9 @@ use Rattle.vp_answer.specs.Renumbering as under
 use Rattle.vp_answer.specs.laws.Renumbering.{respond_under}
 use Rattle.vp_world.specs.History.{eyes_of, asked, asked_at, change_of, changed_by, closed_at, next_session, opened_by, outcome_of_put, raised, response_of, segments_of_put, state_asked, stepped, with_booked, with_notice, with_response}
 use Rattle.vp_world.specs.Worlds.{SessionState, State, index_of, same_session}
-use Rattle.vp_audit.specs.Known.{known_view}
 use Rattle.vp_audit.specs.Parts.{Asks, Closes, Opens, Own, Part, eyes_of_part, opens_behind, races_after, reply_of, response_in, sessions_behind, with_answer}
 use Rattle.vp_audit.specs.Projections.{own_if}
-use Rattle.vp_audit.specs.Seen.{observer_seen}
+use Rattle.vp_view.specs.Seen.{observer_seen}
 use Rattle.vp_audit.specs.laws.Alike.{IsKnown, seen_as}
 use Rattle.vp_audit.specs.laws.Behind.{AreWatched, watched_kept}
 use Rattle.vp_audit.specs.laws.Events.{AreSessions, IsPartOf, behind_is, is_of, map_same, part_behind, same_number, session_under, stepped_is}
@@ -185,12 +185,12 @@ response_is design u s known p is his user r =
     ∙ ap (λ e. under.response (by_place known) (respond e his r)) (sym same)
 
 -- a put, or none, changes the values by its change alone
-outcome_changes : (run : sim.State) (put : Option (ℕ × List Bit)) → Changes run.values (outcome_of_put run put)
+pub outcome_changes : (run : sim.State) (put : Option (ℕ × List Bit)) → Changes run.values (outcome_of_put run put)
 outcome_changes run None = (refl, tt)
 outcome_changes run (Some p) = put_changes run p.0 p.1
 
 -- and leaves the design
-outcome_leaves : (run : sim.State) (put : Option (ℕ × List Bit)) → Leaves run.design (outcome_of_put run put)
+pub outcome_leaves : (run : sim.State) (put : Option (ℕ × List Bit)) → Leaves run.design (outcome_of_put run put)
 outcome_leaves run None = refl
 outcome_leaves run (Some p) = put_leaves run p.0 p.1
 
@@ -205,7 +205,7 @@ own_not u id own e = ap (λ (b : Bool). if b then Some own else None) e
 -- ---- events
 
 -- what of an event goes to a user comes to in his part: the part behind it, and the reply
-pub record ComesTo (design : Elaborated) (u : ℕ) (s t : State) (known : List Bool) (p : Part) (own : Option Own) (change : Option Change) (answered : Reply) (races : List RaceSeen) : Type 0 where
+pub record ComesTo (design : Elaborated) (u : ℕ) (s t : State) (known : List Bool) (p : Part) (own : Option Own) (change : Option Change) (answered : Reply) (races : List SeenRace) : Type 0 where
   pub part : IsPartOf design u t known (part_behind p design.tree (member_at s.policy.members u) known (option_map_or (opens_behind p) own p.opens)
       (option_map_or (sessions_behind p) own p.sessions) change t.run races)
   pub replied : option_map (λ (o : Own). answered) own ≡ option_map (reply_of p) own

@@ -15,10 +15,10 @@ use Rattle.vp_elab.specs.Built.{Elaborated}
 use Rattle.vp_elab.specs.Tree.{Node, Step, Tree, author_in, first_viewport, matches}
 use Rattle.vp_policy.specs.Filter.{barrier_of, by_first, by_grant, by_step, denial, denial_at, opened, rights, viewport_object, words_of}
 use Rattle.vp_policy.specs.Users.{Member, has_entry}
-use Rattle.vp_policy.specs.View.{seen_envelopes, seen_node, seen_path, seen_step, seen_viewport}
-use Rattle.vp_audit.specs.Known.{known_view, marked, place_of}
+use Rattle.vp_policy.specs.View.{seen_envelopes, seen_node, seen_path, seen_step, seen_viewport, known_view, marked}
+use Rattle.vp_audit.specs.Known.{place_of}
 use Rattle.vp_audit.specs.laws.Known.{get_marked}
-use Rattle.vp_audit.specs.Seen.{barrier_at, first_object, author_seen, barrier_by_grant, denial_seen, denied_seen, words_at}
+use Rattle.vp_view.specs.Seen.{barrier_at, first_object, author_seen, barrier_by_grant, denial_seen, denied_seen, words_at}
 
 -- ---- rights
 

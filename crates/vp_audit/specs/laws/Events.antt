@@ -9,18 +9,17 @@ use Rattle.vp_elab.specs.Built.{Elaborated}
 use Rattle.vp_elab.specs.Tree.{Tree}
 use Rattle.vp_policy.specs.PolicyState.{PolicyState}
 use Rattle.vp_policy.specs.Users.{Member, member_at}
-use Rattle.vp_policy.specs.View.{View}
+use Rattle.vp_policy.specs.View.{View, known_view}
 use Rattle.vp_sim.specs.States as sim
 use Rattle.vp_race.specs.Recording.{Segments}
 use Rattle.vp_sim.specs.laws.Designs.{Leaves}
 use Rattle.vp_waking.specs.declared.change.Change.{Change}
 use Rattle.vp_waking.specs.Changes.{values_behind}
-use Rattle.vp_vpi.specs.Observers.{RaceSeen}
+use Rattle.vp_vpi.specs.declared.races.SeenRace.{SeenRace}
 use Rattle.vp_vpi.specs.Races.{races_seen}
 use Rattle.vp_answer.specs.Renumbering as under
 use Rattle.vp_world.specs.History.{change_of, noticed, stepped, with_notice}
 use Rattle.vp_world.specs.Worlds.{SessionState, State}
-use Rattle.vp_audit.specs.Known.{known_view}
 use Rattle.vp_audit.specs.Parts.{Part, session_notified, values_after}
 use Rattle.vp_audit.specs.Projections.{change_seen, other_flag, other_number}
 use Rattle.vp_audit.specs.laws.Alike.{IsKnown}
@@ -155,7 +154,7 @@ flag_behind false true = refl
 flag_behind false false = refl
 
 -- the part behind sessions, a change, and what an event did to the simulation and the book
-abbrev pub part_behind : Part → Tree → Member → List Bool → (opens : ℕ) → (mine : List SessionState) → Option Change → sim.State → (races : List RaceSeen) → Part
+abbrev pub part_behind : Part → Tree → Member → List Bool → (opens : ℕ) → (mine : List SessionState) → Option Change → sim.State → (races : List SeenRace) → Part
 part_behind p tree m known opens mine change run races = record {
   view = p.view;
   opens = opens;
@@ -168,7 +167,7 @@ part_behind p tree m known opens mine change run races = record {
 
 -- where no grant of his changes, it is his part of the world
 pub behind_is : (design : Elaborated) (u : ℕ) (s : State) (known : List Bool) (p : Part) → IsPartOf design u s known p → (t : State) (change : Option Change) (opens : ℕ) (mine world : List SessionState)
-    (races : List RaceSeen) → t.policy ≡ s.policy → t.run.design ≡ design → t.run.values ≡ values_behind s.run.values change → IsWithin s.run.values change
+    (races : List SeenRace) → t.policy ≡ s.policy → t.run.design ≡ design → t.run.values ≡ values_behind s.run.values change → IsWithin s.run.values change
     → t.sessions ≡ noticed change t.run.time world → AreSessions u known mine world → AreNamed world → AllWatched p.view mine
     → length t.opens ≡ length s.opens → opens ≡ slice_index t.opens u → races ≡ races_seen design.tree (member_at s.policy.members u) t.book
     → IsPartOf design u t known (part_behind p design.tree (member_at s.policy.members u) known opens mine change t.run races)

@@ -17,7 +17,7 @@ use Rattle.vp_policy.specs.Filter.{denial_at, is_listed, words_of}
 use Rattle.vp_policy.specs.PolicyState.{PolicyState}
 use Rattle.vp_policy.specs.Regrants.{regranted, regranted_user}
 use Rattle.vp_policy.specs.Users.{Member, member_at, nobody}
-use Rattle.vp_policy.specs.View.{SeenNode, View, seen_node}
+use Rattle.vp_policy.specs.View.{SeenNode, View, seen_node, known_view, marked}
 use Rattle.vp_notify.specs.declared.registry.Callback.{Callback}
 use Rattle.vp_notify.specs.declared.notice.Notice.{Notice}
 use Rattle.vp_sim.specs.States as sim
@@ -29,10 +29,12 @@ use Rattle.vp_answer.specs.Renumbering as under
 use Rattle.vp_answer.specs.laws.Renumbering.{retired_under}
 use Rattle.vp_world.specs.History.{granted_to, retired_for}
 use Rattle.vp_world.specs.Worlds.{SessionState, State}
-use Rattle.vp_audit.specs.Known.{known_also, known_view, marked, place_of}
-use Rattle.vp_audit.specs.Parts.{Part, granted_session, moved_callback, moved_handle, moved_notice, moved_seat, moved_to, part_granted, session_notified}
+use Rattle.vp_audit.specs.Known.{known_also, place_of}
+use Rattle.vp_notify.specs.Renumbered.{moved_callback, moved_notice}
+use Rattle.vp_vpi.specs.Renumbered.{moved_handle, moved_seat}
+use Rattle.vp_audit.specs.Parts.{Part, granted_session, moved_to, part_granted, session_notified}
 use Rattle.vp_audit.specs.Projections.{granted_of, moved_numbers, number_in, values_seen}
-use Rattle.vp_audit.specs.Seen.{denied_seen, kind_seen}
+use Rattle.vp_view.specs.Seen.{denied_seen, kind_seen}
 use Rattle.vp_audit.specs.laws.Alike.{AreValues, IsKnown}
 use Rattle.vp_audit.specs.laws.Behind.{AreWatched, number_place}
 use Rattle.vp_audit.specs.laws.Denials.{denied_seen_at, node_seen}

@@ -2,7 +2,8 @@
 use Rattle.std.proofs.Common.{◌≡◌, ℕ, zero, suc, Bool, false, true, List, [], ◌∷◌, length, refl, sym, ◌∙◌, arith}
 use Rattle.std.specs.Prelude.{nat_le, slice_get}
 use Rattle.vp_answer.specs.Renumbering.{Renumbering}
-use Rattle.vp_audit.specs.Known.{marked, place_of}
+use Rattle.vp_policy.specs.View.{marked}
+use Rattle.vp_audit.specs.Known.{place_of}
 
 -- numbers that are greater by one stand in the same order
 one_more : (a b : ℕ) → nat_le (suc a) (suc b) ≡ nat_le a b

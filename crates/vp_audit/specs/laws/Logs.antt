@@ -7,18 +7,19 @@ use Rattle.vp_elab.specs.Built.{Elaborated}
 use Rattle.vp_policy.specs.Users.{member_at}
 use Rattle.vp_policy.specs.View.{View, view_of}
 use Rattle.vp_waking.specs.declared.change.Change.{Change}
-use Rattle.vp_vpi.specs.Observers.{RaceSeen}
+use Rattle.vp_vpi.specs.declared.races.SeenRace.{SeenRace}
 use Rattle.vp_world.specs.Entries.{Entry}
 use Rattle.vp_world.specs.History.{IsLegal, after, entry_of, state_behind}
 use Rattle.vp_world.specs.Worlds.{Opening, State, start}
 use Rattle.vp_audit.specs.Parts.{Granted, Item, Own, Part, part_after, reply_of, replies_from, session_notified}
 use Rattle.vp_audit.specs.Projections.{Projection, first_part, item_if, item_of, items_from, known_at_first, known_behind, own_reply, projection, replies_of}
 use Rattle.vp_audit.specs.laws.Events.{IsPartOf, map_same}
-use Rattle.vp_audit.specs.laws.Openings.{IsRight, first_is}
+use Rattle.vp_audit.specs.Openings.{IsRight}
+use Rattle.vp_audit.specs.laws.Openings.{first_is}
 use Rattle.vp_audit.specs.laws.Promise.{event_follows, item_at}
 
 -- an item that is none changes nothing, and another is told
-item_replies : (p : Part) (own : Option Own) (granted : Option Granted) (change : Option Change) (time : Option ℕ) (finished : Option Bool) (race : Option RaceSeen) (rest : List Item)
+item_replies : (p : Part) (own : Option Own) (granted : Option Granted) (change : Option Change) (time : Option ℕ) (finished : Option Bool) (race : Option SeenRace) (rest : List Item)
     → (let i : Item = record { own = own; granted = granted; change = change; time = time; finished = finished; race = race } in
     replies_from p (cons_option (item_if i) rest) ≡ cons_option (option_map (reply_of p) i.own) (replies_from (part_after p i) rest))
 item_replies p (Some o) g c t f r rest = refl

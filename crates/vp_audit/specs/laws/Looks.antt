@@ -18,11 +18,11 @@ use Rattle.vp_policy.specs.declared.denial.By.TheVariants as by
 use Rattle.vp_policy.specs.declared.denial.Look.{Look}
 use Rattle.vp_policy.specs.declared.denial.Look.TheVariants as look
 use Rattle.vp_policy.specs.Users.{Member, has_entry}
-use Rattle.vp_policy.specs.View.{SeenStep, seen_node, seen_path}
+use Rattle.vp_policy.specs.View.{SeenStep, seen_node, seen_path, known_view, marked}
 use Rattle.vp_answer.specs.Renumbering as under
 use Rattle.vp_vpi.specs.Observers.{Absent, Denied, Found, Lookup, lookup_of}
-use Rattle.vp_audit.specs.Known.{known_view, marked, place_of}
-use Rattle.vp_audit.specs.Seen.{from_seen, listed_in_seen, closed_seen, denial_seen, find_listed_seen, find_seen, is_in_seen, is_named_seen, last_name, listed_seen, names_seen, scope_seen, unlisted_seen, walk_seen}
+use Rattle.vp_audit.specs.Known.{place_of}
+use Rattle.vp_view.specs.Seen.{from_seen, listed_in_seen, closed_seen, denial_seen, find_listed_seen, find_seen, is_in_seen, is_named_seen, last_name, listed_seen, names_seen, scope_seen, unlisted_seen, walk_seen}
 use Rattle.vp_audit.specs.laws.Denials.{AllInEnvelopes, author_is, denial_behind, grant_is, has_all, has_both, node_seen}
 use Rattle.vp_audit.specs.laws.Known.{by_place, get_marked}
 use Rattle.vp_audit.specs.laws.Names.{Differ, filter_all, found_by_names, keys, names_only}

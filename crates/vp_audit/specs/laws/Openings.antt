@@ -11,28 +11,21 @@ use Rattle.vp_source.specs.declared.source.Item.{Item}
 use Rattle.vp_pragma.specs.declared.envelope.Envelope.{Envelope}
 use Rattle.vp_pragma.specs.Envelopes.{Protection, envelope_at, holds, last_holding, or_later}
 use Rattle.vp_names.specs.Items.{definition_of, item_place, items_in}
-use Rattle.vp_modules.specs.Refusals.{refusal_of}
 use Rattle.vp_elab.specs.Built.{Elaborated, IsElaborated}
 use Rattle.vp_elab.specs.Elaboration.{further_limit, item_node, item_nodes, item_step, nodes_below, root_node, root_step, top_nodes, tops, tree_of}
 use Rattle.vp_elab.specs.Tree.{Node, Step, Tree}
 use Rattle.vp_expr.specs.Start.{start_of}
 use Rattle.vp_policy.specs.Filter.{is_listed}
 use Rattle.vp_policy.specs.Users.{member_at}
-use Rattle.vp_policy.specs.View.{seen_node, view_of}
+use Rattle.vp_policy.specs.View.{seen_node, view_of, marked}
 use Rattle.vp_sim.specs.States as sim
 use Rattle.vp_world.specs.Worlds.{Opening, start}
-use Rattle.vp_audit.specs.Known.{marked}
+use Rattle.vp_audit.specs.Openings.{IsRight}
 use Rattle.vp_audit.specs.Projections.{first_part, known_at_first, values_seen}
 use Rattle.vp_audit.specs.laws.Denials.{AllInEnvelopes, denied_seen_at}
 use Rattle.vp_audit.specs.laws.Events.{IsPartOf}
 use Rattle.vp_audit.specs.laws.Grants.{values_are}
 use Rattle.vp_audit.specs.laws.Names.{Differ, keys, names_differ}
-
--- a world opens with a design that was elaborated of a source whose modules are right, and a policy that was read for it
-pub record IsRight (opening : Opening) : Type 0 where
-  pub fits : opening.policy.tree ≡ opening.design.tree
-  pub built : IsElaborated opening.design
-  pub right : refusal_of opening.design.source ≡ None
 
 -- ---- envelopes
 

@@ -11,7 +11,7 @@ use Rattle.vp_sim.specs.States as sim
 use Rattle.vp_sim.specs.laws.Designs.{advance_leaves, step_leaves}
 use Rattle.vp_race.specs.Recording.{with_anew, with_step}
 use Rattle.vp_waking.specs.declared.change.Change.{Change}
-use Rattle.vp_vpi.specs.Observers.{RaceSeen}
+use Rattle.vp_vpi.specs.declared.races.SeenRace.{SeenRace}
 use Rattle.vp_answer.specs.declared.request.GrantChange.{GrantChange}
 use Rattle.vp_answer.specs.declared.request.Request.{Request}
 use Rattle.vp_answer.specs.declared.request.SessionId.{SessionId}
@@ -134,7 +134,7 @@ event_comes opening design u s known p is (event.Book finding) n = booked_case d
 -- ---- items
 
 -- the part behind what goes to a user of an event that is no change of his grants
-entry_part : (design : Elaborated) (u : ℕ) (s : State) (known : List Bool) (p : Part) → IsPartOf design u s known p → (t : State) (own : Option Own) (change : Option Change) (race : Option RaceSeen)
+entry_part : (design : Elaborated) (u : ℕ) (s : State) (known : List Bool) (p : Part) → IsPartOf design u s known p → (t : State) (own : Option Own) (change : Option Change) (race : Option SeenRace)
     → part_after_entry p own (record {
       own = own;
       granted = None;

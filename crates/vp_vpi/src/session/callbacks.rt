@@ -13,7 +13,7 @@ use crate::observer::Observe;
 use vp_elab::{Kind, ObjectId};
 use vp_notify::Callback;
 use vp_policy::Policy;
-use vp_pragma::Right;
+use vp_pragma::{Right, Rights};
 use vp_waking::Change;
 
 /// An object is there whose changes can be watched: a net or a reg.
@@ -86,7 +86,15 @@ impl Session {
         ensures { self.new ≡ retired (is_watch_denied policy.now.tree
             (member_at policy.now.members self.old.user)) self.old }
     {
-        self.registry.retire(policy.row(self.user));
+        self.retire_unwatchable(policy.row(self.user));
+    }
+
+    /// Takes out its callbacks on objects that these rights, by object, do not let be watched, and the notices of these objects that wait.
+    /// Takes no memory.
+    pub fn retire_unwatchable(&mut self, rights: &[Rights])
+        ensures { self.new ≡ retired (registry.lacks_watch rights.now) self.old }
+    {
+        self.registry.retire(rights);
     }
 
     /// Some callback of it is on an object.

@@ -13,7 +13,7 @@ use vp_samples::shared_of;
 use vp_world::{Event, Limits, World};
 
 /// A module whose reg `k` stands in an envelope. Its objects are `top` (0) and `k` (1).
-const DESIGN: &str = "module top;
+pub const DESIGN: &str = "module top;
 `pragma protect begin
   reg k;
 `pragma protect end
@@ -21,12 +21,12 @@ endmodule
 ";
 
 /// A policy with two users, who may do all in the open text and in the envelope, and an operator.
-const POLICY: &[u8] = b"{\"operator\":\"op\",\"users\":[\
+pub const POLICY: &[u8] = b"{\"operator\":\"op\",\"users\":[\
 {\"name\":\"ann\",\"token\":\"t1\",\"open\":\"watch+put\",\"grants\":[{\"envelope\":1,\"access\":\"watch+put\"}]},\
 {\"name\":\"bob\",\"token\":\"t2\",\"open\":\"watch+put\",\"grants\":[{\"envelope\":1,\"access\":\"watch+put\"}]}]}";
 
 /// The first session of the user of a number.
-fn session_of(user: usize) -> SessionId {
+pub fn session_of(user: usize) -> SessionId {
     SessionId {
         user: UserId(user),
         opens: 1,
@@ -53,7 +53,7 @@ fn change(alloc: Global, token: &str, envelope: u32, access: &str) -> Option<Gra
 }
 
 /// What such a change comes to: 0, or the refusal's number.
-fn grant(
+pub fn grant(
     alloc: Global,
     world: &mut World,
     token: &str,
@@ -68,13 +68,13 @@ fn grant(
 }
 
 /// Ann and Bob each open a session.
-fn open_both(alloc: Global, world: &mut World) -> Option<()> {
+pub fn open_both(alloc: Global, world: &mut World) -> Option<()> {
     open_as(alloc, world, "ann", "t1")?;
     open_as(alloc, world, "bob", "t2")
 }
 
 /// Ann and Bob each watch `k`, and Bob puts a value on it.
-fn watch_both(alloc: Global, world: &mut World) -> Option<()> {
+pub fn watch_both(alloc: Global, world: &mut World) -> Option<()> {
     watch(alloc, world, 0)?;
     watch(alloc, world, 1)?;
     put_in(alloc, world, session_of(1), "1")

@@ -1,10 +1,11 @@
 use Rattle.std.proofs.Common.{◌∙◌, Some, filter, ap, sym}
 use Rattle.std.specs.Prelude.{option_copied}
+use Rattle.vp_elab.specs.Built.{Elaborated}
 use Rattle.vp_elab.specs.Tree.{Tree}
 use Rattle.vp_policy.specs.Users.{member_at}
-use Rattle.vp_vpi.specs.Calls.{shown_at}
-use Rattle.vp_vpi.specs.Races.{is_shown}
-use Rattle.vp_vpi.proofs.Telling.{race_at, told_same}
+use Rattle.vp_vpi.specs.Calls.{race_told, shown_at}
+use Rattle.vp_vpi.specs.Races.{is_shown, race_seen}
+use Rattle.vp_vpi.proofs.Telling.{race_at}
 use Rattle.vp_vpi.proofs.user_observer.UserObserverObserve.race.Goals as goal
 
 pub returns-clause-race : goal.returns-clause-race
@@ -16,8 +17,6 @@ returns-clause-race c =
     let number = c.args.number in
     let f = c.in-Some.finding.now in
     let there = sym (ap (λ (t : Tree). shown_at (filter (is_shown t u) book) number) c.requires) ∙ sym c.finding_at.ensures ∙ ap option_copied c.in-Some.is in
-    let told =
-    told_same number tree u f c.in_ok-race_line.field-0 c.in_ok-steps_seen.field-0 c.in_ok-steps_seen-2.field-0
-    c.first_sources.result.now c.second_sources.result.now c.in_ok-race_line.ensures c.in_ok-steps_seen.ensures c.in_ok-steps_seen-2.ensures
-    c.first_sources.ensures c.second_sources.ensures in
-    ap Some told ∙ sym (race_at tree u book number f there)
+    ap Some (c.numbered.ensures ∙ ap (race_told number) c.in_ok-race.ensures)
+    ∙ ap (λ (d : Elaborated). Some (race_told number (race_seen d.tree u f))) c.design-design.ensures
+    ∙ sym (race_at tree u book number f there)

@@ -20,8 +20,8 @@ invariant_of-self-2 c =
     let w = c.self.inside.present in
     let log = c.self.inside.log.items in
     let done = c.in_ok-change.ensures {u = tt} in
-    let entry : Entry = record { event = event.Step c.args.k; reply = reply.Done; change = c.in_ok-change.change; time = c.time.result; finished = c.finished.result } in
-    let added : c.push_reserved.new.self.items ≡ log ++ entry ∷ [] = search rules in
+    let entry : Entry = record { event = event.Step c.args.k; reply = reply.Done; change = c.in_ok-change.change; time = c.time-time.result; finished = c.finished-finished.result } in
+    let added : c.add_step.new.log.items ≡ log ++ entry ∷ [] = search rules in
     let accepted : refusal_behind w.opening log (event.Step c.args.k) ≡ None = search rules in
-    keeps_more w c.step.new.self log c.push_reserved.new.self.items entry c.self.invariant done.after added tt accepted
+    keeps_more w c.step.new.self log c.add_step.new.log.items entry c.self.invariant done.after added tt accepted
     (entry_is w.opening w.state (state_behind w.opening log) entry c.self.invariant.state refl done.change (search rules) (search rules))

@@ -1,0 +1,118 @@
+// Whether what a user was told is what comes of what he can know (docs/DEFINITIONS.md, "What a user can know").
+ghost use Rattle.std.specs.Prelude.{◌≡◌, ◌==◌, [], IfErr, IfOk, IsOkUnless, length, true, false};
+ghost use Rattle.vp_policy.specs.PolicyState.{Fits};
+ghost use Rattle.vp_world.specs.Entries.{reply_in};
+ghost use Rattle.vp_world.specs.History.{IsLegal};
+ghost use Rattle.vp_world.specs.Worlds.{Opening};
+ghost use Rattle.vp_audit.specs.declared.fault.AuditError.TheVariants.{NoMemory};
+ghost use Rattle.vp_audit.specs.Audits.{IsAudit};
+ghost use Rattle.vp_audit.specs.Openings.{IsRight};
+ghost use Rattle.vp_audit.specs.Projections.{is_own, replies_of};
+
+use crate::fault::AuditError;
+use crate::projecting::project;
+use crate::replaying::replay;
+use std::alloc::Global;
+use vp_answer::Reply;
+use vp_expr::Checked;
+use vp_list::Same;
+use vp_policy::{Policy, UserId};
+use vp_world::{Entry, Happening};
+
+/// Whether the replies that a user was told are those that were replayed.
+#[derive(Clone, Copy, Debug, PartialEq, Eq)]
+pub struct Audit {
+    pub same: bool,
+    /// How many they are; where they differ, the number of the first that does, from 1.
+    pub number: u64,
+}
+
+/// An entry is of a user's own event.
+fn is_own(entry: &Entry, user: UserId) -> bool
+    ensures { result ≡ is_own user.0 entry.now }
+{
+    let session = match &entry.happening {
+        Happening::Open { session, .. } | Happening::Close { session } => *session,
+        Happening::Ask { asked, .. } | Happening::Put { asked, .. } => asked.session,
+        _ => return false,
+    };
+    session.user.0 == user.0
+}
+
+/// The reply to what happened is this one.
+fn is_answered(happening: &Happening, reply: &Reply) -> bool
+    ensures same { result ≡ true → reply_in happening.now ≡ reply.now }
+    ensures differs { reply_in happening.now ≡ reply.now → result ≡ true }
+{
+    match happening {
+        Happening::Ask { reply: told, .. } => told.is_same(reply),
+        Happening::Open { session, .. } => match reply {
+            Reply::Opened(id) => session == id,
+            _ => false,
+        },
+        Happening::TakeJob { number } => match reply {
+            Reply::Job(job) => number == job,
+            _ => false,
+        },
+        Happening::Put { .. }
+        | Happening::Close { .. }
+        | Happening::Grant { .. }
+        | Happening::Step { .. }
+        | Happening::StepWithChange { .. }
+        | Happening::Advance
+        | Happening::Book { .. } => matches!(reply, Reply::Done),
+    }
+}
+
+/// Compares the replies to a user's own events in a log with others.
+fn compared(log: &[Entry], user: UserId, replayed: &[Reply]) -> Audit
+    ensures { IsAudit (replies_of user.0 log.now) replayed.now result }
+{
+    let mut number = 0;
+    for entry in log {
+        if is_own(entry, user) {
+            match replayed.get(number) {
+                Some(reply) if is_answered(&entry.happening, reply) => number += 1,
+                _ => return Audit {
+                    same: false,
+                    number: number as u64 + 1,
+                },
+            }
+        }
+    }
+    if number < replayed.len() {
+        return Audit {
+            same: false,
+            number: number as u64 + 1,
+        };
+    }
+    Audit {
+        same: true,
+        number: number as u64,
+    }
+}
+
+/// Replays what goes to a user of a log, and compares it with what he was told: of a legal log of a world that opens with this design and
+/// policy they are the same, as many as there are events of his own. Refused by what `replay` is refused by (1303, 1307).
+pub fn audit_user(
+    alloc: Global,
+    checked: &Checked,
+    policy: &Policy,
+    log: &[Entry],
+    user: UserId,
+) -> Result<Audit, AuditError>
+    requires { Fits policy.now checked.now.tree }
+    ensures same { (opening : Opening) → IsRight opening → opening.design ≡ checked.now
+        → opening.policy ≡ policy.now → IsLegal opening [] log.now
+        → IfOk result (λ a. a ≡ record {
+          same = true;
+          number = length (replies_of user.0 log.now);
+        }) }
+{
+    let Ok(view) = policy.view(alloc, checked.design(), user) else {
+        return Err(AuditError::NoMemory);
+    };
+    let projection = project(alloc, checked, policy, log, user)?;
+    let replies = replay(alloc, &view, &projection)?;
+    Ok(compared(log, user, replies.as_slice()))
+}

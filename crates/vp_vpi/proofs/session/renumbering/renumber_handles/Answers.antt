@@ -1,0 +1,19 @@
+use Rattle.std.proofs.Common.{◌≡◌, ◌∙◌, ◌<◌, Option, ap, arith, get_or, length, sym}
+use Rattle.std.specs.Prelude.{slice_set}
+use Rattle.std.proofs.lemmas.List.Edits.{map_over_more}
+use Rattle.vp_elab.specs.declared.object.ObjectId.{ObjectId}
+use Rattle.vp_notify.specs.Renumbered.{number_now}
+use Rattle.vp_notify.proofs.Rising.{as_many}
+use Rattle.vp_vpi.specs.Renumbered.{moved_handle}
+use Rattle.vp_vpi.proofs.session.renumbering.renumber_handles.Goals as goal
+
+pub loop-place-preserved : goal.loop-place-preserved
+loop-place-preserved c =
+    let f : Option ObjectId → Option ObjectId = moved_handle (number_now c.args.numbers.now) in
+    let so_far = c.loop-place.handles.items in
+    let place = c.loop-place.place in
+    let here : Option ObjectId = c.index.result.now in
+    let long : length so_far ≡ length c.args.handles.now.items = as_many f c.args.handles.now.items so_far place c.loop-place.invariant in
+    let within : place < length so_far = omega (arith, long) in
+    let same : here ≡ get_or so_far place here = c.index.ensures in
+    ap (λ (x : Option ObjectId). slice_set so_far place x) c.renumbered.ensures ∙ map_over_more f c.args.handles.now.items so_far place here (omega (arith, long, within)) c.loop-place.invariant same
