@@ -7,4 +7,5 @@ pub mod LogReading
 pub mod Marks
 pub mod Moving
 pub mod PartSteps
+pub mod Promises
 pub mod Turns

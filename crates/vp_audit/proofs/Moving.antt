@@ -1,5 +1,5 @@
 -- Sessions whose objects get other numbers: what of a change of grants comes to them.
-use Rattle.std.proofs.Common.{◌≡◌, ◌∙◌, ℕ, ◌+◌, ◌-◌, Bool, true, false, ◌&&◌, List, [], ◌∷◌, filter, length, map, not, nat_lt, Option, Some, None, refl, ap, sym}
+use Rattle.std.proofs.Common.{◌≡◌, ◌∙◌, ℕ, ◌+◌, ◌-◌, Bool, true, List, [], ◌∷◌, filter, length, map, not, nat_lt, Option, Some, None, refl, ap, sym}
 use Rattle.std.specs.Prelude.{if◌then◌else◌, is_some, slice_index_or}
 use Rattle.std.specs.List.{list_all}
 use Rattle.std.proofs.lemmas.List.Elements.{filter_agree}
@@ -14,15 +14,7 @@ use Rattle.vp_vpi.specs.Seats.{Seat, retired}
 use Rattle.vp_world.specs.Worlds.{SessionState}
 use Rattle.vp_view.specs.Seen.{denied_seen}
 use Rattle.vp_audit.specs.Parts.{Granted, granted_session, is_session_within, moved_session, moved_to}
-
--- both of two hold
-both_first : (a b : Bool) → (a && b) ≡ true → a ≡ true
-both_first true b h = refl
-both_first false b h = absurd (cc)
-
-both_second : (a b : Bool) → (a && b) ≡ true → b ≡ true
-both_second true b h = h
-both_second false b h = absurd (cc)
+use Rattle.vp_audit.specs.laws.Tests.{both_first, both_second}
 
 -- forms that agree where a test holds
 map_within : {X Y : Type 0} (p : X → Bool) (f g : X → Y) → ((x : X) → p x ≡ true → f x ≡ g x) → (xs : List X) → list_all p xs ≡ true → map f xs ≡ map g xs

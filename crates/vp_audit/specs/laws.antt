@@ -1,3 +1,4 @@
+pub mod Tests
 pub mod Names
 pub mod Known
 pub mod Denials
@@ -9,7 +10,10 @@ pub mod Behind
 pub mod Events
 pub mod Cases
 pub mod Grants
+pub mod Moved
+pub mod Within
 pub mod Promise
 pub mod Openings
 pub mod Logs
+pub mod Taken
 pub mod Traces

@@ -93,7 +93,8 @@ fn compared(log: &[Entry], user: UserId, replayed: &[Reply]) -> Audit
 }
 
 /// Replays what goes to a user of a log, and compares it with what he was told: of a legal log of a world that opens with this design and
-/// policy they are the same, as many as there are events of his own. Refused by what `replay` is refused by (1303, 1307).
+/// policy they are the same, as many as there are events of his own, and it is refused for want of memory alone (1307). Of other logs it may
+/// be refused by 1303 as well.
 pub fn audit_user(
     alloc: Global,
     checked: &Checked,
@@ -108,6 +109,8 @@ pub fn audit_user(
           same = true;
           number = length (replies_of user.0 log.now);
         }) }
+    ensures refused { (opening : Opening) → IsRight opening → opening.design ≡ checked.now
+        → opening.policy ≡ policy.now → IsLegal opening [] log.now → IsOkUnless result NoMemory }
 {
     let Ok(view) = policy.view(alloc, checked.design(), user) else {
         return Err(AuditError::NoMemory);

@@ -1,10 +1,11 @@
 // What a user was told, by what he sees and what of the log goes to him (docs/DEFINITIONS.md, "What a user can know").
-ghost use Rattle.std.specs.Prelude.{◌≡◌, [], ℕ, IfErr, IfOk, List, OnOk, true};
+ghost use Rattle.std.specs.Prelude.{◌≡◌, [], ℕ, IfErr, IfOk, IsOkUnless, List, OnOk, true};
 ghost use Rattle.vp_policy.specs.Users.{member_at};
 ghost use Rattle.vp_policy.specs.View.{view_of};
 ghost use Rattle.vp_world.specs.Entries.{Entry};
 ghost use Rattle.vp_world.specs.History.{IsLegal};
 ghost use Rattle.vp_world.specs.Worlds.{Opening};
+ghost use Rattle.vp_audit.specs.declared.fault.AuditError.TheVariants.{NoMemory};
 ghost use Rattle.vp_audit.specs.Faults.{MayRefuse};
 ghost use Rattle.vp_audit.specs.Openings.{IsRight};
 ghost use Rattle.vp_audit.specs.Parts.{replies_from, takes_all};
@@ -18,6 +19,30 @@ use std::alloc::Global;
 use vp_answer::Reply;
 use vp_list::Sequence;
 use vp_policy::View;
+
+/// The replies to a user's own events, in order, by what he sees at the opening and what of the log goes to him. Refused where an item is
+/// not taken up (1303), and for want of memory (1307).
+fn replayed<'a>(
+    alloc: Global,
+    view: &'a View,
+    projection: &'a Projection,
+) -> Result<Sequence<Reply>, AuditError>
+    ensures replies { IfOk result (λ replies. replies
+        ≡ replies_from (first_part view.now projection.now.values) projection.now.items) }
+    ensures accepted { OnOk result
+        (takes_all (first_part view.now projection.now.values) projection.now.items ≡ true) }
+    ensures refused { IfErr result
+        (MayRefuse (takes_all (first_part view.now projection.now.values) projection.now.items)) }
+{
+    let mut part = Part::new(alloc, view, projection.values.as_slice())?;
+    let mut replies = Vec::new(alloc);
+    for item in projection.items.as_slice() {
+        if let Some(reply) = part.take(item)? {
+            replies.push(reply)?;
+        }
+    }
+    Ok(Sequence::from_vec(replies))
+}
 
 /// The replies to a user's own events, in order, by what he sees at the opening and what of the log goes to him: for every design, policy,
 /// user and legal log of which he sees this and to whom this goes, the replies that the log has. Refused where it goes to nobody of any log
@@ -34,17 +59,15 @@ pub fn replay<'a>(
         → view.now ≡ view_of opening.design (member_at opening.policy.members u)
         → projection.now ≡ projections.projection opening u log
         → IfOk result (λ replies. replies ≡ replies_of u log) }
+    ensures answered { (opening : Opening) → IsRight opening → (u : ℕ) → (log : List Entry)
+        → IsLegal opening [] log
+        → view.now ≡ view_of opening.design (member_at opening.policy.members u)
+        → projection.now ≡ projections.projection opening u log
+        → IsOkUnless result NoMemory }
     ensures accepted { OnOk result
         (takes_all (first_part view.now projection.now.values) projection.now.items ≡ true) }
     ensures refused { IfErr result
         (MayRefuse (takes_all (first_part view.now projection.now.values) projection.now.items)) }
 {
-    let mut part = Part::new(alloc, view, projection.values.as_slice())?;
-    let mut replies = Vec::new(alloc);
-    for item in projection.items.as_slice() {
-        if let Some(reply) = part.take(item)? {
-            replies.push(reply)?;
-        }
-    }
-    Ok(Sequence::from_vec(replies))
+    replayed(alloc, view, projection)
 }

@@ -1,6 +1,6 @@
 -- A user's part behind each event.
 use Rattle.std.proofs.Common.{◌≡◌, ℕ, zero, suc, ◌+◌, ◌<◌, Bool, false, true, List, [], ◌∷◌, ◌++◌, length, Option, Some, None, refl, ap, sym, subst, ◌∙◌, arith, append-nil}
-use Rattle.std.specs.Prelude.{◌==◌, ◌&&◌, cond, filter, if◌then◌else◌, map, option_and_then, option_map, slice_get, slice_index, slice_set}
+use Rattle.std.specs.Prelude.{◌==◌, cond, filter, if◌then◌else◌, map, option_and_then, option_map, slice_get, slice_index, slice_set}
 use Rattle.std.specs.List.{All, position, position_from, remove}
 use Rattle.std.specs.Option.{option_map_or}
 use Rattle.std.proofs.lemmas.List.{length-set, map-append, map-set}
@@ -39,6 +39,7 @@ use Rattle.vp_audit.specs.laws.Known.{by_place}
 use Rattle.vp_audit.specs.laws.Looks.{first_passes}
 use Rattle.vp_audit.specs.laws.Sessions.{apart_remove, apart_set, stands_from, user_kept}
 use Rattle.vp_audit.specs.laws.Sims.{Changes, put_changes}
+use Rattle.vp_audit.specs.laws.Tests.{both_first}
 
 -- ---- lists
 
@@ -87,11 +88,6 @@ formed f (Some z) y e = (z, refl, cc)
 -- things that are there are the same
 some_same : {X : Type 0} (x y : X) → Some x ≡ Some y → x ≡ y
 some_same x y e = cc
-
--- the first of two
-both_first : (a b : Bool) → (a && b) ≡ true → a ≡ true
-both_first true b e = refl
-both_first false b e = absurd (cc)
 
 -- ---- sessions by their names
 

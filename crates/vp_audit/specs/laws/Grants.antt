@@ -65,15 +65,20 @@ all_passing P q (x ∷ xs) h = by_test (q x) refl (all_passing P q xs (λ k d l.
   by_test true e rest = All-cons (λ x. P x × (q x ≡ true)) x (filter q xs) (h 0 x (omega arith), e) rest
   by_test false e rest = rest
 
+-- how many numbers are below one
+pub below_length : (n : ℕ) → length (below n) ≡ n
+below_length zero = refl
+below_length (suc n) = let rest = below_length n in let more = length-append (below n) (n ∷ []) in omega (arith, rest, more)
+
 -- the item of a number below
-below_at : (n k : ℕ) → k < n → slice_get (below n) k ≡ Some k
+pub below_at : (n k : ℕ) → k < n → slice_get (below n) k ≡ Some k
 below_at zero k l = absurd (omega arith)
 below_at (suc n) k l =
     elim (cases_lt k n) [
-      | inl less ↦ push_front (below n) n k (let long = below_long n in omega (arith, less, long)) ∙ below_at n k less
+      | inl less ↦ push_front (below n) n k (let long = below_length n in omega (arith, less, long)) ∙ below_at n k less
       | inr more ↦
           let e : k ≡ n = omega (arith, l, more) in
-          ap (slice_get (below n ++ n ∷ [])) (e ∙ sym (below_long n)) ∙ push_back (below n) n ∙ ap Some (sym e)
+          ap (slice_get (below n ++ n ∷ [])) (e ∙ sym (below_length n)) ∙ push_back (below n) n ∙ ap Some (sym e)
     ]
   where
     push_front : (xs : List ℕ) (x i : ℕ) → i < length xs → slice_get (xs ++ x ∷ []) i ≡ slice_get xs i
@@ -85,26 +90,17 @@ below_at (suc n) k l =
     push_back [] x = refl
     push_back (y ∷ xs) x = push_back xs x
 
-    below_long : (n : ℕ) → length (below n) ≡ n
-    below_long zero = refl
-    below_long (suc n) = let rest = below_long n in let more = length-append (below n) (n ∷ []) in omega (arith, rest, more)
-
--- how many numbers are below one
-below_length : (n : ℕ) → length (below n) ≡ n
-below_length zero = refl
-below_length (suc n) = let rest = below_length n in let more = length-append (below n) (n ∷ []) in omega (arith, rest, more)
-
 -- ---- what is known now
 
 -- as much
-now_long : (tree : Tree) (m : Member) (known : List Bool) (nodes : List Node) → length known ≡ length nodes → length (known_also tree m known nodes) ≡ length nodes
+pub now_long : (tree : Tree) (m : Member) (known : List Bool) (nodes : List Node) → length known ≡ length nodes → length (known_also tree m known nodes) ≡ length nodes
 now_long tree m [] [] e = refl
 now_long tree m [] (n ∷ nodes) e = absurd (cc)
 now_long tree m (k ∷ known) [] e = absurd (cc)
 now_long tree m (k ∷ known) (n ∷ nodes) e = ap suc (now_long tree m known nodes (omega (arith, e)))
 
 -- all that was known
-now_more : (tree : Tree) (m : Member) (known : List Bool) (nodes : List Node) → length known ≡ length nodes → (o : ℕ) → slice_get known o ≡ Some true → slice_get (known_also tree m known nodes) o ≡ Some true
+pub now_more : (tree : Tree) (m : Member) (known : List Bool) (nodes : List Node) → length known ≡ length nodes → (o : ℕ) → slice_get known o ≡ Some true → slice_get (known_also tree m known nodes) o ≡ Some true
 now_more tree m [] nodes e o at = absurd (cc)
 now_more tree m (k ∷ known) [] e o at = absurd (cc)
 now_more tree m (k ∷ known) (n ∷ nodes) e zero at = let is : k ≡ true = cc in ap (λ (b : Bool). Some (b || is_listed tree m n)) is
@@ -127,7 +123,7 @@ now_covers tree m (k ∷ known) (n ∷ nodes) e (suc o) node at is = now_covers 
 -- ---- numbers
 
 -- how many are marked does not hang on what they mark
-marked_count : {X Y : Type 0} (known : List Bool) (xs : List X) (ys : List Y) → length known ≡ length xs → length known ≡ length ys → length (marked known xs) ≡ length (marked known ys)
+pub marked_count : {X Y : Type 0} (known : List Bool) (xs : List X) (ys : List Y) → length known ≡ length xs → length known ≡ length ys → length (marked known xs) ≡ length (marked known ys)
 marked_count [] xs ys e f = refl
 marked_count (k ∷ known) [] ys e f = absurd (cc)
 marked_count (k ∷ known) (x ∷ xs) [] e f = absurd (cc)
@@ -135,7 +131,7 @@ marked_count (true ∷ known) (x ∷ xs) (y ∷ ys) e f = ap suc (marked_count k
 marked_count (false ∷ known) (x ∷ xs) (y ∷ ys) e f = marked_count known xs ys (omega (arith, e)) (omega (arith, f))
 
 -- the place of a number is marked
-place_marked : (known : List Bool) (k : ℕ) → k < length (marked known known) → slice_get known (place_of known k) ≡ Some true
+pub place_marked : (known : List Bool) (k : ℕ) → k < length (marked known known) → slice_get known (place_of known k) ≡ Some true
 place_marked known k l = go known known refl k l where
   go : (ks : List Bool) (xs : List Bool) → length ks ≡ length xs → (k : ℕ) → k < length (marked ks xs) → slice_get ks (place_of ks k) ≡ Some true
   go [] xs e k l = absurd (omega arith)
@@ -145,7 +141,7 @@ place_marked known k l = go known known refl k l where
   go (false ∷ ks) (x ∷ xs) e k l = go ks xs (omega (arith, e)) k l
 
 -- behind the last number it is behind all places
-place_past : (known : List Bool) (k : ℕ) → length (marked known known) ≤ k → place_of known k ≡ length known + (k - length (marked known known))
+pub place_past : (known : List Bool) (k : ℕ) → length (marked known known) ≤ k → place_of known k ≡ length known + (k - length (marked known known))
 place_past known k l = go known known refl k l where
   go : (ks : List Bool) (xs : List Bool) → length ks ≡ length xs → (k : ℕ) → length (marked ks xs) ≤ k → place_of ks k ≡ length ks + (k - length (marked ks xs))
   go [] xs e k l = omega arith
@@ -155,7 +151,7 @@ place_past known k l = go known known refl k l where
   go (false ∷ ks) (x ∷ xs) e k l = let rest = go ks xs (omega (arith, e)) k l in omega (arith, rest)
 
 -- what is marked has a number
-marked_number : (known : List Bool) (o : ℕ) → slice_get known o ≡ Some true → (k : ℕ) × (number_in known o ≡ Some k)
+pub marked_number : (known : List Bool) (o : ℕ) → slice_get known o ≡ Some true → (k : ℕ) × (number_in known o ≡ Some k)
 marked_number [] o e = absurd (cc)
 marked_number (true ∷ known) zero e = (0, refl)
 marked_number (false ∷ known) zero e = absurd (cc)

@@ -5,7 +5,8 @@ use Rattle.vp_notify.specs.Renumbered.{number_now}
 use Rattle.vp_world.specs.Worlds.{SessionState}
 use Rattle.vp_world.proofs.Lists.{map_over_all}
 use Rattle.vp_audit.specs.Parts.{is_session_within, moved_session}
-use Rattle.vp_audit.proofs.Turns.{holds_at, untouched_at}
+use Rattle.vp_audit.specs.laws.Tests.{all_at}
+use Rattle.vp_audit.proofs.Turns.{untouched_at}
 use Rattle.vp_audit.proofs.part_session.grant_all.Goals as goal
 
 pub grant-requires-clause-within : goal.grant-requires-clause-within
@@ -16,7 +17,7 @@ grant-requires-clause-within c =
     let i = c.loop-session.session-index in
     let item : SessionState = c.session-item.result in
     ap (is_session_within count) (sym c.session-item.is)
-    ∙ holds_at (is_session_within count) c.args.sessions.now i item c.requires.within
+    ∙ all_at (is_session_within count) c.args.sessions.now i item c.requires.within
     (untouched_at moves c.args.sessions.now items i item c.loop-session-test.true c.loop-session.invariant c.session-item.is)
 
 pub loop-session-preserved : goal.loop-session-preserved

@@ -1,7 +1,7 @@
 use Rattle.std.proofs.Common.{◌≡◌, ◌++◌, drop}
 use Rattle.vp_audit.specs.Parts.{replies_from, takes_all}
 use Rattle.vp_audit.specs.Projections.{first_part}
-use Rattle.vp_audit.proofs.replaying.replay.Given as goal
+use Rattle.vp_audit.proofs.replaying.replayed.Given as goal
 
 -- the replies so far and those that come, and what is taken up if what comes is
 abbrev pub invariant-loop-item : goal.invariant-loop-item

@@ -1,0 +1,40 @@
+-- What goes to a user of a legal log is not refused but for want of memory.
+use Rattle.std.proofs.Common.{◌≡◌, ◌∙◌, ℕ, Bool, true, false, List, [], Result, Ok, Err, IfOk, IfErr, IsOkUnless, refl, ap}
+use Rattle.vp_policy.specs.Users.{member_at}
+use Rattle.vp_policy.specs.View.{View, view_of}
+use Rattle.vp_world.specs.Entries.{Entry}
+use Rattle.vp_world.specs.History.{IsLegal}
+use Rattle.vp_world.specs.Worlds.{Opening}
+use Rattle.vp_audit.specs.declared.fault.AuditError.{AuditError}
+use Rattle.vp_audit.specs.declared.fault.AuditError.TheVariants.{NoMemory, NotOpen}
+use Rattle.vp_audit.specs.Faults.{MayRefuse}
+use Rattle.vp_audit.specs.Openings.{IsRight}
+use Rattle.vp_audit.specs.Parts.{takes_all}
+use Rattle.vp_audit.specs.Projections as projections
+use Rattle.vp_audit.specs.Projections.{Projection, first_part}
+use Rattle.vp_audit.specs.laws.Taken.{projection_taken}
+
+-- what goes to a user of a legal log is taken up
+pub goes_all : (v : View) (q : Projection) (opening : Opening) → IsRight opening → (u : ℕ) (log : List Entry) → IsLegal opening [] log
+    → v ≡ view_of opening.design (member_at opening.policy.members u) → q ≡ projections.projection opening u log → takes_all (first_part v q.values) q.items ≡ true
+goes_all v q opening right u log legal same_view same_projection =
+    ap (λ (w : View). takes_all (first_part w q.values) q.items) same_view
+    ∙ ap (λ (p : Projection). takes_all (first_part (view_of opening.design (member_at opening.policy.members u)) p.values) p.items) same_projection
+    ∙ projection_taken opening right u log legal
+
+-- where all is taken up, a refusal is want of memory
+pub starved : {T : Type 0} (r : Result T AuditError) (taken : Bool) → taken ≡ true → IfErr r (MayRefuse taken) → IsOkUnless r NoMemory
+starved r true e h = by_result r h where
+  by_error : (x : AuditError) → MayRefuse true x → x ≡ NoMemory
+  by_error NotOpen refused = absurd (cc)
+  by_error NoMemory refused = refl
+
+  by_result : {T : Type 0} (r : Result T AuditError) → IfErr r (MayRefuse true) → IsOkUnless r NoMemory
+  by_result (Ok x) h = h
+  by_result (Err x) h = by_error x h
+starved r false e h = absurd (cc)
+
+-- what follows of an answer, if there is one
+pub if_ok : {T : Type 0} (r : Result T AuditError) (P Q : T → Type 0) → ((x : T) → P x → Q x) → IfOk r P → IfOk r Q
+if_ok (Ok x) P Q f h = f x h
+if_ok (Err x) P Q f h = h
