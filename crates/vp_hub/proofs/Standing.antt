@@ -1,0 +1,48 @@
+-- Receipts in a log with one entry more.
+use Rattle.std.proofs.Common.{◌≡◌, ◌∙◌, ◌<◌, ℕ, ◌+◌, cond, true, false, List, [], ◌∷◌, ◌++◌, length, Option, Some, None, refl, sym, ap, arith}
+use Rattle.std.specs.Prelude.{slice_get, option_map}
+use Rattle.std.proofs.lemmas.List.Sums.{sum_by_push}
+use Rattle.vp_answer.specs.declared.reply.Reply.{Reply}
+use Rattle.vp_answer.specs.declared.request.SessionId.{SessionId}
+use Rattle.vp_world.specs.declared.event.Event.{Event}
+use Rattle.vp_world.specs.Entries.{Entry}
+use Rattle.vp_hub.specs.declared.receipt.Receipt.{Receipt}
+use Rattle.vp_hub.specs.Calls.{Stands, call_at, event_of, is_of_session, session_entries}
+use Rattle.vp_hub.proofs.Lists.{get_before, get_last, get_within}
+
+-- a log with an entry more of a session has one more of them
+pub entries_more : (log : List Entry) (e : Entry) → is_of_session e.event ≡ true → session_entries (log ++ e ∷ []) ≡ session_entries log + 1
+entries_more log e is = sum_by_push (λ (x : Entry). cond (is_of_session x.event) 1 0) log e ∙ ap (λ b. session_entries log + cond b 1 0) is
+
+-- and with another entry as many
+pub entries_same : (log : List Entry) (e : Entry) → is_of_session e.event ≡ false → session_entries (log ++ e ∷ []) ≡ session_entries log
+entries_same log e is = sum_by_push (λ (x : Entry). cond (is_of_session x.event) 1 0) log e ∙ ap (λ b. session_entries log + cond b 1 0) is ∙ omega arith
+
+-- a call keeps its place
+call_before : (log : List Entry) (e : Entry) (place : ℕ) (c : Event × Reply) → call_at log place ≡ Some c → call_at (log ++ e ∷ []) place ≡ Some c
+call_before log e place c at = by_get (slice_get log place) refl
+  where
+    by_get : (o : Option Entry) → slice_get log place ≡ o → call_at (log ++ e ∷ []) place ≡ Some c
+    by_get None is = absurd (let a : call_at log place ≡ None = ap (option_map (λ (x : Entry). (x.event, x.reply))) is in cc)
+    by_get (Some x) is =
+        ap (option_map (λ (y : Entry). (y.event, y.reply))) (get_before log e place x is)
+        ∙ sym (ap (option_map (λ (y : Entry). (y.event, y.reply))) is) ∙ at
+
+-- a receipt stands on
+pub stands_before : (log : List Entry) (e : Entry) (id : SessionId) (r : Receipt) → Stands log id r → Stands (log ++ e ∷ []) id r
+stands_before log e id r at = call_before log e r.place _ at
+
+-- the receipt of the new entry stands
+pub stands_last : (log : List Entry) (e : Entry) (id : SessionId) (r : Receipt) → r.place ≡ length log → e.event ≡ event_of id r.request → e.reply ≡ r.reply → Stands (log ++ e ∷ []) id r
+stands_last log e id r place event reply =
+    ap (call_at (log ++ e ∷ [])) place
+    ∙ ap (option_map (λ (y : Entry). (y.event, y.reply))) (get_last log e)
+    ∙ (λ i. Some (event i, reply i))
+
+-- a call that stands is within the log
+pub call_within : (log : List Entry) (place : ℕ) (c : Event × Reply) → call_at log place ≡ Some c → place < length log
+call_within log place c at = by_get (slice_get log place) refl
+  where
+    by_get : (o : Option Entry) → slice_get log place ≡ o → place < length log
+    by_get None is = absurd (let a : call_at log place ≡ None = ap (option_map (λ (x : Entry). (x.event, x.reply))) is in cc)
+    by_get (Some x) is = get_within log place x is

@@ -1,0 +1,6 @@
+pub mod Faults
+pub mod Openings
+pub mod Calls
+pub mod Desks
+pub mod Hubs
+pub mod Closing

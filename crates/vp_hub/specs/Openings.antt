@@ -1,0 +1,28 @@
+-- An opening to name where none is picked.
+use Rattle.std.specs.Prelude.{[], None}
+use Rattle.vp_world.specs.Worlds.{Opening}
+
+-- how a world without a design and without users begins
+abbrev pub bare : Opening
+bare = record {
+  design = record {
+    source = record {
+      text = [];
+      tokens = [];
+      modules = [];
+      items = [];
+      connections = [];
+      statements = [];
+      expressions = [];
+      terms = [];
+      choices = [];
+    };
+    tree = record { nodes = []; viewports = []; authors = [] };
+  };
+  policy = record {
+    tree = record { nodes = []; viewports = []; authors = [] };
+    members = [];
+    operator = None;
+  };
+  limits = record { log = 0; book = 0; sessions = 0 };
+}

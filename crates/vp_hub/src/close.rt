@@ -1,0 +1,232 @@
+ghost use Rattle.std.specs.Prelude.{◌≡◌, ◌≢◌, All, AllPairs, IfOk, OnOk, [], length, map, sum_by, true};
+ghost use Rattle.vp_world.specs.Entries.{event_in, reply_in};
+ghost use Rattle.vp_world.specs.History.{IsLegal};
+ghost use Rattle.vp_world.specs.Worlds.{same_session};
+ghost use Rattle.vp_hub.specs.Calls.{Passed, Stands, is_of_session, session_entries, session_in};
+ghost use Rattle.vp_hub.specs.Closing.{HasAll, IsClosed, is_own, places_of};
+
+use crate::desk::Desk;
+use crate::entries::stands;
+use crate::fault::HubError;
+use crate::opens::Opens;
+use crate::pass::Pass;
+use crate::receipt::Receipt;
+use std::alloc::{AllocError, Global};
+use vp_answer::SessionId;
+use vp_list::Sequence;
+use vp_world::{Entry, Happening, World};
+
+/// What is left of a hub: its world, with the log, and for each pass that was handed back the places of its calls, in order.
+#[derive(Drop)]
+pub struct Closed {
+    pub world: World,
+    pub receipts: Sequence<Sequence<usize>>,
+}
+
+impl Closed {
+    /// What has happened, in order.
+    pub fn log(&self) -> &[Entry]
+        ensures { result.now ≡ self.now.world.log }
+    {
+        self.world.log()
+    }
+}
+
+/// The session of what happened; none where it is of no session.
+fn session_of(happening: &Happening) -> Option<SessionId>
+    ensures { result ≡ session_in (event_in happening.now) (reply_in happening.now) }
+{
+    match happening {
+        Happening::Open { session, .. } | Happening::Close { session } => Some(*session),
+        Happening::Ask { asked, .. } | Happening::Put { asked, .. } => Some(asked.session),
+        _ => None,
+    }
+}
+
+/// Two sessions are the same.
+fn is_same(first: SessionId, second: SessionId) -> bool
+    ensures { result ≡ same_session first second }
+{
+    first.user.0 == second.user.0 && first.opens == second.opens
+}
+
+/// An entry is of a session.
+fn is_own(entry: &Entry, session: SessionId) -> bool
+    ensures { result ≡ is_own session entry.now }
+{
+    match session_of(&entry.happening) {
+        Some(own) => is_same(own, session),
+        None => false,
+    }
+}
+
+/// The places of a session's entries in a log, in order. Takes memory.
+fn places_of(
+    alloc: Global,
+    log: &[Entry],
+    session: SessionId,
+) -> Result<Sequence<usize>, AllocError>
+    ensures { IfOk result (λ places. places ≡ places_of log.now session) }
+{
+    let mut places = Vec::new(alloc);
+    for place in 0..log.len() {
+        if is_own(&log[place], session) {
+            places.push(place)?;
+        }
+    }
+    Ok(Sequence::from_vec(places))
+}
+
+/// How many entries of a log are of sessions.
+fn count_entries(log: &[Entry]) -> usize
+    ensures { result ≡ session_entries log.now }
+{
+    let mut count = 0;
+    for entry in log {
+        if session_of(&entry.happening).is_some() {
+            count += 1;
+        }
+    }
+    count
+}
+
+/// Receipts of a session all stand in a log.
+fn all_stand(log: &[Entry], session: SessionId, receipts: &[Receipt]) -> bool
+    ensures { result ≡ true → All (Stands log.now session) receipts.now }
+{
+    for receipt in receipts {
+        if !stands(log, session, receipt) {
+            return false;
+        }
+    }
+    true
+}
+
+/// Receipts are of these places, in order.
+fn are_of(receipts: &[Receipt], places: &[usize]) -> bool
+    ensures { result ≡ true → map (λ r. r.place) receipts.now ≡ places.now }
+{
+    if receipts.len() != places.len() {
+        return false;
+    }
+    for number in 0..places.len() {
+        if receipts[number].place != places[number] {
+            return false;
+        }
+    }
+    true
+}
+
+/// The places of a pass's calls in a log, in order, if these are those of its session's entries there; else that there are not as many
+/// receipts as entries (1402). Takes memory.
+fn own_places<L: Opens>(
+    alloc: Global,
+    log: &[Entry],
+    pass: &Pass<L>,
+) -> Result<Sequence<usize>, HubError>
+    ensures places { IfOk result (λ places. places ≡ places_of log.now pass.now.session) }
+    ensures own { OnOk result
+        (map (λ r. r.place) pass.now.receipts ≡ places_of log.now pass.now.session) }
+{
+    let places = places_of(alloc, log, pass.session())?;
+    if !are_of(pass.receipts(), places.as_slice()) {
+        return Err(HubError::Mismatch);
+    }
+    Ok(places)
+}
+
+/// The same of each of these passes.
+fn all_places<L: Opens>(
+    alloc: Global,
+    log: &[Entry],
+    passes: &[Pass<L>],
+) -> Result<Sequence<Sequence<usize>>, HubError>
+    ensures places { IfOk result
+        (λ lists. lists ≡ map (λ p. places_of log.now p.session) passes.now) }
+    ensures own { OnOk result
+        (All (λ p. map (λ r. r.place) p.receipts ≡ places_of log.now p.session) passes.now) }
+{
+    let mut lists = Vec::new(alloc);
+    for pass in passes {
+        lists.push(own_places(alloc, log, pass)?)?;
+    }
+    Ok(Sequence::from_vec(lists))
+}
+
+/// The receipts of these passes are so many.
+fn are_so_many<L: Opens>(passes: &[Pass<L>], count: usize) -> bool
+    ensures { result ≡ true → sum_by (λ p. length p.receipts) passes.now ≡ count }
+{
+    let mut left = count;
+    for pass in passes {
+        match left.checked_sub(pass.receipts().len()) {
+            Some(rest) => left = rest,
+            None => return false,
+        }
+    }
+    left == 0
+}
+
+/// None of these passes is of a session.
+fn is_new<L: Opens>(passes: &[Pass<L>], session: SessionId) -> bool
+    ensures { result ≡ true → All (λ p. p.session ≢ session) passes.now }
+{
+    for pass in passes {
+        if pass.session() == session {
+            return false;
+        }
+    }
+    true
+}
+
+/// All receipts of these passes stand in a log, and no two of the passes are of one session; else a receipt is wrong (1401).
+fn check_receipts<L: Opens>(log: &[Entry], passes: &[Pass<L>]) -> Result<(), HubError>
+    ensures stand { OnOk result
+        (All (λ p. All (Stands log.now p.session) p.receipts) passes.now) }
+    ensures apart { OnOk result (AllPairs (λ p q. p.session ≢ q.session) passes.now) }
+{
+    for number in 0..passes.len() {
+        let session = passes[number].session();
+        if !all_stand(log, session, passes[number].receipts()) {
+            return Err(HubError::Receipt);
+        }
+        if !is_new(&passes[..number], session) {
+            return Err(HubError::Receipt);
+        }
+    }
+    Ok(())
+}
+
+impl<L: Opens> Desk<L> {
+    /// Ends with the passes that were handed back. Refused where a receipt does not stand in the log, or two name one place (1401); where
+    /// the receipts are not as many as the log's entries of sessions (1402); or for want of memory.
+    pub(crate) fn close(self, passes: &[Pass<L>]) -> Result<Closed, HubError>
+        ensures { IfOk result (λ closed. IsClosed L.opening passes.now closed) }
+    {
+        let receipts = self.handed_back(passes)?;
+        Ok(Closed {
+            world: self.into_world(),
+            receipts,
+        })
+    }
+
+    /// For each of these passes the places of its calls, which are all that the log has of sessions.
+    fn handed_back(&self, passes: &[Pass<L>]) -> Result<Sequence<Sequence<usize>>, HubError>
+        ensures passes { OnOk result (All (HasAll self.now.world.log) passes.now) }
+        ensures apart { OnOk result (AllPairs (λ p q. p.session ≢ q.session) passes.now) }
+        ensures counted { OnOk result (sum_by (λ p. length p.receipts) passes.now
+            ≡ session_entries self.now.world.log) }
+        ensures receipts { IfOk result (λ lists. lists
+            ≡ map (λ p. places_of self.now.world.log p.session) passes.now) }
+        ensures legal { IsLegal L.opening [] self.now.world.log }
+        ensures opening { self.now.world.opening ≡ L.opening }
+    {
+        let log = self.log();
+        check_receipts(log, passes)?;
+        let receipts = all_places(self.alloc(), log, passes)?;
+        if !are_so_many(passes, count_entries(log)) {
+            return Err(HubError::Mismatch);
+        }
+        Ok(receipts)
+    }
+}

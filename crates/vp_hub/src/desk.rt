@@ -1,0 +1,294 @@
+ghost use Rattle.std.specs.Prelude.{◌≡◌, ◌<◌, ◌+◌, ◌++◌, ◌∷◌, [], IfErr, IfOk, IsOkUnless, OnErr, OnOk, None, length, true, vec_capacity, vec_len};
+ghost use Rattle.std.specs.Prelude.{IfSome};
+ghost use Rattle.std.specs.Arc.{arc_value};
+ghost use Rattle.vp_answer.specs.declared.reply.Reply.TheVariants as replies;
+ghost use Rattle.vp_answer.specs.declared.request.Request.TheVariants as requests;
+ghost use Rattle.vp_list.specs.Refusals.{Explains, MayExplain};
+ghost use Rattle.vp_world.specs.declared.event.Event.TheVariants as event;
+ghost use Rattle.vp_world.specs.declared.fault.WorldError.TheVariants.{NoMemory};
+ghost use Rattle.vp_world.specs.Events.{IsWellFormed};
+ghost use Rattle.vp_world.specs.History.{IsLegal, answered_by, refused_by};
+ghost use Rattle.vp_hub.specs.Calls.{IsCall, is_of_session, session_entries};
+ghost use Rattle.vp_hub.specs.Desks.{Calls, IsOther, receipt_of, refusal_of, starved, with_call, with_event, with_pass};
+
+use crate::entries::event_of;
+use crate::fault::HubError;
+use crate::opens::Opens;
+use crate::pass::Pass;
+use crate::receipt::Receipt;
+use std::alloc::{AllocError, Global};
+use std::marker::Model;
+use std::sync::Arc;
+use std::sync::ledger::{Blank, Book, Share};
+use vp_answer::{Reply, Request};
+use vp_list::Text;
+use vp_race::{Finding, Segment, Shared};
+use vp_sim::SimError;
+use vp_world::{Entry, Event, World, WorldError};
+
+/// What stands behind the lock of a hub: a world, and the total of the ledger of its sessions' calls. A contract sees both, and how
+/// many parts of the ledger are left for passes to come.
+#[derive(Drop)]
+pub struct Desk<L: Opens> {
+    alloc: Global,
+    world: World,
+    /// The number of the log's entries of sessions.
+    calls: Book<L>,
+    /// The parts for passes to come.
+    rest: Share<L>,
+}
+
+impl<L: Opens> Model for Desk<L> {
+    ghost use Rattle.vp_hub.specs.Desks.{Desked, IsDesk};
+
+    ghost Value = { Desked };
+
+    ghost view = { λ d. record {
+      world = d.world;
+      total = d.calls.total;
+      parts = d.rest.parts;
+    } };
+
+    ghost invariant = { λ d. IsDesk L.opening d.world d.calls.total d.rest.parts d.rest.amount };
+}
+
+/// Makes room for one receipt more, and copies its request. Takes memory.
+fn ready(
+    alloc: Global,
+    receipts: &mut Vec<Receipt>,
+    request: &Request,
+) -> Result<Request, AllocError>
+    ensures same { receipts.new.items ≡ receipts.old.items }
+    ensures room { OnOk result (vec_len receipts.new < vec_capacity receipts.new) }
+    ensures copy { IfOk result (λ copy. copy ≡ request.now) }
+{
+    receipts.reserve(1)?;
+    request.try_clone(alloc)
+}
+
+/// Adds the receipt of a call to those for which there is room, and shares its reply; or tells want of memory, where it can't be shared.
+fn receive(
+    receipts: &mut Vec<Receipt>,
+    place: usize,
+    request: Request,
+    reply: Reply,
+) -> Result<Reply, HubError>
+    requires { vec_len receipts.old < vec_capacity receipts.old }
+    ensures receipts { receipts.new.items ≡ receipts.old.items ++ record {
+      place = place;
+      request = request;
+      reply = reply;
+    } ∷ [] }
+    ensures reply { IfOk result (λ told. told ≡ reply) }
+    ensures starved { IsOkUnless result starved }
+{
+    let told = reply.try_clone();
+    receipts.push_reserved(Receipt {
+        place,
+        request,
+        reply,
+    });
+    Ok(told?)
+}
+
+impl<L: Opens> Desk<L> {
+    /// A desk with a world in which nothing has happened, and a new ledger with a part for each entry that the log may get, and one
+    /// more.
+    pub fn new(alloc: Global, blank: Blank, world: World) -> Desk<L>
+        requires name { blank.name ≡ L.name }
+        requires parts { blank.parts ≡ L.parts }
+        requires room { blank.parts ≡ world.opening.limits.log + 1 }
+        requires opening { world.opening ≡ L.opening }
+        requires empty { world.log ≡ [] }
+        ensures { result ≡ record {
+          world = world;
+          total = 0;
+          parts = blank.parts;
+        } }
+    {
+        let (calls, rest) = blank.open::<L>();
+        Desk {
+            alloc,
+            world,
+            calls,
+            rest,
+        }
+    }
+
+    /// What has happened, in order: the log is legal, and the total of the ledger is the number of its entries of sessions.
+    pub fn log(&self) -> &[Entry]
+        ensures log { result.now ≡ self.now.world.log }
+        ensures legal { IsLegal L.opening [] result.now }
+        ensures opening { self.now.world.opening ≡ L.opening }
+        ensures counted { self.now.total ≡ session_entries result.now }
+    {
+        self.world.log()
+    }
+
+    /// Lets an event of a session happen, and counts it in a share; else the world's refusal.
+    fn count(&mut self, share: &mut Share<L>, event: Event) -> Result<Reply, WorldError>
+        requires backed { 0 < share.old.parts }
+        requires well_formed { IsWellFormed self.old.world.opening.design event }
+        requires session { is_of_session event ≡ true }
+        ensures accepted { OnOk result (refused_by self.old.world event ≡ None) }
+        ensures desk { OnOk result (self.new ≡ with_call self.old event) }
+        ensures reply { IfOk result (λ a. a ≡ answered_by self.old.world event) }
+        ensures amount { OnOk result (share.new.amount ≡ share.old.amount + 1) }
+        ensures refused { IfErr result (Explains NoMemory (refused_by self.old.world event)) }
+        ensures unchanged { OnErr result (self.new ≡ self.old) }
+        ensures kept { OnErr result (share.new.amount ≡ share.old.amount) }
+        ensures parts { share.new.parts ≡ share.old.parts }
+    {
+        let reply = self.world.apply(event)?;
+        self.calls.add(share, 1);
+        Ok(reply)
+    }
+
+    /// Opens a session for a user, and gives its pass. Refused by the world (1403: 1302, 1301, 1304), or for want of memory, which
+    /// leaves the desk as it was.
+    pub fn open(&mut self, user: Text, token: Text) -> Result<Pass<L>, HubError>
+        ensures accepted { OnOk result
+            (refused_by self.old.world (event.Open user token) ≡ None) }
+        ensures desk { OnOk result (with_pass self.old (event.Open user token) self.new) }
+        ensures session { IfOk result (λ p. answered_by self.old.world (event.Open user token)
+            ≡ replies.Opened p.session) }
+        ensures receipts { IfOk result (λ p. p.receipts ≡
+            receipt_of self.old (event.Open user token) (requests.Open user token) ∷ []) }
+        ensures share { IfOk result (λ p. (p.amount ≡ 1) × (p.parts ≡ 1)) }
+        ensures refused { IfErr result
+            (MayExplain starved (refusal_of self.old (event.Open user token))) }
+        ensures unchanged { OnErr result (self.new ≡ self.old) }
+    {
+        let request = Request::Open {
+            user: Text::copy(self.alloc, user.as_str())?,
+            token: Text::copy(self.alloc, token.as_str())?,
+        };
+        let mut receipts = Vec::new(self.alloc);
+        receipts.reserve(1)?;
+        let place = self.world.log().len();
+        let reply = self.world.apply(Event::Open { user, token })?;
+        let Reply::Opened(session) = reply else {
+            unreachable!()
+        };
+        let mut share = self.rest.split_off(1, 0);
+        self.calls.add(&mut share, 1);
+        receipts.push_reserved(Receipt {
+            place,
+            request,
+            reply: Reply::Opened(session),
+        });
+        Ok(Pass {
+            session,
+            receipts,
+            share,
+        })
+    }
+
+    /// Answers a request of a session, and gives its pass back, with the receipt of the call. Refused where the pass's last receipt
+    /// does not stand in the log (1401), else by the world (1403: 1303, 1304), or for want of memory: then desk and pass are as they
+    /// were. But where the reply can't be shared between the pass and the caller, want of memory is told of a call that was made.
+    pub fn call(&mut self, pass: Pass<L>, request: Request) -> (Pass<L>, Result<Reply, HubError>)
+        requires { IsCall request }
+        ensures called { Calls self.old pass request result.1 self.new result.0 }
+        ensures legal { IsLegal L.opening [] self.new.world.log }
+    {
+        let mut pass = pass;
+        let answer = self.answer(&mut pass, request);
+        // Read, so that the check knows that it is legal.
+        let _log = self.log();
+        (pass, answer)
+    }
+
+    /// The same of a pass that is lent.
+    fn answer(&mut self, pass: &mut Pass<L>, request: Request) -> Result<Reply, HubError>
+        requires { IsCall request }
+        ensures { Calls self.old pass.old request result self.new pass.new }
+    {
+        if !pass.stands_in(self.log()) {
+            drop(request);
+            return Err(HubError::Receipt);
+        }
+        let Ok(asked) = ready(self.alloc, &mut pass.receipts, &request) else {
+            drop(request);
+            return Err(HubError::World(WorldError::NoMemory));
+        };
+        let place = self.world.log().len();
+        let event = event_of(pass.session, request);
+        match self.count(&mut pass.share, event) {
+            Ok(reply) => receive(&mut pass.receipts, place, asked, reply),
+            Err(error) => {
+                drop(asked);
+                Err(HubError::World(error))
+            }
+        }
+    }
+
+    /// Lets an event happen that is of no session; else the world's refusal (1403), or want of memory, which leave the desk as it
+    /// was.
+    pub fn event(&mut self, event: Event) -> Result<Reply, HubError>
+        requires other { IsOther event }
+        requires well_formed { IsWellFormed self.old.world.opening.design event }
+        ensures accepted { OnOk result (refused_by self.old.world event ≡ None) }
+        ensures desk { OnOk result (self.new ≡ with_event self.old event) }
+        ensures reply { IfOk result (λ a. a ≡ answered_by self.old.world event) }
+        ensures refused { IfErr result (Explains starved (refusal_of self.old event)) }
+        ensures unchanged { OnErr result (self.new ≡ self.old) }
+    {
+        Ok(self.world.apply(event)?)
+    }
+}
+
+impl<L: Opens> Desk<L> {
+    /// Lets the next event of the simulation happen: the first that a step can take, or, where nothing is left to do at the current
+    /// time, an advance; else its refusal, which leaves the desk as it was.
+    pub(crate) fn proceed(&mut self) -> Result<(), HubError>
+        ensures { OnErr result (self.new ≡ self.old) }
+    {
+        match self.event(Event::Step(0)) {
+            Err(HubError::World(WorldError::Sim(SimError::Idle))) => self.event(Event::Advance)?,
+            stepped => stepped?,
+        };
+        Ok(())
+    }
+
+    /// Takes the oldest kept segment that was not handed out; none where there is none. Refused by a full log, or for want of memory.
+    pub(crate) fn take_job(&mut self) -> Result<Option<Arc<Segment>>, HubError>
+        ensures { IfOk result (λ job. IfSome job
+            (λ s. (arc_value s).start.design ≡ L.opening.design)) }
+    {
+        let Some(segment) = self.world.next_job() else {
+            return Ok(None);
+        };
+        let segment = Arc::new(self.alloc, segment.try_clone(self.alloc)?)?;
+        self.event(Event::TakeJob)?;
+        Ok(Some(segment))
+    }
+
+    /// Books a race, and tells whether it was: the book may refuse it. Refused by a full log, or for want of memory.
+    pub(crate) fn book(&mut self, finding: Finding) -> Result<bool, HubError>
+        requires { finding.segment.start.design ≡ L.opening.design }
+    {
+        // Read, so that the check knows that it is a race.
+        let _segment = finding.segment();
+        let finding = Shared::new(self.alloc, finding)?;
+        match self.event(Event::Book(finding)) {
+            Ok(_) => Ok(true),
+            Err(HubError::World(WorldError::Race(_))) => Ok(false),
+            Err(error) => Err(error),
+        }
+    }
+}
+
+impl<L: Opens> Desk<L> {
+    /// Its allocator.
+    pub(crate) fn alloc(&self) -> Global {
+        self.alloc
+    }
+
+    /// Its world.
+    pub(crate) fn into_world(self) -> World
+        ensures { result ≡ self.world }
+    {
+        self.world
+    }
+}

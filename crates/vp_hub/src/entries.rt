@@ -1,0 +1,101 @@
+//! Receipts beside the entries of a log.
+ghost use Rattle.std.specs.Prelude.{◌≡◌, true};
+ghost use Rattle.std.specs.Arc.{arc_value};
+ghost use Rattle.vp_elab.specs.Built.{Elaborated};
+ghost use Rattle.vp_answer.specs.declared.reply.Reply.{Reply};
+ghost use Rattle.vp_answer.specs.declared.request.Request.TheVariants as requests;
+ghost use Rattle.vp_answer.specs.declared.reply.Reply.TheVariants as replies;
+ghost use Rattle.vp_world.specs.declared.event.Event.TheVariants as event;
+ghost use Rattle.vp_world.specs.Entries.{event_in, reply_in};
+ghost use Rattle.vp_world.specs.Events.{IsWellFormed};
+ghost use Rattle.vp_hub.specs.Calls.{IsCall, Stands, event_of, is_of_session, session_in};
+
+use crate::receipt::Receipt;
+use vp_answer::{Reply, Request, SessionId};
+use vp_list::Same;
+use vp_world::{Asked, Entry, Event, Happening, Login};
+
+/// The event of a request with which a session calls.
+pub fn event_of(session: SessionId, request: Request) -> Event
+    requires { IsCall request }
+    ensures event { result ≡ event_of session request }
+    ensures well_formed { (design : Elaborated) → IsWellFormed design result }
+    ensures session { (reply : Reply) → session_in result reply ≡ Some session }
+    ensures counted { is_of_session result ≡ true }
+{
+    match request {
+        Request::Close => Event::Close { session },
+        request => Event::Ask { session, request },
+    }
+}
+
+/// A request is the opening by this name and token.
+fn is_login(login: &Login, request: &Request) -> bool
+    ensures same { result ≡ true → request.now ≡ requests.Open login.now.user login.now.token }
+    ensures differs { request.now ≡ requests.Open login.now.user login.now.token → result ≡ true }
+{
+    match request {
+        Request::Open { user, token } => login.user.is_same(user) && login.token.is_same(token),
+        _ => false,
+    }
+}
+
+/// What is asked is this request of this session.
+fn is_asked(asked: &Asked, session: SessionId, request: &Request) -> bool
+    ensures same { result ≡ true
+        → event.Ask asked.now.session asked.now.request ≡ event_of session request.now }
+    ensures differs { event.Ask asked.now.session asked.now.request ≡ event_of session request.now
+        → result ≡ true }
+{
+    match request {
+        Request::Open { .. } | Request::Close => false,
+        _ => asked.session == session && asked.request.is_same(request),
+    }
+}
+
+/// A reply is that a session was opened.
+fn is_opened(reply: &Reply, session: SessionId) -> bool
+    ensures same { result ≡ true → reply.now ≡ replies.Opened session }
+    ensures differs { reply.now ≡ replies.Opened session → result ≡ true }
+{
+    match reply {
+        Reply::Opened(opened) => *opened == session,
+        _ => false,
+    }
+}
+
+/// What happened is an event of a session's request, with this reply.
+fn is_call(happening: &Happening, session: SessionId, request: &Request, reply: &Reply) -> bool
+    ensures event { result ≡ true → event_in happening.now ≡ event_of session request.now }
+    ensures reply { result ≡ true → reply_in happening.now ≡ reply.now }
+    ensures differs { event_in happening.now ≡ event_of session request.now
+        → reply_in happening.now ≡ reply.now → result ≡ true }
+{
+    match happening {
+        Happening::Open {
+            login,
+            session: opened,
+        } => is_login(login, request) && is_opened(reply, *opened),
+        Happening::Ask { asked, reply: told } => {
+            is_asked(asked, session, request) && told.is_same(reply)
+        }
+        Happening::Put { asked, .. } => {
+            is_asked(asked, session, request) && matches!(reply, Reply::Done)
+        }
+        Happening::Close { session: closed } => {
+            *closed == session && matches!(request, Request::Close) && matches!(reply, Reply::Done)
+        }
+        _ => false,
+    }
+}
+
+/// A receipt of a session stands in a log.
+pub fn stands(log: &[Entry], session: SessionId, receipt: &Receipt) -> bool
+    ensures stands { result ≡ true → Stands log.now session receipt.now }
+    ensures apart { Stands log.now session receipt.now → result ≡ true }
+{
+    match log.get(receipt.place) {
+        Some(entry) => is_call(&entry.happening, session, &receipt.request, &receipt.reply),
+        None => false,
+    }
+}

@@ -1,0 +1,181 @@
+ghost use Rattle.std.specs.Prelude.{◌≡◌, ◌≤◌, ◌<◌, ◌∷◌, [], IfErr, IfOk, IfSome, None, OnErr, OnOk, true, false};
+ghost use Rattle.std.specs.Arc.{arc_value};
+ghost use Rattle.std.specs.List.{All};
+ghost use Rattle.vp_answer.specs.declared.reply.Reply.TheVariants as replies;
+ghost use Rattle.vp_answer.specs.declared.request.Request.TheVariants as requests;
+ghost use Rattle.vp_hub.specs.Calls.{IsCall};
+ghost use Rattle.vp_hub.specs.Closing.{IsClosed};
+ghost use Rattle.vp_hub.specs.Hubs.{IsAnswered, IsOpened};
+
+use crate::close::Closed;
+use crate::desk::Desk;
+use crate::fault::HubError;
+use crate::opens::Opens;
+use crate::pass::Pass;
+use std::alloc::Global;
+use std::collections::VecDeque;
+use std::sync::{Arc, Mutex, Wait};
+use vp_answer::{GrantChange, Reply, Request};
+use vp_list::Text;
+use vp_race::{Finding, Gate, Segment, search};
+use vp_world::{Event, WorldError};
+
+/// A search tries so many seeds.
+const SEED_COUNT: u64 = 16;
+
+/// By orders of at most so many steps.
+const STEP_LIMIT: u64 = 10_000;
+
+/// How far a simulation ran.
+#[derive(Clone, Copy, Debug, PartialEq, Eq)]
+pub struct Ran {
+    /// So many of its events happened.
+    pub events: u64,
+    /// The next one was refused: by the goal, or by the simulation.
+    pub idle: bool,
+}
+
+/// What was searched for races.
+#[derive(Clone, Copy, Debug, PartialEq, Eq)]
+pub struct Worked {
+    /// The number of the segment; none where there was none to be searched.
+    pub job: Option<u64>,
+    /// So many races were booked.
+    pub booked: u32,
+}
+
+/// A world that threads share: a desk behind a lock. Whenever the lock is free, the desk's log is legal for the world that L names,
+/// and the ledger's total is the number of its entries of sessions.
+#[derive(Drop)]
+pub struct Hub<L: Opens> {
+    alloc: Global,
+    desk: Mutex<Desk<L>>,
+}
+
+impl<L: Opens> Hub<L> {
+    /// A hub with a desk.
+    pub fn new(alloc: Global, desk: Desk<L>) -> Hub<L> {
+        Hub {
+            alloc,
+            desk: Mutex::new(desk),
+        }
+    }
+
+    /// Opens a session for a user, and gives its pass; else what `Desk::open` is refused by.
+    pub fn open<R: Wait>(&self, rt: &R, user: Text, token: Text) -> Result<Pass<L>, HubError>
+        ensures { IfOk result (λ p. IsOpened L.opening (requests.Open user token) p) }
+    {
+        let mut desk = self.desk.lock(rt);
+        let pass = desk.open(user, token)?;
+        // Read, so that the check knows that it is legal.
+        let _log = desk.log();
+        Ok(pass)
+    }
+
+    /// Answers a request of a session, and gives its pass back, with the receipt of the call; else what `Desk::call` is refused by.
+    pub fn call<R: Wait>(
+        &self,
+        rt: &R,
+        pass: Pass<L>,
+        request: Request,
+    ) -> (Pass<L>, Result<Reply, HubError>)
+        requires { IsCall request }
+        ensures { IsAnswered L.opening pass request result.1 result.0 }
+    {
+        self.desk.lock(rt).call(pass, request)
+    }
+
+    /// Changes a user's grant for an envelope; else the world's refusal (1403: 1310, 1311, 1312, 1304, 1307).
+    pub fn grant<R: Wait>(&self, rt: &R, change: GrantChange) -> Result<Reply, HubError>
+        ensures { IfOk result (λ a. a ≡ replies.Done) }
+    {
+        self.desk.lock(rt).event(Event::Grant(change))
+    }
+
+    /// Lets at most so many events of the simulation happen, of which each takes the lock anew. Refused by a full log (1403: 1304) or
+    /// for want of memory (1403: 1307); what happened till then has happened.
+    pub fn run_sim<R: Wait>(&self, rt: &R, most: u64) -> Result<Ran, HubError>
+        ensures most { IfOk result (λ ran. ran.events ≤ most) }
+        ensures all { IfOk result (λ ran. ran.idle ≡ false → ran.events ≡ most) }
+        ensures idle { IfOk result (λ ran. ran.idle ≡ true → ran.events < most) }
+    {
+        for events in 0..most {
+            match self.proceed(rt) {
+                Ok(()) => {}
+                Err(HubError::World(WorldError::BeyondGoal | WorldError::Sim(_))) => {
+                    return Ok(Ran { events, idle: true });
+                }
+                Err(error) => return Err(error),
+            }
+        }
+        Ok(Ran {
+            events: most,
+            idle: false,
+        })
+    }
+
+    /// Lets the next event of the simulation happen.
+    fn proceed<R: Wait>(&self, rt: &R) -> Result<(), HubError> {
+        self.desk.lock(rt).proceed()
+    }
+
+    /// Takes the oldest kept segment that was not handed out, if there is one, searches it for races without the lock, and books them.
+    /// A race that the book refuses is left out. The gate is asked by the search. Refused by a full log (1403: 1304) or for want of
+    /// memory (1403: 1307); what was taken and booked till then stays so.
+    pub fn work_once<R: Wait, G: Gate>(&self, rt: &R, gate: &G) -> Result<Worked, HubError>
+        ensures { IfOk result (λ worked. worked.job ≡ None → worked.booked ≡ 0) }
+    {
+        let Some(segment) = self.take_job(rt)? else {
+            return Ok(Worked {
+                job: None,
+                booked: 0,
+            });
+        };
+        let Ok(findings) = search(self.alloc, &segment, SEED_COUNT, STEP_LIMIT, gate) else {
+            return Err(HubError::World(WorldError::NoMemory));
+        };
+        let booked = self.book_all(rt, VecDeque::from(findings))?;
+        Ok(Worked {
+            job: Some(segment.number()),
+            booked,
+        })
+    }
+
+    /// Takes the next job, if there is one.
+    fn take_job<R: Wait>(&self, rt: &R) -> Result<Option<Arc<Segment>>, HubError>
+        ensures { IfOk result (λ job. IfSome job
+            (λ s. (arc_value s).start.design ≡ L.opening.design)) }
+    {
+        self.desk.lock(rt).take_job()
+    }
+
+    /// Books a race unless the book refuses it, and tells whether it was booked.
+    fn book<R: Wait>(&self, rt: &R, finding: Finding) -> Result<bool, HubError>
+        requires { finding.segment.start.design ≡ L.opening.design }
+    {
+        self.desk.lock(rt).book(finding)
+    }
+
+    /// Books these races, one after another, each unless the book refuses it, and tells how many were booked.
+    fn book_all<R: Wait>(&self, rt: &R, findings: VecDeque<Finding>) -> Result<u32, HubError>
+        requires { All (λ f. f.segment.start.design ≡ L.opening.design) findings.items }
+    {
+        let mut findings = findings;
+        let mut booked = 0u32;
+        while let Some(finding) = findings.pop_front() {
+            if self.book(rt, finding)? {
+                booked = booked.saturating_add(1);
+            }
+        }
+        Ok(booked)
+    }
+
+    /// Ends with the passes that were handed back: the log, and for each pass the places of its calls, in order. Refused where a receipt
+    /// does not stand in the log, or two name one place (1401); where the receipts are not as many as the log's entries of sessions
+    /// (1402); or for want of memory (1403: 1307).
+    pub fn close(self, passes: Vec<Pass<L>>) -> Result<Closed, HubError>
+        ensures { IfOk result (λ closed. IsClosed L.opening passes.items closed) }
+    {
+        self.desk.into_inner().close(passes.as_slice())
+    }
+}

@@ -1,0 +1,19 @@
+//! The hub: many threads share one world. Each event is applied under one lock, and each session keeps receipts of its calls.
+#![tactic(auto)]
+
+mod close;
+mod desk;
+mod entries;
+mod fault;
+mod hub;
+mod opens;
+mod pass;
+mod receipt;
+
+pub use close::Closed;
+pub use desk::Desk;
+pub use fault::HubError;
+pub use hub::{Hub, Ran, Worked};
+pub use opens::Opens;
+pub use pass::Pass;
+pub use receipt::Receipt;
