@@ -1,13 +1,11 @@
 -- The places of a session's entries, one entry after another.
-use Rattle.std.proofs.Common.{◌≡◌, ◌∙◌, ◌<◌, ℕ, suc, ◌+◌, cond, Bool, true, false, List, [], ◌∷◌, ◌++◌, filter, get_or, length, Some, take, ap, append-nil, arith}
+use Rattle.std.proofs.Common.{◌≡◌, ◌∙◌, ℕ, suc, ◌+◌, cond, Bool, true, false, List, [], ◌∷◌, ◌++◌, filter, Some, ap, append-nil, arith}
 use Rattle.std.specs.Prelude.{slice_get}
 use Rattle.std.specs.Option.{option_map_or}
 use Rattle.std.proofs.lemmas.List.Elements.{filter-append}
-use Rattle.std.proofs.lemmas.List.Sums.{sum_by_more}
 use Rattle.vp_elab.specs.Tree.{below}
 use Rattle.vp_answer.specs.declared.request.SessionId.{SessionId}
 use Rattle.vp_world.specs.Entries.{Entry}
-use Rattle.vp_hub.specs.Calls.{is_of_session, session_entries}
 use Rattle.vp_hub.specs.Closing.{is_own, is_own_at}
 
 -- of one place more
@@ -26,7 +24,3 @@ own_same log id n e at other =
     filter_below (is_own_at log id) n
     ∙ ap (λ b. filter (is_own_at log id) (below n) ++ cond b (n ∷ []) []) (ap (λ o. option_map_or (is_own id) o false) at ∙ other)
     ∙ append-nil (filter (is_own_at log id) (below n))
-
--- one entry more
-pub entries_one : (log : List Entry) (n : ℕ) (d : Entry) → n < length log → session_entries (take (n + 1) log) ≡ session_entries (take n log) + cond (is_of_session (get_or log n d).event) 1 0
-entries_one log n d within = sum_by_more (λ (e : Entry). cond (is_of_session e.event) 1 0) log n d within

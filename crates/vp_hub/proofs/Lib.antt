@@ -1,6 +1,5 @@
 pub mod Lists
 pub mod Standing
-pub mod Desking
 pub mod Explaining
 pub mod Calling
 pub mod Receiving

@@ -1,22 +1,13 @@
 -- Receipts in a log with one entry more.
-use Rattle.std.proofs.Common.{◌≡◌, ◌∙◌, ◌<◌, ℕ, ◌+◌, cond, true, false, List, [], ◌∷◌, ◌++◌, length, Option, Some, None, refl, sym, ap, arith}
+use Rattle.std.proofs.Common.{◌≡◌, ◌∙◌, ◌<◌, ℕ, List, [], ◌∷◌, ◌++◌, length, Option, Some, None, refl, sym, ap}
 use Rattle.std.specs.Prelude.{slice_get, option_map}
-use Rattle.std.proofs.lemmas.List.Sums.{sum_by_push}
 use Rattle.vp_answer.specs.declared.reply.Reply.{Reply}
 use Rattle.vp_answer.specs.declared.request.SessionId.{SessionId}
 use Rattle.vp_world.specs.declared.event.Event.{Event}
 use Rattle.vp_world.specs.Entries.{Entry}
 use Rattle.vp_hub.specs.declared.receipt.Receipt.{Receipt}
-use Rattle.vp_hub.specs.Calls.{Stands, call_at, event_of, is_of_session, session_entries}
+use Rattle.vp_hub.specs.Calls.{Stands, call_at, event_of}
 use Rattle.vp_hub.proofs.Lists.{get_before, get_last, get_within}
-
--- a log with an entry more of a session has one more of them
-pub entries_more : (log : List Entry) (e : Entry) → is_of_session e.event ≡ true → session_entries (log ++ e ∷ []) ≡ session_entries log + 1
-entries_more log e is = sum_by_push (λ (x : Entry). cond (is_of_session x.event) 1 0) log e ∙ ap (λ b. session_entries log + cond b 1 0) is
-
--- and with another entry as many
-pub entries_same : (log : List Entry) (e : Entry) → is_of_session e.event ≡ false → session_entries (log ++ e ∷ []) ≡ session_entries log
-entries_same log e is = sum_by_push (λ (x : Entry). cond (is_of_session x.event) 1 0) log e ∙ ap (λ b. session_entries log + cond b 1 0) is ∙ omega arith
 
 -- a call keeps its place
 call_before : (log : List Entry) (e : Entry) (place : ℕ) (c : Event × Reply) → call_at log place ≡ Some c → call_at (log ++ e ∷ []) place ≡ Some c

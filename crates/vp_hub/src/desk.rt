@@ -256,12 +256,24 @@ impl<L: Opens> Desk<L> {
         ensures { IfOk result (λ job. IfSome job
             (λ s. (arc_value s).start.design ≡ L.opening.design)) }
     {
+        let segment = self.next_segment()?;
+        match self.event(Event::TakeJob) {
+            Ok(_) => Ok(segment),
+            Err(HubError::World(WorldError::NoJob)) => Ok(None),
+            Err(error) => Err(error),
+        }
+    }
+
+    /// The segment of the next job, to be shared, if there is one. Takes memory.
+    fn next_segment(&self) -> Result<Option<Arc<Segment>>, AllocError>
+        ensures { IfOk result (λ job. IfSome job
+            (λ s. (arc_value s).start.design ≡ L.opening.design)) }
+    {
         let Some(segment) = self.world.next_job() else {
             return Ok(None);
         };
-        let segment = Arc::new(self.alloc, segment.try_clone(self.alloc)?)?;
-        self.event(Event::TakeJob)?;
-        Ok(Some(segment))
+        let segment = segment.try_clone(self.alloc)?;
+        Ok(Some(Arc::new(self.alloc, segment)?))
     }
 
     /// Books a race, and tells whether it was: the book may refuse it. Refused by a full log, or for want of memory.
