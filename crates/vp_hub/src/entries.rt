@@ -31,8 +31,10 @@ pub fn event_of(session: SessionId, request: Request) -> Event
 
 /// A request is the opening by this name and token.
 fn is_login(login: &Login, request: &Request) -> bool
-    ensures same { result ≡ true → request.now ≡ requests.Open login.now.user login.now.token }
-    ensures differs { request.now ≡ requests.Open login.now.user login.now.token → result ≡ true }
+    ensures same { result ≡ true
+        → request.now ≡ requests.Open login.now.user login.now.token }
+    ensures differs { request.now ≡ requests.Open login.now.user login.now.token
+        → result ≡ true }
 {
     match request {
         Request::Open { user, token } => login.user.is_same(user) && login.token.is_same(token),
