@@ -4,3 +4,4 @@ pub mod Refusals
 pub mod Chunks
 pub mod laws
 pub mod Tracked
+pub mod Exchanges

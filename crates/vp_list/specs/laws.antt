@@ -3,3 +3,4 @@ pub mod Searches
 pub mod Chunks
 pub mod Tracked
 pub mod Copies
+pub mod Exchanges

@@ -1,6 +1,7 @@
-ghost use Rattle.std.specs.Prelude.{◌≡◌, ◌+◌, ◌<◌, ◌≤◌, ◌*◌, ◌%◌, ◌++◌, ℕ, List, drop, length, slice_get, take, true, IfOk, OnErr, OnOk};
+ghost use Rattle.std.specs.Prelude.{◌≡◌, ◌+◌, ◌-◌, ◌<◌, ◌≤◌, ◌*◌, ◌%◌, ◌++◌, ℕ, List, Some, drop, length, min, slice_get, take, true, IfOk, OnErr, OnOk};
 ghost use Rattle.std.specs.Arc.{arc_value};
 ghost use Rattle.vp_list.specs.Chunks.{with_items};
+ghost use Rattle.vp_list.specs.Exchanges.{AreExchanges, Fits, exchanged_in, taken_in};
 
 use crate::same::{Same, are_same};
 use std::alloc::{AllocError, Global};
@@ -23,10 +24,6 @@ pub trait Part<T>: Clone + Drop {
         requires { can_make }
         ensures { IfOk result (λ p. items p ≡ list.now) };
 
-    /// The item at a place, if there is one.
-    fn item(&self, place: usize) -> Option<T>
-        ensures { result ≡ slice_get (items self.now) place };
-
     /// Exchanges the items from a place on, which stand in one chunk, for others. May take memory, and changes nothing if
     /// there is none.
     fn set_items(&mut self, place: usize, list: &[T]) -> Result<(), AllocError>
@@ -35,10 +32,6 @@ pub trait Part<T>: Clone + Drop {
         requires there { place + length list.now ≤ length (items self.old) }
         ensures set { OnOk result (items self.new ≡ with_items (items self.old) place list.now) }
         ensures unchanged { OnErr result (items self.new ≡ items self.old) };
-
-    /// Puts the items behind others. May take memory; where there is none, some of them may stand there.
-    fn append_to(&self, list: &mut Vec<T>) -> Result<(), AllocError>
-        ensures { OnOk result (list.new.items ≡ list.old.items ++ items self.now) };
 
     /// A clone stands for the same list.
     ghost copied: { (a b : Self) → Self.is_clone a b → items b ≡ items a };
@@ -102,17 +95,9 @@ impl<T: Copy + Drop> Part<T> for Chunk<T> {
         })
     }
 
-    fn item(&self, place: usize) -> Option<T> {
-        self.get(place)
-    }
-
     fn set_items(&mut self, place: usize, list: &[T]) -> Result<(), AllocError> {
         self.items[place..place + list.len()].copy_from_slice(list);
         Ok(())
-    }
-
-    fn append_to(&self, list: &mut Vec<T>) -> Result<(), AllocError> {
-        list.extend_from_slice(self.items.as_slice())
     }
 }
 
@@ -138,16 +123,6 @@ impl<T: Copy + Drop, P: Part<T>, const SIZE: usize> Model for Parts<T, P, SIZE> 
 }
 
 impl<T: Copy + Drop, P: Part<T>, const SIZE: usize> Parts<T, P, SIZE> {
-    /// The item at a place, if there is one.
-    pub fn get(&self, place: usize) -> Option<T>
-        ensures { result ≡ slice_get self.now place }
-    {
-        match self.parts.get(place / SIZE) {
-            Some(part) => part.item(place % SIZE),
-            None => None,
-        }
-    }
-
     /// Exchanges the items from a place on, which stand in one chunk, for others. A part that is shared is copied first, and
     /// where there is no memory for that nothing changes.
     fn set_within(&mut self, place: usize, list: &[T]) -> Result<(), AllocError>
@@ -240,53 +215,68 @@ impl<T: Copy + Drop, P: Part<T>, const SIZE: usize> Part<T> for Parts<T, P, SIZE
         Parts::cut(alloc, list)
     }
 
-    fn item(&self, place: usize) -> Option<T> {
-        self.get(place)
-    }
-
     fn set_items(&mut self, place: usize, list: &[T]) -> Result<(), AllocError> {
         self.set_within(place, list)
     }
-
-    fn append_to(&self, list: &mut Vec<T>) -> Result<(), AllocError> {
-        for part in &self.parts {
-            part.append_to(list)?;
-        }
-        Ok(())
-    }
 }
 
-/// A list that several hold at once: one holder more costs one count, and a write copies at most a chunk of 64 items, the
-/// pointers to 16 chunks and to 16 times 16 of them, and those to all of these. A contract sees its items, in order.
+/// A chunk that stands in place of the base's chunk of a number.
+#[derive(Drop)]
+struct Exchange<T: Copy + Drop> {
+    number: usize,
+    chunk: Arc<Chunk<T>>,
+}
+
+impl<T: Copy + Drop> Model for Exchange<T> {
+    ghost use Rattle.std.specs.Arc.{arc_value};
+    ghost use Rattle.std.specs.Prelude.{ℕ, List};
+
+    ghost Value = { ℕ × List T };
+
+    ghost view = { λ e. (e.number, arc_value e.chunk) };
+}
+
+/// A list that several hold at once: one holder more costs at most five counts. At most four chunks of 64 items are exchanged for those of
+/// the base, so that to write one of these copies no more than itself; else one of them is taken into the base first, with the pointers to
+/// 16 chunks and to 16 times 16 of them, and those to all of these. A contract sees its items, in order.
 #[derive(Drop)]
 pub struct SharedList<T: Copy + Drop> {
+    alloc: Global,
     len: usize,
-    parts: Arc<Parts<T, Parts<T, Parts<T, Chunk<T>, 64>, 1024>, 16384>>,
+    base: Arc<Parts<T, Parts<T, Parts<T, Chunk<T>, 64>, 1024>, 16384>>,
+    /// Each at the rest of its chunk's number by 4, so that it is found at once.
+    exchanges: [Option<Exchange<T>>; 4],
 }
 
 impl<T: Copy + Drop> Model for SharedList<T> {
     ghost use Rattle.std.specs.Arc.{arc_value};
     ghost use Rattle.std.specs.Prelude.{◌≡◌, List, length};
+    ghost use Rattle.vp_list.specs.Exchanges.{exchanged_in, AreExchanges};
 
     ghost Value = { List T };
 
-    ghost view = { λ s. arc_value s.parts };
+    ghost view = { λ s. exchanged_in (arc_value s.base) s.exchanges };
 
-    ghost invariant = { λ s. s.len ≡ length (arc_value s.parts) };
+    ghost invariant = { λ s. (s.len ≡ length (arc_value s.base)) × (length s.exchanges ≡ 4)
+        × AreExchanges s.len s.exchanges };
 }
 
 impl<T: Copy + Drop> SharedList<T> {
     /// The list of a slice's items. Takes memory.
+    #[tactic(auto, using(crate::specs::laws::Exchanges::none_exchanged))]
     pub fn from_slice(alloc: Global, list: &[T]) -> Result<SharedList<T>, AllocError>
         ensures { IfOk result (λ s. s ≡ list.now) }
     {
         Ok(SharedList {
+            alloc,
             len: list.len(),
-            parts: Arc::new(alloc, Parts::cut(alloc, list)?)?,
+            base: Arc::new(alloc, Parts::cut(alloc, list)?)?,
+            exchanges: [None, None, None, None],
         })
     }
 
     /// How many items there are.
+    #[tactic(auto, using(crate::specs::laws::Exchanges::length_exchanged))]
     pub fn len(&self) -> usize
         ensures { result ≡ length self.now }
     {
@@ -294,42 +284,51 @@ impl<T: Copy + Drop> SharedList<T> {
     }
 
     /// The item at a place, if there is one.
+    #[tactic(auto, using(crate::specs::laws::Exchanges::get_in_chunk))]
     pub fn get(&self, place: usize) -> Option<T>
         ensures { result ≡ slice_get self.now place }
     {
-        self.parts.get(place)
+        if place >= self.len() {
+            return None;
+        }
+        self.chunk(place / 64).get(place % 64)
     }
 
-    /// Exchanges the items of a chunk of 64, from its first on, for others. What is shared there is copied first, and where
-    /// there is no memory for that nothing changes.
+    /// Exchanges a chunk of 64 items, or fewer at the end, for others. Another that stands at its place is taken into the base first, and
+    /// where there is no memory nothing changes.
     pub(crate) fn set_chunk(&mut self, number: usize, list: &[T]) -> Result<(), AllocError>
-        requires some { 0 < length list.now }
-        requires most { length list.now ≤ 64 }
-        requires there { 64 * number + length list.now ≤ length self.old }
+        requires there { 64 * number < length self.old }
+        requires whole { length list.now ≡ min (length self.old - 64 * number) 64 }
         ensures set { OnOk result (self.new ≡ with_items self.old (64 * number) list.now) }
         ensures unchanged { OnErr result (self.new ≡ self.old) }
     {
         let _len = self.len;
-        let parts = Arc::make_mut(&mut self.parts)?;
-        parts.set_items(64 * number, list)
+        let chunk = Arc::new(self.alloc, Chunk::of_items(self.alloc, list)?)?;
+        put(&mut self.base, &mut self.exchanges, number, chunk)
     }
 
     /// The same list for one holder more, which shares the items; or an error where the holders can't be counted.
     pub fn try_clone(&self) -> Result<SharedList<T>, AllocError>
         ensures { IfOk result (λ s. s ≡ self.now) }
     {
+        let [first, second, third, fourth] = &self.exchanges;
         Ok(SharedList {
+            alloc: self.alloc,
             len: self.len,
-            parts: Arc::try_clone(&self.parts)?,
+            base: Arc::try_clone(&self.base)?,
+            exchanges: [share(first)?, share(second)?, share(third)?, share(fourth)?],
         })
     }
 
     /// The items, one by one. Takes memory for all of them.
+    #[tactic(auto, using(crate::specs::laws::Copies::chunk_more, crate::specs::laws::Copies::chunk_within, crate::specs::laws::Copies::all_same))]
     pub fn to_vec(&self, alloc: Global) -> Result<Vec<T>, AllocError>
         ensures { IfOk result (λ v. v.items ≡ self.now) }
     {
-        let mut items = Vec::with_capacity(alloc, self.len)?;
-        self.parts.append_to(&mut items)?;
+        let mut items = Vec::with_capacity(alloc, self.len())?;
+        for number in 0..self.len().div_ceil(64) {
+            items.extend_from_slice(self.chunk(number).items.as_slice())?;
+        }
         Ok(items)
     }
 
@@ -338,24 +337,97 @@ impl<T: Copy + Drop> SharedList<T> {
         requires { 64 * number < length self.now }
         ensures { arc_value result.now ≡ take 64 (drop (64 * number) self.now) }
     {
-        chunk_in(self.chunks_from(number / 16), number % 16)
+        if let Some(exchange) = &self.exchanges[number % 4] {
+            if exchange.number == number {
+                return &exchange.chunk;
+            }
+        }
+        base_chunk(&self.base, number)
     }
+}
 
-    /// The part of 16 chunks, or fewer at the end, by its number.
-    fn chunks_from(&self, number: usize) -> &Parts<T, Chunk<T>, 64>
-        requires { 1024 * number < length self.now }
-        ensures { result.now ≡ take 1024 (drop (1024 * number) self.now) }
-    {
-        part_in(self.parts_from(number / 16), number % 16)
+/// The same exchange for one holder more, if there is one.
+fn share<T: Copy + Drop>(exchange: &Option<Exchange<T>>) -> Result<Option<Exchange<T>>, AllocError>
+    ensures { IfOk result (λ e. e ≡ exchange.now) }
+{
+    match exchange {
+        Some(held) => Ok(Some(Exchange {
+            number: held.number,
+            chunk: Arc::try_clone(&held.chunk)?,
+        })),
+        None => Ok(None),
     }
+}
 
-    /// The part of 16 parts of 16 chunks, or fewer at the end, by its number.
-    fn parts_from(&self, number: usize) -> &Parts<T, Parts<T, Chunk<T>, 64>, 1024>
-        requires { 16384 * number < length self.now }
-        ensures { result.now ≡ take 16384 (drop (16384 * number) self.now) }
-    {
-        self.parts.part(number)
+/// Exchanges a chunk of the base; another that stands at its place is taken into the base first.
+fn put<T: Copy + Drop>(
+    base: &mut Arc<Parts<T, Parts<T, Parts<T, Chunk<T>, 64>, 1024>, 16384>>,
+    exchanges: &mut [Option<Exchange<T>>; 4],
+    number: usize,
+    chunk: Arc<Chunk<T>>,
+) -> Result<(), AllocError>
+    requires size { length (arc_value base.old) < 18446744073709551616 }
+    requires four { length exchanges.old ≡ 4 }
+    requires fit { AreExchanges (length (arc_value base.old)) exchanges.old }
+    requires there { 64 * number < length (arc_value base.old) }
+    requires whole { length (arc_value chunk)
+        ≡ min (length (arc_value base.old) - 64 * number) 64 }
+    ensures set { OnOk result (exchanged_in (arc_value base.new) exchanges.new
+        ≡ with_items (exchanged_in (arc_value base.old) exchanges.old) (64 * number)
+        (arc_value chunk)) }
+    ensures base { OnErr result (arc_value base.new ≡ arc_value base.old) }
+    ensures kept { OnErr result (exchanges.new ≡ exchanges.old) }
+    ensures length { length (arc_value base.new) ≡ length (arc_value base.old) }
+    ensures fit { AreExchanges (length (arc_value base.old)) exchanges.new }
+    ensures four { length exchanges.new ≡ 4 }
+{
+    let place = number % 4;
+    make_room(base, &exchanges[place], number)?;
+    exchanges[place] = Some(Exchange { number, chunk });
+    Ok(())
+}
+
+/// Takes an exchange into the base, if there is one and of another chunk than that of a number.
+fn make_room<T: Copy + Drop>(
+    base: &mut Arc<Parts<T, Parts<T, Parts<T, Chunk<T>, 64>, 1024>, 16384>>,
+    exchange: &Option<Exchange<T>>,
+    number: usize,
+) -> Result<(), AllocError>
+    requires size { length (arc_value base.old) < 18446744073709551616 }
+    requires fits { Fits (length (arc_value base.old)) (number % 4) (Some exchange.now) }
+    ensures taken { OnOk result (arc_value base.new
+        ≡ taken_in (arc_value base.old) exchange.now number) }
+    ensures unchanged { OnErr result (arc_value base.new ≡ arc_value base.old) }
+{
+    if let Some(other) = exchange {
+        if other.number != number {
+            let parts = Arc::make_mut(base)?;
+            return parts.set_items(64 * other.number, other.chunk.items.as_slice());
+        }
     }
+    Ok(())
+}
+
+/// A chunk of the base by its number.
+fn base_chunk<T: Copy + Drop>(
+    base: &Parts<T, Parts<T, Parts<T, Chunk<T>, 64>, 1024>, 16384>,
+    number: usize,
+) -> &Arc<Chunk<T>>
+    requires { 64 * number < length base.now }
+    ensures { arc_value result.now ≡ take 64 (drop (64 * number) base.now) }
+{
+    chunk_in(chunks_from(base, number / 16), number % 16)
+}
+
+/// The part of 16 chunks, or fewer at the end, of the base by its number.
+fn chunks_from<T: Copy + Drop>(
+    base: &Parts<T, Parts<T, Parts<T, Chunk<T>, 64>, 1024>, 16384>,
+    number: usize,
+) -> &Parts<T, Chunk<T>, 64>
+    requires { 1024 * number < length base.now }
+    ensures { result.now ≡ take 1024 (drop (1024 * number) base.now) }
+{
+    part_in(base.part(number / 16), number % 16)
 }
 
 /// A chunk of a part by its number there.

@@ -5,3 +5,4 @@ mod lines;
 mod words;
 
 pub use lines::outline;
+pub use words::{push_access, push_word};

@@ -6,3 +6,5 @@ pub mod Results
 pub mod Once
 pub mod Stages
 pub mod Bundling
+pub mod Openings
+pub mod Auditing

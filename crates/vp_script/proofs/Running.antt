@@ -80,7 +80,7 @@ is_none_of None h = refl
 is_none_of (Some x) h = cc
 
 -- which of two things happens next
-which : (b c : Bool) (x y q : Running) → (if b then Some x else (if c then Some y else None)) ≡ Some q → ((b ≡ true) × (x ≡ q)) ⊎ ((c ≡ true) × (y ≡ q))
+pub which : (b c : Bool) (x y q : Running) → (if b then Some x else (if c then Some y else None)) ≡ Some q → ((b ≡ true) × (x ≡ q)) ⊎ ((c ≡ true) × (y ≡ q))
 which true c x y q h = let e : x ≡ q = cc in inl (refl, e)
 which false true x y q h = let e : y ≡ q = cc in inr (refl, e)
 which false false x y q h = absurd (cc)
@@ -162,7 +162,7 @@ booked_next r w v found f (n, happened) there is =
     (suc n, (record { world = w; found = f ∷ drop 1 found }, before, ap (λ (u : Logged). Some (record { world = u; found = drop 1 found })) (sym is)))
 
 -- a race that is booked leaves how the world began
-opening_if : (w : Logged) (e : Event) (b : Bool) → (if b then with_entry w e else w).opening ≡ w.opening
+pub opening_if : (w : Logged) (e : Event) (b : Bool) → (if b then with_entry w e else w).opening ≡ w.opening
 opening_if w e true = refl
 opening_if w e false = refl
 

@@ -74,7 +74,7 @@ module _ (b : Bool) where
 
 -- a session with a kept script
 pub served : {unread still_unread held holds : Option (List ℕ)} (c d : Keeper) (end : Point Keeper) (lines : ℕ) (starved : Bool) → starved ≡ d.starved → IsWhole Keeps unread still_unread held holds c end lines → Closes Keeps end.stage end.caller d
-    → IsAnswered starved (script_of c) unread still_unread held holds lines
+    → IsAnswered starved (script_of c) (script_of d) unread still_unread held holds lines
 served c d end lines starved same w closes =
     let last = closed starved end.stage end.caller d closes (λ lacking. same ∙ lacking) in
     let all = all_served starved w.dialogue.lines w.dialogue.reply_lines (record { stage = Before; caller = c }) end w.dialogue.answers last.1 in
@@ -95,7 +95,6 @@ served c d end lines starved same w closes =
         at_end = w.at_end;
         count = w.count;
       };
-      behind = script_of d;
       closes = last.0;
     }
 

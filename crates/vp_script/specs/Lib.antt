@@ -4,3 +4,4 @@ pub mod Designs
 pub mod Scripts
 pub mod Keeping
 pub mod Views
+pub mod Audits

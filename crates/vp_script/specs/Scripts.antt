@@ -6,6 +6,7 @@ use Rattle.vp_list.specs.Refusals.{MayExplain}
 use Rattle.vp_elab.specs.Built.{Elaborated}
 use Rattle.vp_policy.specs.declared.fault.PolicyError.TheVariants as policy_error
 use Rattle.vp_policy.specs.File.{PolicyFile, file_of, policy_for}
+use Rattle.vp_policy.specs.PolicyState.{PolicyState}
 use Rattle.vp_race.specs.Recording.{next_job}
 use Rattle.vp_race.specs.Search.{found}
 use Rattle.vp_race.specs.Segments.{Told}
@@ -141,6 +142,10 @@ opened opening = record { world = record { opening = opening; log = [] }; sessio
 abbrev pub greatest : Limits
 greatest = record { log = 4194304; book = 65536; sessions = 64 }
 
+-- a world opens with a design and a policy, and with the greatest limits
+abbrev pub opening_of : Elaborated → PolicyState → Opening
+opening_of design policy = record { design = design; policy = policy; limits = greatest }
+
 -- a script is that of a text and a policy file, in a fresh world in which nothing has happened
 pub record IsOpened (text policy : List ℕ) (script : Script) : Type 0 where
   pub design : Elaborated
@@ -148,20 +153,21 @@ pub record IsOpened (text policy : List ℕ) (script : Script) : Type 0 where
   pub fits : length policy ≤ text_limit
   pub file : PolicyFile
   pub is_file : file_of (length design.tree.authors) policy ≡ Ok file
-  pub fresh : script ≡ opened (record { design = design; policy = policy_for design.tree file; limits = greatest })
+  pub fresh : script ≡ opened (opening_of design (policy_for design.tree file))
 
--- a script over an input has read it to the end, so many lines, and each was told what the script answers it
-pub record IsAnswered (starved : Bool) (script : Script) (unread still_unread held holds : Option (List ℕ)) (lines : ℕ) : Type 0 where
+-- a script over an input has read it to the end, so many lines, and each was told what the script answers it; and it is this script
+-- behind that
+pub record IsAnswered (starved : Bool) (script behind : Script) (unread still_unread held holds : Option (List ℕ)) (lines : ℕ) : Type 0 where
   pub end : Point Script
   pub whole : IsWhole (Serves starved) unread still_unread held holds script end lines
-  pub behind : Script
   pub closes : Closes (Serves starved) end.stage end.caller behind
 
 -- the script of a text and a policy file over an input
 pub record IsScript (starved : Bool) (text policy : List ℕ) (unread still_unread held holds : Option (List ℕ)) (lines : ℕ) : Type 0 where
   pub script : Script
   pub opened : IsOpened text policy script
-  pub answered : IsAnswered starved script unread still_unread held holds lines
+  pub behind : Script
+  pub answered : IsAnswered starved script behind unread still_unread held holds lines
 
 -- ---- faults
 

@@ -1,4 +1,5 @@
-// Scripts, checks and views over files and standard input.
+// Scripts, audits, checks and views over files and standard input.
+use crate::audits::audit_script;
 use crate::bundle::run_bundle;
 use crate::fault::ServeFault;
 use crate::script::{Ran, run_script};
@@ -7,6 +8,7 @@ use crate::views::{check_design, check_policy, view_text};
 use std::io::BufWriter;
 use std::rt::Files;
 use std::{fs, io};
+use vp_audit::Audit;
 use vp_list::Text;
 use vp_wire::Counted;
 
@@ -63,6 +65,22 @@ pub fn run_files<R: AllocGlobal + Files + Input + Print>(
         |_| ServeFault::NoMemory,
     )?);
     run_script(alloc, text, &policy, &mut reader, &mut writer)
+}
+
+/// Audits the user of a name by the script of standard input over the files of a design and a policy; a file that can't be read is
+/// `ReadFailed` (1602), and then the faults are those of `audit_script`.
+pub fn audit_files<R: AllocGlobal + Files + Input>(
+    rt: &R,
+    design: &str,
+    policy: &str,
+    user: &str,
+) -> Result<Audit, ServeFault> {
+    let alloc = rt.alloc();
+    let design = file_bytes(rt, design)?;
+    let policy = file_bytes(rt, policy)?;
+    let text = text_of(&design, ServeFault::ReadFailed)?;
+    let mut reader = Counted::new(rt.reader());
+    audit_script(alloc, text, &policy, user, &mut reader)
 }
 
 /// Runs the bundle of standard input; the faults are those of `run_bundle`, or `ReadFailed` (1602).

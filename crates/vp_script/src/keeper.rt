@@ -9,7 +9,7 @@ ghost use Rattle.vp_world.specs.declared.fault.WorldError.TheVariants.{NoMemory}
 ghost use Rattle.vp_world.specs.Events.{IsWellFormed};
 ghost use Rattle.vp_script.specs.Keeping.{GoesOn, GoesOnBy, Keeps};
 ghost use Rattle.vp_script.specs.Scripts.{Applied, Runs, event_of, next_event, seed_count, step_limit, with_event_if};
-ghost use Rattle.vp_world.specs.History.{Applies, refused_by, state_behind, with_entry};
+ghost use Rattle.vp_world.specs.History.{Applies, IsLegal, refused_by, state_behind, with_entry};
 
 use std::alloc::{AllocError, Global};
 use std::collections::VecDeque;
@@ -18,7 +18,7 @@ use vp_answer::{Refusal, Reply, Request, SessionId};
 use vp_race::{Finding, OpenGate, Segment, Shared, search};
 use vp_sim::SimError;
 use vp_wire::Caller;
-use vp_world::{Event, World, WorldError};
+use vp_world::{Entry, Event, World, WorldError};
 
 /// A search tries so many seeds.
 const SEED_COUNT: u64 = 16;
@@ -237,6 +237,14 @@ impl Keeper {
             session: None,
             starved: false,
         }
+    }
+
+    /// What has happened in the world, in order.
+    pub fn log(&self) -> &[Entry]
+        ensures log { result.now ≡ self.now.world.log }
+        ensures legal { IsLegal self.now.world.opening [] self.now.world.log }
+    {
+        self.world.log()
     }
 
     /// At some time there was no memory to let the simulation run on.

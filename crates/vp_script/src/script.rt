@@ -1,10 +1,13 @@
 ghost use Rattle.std.specs.Prelude.{◌≡◌, ◌≤◌, length, IfErr, IfOk, OnOk, Ok};
+ghost use Rattle.std.specs.Arc.{arc_value};
 ghost use Rattle.vp_elab.specs.Built.{Elaborated};
 ghost use Rattle.vp_policy.specs.File.{file_in, file_of};
 ghost use Rattle.vp_policy.specs.PolicyState.{Fits};
 ghost use Rattle.vp_script.specs.Keeping.{script_of};
 ghost use Rattle.vp_script.specs.Designs.{IsDesignOf, IsRefusedBy};
-ghost use Rattle.vp_script.specs.Scripts.{EndsBy, IsAnswered, IsOpened, IsPolicyRefusedBy, IsScript, IsStopped, IsUnopened};
+ghost use Rattle.vp_script.specs.Scripts.{EndsBy, IsAnswered, IsOpened, IsPolicyRefusedBy, IsScript, IsStopped, IsUnopened, opened, opening_of};
+ghost use Rattle.vp_script.specs.declared.fault.ServeFault.TheVariants as fault;
+ghost use Rattle.vp_world.specs.declared.fault.WorldError.TheVariants as error;
 
 use crate::fault::ServeFault;
 use crate::keeper::Keeper;
@@ -60,26 +63,40 @@ pub(crate) fn policy_of(alloc: Global, bytes: &[u8], design: &Design) -> Result<
     Ok(read_policy(alloc, bytes, design)?)
 }
 
-/// A fresh world of a design and a policy, with the greatest limits, whose script has no session yet; or the first fault of the
-/// design, then of the policy.
+/// A fresh world of a design and a policy, with the greatest limits, whose script has no session yet; or want of memory.
+pub(crate) fn keeper_of(
+    alloc: Global,
+    checked: Arc<Checked>,
+    policy: Policy,
+) -> Result<Keeper, ServeFault>
+    requires { Fits policy (arc_value checked).tree }
+    ensures script { IfOk result
+        (λ keeper. script_of keeper ≡ opened (opening_of (arc_value checked) policy)) }
+    ensures refused { IfErr result (λ told. told ≡ fault.World error.NoMemory) }
+{
+    let world = World::new(alloc, checked, policy, Limits::GREATEST)?;
+    Ok(Keeper::new(alloc, world))
+}
+
+/// A fresh script of the text of a design and the file of a policy; or the first fault of the design, then of the policy.
 fn opened(alloc: Global, design: &str, policy: &[u8]) -> Result<Keeper, ServeFault>
     ensures script { IfOk result (λ keeper. IsOpened design.now policy.now (script_of keeper)) }
     ensures refused { IfErr result (λ fault. IsUnopened design.now policy.now fault) }
 {
     let checked = Arc::new(alloc, checked(alloc, design)?)?;
     let policy = policy_of(alloc, policy, checked.design())?;
-    let world = World::new(alloc, checked, policy, Limits::GREATEST)?;
-    Ok(Keeper::new(alloc, world))
+    keeper_of(alloc, checked, policy)
 }
 
 /// Answers the lines of a reader by a script, up to the end of the input; or the fault of the reader or the writer.
-fn answered<R: Read, W: Write>(
+pub(crate) fn answered<R: Read, W: Write>(
     alloc: Global,
     keeper: &mut Keeper,
     reader: &mut Counted<R>,
     writer: &mut Counted<W>,
 ) -> Result<Ran, WireError>
-    ensures answered { IfOk result (λ ran. IsAnswered ran.starved (script_of keeper.old)
+    ensures answered { IfOk result (λ ran. IsAnswered ran.starved
+        (script_of keeper.old) (script_of keeper.new)
         (R.remaining reader.old.inner) (R.remaining reader.new.inner)
         (W.contents writer.old.inner) (W.contents writer.new.inner) ran.lines) }
     ensures stopped { IfErr result (λ e. IsStopped e (script_of keeper.old)

@@ -1,7 +1,8 @@
 use std::alloc::{AllocError, Global};
 use std::io;
 use std::io::BufRead;
-use vp_script::run_bundle;
+use vp_audit::Audit;
+use vp_script::{ServeFault, audit_script, run_bundle};
 use vp_wire::Counted;
 
 /// The count and the text of a line that stands for so many copies of the text, behind its mark.
@@ -22,11 +23,37 @@ fn add_to(bundle: &mut String, alloc: Global, line: &str) -> Result<(), AllocErr
     bundle.push('\n')
 }
 
-/// A bundle, and what it must print.
+/// The design, the policy and the script of a bundle.
+fn parts(bundle: &str) -> Option<(&str, &str, &str)> {
+    let (design, rest) = bundle.split_once("%%\n")?;
+    let (policy, script) = rest.split_once("%%\n")?;
+    Some((design, policy, script))
+}
+
+/// The line that tells a fault.
+pub fn fault_line(alloc: Global, fault: &ServeFault) -> Result<String, AllocError> {
+    let code = fault.code();
+    let line = fault.line();
+    format!(in alloc; "fault {code} line {line}\n")
+}
+
+/// The line that tells an audit, or the fault for which there is none.
+pub fn audit_line(alloc: Global, audit: Result<Audit, ServeFault>) -> Result<String, AllocError> {
+    match audit {
+        Ok(Audit { same, number }) => {
+            let word = if same { "same" } else { "differs" };
+            format!(in alloc; "{word} {number}\n")
+        }
+        Err(fault) => fault_line(alloc, &fault),
+    }
+}
+
+/// A bundle, the users who are audited by its script, and what it must print.
 #[derive(Drop)]
 pub struct Case {
     pub name: String,
     bundle: String,
+    users: Vec<String>,
     pub wanted: String,
     in_bundle: bool,
 }
@@ -37,6 +64,7 @@ impl Case {
         Ok(Case {
             name: String::from_str(alloc, name)?,
             bundle: String::new(alloc),
+            users: Vec::new(alloc),
             wanted: String::new(alloc),
             in_bundle: true,
         })
@@ -52,6 +80,8 @@ impl Case {
         } else if !self.in_bundle {
             self.wanted.push_str(line)?;
             self.wanted.push('\n')?;
+        } else if let Some(user) = line.strip_prefix("%@ ") {
+            self.users.push(String::from_str(alloc, user)?)?;
         } else {
             add_to(&mut self.bundle, alloc, line)?;
         }
@@ -59,18 +89,38 @@ impl Case {
     }
 
     /// What the bundle prints: the replies, and the line of the fault that ends it, if one does.
-    pub fn printed(&self, alloc: Global) -> Result<String, AllocError> {
+    fn run(&self, alloc: Global) -> Result<String, AllocError> {
         let mut writer = Counted::new(Vec::new(alloc));
         let ran = run_bundle(alloc, self.bundle.as_bytes(), &mut writer);
-        let replies = String::from_utf8_lossy(alloc, &writer.inner)?;
-        match ran {
-            Ok(_) => Ok(replies),
-            Err(fault) => {
-                let code = fault.code();
-                let line = fault.line();
-                format!(in alloc; "{replies}fault {code} line {line}\n")
-            }
+        let mut printed = String::from_utf8_lossy(alloc, &writer.inner)?;
+        if let Err(fault) = ran {
+            printed.push_str(&fault_line(alloc, &fault)?)?;
         }
+        Ok(printed)
+    }
+
+    /// What the audit of a user by the bundle's script prints.
+    fn audit(&self, alloc: Global, user: &str) -> Result<String, AllocError> {
+        let Some((design, policy, script)) = parts(self.bundle.as_str()) else {
+            return fault_line(alloc, &ServeFault::BadBundle);
+        };
+        let mut reader = Counted::new(script.as_bytes());
+        audit_line(
+            alloc,
+            audit_script(alloc, design, policy.as_bytes(), user, &mut reader),
+        )
+    }
+
+    /// What the bundle prints, and behind it a line for each user who is audited.
+    pub fn printed(&self, alloc: Global) -> Result<String, AllocError> {
+        let mut printed = self.run(alloc)?;
+        for user in &self.users {
+            let line = self.audit(alloc, user.as_str())?;
+            printed.push_str(user.as_str())?;
+            printed.push_str(": ")?;
+            printed.push_str(&line)?;
+        }
+        Ok(printed)
     }
 }
 

@@ -1,17 +1,18 @@
 //! Runs the cases of the files that its words name: bundles, each with what it must print. A case is a line `## ` with its
 //! name, the bundle, a line `==`, and the lines that the bundle must print; behind a line `=/=` the bundle's last line lacks its
 //! newline. A line `%* COUNT TEXT` of a bundle stands for so many copies of the text, and a newline; of a line `%+ COUNT TEXT` the
-//! next line goes on. Then it runs designs and policies of files on the script of standard input, checks them, and tells what users
-//! see of them.
+//! next line goes on. For each line `%@ USER`, which is no line of the bundle, the user is audited by its script, and a line more is
+//! printed, which begins with his name. Then it runs designs and policies of files on the script of standard input, checks them, tells
+//! what users see of them, and audits users.
 #![tactic(auto)]
 
 mod cases;
 
-use crate::cases::{Case, read_cases};
+use crate::cases::{Case, audit_line, fault_line, read_cases};
 use std::io::BufReader;
 use std::rt::Files;
 use std::{env, fs, io};
-use vp_script::{ServeFault, check_files, run_files, view_files};
+use vp_script::{ServeFault, audit_files, check_files, run_files, view_files};
 
 /// Whether a case prints what it must; what it prints is shown where it does not.
 fn is_as_wanted<R: AllocGlobal + Print>(rt: &R, case: &Case) -> io::Result<bool> {
@@ -40,10 +41,8 @@ fn check_file<R: AllocGlobal + Files + Print>(rt: &R, file: &str) -> io::Result<
 }
 
 /// Tells a fault.
-fn print_fault<R: Print>(rt: &R, fault: &ServeFault) -> io::Result<()> {
-    let code = fault.code();
-    let line = fault.line();
-    println!(rt; "fault {code} line {line}")
+fn print_fault<R: AllocGlobal + Print>(rt: &R, fault: &ServeFault) -> io::Result<()> {
+    rt.print(fault_line(rt.alloc(), fault)?.as_str())
 }
 
 /// Runs a design and a policy of files, and tells the fault that ends the run, if one does.
@@ -87,6 +86,17 @@ fn print_view<R: AllocGlobal + Files + Print>(
     }
 }
 
+/// Audits a user by the script of standard input over a design and a policy of files.
+fn print_audit<R: AllocGlobal + Files + Input + Print>(
+    rt: &R,
+    design: &str,
+    policy: &str,
+    user: &str,
+) -> io::Result<()> {
+    println!(rt; "audit {design}, {policy}, {user}:")?;
+    rt.print(audit_line(rt.alloc(), audit_files(rt, design, policy, user))?.as_str())
+}
+
 fn main(rt: HostRuntime) -> io::Result<()> {
     let words: Vec<String> = env::args(&rt)?.collect(rt.alloc())?;
     for file in words.iter().skip(1) {
@@ -102,5 +112,9 @@ fn main(rt: HostRuntime) -> io::Result<()> {
     print_check(&rt, "hidden.v", Some("ann.json"))?;
     print_view(&rt, "hidden.v", "missing.json", "ann")?;
     print_view(&rt, "hidden.v", "ann.json", "bob")?;
-    print_view(&rt, "hidden.v", "ann.json", "ann")
+    print_view(&rt, "hidden.v", "ann.json", "ann")?;
+    print_audit(&rt, "hidden.v", "missing.json", "ann")?;
+    print_audit(&rt, "hidden.v", "ann.json", "bob")?;
+    // Standard input has been read to its end.
+    print_audit(&rt, "hidden.v", "ann.json", "ann")
 }

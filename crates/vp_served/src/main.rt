@@ -10,8 +10,9 @@ use crate::parser::command;
 use crate::words::{Command, Misuse};
 use std::process::ExitCode;
 use std::{env, io};
+use vp_audit::Audit;
 use vp_list::Text;
-use vp_script::{Ran, ServeFault, check_files, run_files, run_input, view_files};
+use vp_script::{Ran, ServeFault, audit_files, check_files, run_files, run_input, view_files};
 
 /// Prints a text; the status is 0.
 fn print_text<R: Print>(rt: &R, text: &Text) -> io::Result<ExitCode> {
@@ -57,6 +58,22 @@ fn view_status<R: Print>(rt: &R, view: Result<Text, ServeFault>) -> io::Result<E
     }
 }
 
+/// Prints an audit, or the fault for which there is none; the status is 0 where the user was told what he may know, else 1.
+fn audit_status<R: Print>(rt: &R, audit: Result<Audit, ServeFault>) -> io::Result<ExitCode> {
+    match audit {
+        Ok(Audit { same, number }) => {
+            let word = if same { "same" } else { "differs" };
+            println!(rt; "{word} {number}")?;
+            Ok(if same {
+                ExitCode::SUCCESS
+            } else {
+                ExitCode::FAILURE
+            })
+        }
+        Err(fault) => print_fault(rt, &fault),
+    }
+}
+
 fn main(rt: HostRuntime) -> io::Result<ExitCode> {
     let alloc = rt.alloc();
     let words: Vec<String> = env::args(&rt)?.collect(alloc)?;
@@ -73,6 +90,13 @@ fn main(rt: HostRuntime) -> io::Result<ExitCode> {
                 user,
             },
         ) => view_status(&rt, view_files(&rt, design, policy, user)),
+        Ok(
+            Command::Audit {
+                design,
+                policy,
+                user,
+            },
+        ) => audit_status(&rt, audit_files(&rt, design, policy, user)),
         Ok(Command::Bundle) => run_status(&rt, run_input(&rt)),
         Ok(Command::Show(text)) => print_text(&rt, &text),
         Err(Misuse::BadWords(text)) => {

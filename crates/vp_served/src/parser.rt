@@ -31,6 +31,13 @@ const VIEW_HELP: &str =
 declared: its name, its type, the width of a value or the definition of a module, and his rights. \
 docs/FORMATS.md has the rest. A user who is not in the policy is fault 1604.";
 
+const AUDIT_HELP: &str =
+    "The script of request lines is read from standard input and answered as `run` answers it, but no \
+reply is printed. Then all that the user's sessions were told is compared with what comes of what he \
+sees at the opening and of what of the log goes to him. Printed is `same N`, N the number of his \
+sessions' events in the log, and the status is 0; or `differs N`, N the number of the first of them that \
+was answered otherwise, and the status is 1. A user who is not in the policy is fault 1604.";
+
 /// The file of a design.
 fn design_word<'a>(alloc: Global) -> Arg<'a> {
     Arg::new(alloc, "DESIGN")
@@ -43,6 +50,14 @@ fn design_word<'a>(alloc: Global) -> Arg<'a> {
 fn policy_word<'a>(alloc: Global) -> Arg<'a> {
     Arg::new(alloc, "POLICY")
         .help("The file of the policy, in JSON, at most 1,048,576 bytes")
+        .action(ArgAction::Set)
+}
+
+/// The name of a user.
+fn user_word<'a>(alloc: Global) -> Arg<'a> {
+    Arg::new(alloc, "USER")
+        .help("The name of a user of the policy")
+        .required(true)
         .action(ArgAction::Set)
 }
 
@@ -66,16 +81,22 @@ fn check_words<'a>(alloc: Global) -> Result<clap::Command<'a>, AllocError> {
 
 /// The words of `view`.
 fn view_words<'a>(alloc: Global) -> Result<clap::Command<'a>, AllocError> {
-    let user = Arg::new(alloc, "USER")
-        .help("The name of a user of the policy")
-        .required(true)
-        .action(ArgAction::Set);
     clap::Command::new(alloc, "view")
         .about("Prints what a user may see of a design under a policy")
         .after_help(VIEW_HELP)
         .arg(design_word(alloc))?
         .arg(policy_word(alloc).required(true))?
-        .arg(user)
+        .arg(user_word(alloc))
+}
+
+/// The words of `audit`.
+fn audit_words<'a>(alloc: Global) -> Result<clap::Command<'a>, AllocError> {
+    clap::Command::new(alloc, "audit")
+        .about("Runs a script, and compares what a user was told with what he may know")
+        .after_help(AUDIT_HELP)
+        .arg(design_word(alloc))?
+        .arg(policy_word(alloc).required(true))?
+        .arg(user_word(alloc))
 }
 
 /// The program's words.
@@ -86,7 +107,8 @@ fn grammar<'a>(alloc: Global) -> Result<clap::Command<'a>, AllocError> {
         .after_help(BUNDLE_HELP)
         .subcommand(run_words(alloc)?)?
         .subcommand(check_words(alloc)?)?
-        .subcommand(view_words(alloc)?)
+        .subcommand(view_words(alloc)?)?
+        .subcommand(audit_words(alloc)?)
 }
 
 /// What the program's words ask, of which the first is the program's name; or what is wrong with them
@@ -113,6 +135,13 @@ fn asked<'a>(matches: &ArgMatches<'a>) -> words::Command<'a> {
         return words::Command::Check {
             design: check.get_str("DESIGN").unwrap_or(""),
             policy: check.get_str("POLICY"),
+        };
+    }
+    if let Some(audit) = matches.subcommand_matches("audit") {
+        return words::Command::Audit {
+            design: audit.get_str("DESIGN").unwrap_or(""),
+            policy: audit.get_str("POLICY").unwrap_or(""),
+            user: audit.get_str("USER").unwrap_or(""),
         };
     }
     match matches.subcommand_matches("view") {

@@ -37,6 +37,13 @@ fn asked(alloc: Global, line: &[&str]) -> &'static str {
                 user,
             },
         ) if design == "d.v" && policy == "p.json" && user == "ann" => "view",
+        Ok(
+            Command::Audit {
+                design,
+                policy,
+                user,
+            },
+        ) if design == "d.v" && policy == "p.json" && user == "ann" => "audit",
         Ok(Command::Show(_)) => "show",
         Err(Misuse::BadWords(_)) => "misuse",
         _ => "other",
@@ -45,22 +52,29 @@ fn asked(alloc: Global, line: &[&str]) -> &'static str {
 
 #[test]
 fn command_lines(rt: HostRuntime) {
-    let rows: [(&[&str], &str); 16] = [
+    let rows: [(&[&str], &str); 20] = [
         (&["vp_served"], "bundle"),
         (&["vp_served", "run", "d.v", "p.json"], "run"),
         (&["vp_served", "check", "d.v"], "check"),
         (&["vp_served", "check", "d.v", "p.json"], "check both"),
         (&["vp_served", "view", "d.v", "p.json", "ann"], "view"),
+        (&["vp_served", "audit", "d.v", "p.json", "ann"], "audit"),
         (&["vp_served", "--help"], "show"),
         (&["vp_served", "run", "--help"], "show"),
         (&["vp_served", "check", "--help"], "show"),
         (&["vp_served", "view", "--help"], "show"),
+        (&["vp_served", "audit", "--help"], "show"),
         (&["vp_served", "--version"], "show"),
         (&["vp_served", "run", "d.v"], "misuse"),
         (&["vp_served", "run", "d.v", "p.json", "q"], "misuse"),
         (&["vp_served", "check"], "misuse"),
         (&["vp_served", "check", "d.v", "p.json", "q"], "misuse"),
         (&["vp_served", "view", "d.v", "p.json"], "misuse"),
+        (&["vp_served", "audit", "d.v", "p.json"], "misuse"),
+        (
+            &["vp_served", "audit", "d.v", "p.json", "ann", "q"],
+            "misuse",
+        ),
         (&["vp_served", "walk"], "misuse"),
     ];
     for (line, want) in rows {

@@ -19,6 +19,12 @@ pub enum Command<'a> {
         policy: &'a str,
         user: &'a str,
     },
+    /// To audit a user by the script of standard input over a design and a policy.
+    Audit {
+        design: &'a str,
+        policy: &'a str,
+        user: &'a str,
+    },
     /// To run the bundle of standard input.
     Bundle,
     /// To print the help or the version.

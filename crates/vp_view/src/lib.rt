@@ -10,4 +10,5 @@ mod races;
 mod watching;
 
 pub use part_observer::PartObserver;
+pub use path::full_name;
 pub use watching::watch_rights;

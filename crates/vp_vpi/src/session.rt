@@ -101,8 +101,8 @@ impl Session {
         self.user
     }
 
-    /// The object of a handle.
-    fn object(&self, handle: u32) -> Option<ObjectId>
+    /// The object of a handle; none where the number is no handle, or it was freed.
+    pub fn object(&self, handle: u32) -> Option<ObjectId>
         ensures { option_map (λ o. o.0) result ≡ object_of self.now.handles handle }
     {
         let place = (handle as usize).checked_sub(1)?;

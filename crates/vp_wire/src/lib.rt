@@ -12,5 +12,5 @@ pub use counted::{Counted, Failed};
 pub use dialogue::{Caller, Ended, Stage, TURN_LIMIT, session};
 pub use fault::WireError;
 pub use line::LINE_LIMIT;
-pub use replies::reply_line;
+pub use replies::{reply_line, reply_text};
 pub use requests::request;

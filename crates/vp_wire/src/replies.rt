@@ -1,5 +1,5 @@
 // Replies (docs/FORMATS.md, "Lines").
-ghost use Rattle.std.specs.Prelude.{◌≡◌, None, map, IfOk, IsOkUnless, OnOk};
+ghost use Rattle.std.specs.Prelude.{◌≡◌, ◌++◌, ◌∷◌, [], None, map, string_bytes, IfOk, IsOkUnless, OnOk};
 ghost use Rattle.serde_json.specs.Data.{array, put as with_member, string};
 ghost use Rattle.serde_json.specs.View.{items_of, members_view, view};
 ghost use Rattle.vp_wire.specs.Lines.{both_steps_data, by_text, callback_data, data_of, denial_data, denial_members, digits_data, done_data, error_data, handle_data, job_data, line_of, listed_data, listing_data, notice_data, number_data, numbers_data, only, pair_data, polled_data, race_data, race_line_data, races_data, run_denial_data, same_data, steps_data, text_data, time_data, values_data, vector_data, words_data, words_of};
@@ -389,6 +389,15 @@ fn value_of(alloc: Global, reply: &Reply) -> Result<Value, AllocError>
         Reply::Time { time, finished } => time_value(alloc, *time, *finished),
         Reply::Error(refusal) => error_value(alloc, *refusal),
     }
+}
+
+/// A reply as compact JSON with its keys in the order of their bytes: its line without the newline. Takes memory (1507).
+#[tactic(auto, using(crate::proofs::Floats::reply_whole))]
+pub fn reply_text(alloc: Global, reply: &Reply) -> Result<String, WireError>
+    ensures ok { IfOk result (λ text. string_bytes text ++ 10 ∷ [] ≡ line_of reply.now) }
+    ensures err { IsOkUnless result WireError.NoMemory }
+{
+    Ok(value_of(alloc, reply)?.to_string(alloc)?)
 }
 
 /// The line of a reply: compact JSON with its keys in the order of their bytes, and a newline. Takes memory (1507).

@@ -1,11 +1,10 @@
 -- Laws of lists in chunks.
-use Rattle.std.proofs.Common.{◌≡◌, ℕ, zero, suc, ◌+◌, ◌-◌, ◌*◌, ◌/◌, ◌%◌, ◌<◌, ◌≤◌, List, [], ◌∷◌, ◌++◌, length, get_or, map, take, drop, Option, None, refl, ap, sym, subst, inl, inr, ◌∙◌, arith, length-append, append_assoc}
-use Rattle.std.specs.Prelude.{slice_get, slice_set, slice_index_or, option_and_then, option_map, ◌⊎◌, Result, Ok, Err, OnOk, OnErr}
-use Rattle.std.proofs.Math.Nat.{mod-lt, mod-eq_of_lt, eq-or-lt_of_le, mul-mod_left, lt_of_mul-lt-mul_right, add-mod_left, mul-le-mul_right}
+use Rattle.std.proofs.Common.{◌≡◌, ℕ, zero, suc, ◌+◌, ◌-◌, ◌*◌, ◌/◌, ◌%◌, ◌<◌, ◌≤◌, List, [], ◌∷◌, ◌++◌, length, get_or, map, take, drop, refl, ap, sym, subst, inl, inr, ◌∙◌, arith, length-append, append_assoc}
+use Rattle.std.specs.Prelude.{slice_get, slice_set, slice_index_or, ◌⊎◌, Result, Ok, Err, OnOk, OnErr}
+use Rattle.std.proofs.Math.Nat.{mod-eq_of_lt, eq-or-lt_of_le, mul-mod_left, lt_of_mul-lt-mul_right, add-mod_left, mul-le-mul_right}
 use Rattle.std.proofs.Math.Seq.{map-set_same, take-add, take-append-add, drop-append-add, drop-append-le}
 use Rattle.std.proofs.lemmas.Nat.{div-add-mod'}
-use Rattle.std.proofs.lemmas.Option.{slice_get_past, slice_get_read, slice_get-map}
-use Rattle.std.proofs.lemmas.List.{length-take, drop-take, take-take, drop-drop, take_more, take_all, take-append-le, length-take-le, length-drop, take_rest, take-append-drop, map-append, length-map, length-set, get_or-map, map-set, set_past, append-nil, flat_map_more, set-append_left, set-append_right}
+use Rattle.std.proofs.lemmas.List.{length-take, drop-take, take-take, drop-drop, take_more, take_all, take-append-le, length-take-le, length-drop, take_rest, take-append-drop, map-append, length-map, get_or-map, map-set, append-nil}
 use Rattle.vp_list.specs.Chunks.{joined, with_items, AreChunks}
 
 -- the item at a place in the first of two lists
@@ -20,38 +19,6 @@ get_back [] ys k = ap (slice_get ys) (omega arith)
 get_back (x ∷ xs) ys k =
     let e : length (x ∷ xs) + k ≡ suc (length xs + k) = omega arith in
     ap (slice_get ((x ∷ xs) ++ ys)) e ∙ get_back xs ys k
-
--- the item at a place is that of its chunk
-pub get_at : {X : Type 0} (size q r k : ℕ) (cs : List (List X)) → k ≡ q * size + r → r < size → AreChunks size cs
-    → slice_get (joined cs) k ≡ option_and_then (λ c. slice_get c r) (slice_get cs q)
-get_at size q r k [] e l h = refl
-get_at size zero r k (c ∷ []) e l h =
-    ap (λ xs. slice_get xs k) (append-nil c) ∙ ap (slice_get c) (omega arith)
-get_at size (suc q) r k (c ∷ []) e l h =
-    ap (λ xs. slice_get xs k) (append-nil c) ∙ slice_get_past c k (omega (arith, h.1))
-get_at size zero r k (c ∷ d ∷ cs) e l h =
-    get_front c (joined (d ∷ cs)) k (omega (arith, h.0)) ∙ ap (slice_get c) (omega arith)
-get_at size (suc q) r k (c ∷ d ∷ cs) e l h =
-    let at : k ≡ length c + (q * size + r) = omega (arith, h.0) in
-    ap (slice_get (joined (c ∷ d ∷ cs))) at
-    ∙ get_back c (joined (d ∷ cs)) (q * size + r)
-    ∙ get_at size q r (q * size + r) (d ∷ cs) refl l h.1
-
--- there is no item at a place behind the chunks
-pub item_none : {X P : Type 0} (f : P → List X) (bs : List P) (size k : ℕ) → 0 < size → AreChunks size (map f bs)
-    → length bs ≤ k / size → ◌≡◌ {A = Option X} None (slice_get (joined (map f bs)) k)
-item_none f bs size k s h l =
-    let none = slice_get_past (map f bs) (k / size) (omega (arith, length-map bs f)) in
-    sym (get_at size (k / size) (k % size) k (map f bs) (sym (div-add-mod' k size)) (mod-lt k s) h
-    ∙ ap (option_and_then (λ c. slice_get c (k % size))) none)
-
--- the item at a place is that of its part
-pub item_of : {X P : Type 0} (f : P → List X) (bs : List P) (size k : ℕ) (p : P) → 0 < size → AreChunks size (map f bs)
-    → k / size < length bs → p ≡ get_or bs (k / size) p → slice_get (f p) (k % size) ≡ slice_get (joined (map f bs)) k
-item_of f bs size k p s h within e =
-    let l = slice_get_read bs (length bs) (k / size) p refl within e in
-    sym (get_at size (k / size) (k % size) k (map f bs) (sym (div-add-mod' k size)) (mod-lt k s) h
-    ∙ ap (option_and_then (λ c. slice_get c (k % size))) (slice_get-map f bs (k / size) ∙ ap (option_map f) l))
 
 -- a list in chunks is no longer than so many sizes
 length_chunks : {X : Type 0} (size : ℕ) (cs : List (List X)) → AreChunks size cs → length (joined cs) ≤ length cs * size
@@ -275,17 +242,6 @@ copied_more f bs made more i p new h l e same by =
     ∙ ap (λ front. front ++ f new ∷ []) h
     ∙ ap (λ c. take i (map f bs) ++ c ∷ []) (sym at)
     ∙ sym (take_more (map f bs) i (f p) (omega (arith, length-map bs f)))
-
--- one part more stands behind other items
-pub appended_more : {X P : Type 0} (f : P → List X) (bs : List P) (xs ys zs : List X) (i : ℕ) (p : P)
-    → ys ≡ xs ++ joined (take i (map f bs)) → i < length bs → p ≡ get_or bs i p → zs ≡ ys ++ f p
-    → zs ≡ xs ++ joined (take (i + 1) (map f bs))
-appended_more f bs xs ys zs i p h l e more =
-    let at : get_or (map f bs) i (f p) ≡ f p = get_or-map f bs i p (f p) l ∙ ap f (sym e) in
-    more ∙ ap (λ front. front ++ f p) h
-    ∙ flat_map_more (λ c. c) xs (take i (map f bs)) (f p)
-    ∙ ap (λ c. xs ++ joined (take i (map f bs) ++ c ∷ [])) (sym at)
-    ∙ ap (λ cs. xs ++ joined cs) (sym (take_more (map f bs) i (f p) (omega (arith, length-map bs f))))
 
 -- a piece of a piece of a list is a piece of the list
 pub part_of_part : {X : Type 0} (size small skip left from place : ℕ) (xs : List X) → size ≡ skip + left → small ≤ left

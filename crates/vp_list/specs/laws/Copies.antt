@@ -25,3 +25,9 @@ all_same xs ys n long all same =
     let times = div_ceil_times (length xs) 64 (omega arith) in
     let within : length xs ≤ 64 * n = omega (arith, times) in
     sym (take_all (64 * n) xs within) ∙ same ∙ take_all (64 * n) ys (omega arith)
+
+-- one chunk more is taken
+pub chunk_more : {X : Type 0} (xs ys zs : List X) (n : ℕ) → ys ≡ take (64 * n) xs → zs ≡ ys ++ take 64 (drop (64 * n) xs) → zs ≡ take (64 * (n + 1)) xs
+chunk_more xs ys zs n e more =
+    let next : 64 * (n + 1) ≡ 64 * n + 64 = omega arith in
+    more ∙ ap (λ front. front ++ take 64 (drop (64 * n) xs)) e ∙ sym (take-add (64 * n) 64 xs) ∙ ap (λ k. take k xs) (sym next)

@@ -1,13 +1,13 @@
 -- Laws of lists of which copies are kept.
-use Rattle.std.proofs.Common.{◌≡◌, ℕ, zero, suc, ◌+◌, ◌-◌, ◌*◌, ◌/◌, ◌<◌, ◌≤◌, Bool, false, true, List, [], ◌∷◌, ◌++◌, length, min, take, drop, get_or, Option, Some, None, refl, ap, sym, subst, inl, inr, ◌∙◌, arith}
-use Rattle.std.specs.Prelude.{◌⊎◌, slice_get, slice_set, replicate}
+use Rattle.std.proofs.Common.{◌≡◌, ℕ, zero, suc, ◌+◌, ◌-◌, ◌*◌, ◌/◌, ◌<◌, ◌≤◌, List, [], ◌∷◌, ◌++◌, length, min, take, drop, get_or, Option, Some, None, refl, ap, sym, subst, inl, inr, ◌∙◌, arith}
+use Rattle.std.specs.Prelude.{slice_get, slice_set, replicate}
 use Rattle.std.specs.Option.{option_to_list}
 use Rattle.std.specs.List.{Contains}
 use Rattle.std.proofs.Math.Nat.{mod-lt}
 use Rattle.std.proofs.lemmas.Bool.{cases_eq, cases_lt}
 use Rattle.std.proofs.lemmas.Nat.{div-add-mod'}
-use Rattle.std.proofs.lemmas.List.{length-set, length-take, length-take-le, length-drop}
-use Rattle.std.proofs.lemmas.List.Elements.{Contains-append_left, Contains-push, Contains-push_cases}
+use Rattle.std.proofs.lemmas.List.{length-take, length-take-le, length-drop}
+use Rattle.std.proofs.lemmas.List.Elements.{Contains-push_cases}
 use Rattle.std.proofs.lemmas.Option.{slice_get_past}
 use Rattle.vp_list.specs.Chunks.{with_items}
 use Rattle.vp_list.specs.declared.tracked.Written.{Written}
@@ -26,13 +26,13 @@ same_items (x ∷ xs) (y ∷ ys) h =
     ap (λ z. z ∷ xs) e ∙ ap (λ zs. y ∷ zs) rest
 
 -- the item at a place that was exchanged
-get_same : {X : Type 0} (xs : List X) (k : ℕ) (x : X) → k < length xs → slice_get (slice_set xs k x) k ≡ Some x
+pub get_same : {X : Type 0} (xs : List X) (k : ℕ) (x : X) → k < length xs → slice_get (slice_set xs k x) k ≡ Some x
 get_same [] k x h = absurd (omega arith)
 get_same (y ∷ ys) zero x h = refl
 get_same (y ∷ ys) (suc k) x h = get_same ys k x (omega arith)
 
 -- and at another place
-get_other : {X : Type 0} (xs : List X) (p k : ℕ) (x : X) → (k ≡ p → ⊥) → slice_get (slice_set xs p x) k ≡ slice_get xs k
+pub get_other : {X : Type 0} (xs : List X) (p k : ℕ) (x : X) → (k ≡ p → ⊥) → slice_get (slice_set xs p x) k ≡ slice_get xs k
 get_other [] p k x h = refl
 get_other (y ∷ ys) zero zero x h = absurd (h refl)
 get_other (y ∷ ys) zero (suc k) x h = refl
@@ -40,14 +40,14 @@ get_other (y ∷ ys) (suc p) zero x h = refl
 get_other (y ∷ ys) (suc p) (suc k) x h = get_other ys p k x (λ e. h (ap suc e))
 
 -- the first items of a list
-get_take : {X : Type 0} (n : ℕ) (xs : List X) (k : ℕ) → k < n → slice_get (take n xs) k ≡ slice_get xs k
+pub get_take : {X : Type 0} (n : ℕ) (xs : List X) (k : ℕ) → k < n → slice_get (take n xs) k ≡ slice_get xs k
 get_take zero xs k h = absurd (omega arith)
 get_take (suc n) [] k h = refl
 get_take (suc n) (x ∷ xs) zero h = refl
 get_take (suc n) (x ∷ xs) (suc k) h = get_take n xs k (omega arith)
 
 -- those behind a place
-get_drop : {X : Type 0} (n : ℕ) (xs : List X) (k : ℕ) → slice_get (drop n xs) k ≡ slice_get xs (n + k)
+pub get_drop : {X : Type 0} (n : ℕ) (xs : List X) (k : ℕ) → slice_get (drop n xs) k ≡ slice_get xs (n + k)
 get_drop zero xs k = ap (slice_get xs) (omega arith)
 get_drop (suc n) [] k = sym (slice_get_past [] (suc n + k) (omega arith))
 get_drop (suc n) (x ∷ xs) k = let e : suc n + k ≡ suc (n + k) = omega arith in get_drop n xs k ∙ ap (slice_get (x ∷ xs)) (sym e)
@@ -90,12 +90,12 @@ abbrev pub chunk_of : {X : Type 0} → List X → ℕ → List X
 chunk_of xs number = take 64 (drop (64 * number) xs)
 
 -- how long it is
-chunk_length : {X : Type 0} (xs : List X) (number : ℕ) → length (chunk_of xs number) ≡ min (length xs - 64 * number) 64
+pub chunk_length : {X : Type 0} (xs : List X) (number : ℕ) → length (chunk_of xs number) ≡ min (length xs - 64 * number) 64
 chunk_length xs number =
     omega (arith, length-take 64 (drop (64 * number) xs), length-drop (64 * number) xs)
 
 -- an item of the list stands in its chunk
-get_chunk : {X : Type 0} (xs : List X) (number k : ℕ) → k / 64 ≡ number → k < length xs
+pub get_chunk : {X : Type 0} (xs : List X) (number k : ℕ) → k / 64 ≡ number → k < length xs
     → slice_get (chunk_of xs number) (k - 64 * number) ≡ slice_get xs k
 get_chunk xs number k own h =
     let long = length-drop (64 * number) xs in

@@ -49,6 +49,41 @@ fn copies_of_a_list(rt: HostRuntime) {
     assert_eq!(rt; copies(rt.alloc()), Some(wanted));
 }
 
+/// The numbers up to 1,000.
+fn many_numbers(alloc: Global) -> Option<TrackedList<u32>> {
+    let items = (0..1000).collect(alloc).ok()?;
+    TrackedList::from_vec(alloc, items).ok()
+}
+
+/// What stands at three places of a copy, of which the chunks have numbers with the same rest by four.
+fn three_of(copy: &SharedList<u32>) -> Option<(u32, u32, u32)> {
+    Some((copy.get(64)?, copy.get(320)?, copy.get(832)?))
+}
+
+/// Writes one place of each chunk of a list, and keeps a copy behind each.
+fn write_each(list: &mut TrackedList<u32>) -> Option<()> {
+    for number in 0..15 {
+        list.set(64 * number, 7);
+        drop(list.keep().ok()?);
+    }
+    Some(())
+}
+
+/// Three places of a copy of the numbers, and of one behind more chunks that were written than can be exchanged at once.
+fn first_and_last(alloc: Global) -> Option<[(u32, u32, u32); 2]> {
+    let mut list = many_numbers(alloc)?;
+    let first = list.keep().ok()?;
+    write_each(&mut list)?;
+    let last = list.keep().ok()?;
+    Some([three_of(&first)?, three_of(&last)?])
+}
+
+#[test]
+fn copies_of_many_chunks(rt: HostRuntime) {
+    let wanted = [(64, 320, 832), (7, 7, 7)];
+    assert_eq!(rt; first_and_last(rt.alloc()), Some(wanted));
+}
+
 /// The values of a new design with a reg of two bits, `top.a` (1).
 fn new_values(alloc: Global) -> Option<Values> {
     let checked = shared_of(alloc, "module top; reg [1:0] a; endmodule")?;

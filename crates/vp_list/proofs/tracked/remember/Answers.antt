@@ -1,4 +1,4 @@
-use Rattle.std.proofs.Common.{◌≡◌, ◌/◌, refl, sym, subst, rules}
+use Rattle.std.proofs.Common.{◌/◌, refl, sym, subst, rules}
 use Rattle.vp_list.specs.Tracked.{Lets}
 use Rattle.vp_list.specs.laws.Tracked.{marked_more, written_more, written_there}
 use Rattle.vp_list.proofs.tracked.remember.Goals as goal

@@ -1,7 +1,7 @@
-use Rattle.std.proofs.Common.{rules, ◌≡◌, ◌∙◌, ◌*◌, ◌<◌, length, ap}
+use Rattle.std.proofs.Common.{rules, ◌∙◌, ◌*◌, ◌<◌, length, lit<, ap, arith}
 use Rattle.std.proofs.lemmas.Result.{on_ok_weaker}
 use Rattle.vp_list.specs.Chunks.{with_items}
-use Rattle.vp_list.specs.laws.Tracked.{own_taken, others_taken}
+use Rattle.vp_list.specs.laws.Tracked.{chunk_length, own_taken, others_taken}
 use Rattle.vp_list.proofs.tracked.take_over.Goals as goal
 
 pub returns-clause-own : goal.returns-clause-own
@@ -19,3 +19,10 @@ returns-clause-others g c =
     (λ set k other. others_taken c.args.copy.now c.args.items.now c.set_chunk.new.self c.args.number k c.requires.length there
     (set ∙ ap (with_items c.args.copy.now (64 * c.args.number)) c.chunk_of.ensures.items) other)
     c.set_chunk.ensures.set
+
+pub set_chunk-requires : goal.set_chunk-requires
+set_chunk-requires g c =
+    let some = c.chunk_of.ensures.some in
+    let there = c.chunk_of.ensures.there in
+    let whole = chunk_length c.args.items.now c.args.number in
+    (lit< tt, (omega (arith, some, there, c.requires.length), omega (arith, ap length c.chunk_of.ensures.items, whole, c.requires.length)))

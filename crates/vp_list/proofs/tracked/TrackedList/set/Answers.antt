@@ -1,4 +1,4 @@
-use Rattle.std.proofs.Common.{◌≡◌, ◌∙◌, sym}
+use Rattle.std.proofs.Common.{◌∙◌, sym}
 use Rattle.std.proofs.lemmas.List.{length-set}
 use Rattle.vp_list.specs.laws.Tracked.{copied_set}
 use Rattle.vp_list.proofs.tracked.TrackedList.set.Goals as goal

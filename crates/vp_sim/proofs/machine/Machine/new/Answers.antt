@@ -1,4 +1,5 @@
 use Rattle.std.proofs.Common.{◌≡◌, ◌∙◌, ℕ, ap, length, map, refl, subst, sym}
+use Rattle.std.proofs.lemmas.Result.{err_from_is_err_and}
 use Rattle.std.specs.Arc.{arc_value}
 use Rattle.vp_elab.specs.Built.{Elaborated}
 use Rattle.vp_elab.specs.Tree.{below}
@@ -42,3 +43,8 @@ returns-clause-state c =
     (first.remaining ∙ ap (λ (x : Elaborated). (start x).remaining) c.deref.ensures)
     (first.waiting ∙ ap (λ (x : Elaborated). (start x).waiting) c.deref.ensures)
     ((c.in-Ok.ensures {u = tt}).queue ∙ ap (λ (n : ℕ). with_active no_events (map Evaluation (below n))) (count c))
+
+pub returns-in_err-listeners-clause-err : goal.returns-in_err-listeners-clause-err
+returns-in_err-listeners-clause-err c =
+    let p = err_from_is_err_and c.from_residual-in_err-listeners.result c.from_residual-in_err-listeners.ensures.1 in
+    rw (p.1, p.2) refl

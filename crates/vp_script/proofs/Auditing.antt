@@ -1,0 +1,141 @@
+-- What an audit rests on, and why there is none.
+use Rattle.std.proofs.Common.{◌≡◌, ◌∙◌, ◌≤◌, ℕ, Bool, List, length, None, Ok, Some, Option, inl, inr, ap, sym, subst}
+use Rattle.vp_source.specs.declared.source.Source.{Source}
+use Rattle.vp_modules.specs.Refusals as modules
+use Rattle.vp_elab.specs.Built.{Elaborated, design_of}
+use Rattle.vp_elab.proofs.Distinct.{neither}
+use Rattle.vp_policy.specs.File.{file_in, file_of, policy_for}
+use Rattle.vp_policy.specs.PolicyState.{Fits, PolicyState}
+use Rattle.vp_policy.specs.Users.{user_of}
+use Rattle.vp_elab.specs.Tree.{Tree}
+use Rattle.vp_audit.specs.Openings.{IsRight}
+use Rattle.vp_audit.specs.declared.audit.Audit.{Audit}
+use Rattle.vp_script.specs.declared.fault.ServeFault.{ServeFault}
+use Rattle.vp_script.specs.declared.fault.ServeFault.TheVariants as fault
+use Rattle.vp_world.specs.Worlds.{Opening}
+use Rattle.vp_wire.specs.declared.fault.WireError.{WireError}
+use Rattle.vp_script.specs.Audits.{EndsAuditBy, EndsOpenedBy, IsAuditBehind, IsAudited, IsLacking, OpensFor, RunsTo, audit_of}
+use Rattle.vp_script.specs.Designs.{IsDesignOf, text_limit}
+use Rattle.vp_script.specs.Scripts.{IsAnswered, IsOpened, IsStopped, Script, opened, opening_of}
+use Rattle.vp_script.specs.Views.{Gives, IsUntoldUnder}
+use Rattle.vp_script.proofs.Openings.{answered_keeps}
+
+-- the design of a text is elaborated of right modules
+right_by : (text : List ℕ) (design : Elaborated) (policy : PolicyState) → IsDesignOf text design → Fits policy design.tree → IsRight (opening_of design policy)
+right_by text design policy of fits =
+    let same : of.source ≡ design.source = sym (ap (λ (d : Elaborated). d.source) of.is_design) in
+    record {
+      fits = fits;
+      built = record { protection = of.protection; is = of.is_design ∙ ap (λ (s : Source). design_of s of.protection) same };
+      right = subst (λ (s : Source). modules.refusal_of s ≡ None) same (neither (modules.refusal_of of.source) _ of.names).0;
+    }
+
+-- a policy of this tree is that of its file for the tree
+policy_is : (p : PolicyState) (tree : Tree) → p.tree ≡ tree → p ≡ policy_for tree (file_in p)
+policy_is p tree is = ap (λ (t : Tree). policy_for t (file_in p)) is
+
+-- a design and a policy that were read for it
+pub record IsRead (text bytes : List ℕ) (design : Elaborated) (policy : PolicyState) : Type 0 where
+  pub of : IsDesignOf text design
+  pub fits : length bytes ≤ text_limit
+  pub is_file : file_of (length design.tree.authors) bytes ≡ Ok (file_in policy)
+  pub for_it : Fits policy design.tree
+
+-- the same of a design that is made, shared and then lent to the reading of the policy file
+pub read_of :
+    (text bytes : List ℕ) (made shared lent : Elaborated) (policy : PolicyState) → IsDesignOf text made → shared ≡ made → lent ≡ shared
+    → length bytes ≤ text_limit → file_of (length lent.tree.authors) bytes ≡ Ok (file_in policy) → Fits policy lent.tree
+    → IsRead text bytes shared policy
+read_of text bytes made shared lent policy of is_made is_lent fits is_file for_it = record {
+  of = subst (IsDesignOf text) (sym is_made) of;
+  fits = fits;
+  is_file = subst (λ (d : Elaborated). file_of (length d.tree.authors) bytes ≡ Ok (file_in policy)) is_lent is_file;
+  for_it = for_it ∙ ap (λ (d : Elaborated). d.tree) is_lent;
+}
+
+module _ (text bytes : List ℕ) (design : Elaborated) (policy : PolicyState) (read : IsRead text bytes design policy) where
+  -- a world may open with them
+  pub right_of : IsRight (opening_of design policy)
+  right_of = right_by text design policy read.of read.for_it
+
+  -- and a script opens with them
+  pub opens_with : IsOpened text bytes (opened (opening_of design policy))
+  opens_with = record {
+    design = design;
+    is_design = read.of;
+    fits = read.fits;
+    file = file_in policy;
+    is_file = read.is_file;
+    fresh = ap (λ (p : PolicyState). opened (opening_of design p)) (policy_is policy design.tree read.for_it);
+  }
+
+  -- the policy's file gives its users
+  gives : Gives bytes design (file_in policy)
+  gives = record { fits = read.fits; is_file = read.is_file }
+
+  -- want of memory is what a view may be refused by
+  lacking : (name : List ℕ) (f : ServeFault) → IsLacking f → IsUntoldUnder bytes name design f
+  lacking name (fault.Policy e) h = inr (file_in policy, gives, h)
+  lacking name (fault.World e) h = inl h
+  lacking name fault.NoMemory h = inl tt
+  lacking name (fault.Tokens e) h = absurd h
+  lacking name (fault.Envelopes e) h = absurd h
+  lacking name (fault.Source e) h = absurd h
+  lacking name (fault.Design e) h = absurd h
+  lacking name (fault.Expressions e) h = absurd h
+  lacking name (fault.Lines e) h = absurd h
+  lacking name fault.BadBundle h = absurd h
+  lacking name fault.ReadFailed h = absurd h
+  lacking name fault.TooLong h = absurd h
+  lacking name fault.NoSuchUser h = absurd h
+
+  module _ (name : List ℕ) (unread still_unread : Option (List ℕ)) where
+    -- before the script: the policy file is refused, or has no such user
+    untold : (f : ServeFault) → IsUntoldUnder bytes name design f → still_unread ≡ unread → EndsAuditBy text bytes name unread still_unread f
+    untold f refused still = inl (inr (design, read.of, refused), still)
+
+    pub no_such_user : (f : ServeFault) → f ≡ fault.NoSuchUser → user_of policy.members name ≡ None → still_unread ≡ unread → EndsAuditBy text bytes name unread still_unread f
+    no_such_user f is none still =
+        subst (λ (g : ServeFault). EndsAuditBy text bytes name unread still_unread g) (sym is) (untold fault.NoSuchUser (inr (file_in policy, gives, none)) still)
+
+    module _ (user : ℕ) (named : user_of policy.members name ≡ Some user) where
+      opens_for : OpensFor text bytes name (opening_of design policy) user
+      opens_for = record { opens = opens_with; named = named }
+
+      pub audited : (audit : Audit) → IsAuditBehind (opening_of design policy) user unread still_unread audit → IsAudited text bytes name unread still_unread audit
+      audited audit is = record { opening = opening_of design policy; user = user; opens = opens_for; behind = is }
+
+      -- behind its beginning
+      pub ended : (f : ServeFault) → EndsOpenedBy (opening_of design policy) unread still_unread f → EndsAuditBy text bytes name unread still_unread f
+      ended f (inl (lacks, still)) = untold f (lacking name f lacks) still
+      ended f (inr ends) = inr (opening_of design policy, user, opens_for, ends)
+
+-- a script that opens with a design and a policy, which are lent
+pub opens_lent : (script : Script) (own lent : Elaborated) (policy : PolicyState) → script ≡ opened (opening_of own policy) → own ≡ lent → script ≡ opened (opening_of lent policy)
+opens_lent script own lent policy opens same = opens ∙ ap (λ (d : Elaborated). opened (opening_of d policy)) same
+
+module _ (opening : Opening) (unread still_unread : Option (List ℕ)) (script : Script) (opens : script ≡ opened opening) where
+  module _ (starved : Bool) (behind : Script) (lines : ℕ) (answered : IsAnswered starved script behind unread still_unread None None lines) where
+    -- behind the script its world is still one that began so
+    pub began : behind.world.opening ≡ opening
+    began = answered_keeps starved script behind lines answered ∙ ap (λ (s : Script). s.world.opening) opens
+
+    -- the script is run
+    pub runs_to : RunsTo opening unread still_unread behind
+    runs_to = record {
+      starved = starved;
+      lines = lines;
+      answered = subst (λ (s : Script). IsAnswered starved s behind unread still_unread None None lines) opens answered;
+    }
+
+    -- and its log audited
+    pub audit_behind : (user : ℕ) (audit : Audit) → audit ≡ audit_of user behind.world.log → IsAuditBehind opening user unread still_unread audit
+    audit_behind user audit is = record { behind = behind; runs = runs_to; is = is }
+
+    -- or memory is lacking for that
+    pub lacks_behind : (f : ServeFault) → f ≡ fault.NoMemory → EndsOpenedBy opening unread still_unread f
+    lacks_behind f is = subst (EndsOpenedBy opening unread still_unread) (sym is) (inr (behind, runs_to))
+
+  -- a script that has stopped
+  pub stops_behind : (e : WireError) → IsStopped e script unread still_unread None None → EndsOpenedBy opening unread still_unread (fault.Lines e)
+  stops_behind e stopped = inr (subst (λ (s : Script). IsStopped e s unread still_unread None None) opens stopped)

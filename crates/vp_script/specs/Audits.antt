@@ -1,0 +1,74 @@
+-- An audit behind a script: what one user was told is what comes of what he can know (profile).
+use Rattle.std.specs.Prelude.{◌≡◌, ◌⊎◌, ℕ, Bool, true, List, length, Option, Some, None}
+use Rattle.vp_policy.specs.declared.fault.PolicyError.TheVariants as policy_error
+use Rattle.vp_policy.specs.Users.{user_of}
+use Rattle.vp_world.specs.declared.fault.WorldError.TheVariants as error
+use Rattle.vp_world.specs.Entries.{Entry}
+use Rattle.vp_world.specs.Worlds.{Opening}
+use Rattle.vp_audit.specs.declared.audit.Audit.{Audit}
+use Rattle.vp_audit.specs.Projections.{replies_of}
+use Rattle.vp_script.specs.declared.fault.ServeFault.{ServeFault}
+use Rattle.vp_script.specs.declared.fault.ServeFault.TheVariants as fault
+use Rattle.vp_script.specs.Scripts.{IsAnswered, IsOpened, IsStopped, Script, opened}
+use Rattle.vp_script.specs.Views.{IsViewRefusedBy}
+
+-- ---- an audit
+
+-- the audit of the user of a number, of a log: what he was told is the same, as many replies as there are to his own events
+abbrev pub audit_of : (user : ℕ) → List Entry → Audit
+audit_of user log = record { same = true; number = length (replies_of user log) }
+
+-- a script, from how its world opens to what it is behind an input: the input is read to its end, and what is told goes nowhere
+pub record RunsTo (opening : Opening) (unread still_unread : Option (List ℕ)) (behind : Script) : Type 0 where
+  pub starved : Bool
+  pub lines : ℕ
+  pub answered : IsAnswered starved (opened opening) behind unread still_unread None None lines
+
+-- an audit of the user of a number, of the log behind a script over an input
+pub record IsAuditBehind (opening : Opening) (user : ℕ) (unread still_unread : Option (List ℕ)) (audit : Audit) : Type 0 where
+  pub behind : Script
+  pub runs : RunsTo opening unread still_unread behind
+  pub is : audit ≡ audit_of user behind.world.log
+
+-- a text and a policy file open a script, and the user of a name in the file has this number
+pub record OpensFor (text policy name : List ℕ) (opening : Opening) (user : ℕ) : Type 0 where
+  pub opens : IsOpened text policy (opened opening)
+  pub named : user_of opening.policy.members name ≡ Some user
+
+-- an audit of the user of a name, of the log behind the script of a text and a policy file over an input
+pub record IsAudited (text policy name : List ℕ) (unread still_unread : Option (List ℕ)) (audit : Audit) : Type 0 where
+  pub opening : Opening
+  pub user : ℕ
+  pub opens : OpensFor text policy name opening user
+  pub behind : IsAuditBehind opening user unread still_unread audit
+
+-- ---- why there is none
+
+-- memory is lacking
+abbrev pub IsLacking : ServeFault → Type 0
+IsLacking (fault.Policy e) = e ≡ policy_error.NoMemory
+IsLacking (fault.World e) = e ≡ error.NoMemory
+IsLacking fault.NoMemory = Unit {0}
+IsLacking f = ⊥
+
+-- a script over an input has ended without an audit: by a fault of the reader; or at the end of the input, for want of memory
+abbrev pub EndsRunBy : Opening → (unread still_unread : Option (List ℕ)) → ServeFault → Type 0
+EndsRunBy opening unread still_unread (fault.Lines e) = IsStopped e (opened opening) unread still_unread None None
+EndsRunBy opening unread still_unread fault.NoMemory = (behind : Script) × RunsTo opening unread still_unread behind
+EndsRunBy opening unread still_unread f = ⊥
+
+-- the same, or before anything was read, for want of memory
+abbrev pub EndsOpenedBy : Opening → (unread still_unread : Option (List ℕ)) → ServeFault → Type 0
+EndsOpenedBy opening unread still_unread f =
+    (IsLacking f × (still_unread ≡ unread)) ⊎ EndsRunBy opening unread still_unread f
+
+-- the script of a text and a policy file that has the user of a name has ended without an audit
+abbrev pub EndsNamedBy : (text policy name : List ℕ) → (unread still_unread : Option (List ℕ)) → ServeFault → Type 0
+EndsNamedBy text policy name unread still_unread f =
+    (opening : Opening) × (user : ℕ) × OpensFor text policy name opening user × EndsRunBy opening unread still_unread f
+
+-- the fault that ended an audit: of the text, then of the policy file, then of the name, as a view is refused, before which nothing was
+-- read; then of the reader; or memory is lacking
+abbrev pub EndsAuditBy : (text policy name : List ℕ) → (unread still_unread : Option (List ℕ)) → ServeFault → Type 0
+EndsAuditBy text policy name unread still_unread f =
+    (IsViewRefusedBy text policy name f × (still_unread ≡ unread)) ⊎ EndsNamedBy text policy name unread still_unread f
