@@ -1,6 +1,7 @@
 pub mod AuditRows
 pub mod Comparing
 pub mod EntryReading
+pub mod Filling
 pub mod Following
 pub mod Granting
 pub mod LogReading

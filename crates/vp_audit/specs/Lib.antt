@@ -1,4 +1,5 @@
 pub mod Audits
+pub mod Explained
 pub mod Faults
 pub mod Known
 pub mod Openings

@@ -2,6 +2,7 @@
 #![tactic(auto)]
 
 mod audit;
+mod explaining;
 mod fault;
 mod item;
 mod part;
@@ -11,6 +12,7 @@ mod reading;
 mod replaying;
 
 pub use audit::{Audit, audit_user};
+pub use explaining::{Explained, explain};
 pub use fault::AuditError;
 pub use item::{Granted, Item, Own, Projection};
 pub use projecting::project;

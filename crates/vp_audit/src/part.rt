@@ -2,6 +2,7 @@
 ghost use Rattle.std.specs.Prelude.{◌≡◌, IfErr, IfOk, OnOk, None, Some, option_map, map, slice_set, true};
 ghost use Rattle.vp_pragma.specs.declared.rights.Right.TheVariants as right;
 ghost use Rattle.vp_notify.specs.Registry.{lacks_watch};
+ghost use Rattle.vp_audit.specs.Explained.{value_asked};
 ghost use Rattle.vp_audit.specs.Faults.{MayRefuse};
 ghost use Rattle.vp_audit.specs.Parts.{part_after, part_after_entry, part_granted, races_after, reply_of, session_notified, takes, takes_grant, takes_own, values_after, with_own};
 ghost use Rattle.vp_audit.specs.Projections.{first_part};
@@ -194,6 +195,17 @@ impl<'a> Part<'a> {
             self.races.push(race.try_clone()?)?;
         }
         Ok(())
+    }
+
+    /// The object whose value an event of his own asks, if it asks one.
+    pub fn value_asked(&self, own: &Own) -> Option<ObjectId>
+        ensures { option_map (λ o. o.0) result ≡ value_asked self.now own.now }
+    {
+        let Own::Asks(id, Request::Value { handle, .. }) = own else {
+            return None;
+        };
+        let place = place_of(&self.sessions, *id)?;
+        self.sessions[place].object(*handle)
     }
 
     /// A change of his grants is taken up.

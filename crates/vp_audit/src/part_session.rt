@@ -1,9 +1,9 @@
 // An open session of a user's part of a world.
-ghost use Rattle.std.specs.Prelude.{◌≡◌, ◌<◌, IfOk, IfSome, IsOkUnless, OnOk, Some, length, map, true};
+ghost use Rattle.std.specs.Prelude.{◌≡◌, ◌<◌, IfOk, IfSome, IsOkUnless, OnOk, Some, length, map, option_map, true};
 ghost use Rattle.std.specs.List.{list_all};
 ghost use Rattle.vp_notify.specs.Registry.{lacks_watch};
 ghost use Rattle.vp_notify.specs.Renumbered.{number_now, rises};
-ghost use Rattle.vp_vpi.specs.Seats.{new_seat};
+ghost use Rattle.vp_vpi.specs.Seats.{new_seat, object_of};
 ghost use Rattle.vp_answer.specs.Answers.{respond};
 ghost use Rattle.vp_world.specs.Worlds.{index_of, same_session};
 ghost use Rattle.vp_audit.specs.declared.fault.AuditError.TheVariants.{NoMemory};
@@ -13,6 +13,7 @@ use crate::fault::AuditError;
 use std::alloc::Global;
 use std::marker::Model;
 use vp_answer::{Refusal, Reply, Request, SessionId, respond};
+use vp_elab::ObjectId;
 use vp_pragma::Rights;
 use vp_vpi::{Observe, Session};
 use vp_waking::Change;
@@ -71,6 +72,13 @@ impl PartSession {
                 Ok(answer.reply)
             }
         }
+    }
+
+    /// The object of a handle; none where the number is no handle, or it was freed.
+    pub fn object(&self, handle: u32) -> Option<ObjectId>
+        ensures { option_map (λ o. o.0) result ≡ object_of self.now.seat.handles handle }
+    {
+        self.session.object(handle)
     }
 
     /// A change at a time is due to its callbacks. Takes no memory.

@@ -9,16 +9,15 @@ use Rattle.vp_policy.specs.PolicyState.{Fits, PolicyState}
 use Rattle.vp_policy.specs.Users.{user_of}
 use Rattle.vp_elab.specs.Tree.{Tree}
 use Rattle.vp_audit.specs.Openings.{IsRight}
-use Rattle.vp_audit.specs.declared.audit.Audit.{Audit}
+use Rattle.vp_script.specs.declared.audits.Audited.{Audited}
 use Rattle.vp_script.specs.declared.fault.ServeFault.{ServeFault}
 use Rattle.vp_script.specs.declared.fault.ServeFault.TheVariants as fault
 use Rattle.vp_world.specs.Worlds.{Opening}
 use Rattle.vp_wire.specs.declared.fault.WireError.{WireError}
-use Rattle.vp_script.specs.Audits.{EndsAuditBy, EndsOpenedBy, IsAuditBehind, IsAudited, IsLacking, OpensFor, RunsTo, audit_of}
-use Rattle.vp_script.specs.Designs.{IsDesignOf, text_limit}
+use Rattle.vp_script.specs.Audits.{EndsAuditBy, EndsOpenedBy, EndsRunBy, IsAuditBehind, IsAudited, IsLacking, OpensFor, RunsTo, audited_of}
+use Rattle.vp_design.specs.Designs.{IsDesignOf, text_limit}
 use Rattle.vp_script.specs.Scripts.{IsAnswered, IsOpened, IsStopped, Script, opened, opening_of}
 use Rattle.vp_script.specs.Views.{Gives, IsUntoldUnder}
-use Rattle.vp_script.proofs.Openings.{answered_keeps}
 
 -- the design of a text is elaborated of right modules
 right_by : (text : List ℕ) (design : Elaborated) (policy : PolicyState) → IsDesignOf text design → Fits policy design.tree → IsRight (opening_of design policy)
@@ -78,16 +77,14 @@ module _ (text bytes : List ℕ) (design : Elaborated) (policy : PolicyState) (r
   lacking name (fault.Policy e) h = inr (file_in policy, gives, h)
   lacking name (fault.World e) h = inl h
   lacking name fault.NoMemory h = inl tt
-  lacking name (fault.Tokens e) h = absurd h
-  lacking name (fault.Envelopes e) h = absurd h
-  lacking name (fault.Source e) h = absurd h
   lacking name (fault.Design e) h = absurd h
-  lacking name (fault.Expressions e) h = absurd h
   lacking name (fault.Lines e) h = absurd h
   lacking name fault.BadBundle h = absurd h
   lacking name fault.ReadFailed h = absurd h
   lacking name fault.TooLong h = absurd h
   lacking name fault.NoSuchUser h = absurd h
+  lacking name fault.ListenFailed h = absurd h
+  lacking name fault.NoThread h = absurd h
 
   module _ (name : List ℕ) (unread still_unread : Option (List ℕ)) where
     -- before the script: the policy file is refused, or has no such user
@@ -102,8 +99,8 @@ module _ (text bytes : List ℕ) (design : Elaborated) (policy : PolicyState) (r
       opens_for : OpensFor text bytes name (opening_of design policy) user
       opens_for = record { opens = opens_with; named = named }
 
-      pub audited : (audit : Audit) → IsAuditBehind (opening_of design policy) user unread still_unread audit → IsAudited text bytes name unread still_unread audit
-      audited audit is = record { opening = opening_of design policy; user = user; opens = opens_for; behind = is }
+      pub audited : (explain : Bool) (audited : Audited) → IsAuditBehind explain (opening_of design policy) user unread still_unread audited → IsAudited explain text bytes name unread still_unread audited
+      audited explain given is = record { opening = opening_of design policy; user = user; opens = opens_for; behind = is }
 
       -- behind its beginning
       pub ended : (f : ServeFault) → EndsOpenedBy (opening_of design policy) unread still_unread f → EndsAuditBy text bytes name unread still_unread f
@@ -114,28 +111,31 @@ module _ (text bytes : List ℕ) (design : Elaborated) (policy : PolicyState) (r
 pub opens_lent : (script : Script) (own lent : Elaborated) (policy : PolicyState) → script ≡ opened (opening_of own policy) → own ≡ lent → script ≡ opened (opening_of lent policy)
 opens_lent script own lent policy opens same = opens ∙ ap (λ (d : Elaborated). opened (opening_of d policy)) same
 
-module _ (opening : Opening) (unread still_unread : Option (List ℕ)) (script : Script) (opens : script ≡ opened opening) where
-  module _ (starved : Bool) (behind : Script) (lines : ℕ) (answered : IsAnswered starved script behind unread still_unread None None lines) where
-    -- behind the script its world is still one that began so
-    pub began : behind.world.opening ≡ opening
-    began = answered_keeps starved script behind lines answered ∙ ap (λ (s : Script). s.world.opening) opens
-
-    -- the script is run
-    pub runs_to : RunsTo opening unread still_unread behind
-    runs_to = record {
+module _ (opening : Opening) (unread still_unread : Option (List ℕ)) where
+  module _ (script : Script) (opens : script ≡ opened opening) where
+    -- a script that opens so is run
+    pub runs_to : (starved : Bool) (behind : Script) (lines : ℕ) → IsAnswered starved script behind unread still_unread None None lines → RunsTo opening unread still_unread behind
+    runs_to starved behind lines answered = record {
       starved = starved;
       lines = lines;
       answered = subst (λ (s : Script). IsAnswered starved s behind unread still_unread None None lines) opens answered;
     }
 
-    -- and its log audited
-    pub audit_behind : (user : ℕ) (audit : Audit) → audit ≡ audit_of user behind.world.log → IsAuditBehind opening user unread still_unread audit
-    audit_behind user audit is = record { behind = behind; runs = runs_to; is = is }
+    -- or has stopped
+    pub stops : (e : WireError) → IsStopped e script unread still_unread None None → EndsRunBy opening unread still_unread (fault.Lines e)
+    stops e stopped = subst (λ (s : Script). IsStopped e s unread still_unread None None) opens stopped
+
+  module _ (behind : Script) (runs : RunsTo opening unread still_unread behind) where
+    -- behind a run its log is audited
+    pub audit_behind :
+        (began : behind.world.opening ≡ opening) (explain : Bool) (user : ℕ) (audited : Audited) → audited ≡ audited_of explain behind.world.opening user behind.world.log
+        → IsAuditBehind explain opening user unread still_unread audited
+    audit_behind began explain user audited is = record {
+      behind = behind;
+      runs = runs;
+      is = is ∙ ap (λ (o : Opening). audited_of explain o user behind.world.log) began;
+    }
 
     -- or memory is lacking for that
     pub lacks_behind : (f : ServeFault) → f ≡ fault.NoMemory → EndsOpenedBy opening unread still_unread f
-    lacks_behind f is = subst (EndsOpenedBy opening unread still_unread) (sym is) (inr (behind, runs_to))
-
-  -- a script that has stopped
-  pub stops_behind : (e : WireError) → IsStopped e script unread still_unread None None → EndsOpenedBy opening unread still_unread (fault.Lines e)
-  stops_behind e stopped = inr (subst (λ (s : Script). IsStopped e s unread still_unread None None) opens stopped)
+    lacks_behind f is = subst (EndsOpenedBy opening unread still_unread) (sym is) (inr (behind, runs))

@@ -5,7 +5,7 @@ use Rattle.std.proofs.lemmas.Bool.Decides.{leb_tells}
 use Rattle.vp_script.specs.declared.fault.ServeFault.{ServeFault}
 use Rattle.vp_script.specs.declared.fault.ServeFault.TheVariants as fault
 use Rattle.vp_script.specs.Bundles.{cut_of}
-use Rattle.vp_script.specs.Designs.{text_limit}
+use Rattle.vp_design.specs.Designs.{text_limit}
 use Rattle.vp_script.specs.Scripts.{EndsBundleBy, EndsBy, HasParts, IsBadBundle, IsBundle, IsScript, Parts, bundle_limit}
 
 -- what a cut that was found gives

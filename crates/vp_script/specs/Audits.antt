@@ -1,5 +1,5 @@
 -- An audit behind a script: what one user was told is what comes of what he can know (profile).
-use Rattle.std.specs.Prelude.{◌≡◌, ◌⊎◌, ℕ, Bool, true, List, length, Option, Some, None}
+use Rattle.std.specs.Prelude.{◌≡◌, ◌⊎◌, ℕ, Bool, true, if◌then◌else◌, List, length, Option, Some, None}
 use Rattle.vp_policy.specs.declared.fault.PolicyError.TheVariants as policy_error
 use Rattle.vp_policy.specs.Users.{user_of}
 use Rattle.vp_world.specs.declared.fault.WorldError.TheVariants as error
@@ -7,6 +7,8 @@ use Rattle.vp_world.specs.Entries.{Entry}
 use Rattle.vp_world.specs.Worlds.{Opening}
 use Rattle.vp_audit.specs.declared.audit.Audit.{Audit}
 use Rattle.vp_audit.specs.Projections.{replies_of}
+use Rattle.vp_explain.specs.Explanation.{log_explanation}
+use Rattle.vp_script.specs.declared.audits.Audited.{Audited}
 use Rattle.vp_script.specs.declared.fault.ServeFault.{ServeFault}
 use Rattle.vp_script.specs.declared.fault.ServeFault.TheVariants as fault
 use Rattle.vp_script.specs.Scripts.{IsAnswered, IsOpened, IsStopped, Script, opened}
@@ -18,6 +20,17 @@ use Rattle.vp_script.specs.Views.{IsViewRefusedBy}
 abbrev pub audit_of : (user : ℕ) → List Entry → Audit
 audit_of user log = record { same = true; number = length (replies_of user log) }
 
+-- what the user of a number was told by a log of a world of an opening, and what came to him of it, where it is asked for
+abbrev pub explanation_if : (explain : Bool) → Opening → (user : ℕ) → List Entry → Option (List ℕ)
+explanation_if explain opening user log = if explain then Some (log_explanation opening user log) else None
+
+-- what an audit of the user of a number gives, of a log of a world of an opening
+abbrev pub audited_of : (explain : Bool) → Opening → (user : ℕ) → List Entry → Audited
+audited_of explain opening user log = record {
+  audit = audit_of user log;
+  explanation = explanation_if explain opening user log;
+}
+
 -- a script, from how its world opens to what it is behind an input: the input is read to its end, and what is told goes nowhere
 pub record RunsTo (opening : Opening) (unread still_unread : Option (List ℕ)) (behind : Script) : Type 0 where
   pub starved : Bool
@@ -25,10 +38,10 @@ pub record RunsTo (opening : Opening) (unread still_unread : Option (List ℕ)) 
   pub answered : IsAnswered starved (opened opening) behind unread still_unread None None lines
 
 -- an audit of the user of a number, of the log behind a script over an input
-pub record IsAuditBehind (opening : Opening) (user : ℕ) (unread still_unread : Option (List ℕ)) (audit : Audit) : Type 0 where
+pub record IsAuditBehind (explain : Bool) (opening : Opening) (user : ℕ) (unread still_unread : Option (List ℕ)) (audited : Audited) : Type 0 where
   pub behind : Script
   pub runs : RunsTo opening unread still_unread behind
-  pub is : audit ≡ audit_of user behind.world.log
+  pub is : audited ≡ audited_of explain opening user behind.world.log
 
 -- a text and a policy file open a script, and the user of a name in the file has this number
 pub record OpensFor (text policy name : List ℕ) (opening : Opening) (user : ℕ) : Type 0 where
@@ -36,11 +49,11 @@ pub record OpensFor (text policy name : List ℕ) (opening : Opening) (user : �
   pub named : user_of opening.policy.members name ≡ Some user
 
 -- an audit of the user of a name, of the log behind the script of a text and a policy file over an input
-pub record IsAudited (text policy name : List ℕ) (unread still_unread : Option (List ℕ)) (audit : Audit) : Type 0 where
+pub record IsAudited (explain : Bool) (text policy name : List ℕ) (unread still_unread : Option (List ℕ)) (audited : Audited) : Type 0 where
   pub opening : Opening
   pub user : ℕ
   pub opens : OpensFor text policy name opening user
-  pub behind : IsAuditBehind opening user unread still_unread audit
+  pub behind : IsAuditBehind explain opening user unread still_unread audited
 
 -- ---- why there is none
 

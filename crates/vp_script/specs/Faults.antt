@@ -1,23 +1,15 @@
 -- The numbers and the lines of the faults that end a run.
 use Rattle.std.specs.Prelude.{ℕ}
-use Rattle.vp_lex.specs.Faults as lex
-use Rattle.vp_pragma.specs.Faults as pragma
-use Rattle.vp_parse.specs.Faults as parse
-use Rattle.vp_names.specs.Faults as elab
-use Rattle.vp_resolve.specs.Faults as expr
+use Rattle.vp_design.specs.Faults as design
 use Rattle.vp_policy.specs.Faults as policy
 use Rattle.vp_world.specs.Faults as world
 use Rattle.vp_wire.specs.Faults as wire
 use Rattle.vp_script.specs.declared.fault.ServeFault.{ServeFault}
-use Rattle.vp_script.specs.declared.fault.ServeFault.TheVariants.{Tokens, Envelopes, Source, Design, Expressions, Policy, World, Lines, BadBundle, ReadFailed, TooLong, NoSuchUser, NoMemory}
+use Rattle.vp_script.specs.declared.fault.ServeFault.TheVariants.{Design, Policy, World, Lines, BadBundle, ReadFailed, TooLong, NoSuchUser, ListenFailed, NoThread, NoMemory}
 
 -- the number of a fault (profile)
 abbrev pub code_of : ServeFault → ℕ
-code_of (Tokens e) = lex.code_of e
-code_of (Envelopes e) = pragma.code_of e
-code_of (Source e) = parse.code_of e
-code_of (Design e) = elab.code_of e
-code_of (Expressions e) = expr.code_of e
+code_of (Design e) = design.code_of e
 code_of (Policy e) = policy.code_of e
 code_of (World e) = world.code_of e
 code_of (Lines e) = wire.code_of e
@@ -25,15 +17,13 @@ code_of BadBundle = 1601
 code_of ReadFailed = 1602
 code_of TooLong = 1603
 code_of NoSuchUser = 1604
+code_of ListenFailed = 1605
+code_of NoThread = 1606
 code_of NoMemory = 1607
 
 -- its line in the design, 0 where none is known (profile)
 abbrev pub line_of : ServeFault → ℕ
-line_of (Tokens e) = lex.line_of e
-line_of (Envelopes e) = pragma.line_of e
-line_of (Source e) = parse.line_of e
-line_of (Design e) = elab.line_of e
-line_of (Expressions e) = expr.line_of e
+line_of (Design e) = design.line_of e
 line_of (Policy e) = 0
 line_of (World e) = 0
 line_of (Lines e) = 0
@@ -41,4 +31,6 @@ line_of BadBundle = 0
 line_of ReadFailed = 0
 line_of TooLong = 0
 line_of NoSuchUser = 0
+line_of ListenFailed = 0
+line_of NoThread = 0
 line_of NoMemory = 0

@@ -30,7 +30,8 @@ use Rattle.vp_wire.specs.Dialogue.{Closes, IsWhole, Point, Stops}
 use Rattle.vp_script.specs.Bundles.{cut_of}
 use Rattle.vp_script.specs.declared.fault.ServeFault.{ServeFault}
 use Rattle.vp_script.specs.declared.fault.ServeFault.TheVariants as fault
-use Rattle.vp_script.specs.Designs.{IsDesignOf, IsRefusedBy, text_limit}
+use Rattle.vp_design.specs.Designs.{IsDesignOf, text_limit}
+use Rattle.vp_script.specs.Designs.{IsRefusedBy}
 
 -- ---- one event
 
@@ -132,9 +133,17 @@ pub record Serves (starved : Bool) (before : Script) (r : Request) (answer : Rep
   pub session : after.session ≡ session_behind before.session answer
   pub runs : Runs starved asked after.world
 
+-- a world that began so, in which nothing has happened
+abbrev pub new_world : Opening → Logged
+new_world opening = record { opening = opening; log = [] }
+
+-- the script of a world that has opened no session
+abbrev pub begun : Logged → Script
+begun world = record { world = world; session = None }
+
 -- a script in which nothing has happened
 abbrev pub opened : Opening → Script
-opened opening = record { world = record { opening = opening; log = [] }; session = None }
+opened opening = begun (new_world opening)
 
 -- ---- a script over a reader and a writer
 

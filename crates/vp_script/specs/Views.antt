@@ -8,7 +8,8 @@ use Rattle.vp_policy.specs.View.{view_of}
 use Rattle.vp_outline.specs.Outline.{outline_of}
 use Rattle.vp_script.specs.declared.fault.ServeFault.{ServeFault}
 use Rattle.vp_script.specs.declared.fault.ServeFault.TheVariants as fault
-use Rattle.vp_script.specs.Designs.{IsDesignOf, IsRefusedBy, text_limit}
+use Rattle.vp_design.specs.Designs.{IsDesignOf, text_limit}
+use Rattle.vp_script.specs.Designs.{IsRefusedBy}
 use Rattle.vp_script.specs.Scripts.{IsPolicyRefusedBy}
 
 -- ---- checks

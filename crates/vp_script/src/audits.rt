@@ -1,10 +1,13 @@
 // Audits: whether what a user was told by a script is what comes of what he can know.
-ghost use Rattle.std.specs.Prelude.{◌≡◌, IfErr, IfOk, IsOkUnless};
+ghost use Rattle.std.specs.Prelude.{◌≡◌, IfErr, IfOk, IsOkUnless, OnOk};
 ghost use Rattle.std.specs.Arc.{arc_value};
 ghost use Rattle.vp_audit.specs.Openings.{IsRight};
+ghost use Rattle.vp_policy.specs.PolicyState.{Fits};
 ghost use Rattle.vp_script.specs.declared.fault.ServeFault.TheVariants.{NoMemory};
-ghost use Rattle.vp_script.specs.Audits.{EndsAuditBy, EndsOpenedBy, IsAuditBehind, IsAudited, audit_of};
-ghost use Rattle.vp_script.specs.Scripts.{opening_of};
+ghost use Rattle.vp_script.specs.Audits.{EndsAuditBy, EndsOpenedBy, EndsRunBy, IsAuditBehind, IsAudited, IsLacking, RunsTo, audit_of, audited_of, explanation_if};
+ghost use Rattle.vp_script.specs.Keeping.{script_of};
+ghost use Rattle.vp_script.specs.Scripts.{opened, opening_of};
+ghost use Rattle.vp_world.specs.Worlds.{Opening};
 
 use crate::fault::ServeFault;
 use crate::keeper::Keeper;
@@ -14,9 +17,19 @@ use std::io;
 use std::io::Read;
 use std::sync::Arc;
 use vp_audit::{Audit, audit_user};
+use vp_explain::explain_user;
 use vp_expr::Checked;
+use vp_list::Text;
 use vp_policy::{Policy, UserId};
 use vp_wire::Counted;
+
+/// What an audit gives.
+#[derive(Drop)]
+pub struct Audited {
+    pub audit: Audit,
+    /// Where it is asked for: what the user was told and what came to him (docs/FORMATS.md, "What a user was told").
+    pub explanation: Option<Text>,
+}
 
 /// The audit of a user, of a kept script's log, by the design and the policy with which its world opened; or want of memory.
 fn log_audit(
@@ -38,35 +51,111 @@ fn log_audit(
     }
 }
 
+/// What a user was told by a kept script's log and what came to him of it, where it is asked for; or want of memory.
+fn log_explanation(
+    alloc: Global,
+    checked: &Checked,
+    policy: &Policy,
+    keeper: &Keeper,
+    user: UserId,
+    explain: bool,
+) -> Result<Option<Text>, ServeFault>
+    requires right { IsRight keeper.now.world.opening }
+    requires design { keeper.now.world.opening.design ≡ checked.now }
+    requires policy { keeper.now.world.opening.policy ≡ policy.now }
+    ensures explanation { IfOk result (λ text. text
+        ≡ explanation_if explain keeper.now.world.opening user.0 keeper.now.world.log) }
+    ensures refused { IsOkUnless result NoMemory }
+{
+    if !explain {
+        return Ok(None);
+    }
+    match explain_user(alloc, checked, policy, keeper.log(), user) {
+        Ok(text) => Ok(Some(text)),
+        Err(_) => Err(ServeFault::NoMemory),
+    }
+}
+
+/// What an audit of a user gives, of a kept script's log, by the design and the policy with which its world opened; or want of memory.
+fn log_audited(
+    alloc: Global,
+    checked: &Checked,
+    policy: &Policy,
+    keeper: &Keeper,
+    user: UserId,
+    explain: bool,
+) -> Result<Audited, ServeFault>
+    requires right { IsRight keeper.now.world.opening }
+    requires design { keeper.now.world.opening.design ≡ checked.now }
+    requires policy { keeper.now.world.opening.policy ≡ policy.now }
+    ensures audited { IfOk result (λ audited. audited
+        ≡ audited_of explain keeper.now.world.opening user.0 keeper.now.world.log) }
+    ensures refused { IsOkUnless result NoMemory }
+{
+    Ok(Audited {
+        audit: log_audit(alloc, checked, policy, keeper, user)?,
+        explanation: log_explanation(alloc, checked, policy, keeper, user, explain)?,
+    })
+}
+
+/// Answers the lines of a reader by a script, up to the end of the input, and tells no reply; or the fault of the reader.
+fn run_to_end<R: Read>(
+    alloc: Global,
+    keeper: &mut Keeper,
+    reader: &mut Counted<R>,
+) -> Result<(), ServeFault>
+    ensures ran { OnOk result ((opening : Opening) → script_of keeper.old ≡ opened opening
+        → RunsTo opening (R.remaining reader.old.inner) (R.remaining reader.new.inner)
+        (script_of keeper.new)) }
+    ensures opening { OnOk result
+        ((script_of keeper.new).world.opening ≡ (script_of keeper.old).world.opening) }
+    ensures stopped { IfErr result (λ fault. (opening : Opening)
+        → script_of keeper.old ≡ opened opening
+        → EndsRunBy opening (R.remaining reader.old.inner) (R.remaining reader.new.inner) fault) }
+{
+    let mut nowhere = Counted::new(io::sink());
+    match answered(alloc, keeper, reader, &mut nowhere) {
+        Ok(_) => Ok(()),
+        Err(error) => Err(ServeFault::Lines(error)),
+    }
+}
+
+/// A fresh script of a design and a policy, which the caller keeps; or want of memory.
+fn keeper_for(alloc: Global, checked: &Arc<Checked>, policy: &Policy) -> Result<Keeper, ServeFault>
+    requires { Fits policy.now (arc_value checked.now).tree }
+    ensures script { IfOk result (λ keeper. script_of keeper
+        ≡ opened (opening_of (arc_value checked.now) policy.now)) }
+    ensures refused { IfErr result IsLacking }
+{
+    let own_policy = policy.try_clone(alloc, checked.design())?;
+    keeper_of(alloc, Arc::try_clone(checked)?, own_policy)
+}
+
 /// Runs a fresh script of a design and a policy over a reader, and audits a user behind it; or the fault of the reader, or want of
 /// memory, before anything was read or at the end of the input.
 fn script_audit<R: Read>(
     alloc: Global,
     checked: &Arc<Checked>,
-    policy: Policy,
+    policy: &Policy,
     user: UserId,
+    explain: bool,
     reader: &mut Counted<R>,
-) -> Result<Audit, ServeFault>
-    requires { IsRight (opening_of (arc_value checked.now) policy) }
-    ensures audit { IfOk result (λ audit. IsAuditBehind
-        (opening_of (arc_value checked.now) policy) user.0
-        (R.remaining reader.old.inner) (R.remaining reader.new.inner) audit) }
+) -> Result<Audited, ServeFault>
+    requires { IsRight (opening_of (arc_value checked.now) policy.now) }
+    ensures audit { IfOk result (λ audited. IsAuditBehind explain
+        (opening_of (arc_value checked.now) policy.now) user.0
+        (R.remaining reader.old.inner) (R.remaining reader.new.inner) audited) }
     ensures refused { IfErr result (λ fault. EndsOpenedBy
-        (opening_of (arc_value checked.now) policy)
+        (opening_of (arc_value checked.now) policy.now)
         (R.remaining reader.old.inner) (R.remaining reader.new.inner) fault) }
 {
-    let opening_policy = policy.try_clone(alloc, checked.design())?;
-    let shared = Arc::try_clone(checked)?;
-    let mut keeper = keeper_of(alloc, shared, policy)?;
-    let mut nowhere = Counted::new(io::sink());
-    match answered(alloc, &mut keeper, reader, &mut nowhere) {
-        Ok(_) => log_audit(alloc, checked, &opening_policy, &keeper, user),
-        Err(error) => Err(ServeFault::Lines(error)),
-    }
+    let mut keeper = keeper_for(alloc, checked, policy)?;
+    run_to_end(alloc, &mut keeper, reader)?;
+    log_audited(alloc, checked, policy, &keeper, user, explain)
 }
 
 /// Runs the lines of a reader as `run_script` does, but tells no reply, and then audits the user of a name: what he was told is the same
-/// as what comes of what he can know, in so many replies as his sessions have events. Or the first fault: of the design, then of the
+/// as what comes of what he can know, in so many replies as his sessions have events; and, where it is asked for, an explanation. Or the first fault: of the design, then of the
 /// policy, then that the policy has no such user (1604), before which nothing is read; then of the reader; or want of memory, before
 /// anything is read or at the end of the input (905, 1307, 1607).
 pub fn audit_script<R: Read>(
@@ -74,15 +163,16 @@ pub fn audit_script<R: Read>(
     design: &str,
     policy: &[u8],
     user: &str,
+    explain: bool,
     reader: &mut Counted<R>,
-) -> Result<Audit, ServeFault>
-    ensures audit { IfOk result (λ audit. IsAudited design.now policy.now user.now
-        (R.remaining reader.old.inner) (R.remaining reader.new.inner) audit) }
+) -> Result<Audited, ServeFault>
+    ensures audit { IfOk result (λ audited. IsAudited explain design.now policy.now user.now
+        (R.remaining reader.old.inner) (R.remaining reader.new.inner) audited) }
     ensures refused { IfErr result (λ fault. EndsAuditBy design.now policy.now user.now
         (R.remaining reader.old.inner) (R.remaining reader.new.inner) fault) }
 {
     let checked = Arc::new(alloc, checked(alloc, design)?)?;
     let policy = policy_of(alloc, policy, checked.design())?;
     let user = policy.user(user).ok_or(ServeFault::NoSuchUser)?;
-    script_audit(alloc, &checked, policy, user, reader)
+    script_audit(alloc, &checked, &policy, user, explain, reader)
 }

@@ -1,14 +1,10 @@
 ghost use Rattle.std.specs.Prelude.{◌≡◌};
-ghost use Rattle.vp_script.specs.declared.fault.ServeFault.TheVariants.{Design, Envelopes, Expressions, NoMemory, Policy, Source, Tokens, World};
+ghost use Rattle.vp_script.specs.declared.fault.ServeFault.TheVariants.{Design, NoMemory, Policy, World};
 
 use std::alloc::{AllocError, AllocFailed};
 use thiserror::Error;
-use vp_lex::LexError;
-use vp_names::ElabError;
-use vp_parse::ParseError;
+use vp_design::DesignFault;
 use vp_policy::PolicyError;
-use vp_pragma::PragmaError;
-use vp_resolve::ExprError;
 use vp_wire::WireError;
 use vp_world::WorldError;
 
@@ -16,15 +12,7 @@ use vp_world::WorldError;
 #[derive(Debug, Drop, Error)]
 pub enum ServeFault {
     #[error(transparent)]
-    Tokens(LexError),
-    #[error(transparent)]
-    Envelopes(PragmaError),
-    #[error(transparent)]
-    Source(ParseError),
-    #[error(transparent)]
-    Design(ElabError),
-    #[error(transparent)]
-    Expressions(ExprError),
+    Design(DesignFault),
     #[error(transparent)]
     Policy(PolicyError),
     #[error(transparent)]
@@ -37,12 +25,18 @@ pub enum ServeFault {
     /// A file or standard input that can't be read, or a design that is no UTF-8 (1602).
     #[error("reading failed")]
     ReadFailed,
-    /// A design or a policy of over 1,048,576 bytes, or a bundle of over 16,777,216 (1603).
+    /// A policy, or a file of a design, of over 1,048,576 bytes, or a bundle of over 16,777,216 (1603).
     #[error("too long")]
     TooLong,
     /// A user who is not in the policy (1604).
     #[error("no such user")]
     NoSuchUser,
+    /// A port that can't be listened on (1605).
+    #[error("listening failed")]
+    ListenFailed,
+    /// The thread of the simulation or a worker's can't be started (1606).
+    #[error("no thread")]
+    NoThread,
     /// Want of memory (1607).
     #[error("no memory")]
     NoMemory,
@@ -56,11 +50,7 @@ impl ServeFault {
         ensures { result ≡ code_of self.now }
     {
         match self {
-            ServeFault::Tokens(error) => error.code(),
-            ServeFault::Envelopes(error) => error.code(),
-            ServeFault::Source(error) => error.code(),
             ServeFault::Design(error) => error.code(),
-            ServeFault::Expressions(error) => error.code(),
             ServeFault::Policy(error) => error.code(),
             ServeFault::World(error) => error.code(),
             ServeFault::Lines(error) => error.code(),
@@ -68,6 +58,8 @@ impl ServeFault {
             ServeFault::ReadFailed => 1602,
             ServeFault::TooLong => 1603,
             ServeFault::NoSuchUser => 1604,
+            ServeFault::ListenFailed => 1605,
+            ServeFault::NoThread => 1606,
             ServeFault::NoMemory => 1607,
         }
     }
@@ -77,53 +69,17 @@ impl ServeFault {
         ensures { result ≡ line_of self.now }
     {
         match self {
-            ServeFault::Tokens(error) => error.line(),
-            ServeFault::Envelopes(error) => error.line(),
-            ServeFault::Source(error) => error.line(),
             ServeFault::Design(error) => error.line(),
-            ServeFault::Expressions(error) => error.line(),
             _ => 0,
         }
     }
 }
 
-impl From<LexError> for ServeFault {
-    ghost from_gives = { λ error fault. fault ≡ Tokens error };
-
-    fn from(error: LexError) -> ServeFault {
-        ServeFault::Tokens(error)
-    }
-}
-
-impl From<PragmaError> for ServeFault {
-    ghost from_gives = { λ error fault. fault ≡ Envelopes error };
-
-    fn from(error: PragmaError) -> ServeFault {
-        ServeFault::Envelopes(error)
-    }
-}
-
-impl From<ParseError> for ServeFault {
-    ghost from_gives = { λ error fault. fault ≡ Source error };
-
-    fn from(error: ParseError) -> ServeFault {
-        ServeFault::Source(error)
-    }
-}
-
-impl From<ElabError> for ServeFault {
+impl From<DesignFault> for ServeFault {
     ghost from_gives = { λ error fault. fault ≡ Design error };
 
-    fn from(error: ElabError) -> ServeFault {
+    fn from(error: DesignFault) -> ServeFault {
         ServeFault::Design(error)
-    }
-}
-
-impl From<ExprError> for ServeFault {
-    ghost from_gives = { λ error fault. fault ≡ Expressions error };
-
-    fn from(error: ExprError) -> ServeFault {
-        ServeFault::Expressions(error)
     }
 }
 

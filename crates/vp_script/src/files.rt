@@ -1,21 +1,47 @@
 // Scripts, audits, checks and views over files and standard input.
-use crate::audits::audit_script;
+use crate::audits::{Audited, audit_script};
 use crate::bundle::run_bundle;
 use crate::fault::ServeFault;
+use crate::refused::{Refused, STANDARD_INPUT, Sources, bundle_refused};
 use crate::script::{Ran, run_script};
-use crate::sources::{BUNDLE_LIMIT, TEXT_LIMIT, read_at_most, text_of};
+use crate::sources::{BUNDLE_LIMIT, read_at_most, text_of};
 use crate::views::{check_design, check_policy, view_text};
+use std::alloc::Global;
 use std::io::BufWriter;
 use std::rt::Files;
 use std::{fs, io};
-use vp_audit::Audit;
+use vp_design::TEXT_LIMIT;
 use vp_list::Text;
 use vp_wire::Counted;
 
 /// The bytes of the file of a design or a policy, at most one more than it may have; `ReadFailed` (1602) where it can't be read.
-fn file_bytes<R: AllocGlobal + Files>(rt: &R, path: &str) -> Result<Vec<u8>, ServeFault> {
+pub fn file_bytes<R: AllocGlobal + Files>(rt: &R, path: &str) -> Result<Vec<u8>, ServeFault> {
     let file = fs::open(rt, path).map_err(|_| ServeFault::ReadFailed)?;
     read_at_most(rt.alloc(), file, TEXT_LIMIT)
+}
+
+/// The bytes of a file, as `file_bytes` reads them; a fault is told with the name of the file.
+pub fn named_bytes<R: AllocGlobal + Files>(rt: &R, path: &str) -> Result<Vec<u8>, Refused> {
+    file_bytes(rt, path).map_err(|fault| Refused::of_file(rt.alloc(), path, fault))
+}
+
+/// The text of a design's bytes; a fault is told with the name of its file.
+pub fn named_text<'a>(alloc: Global, path: &str, bytes: &'a [u8]) -> Result<&'a str, Refused> {
+    text_of(bytes, ServeFault::ReadFailed).map_err(|fault| Refused::of_file(alloc, path, fault))
+}
+
+/// Reads the file of a design; or tells its first fault.
+fn check_design_file<R: AllocGlobal + Files>(rt: &R, path: &str) -> Result<(), Refused> {
+    let alloc = rt.alloc();
+    let bytes = named_bytes(rt, path)?;
+    let text = named_text(alloc, path, &bytes)?;
+    let sources = Sources {
+        design_name: path,
+        design: text,
+        policy_name: "",
+        policy: &[],
+    };
+    check_design(alloc, text).map_err(|fault| sources.refused(alloc, fault))
 }
 
 /// Reads the file of a design, and that of a policy if there is one, as `run_files` does; or tells the first fault.
@@ -23,16 +49,21 @@ pub fn check_files<R: AllocGlobal + Files>(
     rt: &R,
     design: &str,
     policy: Option<&str>,
-) -> Result<(), ServeFault> {
+) -> Result<(), Refused> {
+    let Some(policy) = policy else {
+        return check_design_file(rt, design);
+    };
     let alloc = rt.alloc();
-    let design = file_bytes(rt, design)?;
-    match policy {
-        Some(policy) => {
-            let policy = file_bytes(rt, policy)?;
-            check_policy(alloc, text_of(&design, ServeFault::ReadFailed)?, &policy)
-        }
-        None => check_design(alloc, text_of(&design, ServeFault::ReadFailed)?),
-    }
+    let design_bytes = named_bytes(rt, design)?;
+    let policy_bytes = named_bytes(rt, policy)?;
+    let text = named_text(alloc, design, &design_bytes)?;
+    let sources = Sources {
+        design_name: design,
+        design: text,
+        policy_name: policy,
+        policy: &policy_bytes,
+    };
+    check_policy(alloc, text, &policy_bytes).map_err(|fault| sources.refused(alloc, fault))
 }
 
 /// What the user of a name sees of the design of a file under the policy of another; the faults are those of `check_files`, and then
@@ -42,11 +73,18 @@ pub fn view_files<R: AllocGlobal + Files>(
     design: &str,
     policy: &str,
     user: &str,
-) -> Result<Text, ServeFault> {
-    let design = file_bytes(rt, design)?;
-    let policy = file_bytes(rt, policy)?;
-    let text = text_of(&design, ServeFault::ReadFailed)?;
-    view_text(rt.alloc(), text, &policy, user)
+) -> Result<Text, Refused> {
+    let alloc = rt.alloc();
+    let design_bytes = named_bytes(rt, design)?;
+    let policy_bytes = named_bytes(rt, policy)?;
+    let text = named_text(alloc, design, &design_bytes)?;
+    let sources = Sources {
+        design_name: design,
+        design: text,
+        policy_name: policy,
+        policy: &policy_bytes,
+    };
+    view_text(alloc, text, &policy_bytes, user).map_err(|fault| sources.refused(alloc, fault))
 }
 
 /// Runs the script of standard input over the files of a design and a policy; a file that can't be read is `ReadFailed`
@@ -55,16 +93,25 @@ pub fn run_files<R: AllocGlobal + Files + Input + Print>(
     rt: &R,
     design: &str,
     policy: &str,
-) -> Result<Ran, ServeFault> {
+) -> Result<Ran, Refused> {
     let alloc = rt.alloc();
-    let design = file_bytes(rt, design)?;
-    let policy = file_bytes(rt, policy)?;
-    let text = text_of(&design, ServeFault::ReadFailed)?;
+    let design_bytes = named_bytes(rt, design)?;
+    let policy_bytes = named_bytes(rt, policy)?;
+    let text = named_text(alloc, design, &design_bytes)?;
+    let sources = Sources {
+        design_name: design,
+        design: text,
+        policy_name: policy,
+        policy: &policy_bytes,
+    };
     let mut reader = Counted::new(rt.reader());
-    let mut writer = Counted::new(BufWriter::new(alloc, io::writer(rt)).map_err(
-        |_| ServeFault::NoMemory,
-    )?);
-    run_script(alloc, text, &policy, &mut reader, &mut writer)
+    let mut writer = Counted::new(BufWriter::new(alloc, io::writer(rt)).map_err(|_| Refused::new(
+        alloc,
+        ServeFault::NoMemory,
+    ))?);
+    run_script(alloc, text, &policy_bytes, &mut reader, &mut writer).map_err(
+        |fault| sources.refused(alloc, fault),
+    )
 }
 
 /// Audits the user of a name by the script of standard input over the files of a design and a policy; a file that can't be read is
@@ -74,21 +121,35 @@ pub fn audit_files<R: AllocGlobal + Files + Input>(
     design: &str,
     policy: &str,
     user: &str,
-) -> Result<Audit, ServeFault> {
+    explain: bool,
+) -> Result<Audited, Refused> {
     let alloc = rt.alloc();
-    let design = file_bytes(rt, design)?;
-    let policy = file_bytes(rt, policy)?;
-    let text = text_of(&design, ServeFault::ReadFailed)?;
+    let design_bytes = named_bytes(rt, design)?;
+    let policy_bytes = named_bytes(rt, policy)?;
+    let text = named_text(alloc, design, &design_bytes)?;
+    let sources = Sources {
+        design_name: design,
+        design: text,
+        policy_name: policy,
+        policy: &policy_bytes,
+    };
     let mut reader = Counted::new(rt.reader());
-    audit_script(alloc, text, &policy, user, &mut reader)
+    audit_script(alloc, text, &policy_bytes, user, explain, &mut reader).map_err(
+        |fault| sources.refused(alloc, fault),
+    )
 }
 
 /// Runs the bundle of standard input; the faults are those of `run_bundle`, or `ReadFailed` (1602).
-pub fn run_input<R: AllocGlobal + Input + Print>(rt: &R) -> Result<Ran, ServeFault> {
+pub fn run_input<R: AllocGlobal + Input + Print>(rt: &R) -> Result<Ran, Refused> {
     let alloc = rt.alloc();
-    let bundle = read_at_most(alloc, rt.reader(), BUNDLE_LIMIT)?;
-    let mut writer = Counted::new(BufWriter::new(alloc, io::writer(rt)).map_err(
-        |_| ServeFault::NoMemory,
-    )?);
-    run_bundle(alloc, &bundle, &mut writer)
+    let bundle = read_at_most(alloc, rt.reader(), BUNDLE_LIMIT).map_err(|fault| Refused::of_file(
+        alloc,
+        STANDARD_INPUT,
+        fault,
+    ))?;
+    let mut writer = Counted::new(BufWriter::new(alloc, io::writer(rt)).map_err(|_| Refused::new(
+        alloc,
+        ServeFault::NoMemory,
+    ))?);
+    run_bundle(alloc, &bundle, &mut writer).map_err(|fault| bundle_refused(alloc, &bundle, fault))
 }

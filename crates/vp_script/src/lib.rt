@@ -6,14 +6,18 @@ mod bundle;
 mod fault;
 mod files;
 mod keeper;
+mod refused;
 mod script;
 mod sources;
 mod views;
 
-pub use audits::audit_script;
+pub use audits::{Audited, audit_script};
 pub use bundle::run_bundle;
 pub use fault::ServeFault;
-pub use files::{audit_files, check_files, run_files, run_input, view_files};
-pub use script::{Ran, run_script};
-pub use sources::{BUNDLE_LIMIT, TEXT_LIMIT};
+pub use files::{
+    audit_files, check_files, file_bytes, named_bytes, named_text, run_files, run_input, view_files,
+};
+pub use refused::{Refused, Sources, bundle_refused};
+pub use script::{Ran, fresh_world, run_script};
+pub use sources::{BUNDLE_LIMIT, text_of};
 pub use views::{check_design, check_policy, view_text};

@@ -4,23 +4,21 @@ ghost use Rattle.vp_elab.specs.Built.{Elaborated};
 ghost use Rattle.vp_policy.specs.File.{file_in, file_of};
 ghost use Rattle.vp_policy.specs.PolicyState.{Fits};
 ghost use Rattle.vp_script.specs.Keeping.{script_of};
-ghost use Rattle.vp_script.specs.Designs.{IsDesignOf, IsRefusedBy};
-ghost use Rattle.vp_script.specs.Scripts.{EndsBy, IsAnswered, IsOpened, IsPolicyRefusedBy, IsScript, IsStopped, IsUnopened, opened, opening_of};
+ghost use Rattle.vp_design.specs.Designs.{IsDesignOf};
+ghost use Rattle.vp_script.specs.Designs.{IsRefusedBy};
+ghost use Rattle.vp_script.specs.Scripts.{EndsBy, IsAnswered, IsOpened, IsPolicyRefusedBy, IsScript, IsStopped, IsUnopened, begun, new_world, opened, opening_of};
 ghost use Rattle.vp_script.specs.declared.fault.ServeFault.TheVariants as fault;
 ghost use Rattle.vp_world.specs.declared.fault.WorldError.TheVariants as error;
 
 use crate::fault::ServeFault;
 use crate::keeper::Keeper;
-use crate::sources::TEXT_LIMIT;
 use std::alloc::Global;
 use std::io::{Read, Write};
 use std::sync::Arc;
-use vp_elab::{Design, elaborate};
-use vp_expr::{Checked, check};
-use vp_lex::tokens;
-use vp_parse::parse;
+use vp_design::{TEXT_LIMIT, read_design};
+use vp_elab::Design;
+use vp_expr::Checked;
 use vp_policy::{Policy, read_policy};
-use vp_pragma::envelopes;
 use vp_wire::{Counted, WireError, session};
 use vp_world::{Limits, World};
 
@@ -33,20 +31,12 @@ pub struct Ran {
     pub starved: bool,
 }
 
-/// The checked design of a text; or the first fault of its tokens, its envelopes, its grammar, its names or its
-/// expressions, in this order.
+/// The checked design of a text; or its first fault.
 pub(crate) fn checked(alloc: Global, text: &str) -> Result<Checked, ServeFault>
     ensures design { IfOk result (λ checked. IsDesignOf text.now checked) }
     ensures refused { IfErr result (λ fault. IsRefusedBy text.now fault) }
 {
-    if text.len() > TEXT_LIMIT {
-        return Err(ServeFault::TooLong);
-    }
-    let tokens = tokens(alloc, text)?;
-    let envelopes = envelopes(alloc, text, &tokens)?;
-    let source = parse(alloc, text, &tokens)?;
-    let design = elaborate(alloc, source, envelopes)?;
-    Ok(check(alloc, design)?)
+    Ok(read_design(alloc, text)?)
 }
 
 /// The policy of a file, for a design.
@@ -63,7 +53,17 @@ pub(crate) fn policy_of(alloc: Global, bytes: &[u8], design: &Design) -> Result<
     Ok(read_policy(alloc, bytes, design)?)
 }
 
-/// A fresh world of a design and a policy, with the greatest limits, whose script has no session yet; or want of memory.
+/// A world of a design and a policy, with the greatest limits, in which nothing has happened; or want of memory.
+fn world_of(alloc: Global, checked: Arc<Checked>, policy: Policy) -> Result<World, ServeFault>
+    requires { Fits policy (arc_value checked).tree }
+    ensures world { IfOk result
+        (λ world. world ≡ new_world (opening_of (arc_value checked) policy)) }
+    ensures refused { IfErr result (λ told. told ≡ fault.World error.NoMemory) }
+{
+    Ok(World::new(alloc, checked, policy, Limits::GREATEST)?)
+}
+
+/// A fresh world of a design and a policy, whose script has no session yet; or want of memory.
 pub(crate) fn keeper_of(
     alloc: Global,
     checked: Arc<Checked>,
@@ -74,8 +74,19 @@ pub(crate) fn keeper_of(
         (λ keeper. script_of keeper ≡ opened (opening_of (arc_value checked) policy)) }
     ensures refused { IfErr result (λ told. told ≡ fault.World error.NoMemory) }
 {
-    let world = World::new(alloc, checked, policy, Limits::GREATEST)?;
-    Ok(Keeper::new(alloc, world))
+    Ok(Keeper::new(alloc, world_of(alloc, checked, policy)?))
+}
+
+/// A world of the text of a design and the file of a policy, with the greatest limits, in which nothing has happened; or the first
+/// fault of the design, then of the policy, as `run_script` tells them; or want of memory (905, 1307, 1607).
+pub fn fresh_world(alloc: Global, design: &str, policy: &[u8]) -> Result<World, ServeFault>
+    ensures world { IfOk result
+        (λ world. IsOpened design.now policy.now (begun world)) }
+    ensures refused { IfErr result (λ fault. IsUnopened design.now policy.now fault) }
+{
+    let checked = Arc::new(alloc, checked(alloc, design)?)?;
+    let policy = policy_of(alloc, policy, checked.design())?;
+    world_of(alloc, checked, policy)
 }
 
 /// A fresh script of the text of a design and the file of a policy; or the first fault of the design, then of the policy.
@@ -83,9 +94,7 @@ fn opened(alloc: Global, design: &str, policy: &[u8]) -> Result<Keeper, ServeFau
     ensures script { IfOk result (λ keeper. IsOpened design.now policy.now (script_of keeper)) }
     ensures refused { IfErr result (λ fault. IsUnopened design.now policy.now fault) }
 {
-    let checked = Arc::new(alloc, checked(alloc, design)?)?;
-    let policy = policy_of(alloc, policy, checked.design())?;
-    keeper_of(alloc, checked, policy)
+    Ok(Keeper::new(alloc, fresh_world(alloc, design, policy)?))
 }
 
 /// Answers the lines of a reader by a script, up to the end of the input; or the fault of the reader or the writer.

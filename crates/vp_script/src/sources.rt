@@ -5,9 +5,7 @@ ghost use Rattle.vp_script.specs.declared.fault.ServeFault.TheVariants.{TooLong}
 use crate::fault::ServeFault;
 use std::alloc::Global;
 use std::io::{ErrorKind, Read};
-
-/// The greatest length of a design and of a policy, in bytes.
-pub const TEXT_LIMIT: usize = 1_048_576;
+use vp_design::TEXT_LIMIT;
 
 /// The greatest length of a bundle, in bytes.
 pub const BUNDLE_LIMIT: usize = 16_777_216;

@@ -2,7 +2,7 @@ use std::alloc::{AllocError, Global};
 use std::io;
 use std::io::BufRead;
 use vp_audit::Audit;
-use vp_script::{ServeFault, audit_script, run_bundle};
+use vp_script::{Audited, ServeFault, audit_script, bundle_refused, run_bundle};
 use vp_wire::Counted;
 
 /// The count and the text of a line that stands for so many copies of the text, behind its mark.
@@ -37,15 +37,28 @@ pub fn fault_line(alloc: Global, fault: &ServeFault) -> Result<String, AllocErro
     format!(in alloc; "fault {code} line {line}\n")
 }
 
-/// The line that tells an audit, or the fault for which there is none.
-pub fn audit_line(alloc: Global, audit: Result<Audit, ServeFault>) -> Result<String, AllocError> {
-    match audit {
-        Ok(Audit { same, number }) => {
-            let word = if same { "same" } else { "differs" };
-            format!(in alloc; "{word} {number}\n")
-        }
-        Err(fault) => fault_line(alloc, &fault),
+/// The line that tells an audit.
+fn audit_line(alloc: Global, audit: Audit) -> Result<String, AllocError> {
+    let Audit { same, number } = audit;
+    let word = if same { "same" } else { "differs" };
+    format!(in alloc; "{word} {number}\n")
+}
+
+/// The lines that tell what an audit gives.
+pub fn audit_lines(alloc: Global, audited: Audited) -> Result<String, AllocError> {
+    let Audited { audit, explanation } = audited;
+    let mut lines = audit_line(alloc, audit)?;
+    if let Some(text) = explanation {
+        lines.push_str(text.as_str())?;
     }
+    Ok(lines)
+}
+
+/// A user who is audited, and whether what he was told is explained.
+#[derive(Drop)]
+struct Audits {
+    user: String,
+    explain: bool,
 }
 
 /// A bundle, the users who are audited by its script, and what it must print.
@@ -53,7 +66,9 @@ pub fn audit_line(alloc: Global, audit: Result<Audit, ServeFault>) -> Result<Str
 pub struct Case {
     pub name: String,
     bundle: String,
-    users: Vec<String>,
+    audits: Vec<Audits>,
+    /// The diagnostic of its fault is printed as well.
+    diagnosed: bool,
     pub wanted: String,
     in_bundle: bool,
 }
@@ -64,7 +79,8 @@ impl Case {
         Ok(Case {
             name: String::from_str(alloc, name)?,
             bundle: String::new(alloc),
-            users: Vec::new(alloc),
+            audits: Vec::new(alloc),
+            diagnosed: false,
             wanted: String::new(alloc),
             in_bundle: true,
         })
@@ -80,12 +96,22 @@ impl Case {
         } else if !self.in_bundle {
             self.wanted.push_str(line)?;
             self.wanted.push('\n')?;
+        } else if line == "%!" {
+            self.diagnosed = true;
         } else if let Some(user) = line.strip_prefix("%@ ") {
-            self.users.push(String::from_str(alloc, user)?)?;
+            self.add_audit(alloc, user, false)?;
+        } else if let Some(user) = line.strip_prefix("%? ") {
+            self.add_audit(alloc, user, true)?;
         } else {
             add_to(&mut self.bundle, alloc, line)?;
         }
         Ok(())
+    }
+
+    /// Adds a user who is audited.
+    fn add_audit(&mut self, alloc: Global, user: &str, explain: bool) -> Result<(), AllocError> {
+        let user = String::from_str(alloc, user)?;
+        Ok(self.audits.push(Audits { user, explain })?)
     }
 
     /// What the bundle prints: the replies, and the line of the fault that ends it, if one does.
@@ -95,30 +121,53 @@ impl Case {
         let mut printed = String::from_utf8_lossy(alloc, &writer.inner)?;
         if let Err(fault) = ran {
             printed.push_str(&fault_line(alloc, &fault)?)?;
+            self.diagnose(alloc, &mut printed, fault)?;
         }
         Ok(printed)
     }
 
+    /// Adds the diagnostic of the bundle's fault, if that is asked.
+    fn diagnose(
+        &self,
+        alloc: Global,
+        printed: &mut String,
+        fault: ServeFault,
+    ) -> Result<(), AllocError> {
+        if !self.diagnosed {
+            return Ok(());
+        }
+        let refused = bundle_refused(alloc, self.bundle.as_bytes(), fault);
+        printed.push_str(refused.diagnostic.as_str())
+    }
+
     /// What the audit of a user by the bundle's script prints.
-    fn audit(&self, alloc: Global, user: &str) -> Result<String, AllocError> {
+    fn audit(&self, alloc: Global, audits: &Audits) -> Result<String, AllocError> {
         let Some((design, policy, script)) = parts(self.bundle.as_str()) else {
             return fault_line(alloc, &ServeFault::BadBundle);
         };
         let mut reader = Counted::new(script.as_bytes());
-        audit_line(
+        let Audits { user, explain } = audits;
+        match audit_script(
             alloc,
-            audit_script(alloc, design, policy.as_bytes(), user, &mut reader),
-        )
+            design,
+            policy.as_bytes(),
+            user.as_str(),
+            *explain,
+            &mut reader,
+        ) {
+            Ok(audited) => audit_lines(alloc, audited),
+            Err(fault) => fault_line(alloc, &fault),
+        }
     }
 
-    /// What the bundle prints, and behind it a line for each user who is audited.
+    /// What the bundle prints, and behind it the lines for each user who is audited.
     pub fn printed(&self, alloc: Global) -> Result<String, AllocError> {
         let mut printed = self.run(alloc)?;
-        for user in &self.users {
-            let line = self.audit(alloc, user.as_str())?;
-            printed.push_str(user.as_str())?;
+        for audits in &self.audits {
+            let lines = self.audit(alloc, audits)?;
+            printed.push_str(audits.user.as_str())?;
             printed.push_str(": ")?;
-            printed.push_str(&line)?;
+            printed.push_str(&lines)?;
         }
         Ok(printed)
     }

@@ -2,17 +2,18 @@
 //! name, the bundle, a line `==`, and the lines that the bundle must print; behind a line `=/=` the bundle's last line lacks its
 //! newline. A line `%* COUNT TEXT` of a bundle stands for so many copies of the text, and a newline; of a line `%+ COUNT TEXT` the
 //! next line goes on. For each line `%@ USER`, which is no line of the bundle, the user is audited by its script, and a line more is
-//! printed, which begins with his name. Then it runs designs and policies of files on the script of standard input, checks them, tells
+//! printed, which begins with his name; for each line `%? USER` what he was told is explained as well, by lines behind that. For a line `%!` the diagnostic of the bundle's fault is
+//! printed behind the line of the fault. Then it runs designs and policies of files on the script of standard input, checks them, tells
 //! what users see of them, and audits users.
 #![tactic(auto)]
 
 mod cases;
 
-use crate::cases::{Case, audit_line, fault_line, read_cases};
+use crate::cases::{Case, audit_lines, fault_line, read_cases};
 use std::io::BufReader;
 use std::rt::Files;
 use std::{env, fs, io};
-use vp_script::{ServeFault, audit_files, check_files, run_files, view_files};
+use vp_script::{Refused, audit_files, check_files, run_files, view_files};
 
 /// Whether a case prints what it must; what it prints is shown where it does not.
 fn is_as_wanted<R: AllocGlobal + Print>(rt: &R, case: &Case) -> io::Result<bool> {
@@ -40,9 +41,10 @@ fn check_file<R: AllocGlobal + Files + Print>(rt: &R, file: &str) -> io::Result<
     println!(rt; "{file}: {count} cases, {agreeing} as wanted")
 }
 
-/// Tells a fault.
-fn print_fault<R: AllocGlobal + Print>(rt: &R, fault: &ServeFault) -> io::Result<()> {
-    rt.print(fault_line(rt.alloc(), fault)?.as_str())
+/// Tells a fault, and its diagnostic.
+fn print_fault<R: AllocGlobal + Print>(rt: &R, refused: &Refused) -> io::Result<()> {
+    rt.print(fault_line(rt.alloc(), &refused.fault)?.as_str())?;
+    rt.print(refused.diagnostic.as_str())
 }
 
 /// Runs a design and a policy of files, and tells the fault that ends the run, if one does.
@@ -54,7 +56,7 @@ fn print_run<R: AllocGlobal + Files + Input + Print>(
     println!(rt; "{design}, {policy}:")?;
     match run_files(rt, design, policy) {
         Ok(_) => Ok(()),
-        Err(fault) => print_fault(rt, &fault),
+        Err(refused) => print_fault(rt, &refused),
     }
 }
 
@@ -68,7 +70,7 @@ fn print_check<R: AllocGlobal + Files + Print>(
     println!(rt; "check {design}, {named}:")?;
     match check_files(rt, design, policy) {
         Ok(()) => Ok(()),
-        Err(fault) => print_fault(rt, &fault),
+        Err(refused) => print_fault(rt, &refused),
     }
 }
 
@@ -82,7 +84,7 @@ fn print_view<R: AllocGlobal + Files + Print>(
     println!(rt; "view {design}, {policy}, {user}:")?;
     match view_files(rt, design, policy, user) {
         Ok(text) => rt.print(text.as_str()),
-        Err(fault) => print_fault(rt, &fault),
+        Err(refused) => print_fault(rt, &refused),
     }
 }
 
@@ -94,7 +96,10 @@ fn print_audit<R: AllocGlobal + Files + Input + Print>(
     user: &str,
 ) -> io::Result<()> {
     println!(rt; "audit {design}, {policy}, {user}:")?;
-    rt.print(audit_line(rt.alloc(), audit_files(rt, design, policy, user))?.as_str())
+    match audit_files(rt, design, policy, user, false) {
+        Ok(audited) => rt.print(audit_lines(rt.alloc(), audited)?.as_str()),
+        Err(refused) => print_fault(rt, &refused),
+    }
 }
 
 fn main(rt: HostRuntime) -> io::Result<()> {

@@ -12,7 +12,9 @@ use std::process::ExitCode;
 use std::{env, io};
 use vp_audit::Audit;
 use vp_list::Text;
-use vp_script::{Ran, ServeFault, audit_files, check_files, run_files, run_input, view_files};
+use vp_script::{
+    Audited, Ran, Refused, ServeFault, audit_files, check_files, run_files, run_input, view_files,
+};
 
 /// Prints a text; the status is 0.
 fn print_text<R: Print>(rt: &R, text: &Text) -> io::Result<ExitCode> {
@@ -28,9 +30,16 @@ fn print_fault<R: Print>(rt: &R, fault: &ServeFault) -> io::Result<ExitCode> {
     Ok(ExitCode::FAILURE)
 }
 
+/// Prints a fault, and its diagnostic on standard error; the status is 1.
+fn print_refused<R: Print + Eprint>(rt: &R, refused: &Refused) -> io::Result<ExitCode> {
+    let status = print_fault(rt, &refused.fault)?;
+    rt.eprint(refused.diagnostic.as_str())?;
+    Ok(status)
+}
+
 /// Prints the fault that ended a run, if one did; the status is 1 then. That there was no memory to let the simulation run on is
 /// told on standard error.
-fn run_status<R: Print + Eprint>(rt: &R, ran: Result<Ran, ServeFault>) -> io::Result<ExitCode> {
+fn run_status<R: Print + Eprint>(rt: &R, ran: Result<Ran, Refused>) -> io::Result<ExitCode> {
     match ran {
         Ok(ran) => {
             if ran.starved {
@@ -38,39 +47,52 @@ fn run_status<R: Print + Eprint>(rt: &R, ran: Result<Ran, ServeFault>) -> io::Re
             }
             Ok(ExitCode::SUCCESS)
         }
-        Err(fault) => print_fault(rt, &fault),
+        Err(refused) => print_refused(rt, &refused),
     }
 }
 
 /// Prints the fault of a design and a policy, if there is one; the status is 1 then.
-fn check_status<R: Print>(rt: &R, check: Result<(), ServeFault>) -> io::Result<ExitCode> {
+fn check_status<R: Print + Eprint>(rt: &R, check: Result<(), Refused>) -> io::Result<ExitCode> {
     match check {
         Ok(()) => Ok(ExitCode::SUCCESS),
-        Err(fault) => print_fault(rt, &fault),
+        Err(refused) => print_refused(rt, &refused),
     }
 }
 
 /// Prints what a user sees, or the fault for which that is not told; the status is 1 then.
-fn view_status<R: Print>(rt: &R, view: Result<Text, ServeFault>) -> io::Result<ExitCode> {
+fn view_status<R: Print + Eprint>(rt: &R, view: Result<Text, Refused>) -> io::Result<ExitCode> {
     match view {
         Ok(text) => print_text(rt, &text),
-        Err(fault) => print_fault(rt, &fault),
+        Err(refused) => print_refused(rt, &refused),
     }
 }
 
-/// Prints an audit, or the fault for which there is none; the status is 0 where the user was told what he may know, else 1.
-fn audit_status<R: Print>(rt: &R, audit: Result<Audit, ServeFault>) -> io::Result<ExitCode> {
-    match audit {
-        Ok(Audit { same, number }) => {
-            let word = if same { "same" } else { "differs" };
-            println!(rt; "{word} {number}")?;
-            Ok(if same {
-                ExitCode::SUCCESS
-            } else {
-                ExitCode::FAILURE
-            })
+/// Prints an audit; the status is 0 where the user was told what he may know, else 1.
+fn print_audit<R: Print>(rt: &R, audit: Audit) -> io::Result<ExitCode> {
+    let Audit { same, number } = audit;
+    let word = if same { "same" } else { "differs" };
+    println!(rt; "{word} {number}")?;
+    Ok(if same {
+        ExitCode::SUCCESS
+    } else {
+        ExitCode::FAILURE
+    })
+}
+
+/// Prints what an audit gives, of which the explanation is told on standard error, or the fault for which there is none; the status is
+/// that of the audit, or 1.
+fn audit_status<R: Print + Eprint>(
+    rt: &R,
+    audited: Result<Audited, Refused>,
+) -> io::Result<ExitCode> {
+    match audited {
+        Ok(Audited { audit, explanation }) => {
+            if let Some(text) = explanation {
+                rt.eprint(text.as_str())?;
+            }
+            print_audit(rt, audit)
         }
-        Err(fault) => print_fault(rt, &fault),
+        Err(refused) => print_refused(rt, &refused),
     }
 }
 
@@ -95,8 +117,9 @@ fn main(rt: HostRuntime) -> io::Result<ExitCode> {
                 design,
                 policy,
                 user,
+                explain,
             },
-        ) => audit_status(&rt, audit_files(&rt, design, policy, user)),
+        ) => audit_status(&rt, audit_files(&rt, design, policy, user, explain)),
         Ok(Command::Bundle) => run_status(&rt, run_input(&rt)),
         Ok(Command::Show(text)) => print_text(&rt, &text),
         Err(Misuse::BadWords(text)) => {

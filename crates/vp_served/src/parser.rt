@@ -12,15 +12,15 @@ const BUNDLE_HELP: &str =
     "Without a command, a bundle is read from standard input: the design, a line %%, the policy, \
 a line %%, and the script of request lines. Each line of the script is answered by a line.
 
-Exit status: 0 after the script's end, 1 after a fault, which is printed as `fault CODE line N`, \
-2 after bad words.";
+Exit status: 0 after the script's end, 1 after a fault, which is printed as `fault CODE line N` and \
+in words on standard error, 2 after bad words.";
 
 const RUN_HELP: &str =
     "The script of request lines is read from standard input. Each line is answered by a line.
 
 A line is a JSON object whose `op` is one of: open, close, handle, iterate, get, get_str, value, \
 put, compare, free, watch, unwatch, poll, races, race, run, time, grant. docs/FORMATS.md has the \
-keys of each.";
+keys of each. docs/POLICY.md#denials explains what is denied.";
 
 const CHECK_HELP: &str =
     "Nothing is printed and the status is 0 where both are right; else the first fault is printed, \
@@ -36,7 +36,9 @@ const AUDIT_HELP: &str =
 reply is printed. Then all that the user's sessions were told is compared with what comes of what he \
 sees at the opening and of what of the log goes to him. Printed is `same N`, N the number of his \
 sessions' events in the log, and the status is 0; or `differs N`, N the number of the first of them that \
-was answered otherwise, and the status is 1. A user who is not in the policy is fault 1604.";
+was answered otherwise, and the status is 1. A user who is not in the policy is fault 1604.
+
+With --explain, standard error shows what the user was told and what came to him, in order: each line begins with the number of what of one entry of the log goes to him, and behind a value stands the number of that with which it came. docs/FORMATS.md has the rest.";
 
 /// The file of a design.
 fn design_word<'a>(alloc: Global) -> Arg<'a> {
@@ -89,6 +91,14 @@ fn view_words<'a>(alloc: Global) -> Result<clap::Command<'a>, AllocError> {
         .arg(user_word(alloc))
 }
 
+/// Whether an audit is explained.
+fn explain_word<'a>(alloc: Global) -> Arg<'a> {
+    Arg::new(alloc, "explain")
+        .long("explain")
+        .help("Show what the user was told and what came to him on standard error")
+        .action(ArgAction::SetTrue)
+}
+
 /// The words of `audit`.
 fn audit_words<'a>(alloc: Global) -> Result<clap::Command<'a>, AllocError> {
     clap::Command::new(alloc, "audit")
@@ -96,7 +106,8 @@ fn audit_words<'a>(alloc: Global) -> Result<clap::Command<'a>, AllocError> {
         .after_help(AUDIT_HELP)
         .arg(design_word(alloc))?
         .arg(policy_word(alloc).required(true))?
-        .arg(user_word(alloc))
+        .arg(user_word(alloc))?
+        .arg(explain_word(alloc))
 }
 
 /// The program's words.
@@ -142,6 +153,7 @@ fn asked<'a>(matches: &ArgMatches<'a>) -> words::Command<'a> {
             design: audit.get_str("DESIGN").unwrap_or(""),
             policy: audit.get_str("POLICY").unwrap_or(""),
             user: audit.get_str("USER").unwrap_or(""),
+            explain: audit.get_flag("explain"),
         };
     }
     match matches.subcommand_matches("view") {

@@ -42,8 +42,11 @@ fn asked(alloc: Global, line: &[&str]) -> &'static str {
                 design,
                 policy,
                 user,
+                explain,
             },
-        ) if design == "d.v" && policy == "p.json" && user == "ann" => "audit",
+        ) if design == "d.v" && policy == "p.json" && user == "ann" => {
+            if explain { "audit explained" } else { "audit" }
+        }
         Ok(Command::Show(_)) => "show",
         Err(Misuse::BadWords(_)) => "misuse",
         _ => "other",
@@ -52,13 +55,21 @@ fn asked(alloc: Global, line: &[&str]) -> &'static str {
 
 #[test]
 fn command_lines(rt: HostRuntime) {
-    let rows: [(&[&str], &str); 20] = [
+    let rows: [(&[&str], &str); 22] = [
         (&["vp_served"], "bundle"),
         (&["vp_served", "run", "d.v", "p.json"], "run"),
         (&["vp_served", "check", "d.v"], "check"),
         (&["vp_served", "check", "d.v", "p.json"], "check both"),
         (&["vp_served", "view", "d.v", "p.json", "ann"], "view"),
         (&["vp_served", "audit", "d.v", "p.json", "ann"], "audit"),
+        (
+            &["vp_served", "audit", "d.v", "p.json", "ann", "--explain"],
+            "audit explained",
+        ),
+        (
+            &["vp_served", "view", "d.v", "p.json", "ann", "--explain"],
+            "misuse",
+        ),
         (&["vp_served", "--help"], "show"),
         (&["vp_served", "run", "--help"], "show"),
         (&["vp_served", "check", "--help"], "show"),

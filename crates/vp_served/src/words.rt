@@ -19,11 +19,12 @@ pub enum Command<'a> {
         policy: &'a str,
         user: &'a str,
     },
-    /// To audit a user by the script of standard input over a design and a policy.
+    /// To audit a user by the script of standard input over a design and a policy, and to explain what he was told, if that is asked.
     Audit {
         design: &'a str,
         policy: &'a str,
         user: &'a str,
+        explain: bool,
     },
     /// To run the bundle of standard input.
     Bundle,

@@ -5,7 +5,7 @@ use Rattle.vp_policy.specs.Users.{user_of}
 use Rattle.vp_script.specs.declared.fault.ServeFault.TheVariants as fault
 use Rattle.vp_script.specs.Audits.{EndsAuditBy}
 use Rattle.vp_script.proofs.Auditing.{audited, ended, no_such_user, read_of, right_of}
-use Rattle.vp_script.proofs.Results.{told_as}
+use Rattle.vp_design.proofs.Results.{told_as}
 use Rattle.vp_script.proofs.audits.audit_script.Goals as goal
 
 pub returns-in_err-user-clause-refused : goal.returns-in_err-user-clause-refused
@@ -28,7 +28,7 @@ returns-clause-audit g c =
     let policy = c.in_ok-policy.ensures {u = tt} in
     let read = read_of c.args.design.now c.args.policy.now c.in_ok-checked.field-0 (arc_value c.in_ok-checked-2.checked) c.design.result.now c.in_ok-policy.policy (c.in_ok-checked.ensures {u = tt}).design (c.in_ok-checked-2.ensures {u = tt}).ok (c.design.ensures ∙ c.deref.ensures) policy.fits policy.file policy.design in
     let named : user_of c.in_ok-policy.policy.members c.args.user.now ≡ Some c.in_ok-user.user.0 = search rules in
-    IfOk-weaker c.script_audit.result _ _ (λ audit is. audited _ _ _ _ read c.args.user.now _ _ c.in_ok-user.user.0 named audit is) c.script_audit.ensures.audit
+    IfOk-weaker c.script_audit.result _ _ (λ given is. audited _ _ _ _ read c.args.user.now _ _ c.in_ok-user.user.0 named c.args.explain given is) c.script_audit.ensures.audit
 
 pub returns-clause-refused : goal.returns-clause-refused
 returns-clause-refused g c =

@@ -2,7 +2,7 @@ use Rattle.std.proofs.Common.{◌≤◌, length, inl, refl, ap, arith, sym, subs
 use Rattle.std.proofs.lemmas.Result.{IfErr-weaker, IfOk-weaker}
 use Rattle.vp_script.specs.Scripts.{EndsBundleBy, bundle_limit}
 use Rattle.vp_script.proofs.Bundling.{bundle_fault, bundle_script, parts_of, text_refused}
-use Rattle.vp_script.proofs.Results.{told_as}
+use Rattle.vp_design.proofs.Results.{told_as}
 use Rattle.vp_script.proofs.bundle.run_bundle.Goals as goal
 
 pub returns-in_err-text-clause-fault : goal.returns-in_err-text-clause-fault

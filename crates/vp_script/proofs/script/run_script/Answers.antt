@@ -1,4 +1,4 @@
-use Rattle.vp_script.proofs.Once.{design_once}
+use Rattle.vp_design.proofs.Once.{design_once}
 use Rattle.vp_script.proofs.script.run_script.Goals as goal
 
 pub returns-in_err-keeper-clause-one_design : goal.returns-in_err-keeper-clause-one_design

@@ -1,6 +1,6 @@
 use Rattle.std.proofs.Common.{inr, subst, sym}
 use Rattle.std.proofs.lemmas.Result.{IfErr-weaker, IfOk-weaker}
-use Rattle.vp_script.specs.Designs.{IsDesignOf}
+use Rattle.vp_design.specs.Designs.{IsDesignOf}
 use Rattle.vp_script.proofs.views.view_text.Goals as goal
 
 pub returns-clause-text : goal.returns-clause-text

@@ -18,8 +18,8 @@ use Rattle.vp_elab.specs.Refusals.{refusal_of}
 use Rattle.vp_resolve.specs.declared.fault.ExprError.{ExprError}
 use Rattle.vp_resolve.specs.declared.fault.ExprError.TheVariants as expr_error
 use Rattle.vp_resolve.specs.Checks as expr
-use Rattle.vp_script.specs.declared.fault.ServeFault.TheVariants as fault
-use Rattle.vp_script.specs.Designs.{HasEnvelopes, HasSource, HasTokens, IsDesignOf, IsRefusedBy, text_limit}
+use Rattle.vp_design.specs.declared.fault.DesignFault.TheVariants as fault
+use Rattle.vp_design.specs.Designs.{HasEnvelopes, HasSource, HasTokens, IsDesignOf, IsRefusedBy, text_limit}
 
 -- the tokens of a text, as they are lent to a stage
 module _ (text : List ℕ) (tokens : List Token) (fits : length text ≤ text_limit) (are : AreTokens text tokens) where

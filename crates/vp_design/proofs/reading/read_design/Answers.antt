@@ -1,8 +1,8 @@
 use Rattle.std.proofs.Common.{◌≤◌, length, arith, subst, sym}
-use Rattle.vp_script.specs.Designs.{IsRefusedBy, text_limit}
-use Rattle.vp_script.proofs.Results.{told_as}
-use Rattle.vp_script.proofs.Stages.{expressions_refused, has_design, has_source}
-use Rattle.vp_script.proofs.script.checked.Goals as goal
+use Rattle.vp_design.specs.Designs.{IsRefusedBy, text_limit}
+use Rattle.vp_design.proofs.Results.{told_as}
+use Rattle.vp_design.proofs.Stages.{expressions_refused, has_design, has_source}
+use Rattle.vp_design.proofs.reading.read_design.Goals as goal
 
 pub returns-in_err-tokens-clause-refused : goal.returns-in_err-tokens-clause-refused
 returns-in_err-tokens-clause-refused c =

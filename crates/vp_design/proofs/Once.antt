@@ -14,7 +14,7 @@ use Rattle.vp_source.specs.Layout.{IsSourceOf, Lists, lists_of}
 use Rattle.vp_parse_expr.specs.Symbols.{symbols_of}
 use Rattle.vp_parse.proofs.Laws.{derived_once}
 use Rattle.vp_elab.specs.Built.{Elaborated, design_of}
-use Rattle.vp_script.specs.Designs.{HasSource, IsDesignOf}
+use Rattle.vp_design.specs.Designs.{HasSource, IsDesignOf}
 
 -- a source is its text, its tokens, its modules and its lists
 source_once : (a b : Source) → a.text ≡ b.text → a.tokens ≡ b.tokens → ◌≡◌ {A = List Module × Lists} (a.modules, lists_of a) (b.modules, lists_of b) → a ≡ b

@@ -1,0 +1,11 @@
+pub mod Words
+pub mod Lines
+pub mod Rendering
+pub mod Spreading
+pub mod Fronts
+pub mod Places
+pub mod Expected
+pub mod LeftOut
+pub mod Tables
+pub mod Diagnostics
+pub mod Policies

@@ -1,0 +1,8 @@
+//! What a user was told, and what came to him of a log, as a text (docs/FORMATS.md, "What a user was told").
+#![tactic(auto)]
+
+mod lines;
+mod users;
+
+pub use lines::explanation;
+pub use users::explain_user;

@@ -1,0 +1,12 @@
+use Rattle.vp_script.specs.Keeping.{script_of}
+use Rattle.vp_script.proofs.Auditing.{runs_to, stops}
+use Rattle.vp_script.proofs.Openings.{answered_keeps}
+use Rattle.vp_script.proofs.audits.run_to_end.Goals as goal
+
+pub returns-in-Ok-clause-ran : goal.returns-in-Ok-clause-ran
+returns-in-Ok-clause-ran g c opening opens =
+    runs_to opening _ _ (script_of c.args.keeper.now) opens c.in-Ok.field-0.starved (script_of c.answered.new.keeper) c.in-Ok.field-0.lines (c.in-Ok.ensures {u = tt}).answered
+
+pub returns-in-Ok-clause-opening : goal.returns-in-Ok-clause-opening
+returns-in-Ok-clause-opening g c =
+    answered_keeps c.in-Ok.field-0.starved (script_of c.args.keeper.now) (script_of c.answered.new.keeper) c.in-Ok.field-0.lines (c.in-Ok.ensures {u = tt}).answered

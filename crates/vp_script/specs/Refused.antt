@@ -1,0 +1,34 @@
+-- What is told of a fault in words (profile).
+use Rattle.std.specs.Prelude.{◌≡◌, ◌⊎◌, ℕ, List, [], codes}
+use Rattle.vp_diagnostic.specs.Diagnostics.{IsDesignDiagnostic}
+use Rattle.vp_diagnostic.specs.Policies.{IsPolicyDiagnostic}
+use Rattle.vp_diagnostic.specs.Rendering.{file_text, plain_text}
+use Rattle.vp_script.specs.Faults.{code_of}
+use Rattle.vp_script.specs.declared.fault.ServeFault.{ServeFault}
+use Rattle.vp_script.specs.declared.fault.ServeFault.TheVariants as fault
+
+-- the words of a fault that is none of a design's or a policy's text
+abbrev pub words_of : ServeFault → List ℕ
+words_of (fault.Design e) = codes "bad design"
+words_of (fault.Policy e) = codes "bad policy"
+words_of (fault.World e) = codes "no memory for a world"
+words_of (fault.Lines e) = codes "reading or writing lines failed"
+words_of fault.BadBundle = codes "a bundle is a design in UTF-8, a line %%, a policy, a line %%, and a script"
+words_of fault.ReadFailed = codes "it can't be read as text in UTF-8"
+words_of fault.TooLong = codes "a design and a policy have at most 1,048,576 bytes, a bundle 16,777,216"
+words_of fault.NoSuchUser = codes "the policy has no such user"
+words_of fault.ListenFailed = codes "the port can't be listened on"
+words_of fault.NoThread = codes "no thread can be started"
+words_of fault.NoMemory = codes "no memory"
+
+-- the diagnostic of a fault of a run over a design and a policy of files of these names: that of the text of the design, of the policy,
+-- of the policy's file, or of no file
+abbrev pub IsDiagnostic : (design_name design policy_name : List ℕ) → ServeFault → List ℕ → Type 0
+IsDiagnostic design_name design policy_name (fault.Design e) text = IsDesignDiagnostic design_name design e text
+IsDiagnostic design_name design policy_name (fault.Policy e) text = IsPolicyDiagnostic policy_name e text
+IsDiagnostic design_name design policy_name fault.TooLong text = text ≡ file_text policy_name 1603 (words_of fault.TooLong)
+IsDiagnostic design_name design policy_name f text = text ≡ plain_text (code_of f) (words_of f)
+
+-- what is told where there may be no memory for it: nothing then
+abbrev pub IsToldOr : (List ℕ → Type 0) → List ℕ → Type 0
+IsToldOr is text = (text ≡ []) ⊎ is text

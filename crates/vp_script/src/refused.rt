@@ -1,0 +1,169 @@
+// What a run is refused for, in words.
+ghost use Rattle.std.specs.Prelude.{◌≡◌, [], MatchResult};
+ghost use Rattle.vp_script.specs.Refused.{words_of};
+
+use crate::bundle::cut;
+use crate::fault::ServeFault;
+use crate::sources::text_of;
+use std::alloc::{AllocError, Global};
+use vp_design::read_design;
+use vp_diagnostic::{design_diagnostic, file_diagnostic, plain_diagnostic, policy_diagnostic};
+use vp_list::Text;
+use vp_policy::PolicyError;
+
+/// The name under which the parts of a bundle are told.
+pub const STANDARD_INPUT: &str = "standard input";
+
+/// A fault, and its diagnostic, which is empty where there is no memory for it.
+#[derive(Drop)]
+pub struct Refused {
+    pub fault: ServeFault,
+    /// Lines, each with its newline.
+    pub diagnostic: Text,
+}
+
+impl Refused {
+    ghost use Rattle.std.specs.Prelude.{◌≡◌};
+    ghost use Rattle.vp_diagnostic.specs.Rendering.{file_text, plain_text};
+    ghost use Rattle.vp_script.specs.Faults.{code_of};
+    ghost use Rattle.vp_script.specs.Refused.{IsToldOr, words_of};
+
+    /// A fault that stands in no file.
+    pub fn new(alloc: Global, fault: ServeFault) -> Refused
+        ensures fault { result.fault ≡ fault }
+        ensures diagnostic { IsToldOr
+            (λ text. text ≡ plain_text (code_of fault) (words_of fault)) result.diagnostic }
+    {
+        let diagnostic = or_empty(
+            alloc,
+            plain_diagnostic(alloc, fault.code(), words_of(&fault)),
+        );
+        Refused { fault, diagnostic }
+    }
+
+    /// A fault of a file as a whole.
+    pub fn of_file(alloc: Global, name: &str, fault: ServeFault) -> Refused
+        ensures fault { result.fault ≡ fault }
+        ensures diagnostic { IsToldOr
+            (λ text. text ≡ file_text name.now (code_of fault) (words_of fault))
+            result.diagnostic }
+    {
+        let words = words_of(&fault);
+        let diagnostic = or_empty(alloc, file_diagnostic(alloc, name, fault.code(), words));
+        Refused { fault, diagnostic }
+    }
+}
+
+/// A text, or the empty one where there was no memory for it.
+fn or_empty(alloc: Global, text: Result<Text, AllocError>) -> Text
+    ensures { MatchResult text (λ t. result ≡ t) (λ e. result ≡ []) }
+{
+    match text {
+        Ok(text) => text,
+        Err(_) => Text::from_string(String::new(alloc)),
+    }
+}
+
+/// The words of a fault that is none of a design's or a policy's text.
+fn words_of(fault: &ServeFault) -> &'static str
+    ensures { result.now ≡ words_of fault.now }
+{
+    match fault {
+        ServeFault::Design(_) => "bad design",
+        ServeFault::Policy(_) => "bad policy",
+        ServeFault::World(_) => "no memory for a world",
+        ServeFault::Lines(_) => "reading or writing lines failed",
+        ServeFault::BadBundle =>
+            "a bundle is a design in UTF-8, a line %%, a policy, a line %%, and a script",
+        ServeFault::ReadFailed => "it can't be read as text in UTF-8",
+        ServeFault::TooLong =>
+            "a design and a policy have at most 1,048,576 bytes, a bundle 16,777,216",
+        ServeFault::NoSuchUser => "the policy has no such user",
+        ServeFault::ListenFailed => "the port can't be listened on",
+        ServeFault::NoThread => "no thread can be started",
+        ServeFault::NoMemory => "no memory",
+    }
+}
+
+/// A design and a policy, with the names of their files.
+#[derive(Clone, Copy)]
+pub struct Sources<'d, 'p> {
+    pub design_name: &'d str,
+    pub design: &'d str,
+    pub policy_name: &'p str,
+    pub policy: &'p [u8],
+}
+
+impl Sources<'_, '_> {
+    ghost use Rattle.std.specs.Prelude.{◌≡◌, IfOk};
+    ghost use Rattle.vp_diagnostic.specs.Policies.{IsPolicyDiagnostic};
+    ghost use Rattle.vp_script.specs.Refused.{IsDiagnostic, IsToldOr};
+
+    /// A fault of a run over these sources.
+    pub fn refused(self, alloc: Global, fault: ServeFault) -> Refused
+        ensures fault { result.fault ≡ fault }
+        ensures diagnostic { IsToldOr (IsDiagnostic self.entry.design_name.now
+            self.entry.design.now self.entry.policy_name.now fault) result.diagnostic }
+    {
+        let diagnostic = or_empty(alloc, self.diagnostic(alloc, &fault));
+        Refused { fault, diagnostic }
+    }
+
+    /// The diagnostic of a fault of a run over these sources.
+    fn diagnostic(self, alloc: Global, fault: &ServeFault) -> Result<Text, AllocError>
+        ensures { IfOk result (IsDiagnostic self.entry.design_name.now
+            self.entry.design.now self.entry.policy_name.now fault.now) }
+    {
+        match fault {
+            ServeFault::Design(error) => {
+                design_diagnostic(alloc, self.design_name, self.design, error)
+            }
+            ServeFault::Policy(error) => self.policy_diagnostic(alloc, error),
+            ServeFault::TooLong => {
+                file_diagnostic(alloc, self.policy_name, fault.code(), words_of(fault))
+            }
+            _ => plain_diagnostic(alloc, fault.code(), words_of(fault)),
+        }
+    }
+
+    /// The diagnostic of a fault of the policy; the design has been read before, so that it is refused for want of memory alone.
+    fn policy_diagnostic(self, alloc: Global, error: &PolicyError) -> Result<Text, AllocError>
+        ensures { IfOk result (IsPolicyDiagnostic self.entry.policy_name.now error.now) }
+    {
+        match read_design(alloc, self.design) {
+            Ok(checked) => {
+                policy_diagnostic(
+                    alloc,
+                    self.policy_name,
+                    self.policy,
+                    checked.design(),
+                    error,
+                )
+            }
+            Err(_) => Err(AllocError),
+        }
+    }
+}
+
+/// The design and the policy of a bundle; none where it has no such parts, or the design is no text.
+fn bundle_sources(bundle: &[u8]) -> Option<Sources<'_, '_>> {
+    let (design, rest) = cut(bundle)?;
+    let (policy, _) = cut(rest)?;
+    let design = text_of(design, ServeFault::BadBundle).ok()?;
+    Some(Sources {
+        design_name: STANDARD_INPUT,
+        design,
+        policy_name: STANDARD_INPUT,
+        policy,
+    })
+}
+
+/// A fault of the run of a bundle; the lines are those of its design.
+pub fn bundle_refused(alloc: Global, bundle: &[u8], fault: ServeFault) -> Refused
+    ensures { result.fault ≡ fault }
+{
+    match bundle_sources(bundle) {
+        Some(sources) => sources.refused(alloc, fault),
+        None => Refused::of_file(alloc, STANDARD_INPUT, fault),
+    }
+}
