@@ -15,18 +15,18 @@ use vp_list::Text;
 use vp_wire::Counted;
 
 /// The bytes of the file of a design or a policy, at most one more than it may have; `ReadFailed` (1602) where it can't be read.
-pub fn file_bytes<R: AllocGlobal + Files>(rt: &R, path: &str) -> Result<Vec<u8>, ServeFault> {
+fn file_bytes<R: AllocGlobal + Files>(rt: &R, path: &str) -> Result<Vec<u8>, ServeFault> {
     let file = fs::open(rt, path).map_err(|_| ServeFault::ReadFailed)?;
     read_at_most(rt.alloc(), file, TEXT_LIMIT)
 }
 
 /// The bytes of a file, as `file_bytes` reads them; a fault is told with the name of the file.
-pub fn named_bytes<R: AllocGlobal + Files>(rt: &R, path: &str) -> Result<Vec<u8>, Refused> {
+fn named_bytes<R: AllocGlobal + Files>(rt: &R, path: &str) -> Result<Vec<u8>, Refused> {
     file_bytes(rt, path).map_err(|fault| Refused::of_file(rt.alloc(), path, fault))
 }
 
 /// The text of a design's bytes; a fault is told with the name of its file.
-pub fn named_text<'a>(alloc: Global, path: &str, bytes: &'a [u8]) -> Result<&'a str, Refused> {
+fn named_text<'a>(alloc: Global, path: &str, bytes: &'a [u8]) -> Result<&'a str, Refused> {
     text_of(bytes, ServeFault::ReadFailed).map_err(|fault| Refused::of_file(alloc, path, fault))
 }
 
@@ -44,6 +44,41 @@ fn check_design_file<R: AllocGlobal + Files>(rt: &R, path: &str) -> Result<(), R
     check_design(alloc, text).map_err(|fault| sources.refused(alloc, fault))
 }
 
+/// The files of a design and a policy, as they were read.
+#[derive(Drop)]
+pub struct SourceFiles<'n> {
+    design_name: &'n str,
+    design: Vec<u8>,
+    policy_name: &'n str,
+    policy: Vec<u8>,
+}
+
+impl<'n> SourceFiles<'n> {
+    /// Reads both files, the design's first; a fault is told with the name of the file.
+    pub fn read<R: AllocGlobal + Files>(
+        rt: &R,
+        design_name: &'n str,
+        policy_name: &'n str,
+    ) -> Result<SourceFiles<'n>, Refused> {
+        Ok(SourceFiles {
+            design_name,
+            design: named_bytes(rt, design_name)?,
+            policy_name,
+            policy: named_bytes(rt, policy_name)?,
+        })
+    }
+
+    /// What they hold, with their names; or that the design is no text, or too long.
+    pub fn sources(&self, alloc: Global) -> Result<Sources<'_, '_>, Refused> {
+        Ok(Sources {
+            design_name: self.design_name,
+            design: named_text(alloc, self.design_name, &self.design)?,
+            policy_name: self.policy_name,
+            policy: &self.policy,
+        })
+    }
+}
+
 /// Reads the file of a design, and that of a policy if there is one, as `run_files` does; or tells the first fault.
 pub fn check_files<R: AllocGlobal + Files>(
     rt: &R,
@@ -54,16 +89,11 @@ pub fn check_files<R: AllocGlobal + Files>(
         return check_design_file(rt, design);
     };
     let alloc = rt.alloc();
-    let design_bytes = named_bytes(rt, design)?;
-    let policy_bytes = named_bytes(rt, policy)?;
-    let text = named_text(alloc, design, &design_bytes)?;
-    let sources = Sources {
-        design_name: design,
-        design: text,
-        policy_name: policy,
-        policy: &policy_bytes,
-    };
-    check_policy(alloc, text, &policy_bytes).map_err(|fault| sources.refused(alloc, fault))
+    let files = SourceFiles::read(rt, design, policy)?;
+    let sources = files.sources(alloc)?;
+    check_policy(alloc, sources.design, sources.policy).map_err(|fault| sources.refused(
+        alloc, fault,
+    ))
 }
 
 /// What the user of a name sees of the design of a file under the policy of another; the faults are those of `check_files`, and then
@@ -75,16 +105,11 @@ pub fn view_files<R: AllocGlobal + Files>(
     user: &str,
 ) -> Result<Text, Refused> {
     let alloc = rt.alloc();
-    let design_bytes = named_bytes(rt, design)?;
-    let policy_bytes = named_bytes(rt, policy)?;
-    let text = named_text(alloc, design, &design_bytes)?;
-    let sources = Sources {
-        design_name: design,
-        design: text,
-        policy_name: policy,
-        policy: &policy_bytes,
-    };
-    view_text(alloc, text, &policy_bytes, user).map_err(|fault| sources.refused(alloc, fault))
+    let files = SourceFiles::read(rt, design, policy)?;
+    let sources = files.sources(alloc)?;
+    view_text(alloc, sources.design, sources.policy, user).map_err(|fault| sources.refused(
+        alloc, fault,
+    ))
 }
 
 /// Runs the script of standard input over the files of a design and a policy; a file that can't be read is `ReadFailed`
@@ -95,23 +120,21 @@ pub fn run_files<R: AllocGlobal + Files + Input + Print>(
     policy: &str,
 ) -> Result<Ran, Refused> {
     let alloc = rt.alloc();
-    let design_bytes = named_bytes(rt, design)?;
-    let policy_bytes = named_bytes(rt, policy)?;
-    let text = named_text(alloc, design, &design_bytes)?;
-    let sources = Sources {
-        design_name: design,
-        design: text,
-        policy_name: policy,
-        policy: &policy_bytes,
-    };
+    let files = SourceFiles::read(rt, design, policy)?;
+    let sources = files.sources(alloc)?;
     let mut reader = Counted::new(rt.reader());
     let mut writer = Counted::new(BufWriter::new(alloc, io::writer(rt)).map_err(|_| Refused::new(
         alloc,
         ServeFault::NoMemory,
     ))?);
-    run_script(alloc, text, &policy_bytes, &mut reader, &mut writer).map_err(
-        |fault| sources.refused(alloc, fault),
+    run_script(
+        alloc,
+        sources.design,
+        sources.policy,
+        &mut reader,
+        &mut writer,
     )
+    .map_err(|fault| sources.refused(alloc, fault))
 }
 
 /// Audits the user of a name by the script of standard input over the files of a design and a policy; a file that can't be read is
@@ -124,19 +147,18 @@ pub fn audit_files<R: AllocGlobal + Files + Input>(
     explain: bool,
 ) -> Result<Audited, Refused> {
     let alloc = rt.alloc();
-    let design_bytes = named_bytes(rt, design)?;
-    let policy_bytes = named_bytes(rt, policy)?;
-    let text = named_text(alloc, design, &design_bytes)?;
-    let sources = Sources {
-        design_name: design,
-        design: text,
-        policy_name: policy,
-        policy: &policy_bytes,
-    };
+    let files = SourceFiles::read(rt, design, policy)?;
+    let sources = files.sources(alloc)?;
     let mut reader = Counted::new(rt.reader());
-    audit_script(alloc, text, &policy_bytes, user, explain, &mut reader).map_err(
-        |fault| sources.refused(alloc, fault),
+    audit_script(
+        alloc,
+        sources.design,
+        sources.policy,
+        user,
+        explain,
+        &mut reader,
     )
+    .map_err(|fault| sources.refused(alloc, fault))
 }
 
 /// Runs the bundle of standard input; the faults are those of `run_bundle`, or `ReadFailed` (1602).

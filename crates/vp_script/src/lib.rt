@@ -14,9 +14,7 @@ mod views;
 pub use audits::{Audited, audit_script};
 pub use bundle::run_bundle;
 pub use fault::ServeFault;
-pub use files::{
-    audit_files, check_files, file_bytes, named_bytes, named_text, run_files, run_input, view_files,
-};
+pub use files::{SourceFiles, audit_files, check_files, run_files, run_input, view_files};
 pub use refused::{Refused, Sources, bundle_refused};
 pub use script::{Ran, fresh_world, run_script};
 pub use sources::{BUNDLE_LIMIT, text_of};
