@@ -4,3 +4,4 @@ pub mod Explaining
 pub mod Calling
 pub mod Receiving
 pub mod Closings
+pub mod Crossing

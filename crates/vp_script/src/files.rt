@@ -46,20 +46,20 @@ fn check_design_file<R: AllocGlobal + Files>(rt: &R, path: &str) -> Result<(), R
 
 /// The files of a design and a policy, as they were read.
 #[derive(Drop)]
-pub struct SourceFiles<'n> {
-    design_name: &'n str,
+pub struct SourceFiles<'d, 'p> {
+    design_name: &'d str,
     design: Vec<u8>,
-    policy_name: &'n str,
+    policy_name: &'p str,
     policy: Vec<u8>,
 }
 
-impl<'n> SourceFiles<'n> {
+impl<'d, 'p> SourceFiles<'d, 'p> {
     /// Reads both files, the design's first; a fault is told with the name of the file.
     pub fn read<R: AllocGlobal + Files>(
         rt: &R,
-        design_name: &'n str,
-        policy_name: &'n str,
-    ) -> Result<SourceFiles<'n>, Refused> {
+        design_name: &'d str,
+        policy_name: &'p str,
+    ) -> Result<SourceFiles<'d, 'p>, Refused> {
         Ok(SourceFiles {
             design_name,
             design: named_bytes(rt, design_name)?,

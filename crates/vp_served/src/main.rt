@@ -2,11 +2,13 @@
 #![tactic(auto)]
 
 mod parser;
+mod serving;
 #[cfg(test)]
 mod tests;
 mod words;
 
 use crate::parser::command;
+use crate::serving::{Unserved, serve_files};
 use crate::words::{Command, Misuse};
 use std::process::ExitCode;
 use std::{env, io};
@@ -96,6 +98,20 @@ fn audit_status<R: Print + Eprint>(
     }
 }
 
+/// Prints why files were not served to the end, if they were not; the status is 1 then.
+fn serve_status<R: Print + Eprint>(rt: &R, served: Result<(), Unserved>) -> io::Result<ExitCode> {
+    match served {
+        Ok(()) => Ok(ExitCode::SUCCESS),
+        Err(Unserved::Refused(refused)) => print_refused(rt, &refused),
+        Err(Unserved::Fault(fault)) => {
+            let code = fault.code();
+            println!(rt; "fault {code} line 0")?;
+            eprintln!(rt; "fault {code}: {fault}")?;
+            Ok(ExitCode::FAILURE)
+        }
+    }
+}
+
 fn main(rt: HostRuntime) -> io::Result<ExitCode> {
     let alloc = rt.alloc();
     let words: Vec<String> = env::args(&rt)?.collect(alloc)?;
@@ -120,6 +136,14 @@ fn main(rt: HostRuntime) -> io::Result<ExitCode> {
                 explain,
             },
         ) => audit_status(&rt, audit_files(&rt, design, policy, user, explain)),
+        Ok(
+            Command::Serve {
+                design,
+                policy,
+                port,
+                settings,
+            },
+        ) => serve_status(&rt, serve_files(&rt, design, policy, port, settings)),
         Ok(Command::Bundle) => run_status(&rt, run_input(&rt)),
         Ok(Command::Show(text)) => print_text(&rt, &text),
         Err(Misuse::BadWords(text)) => {

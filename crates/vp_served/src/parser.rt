@@ -1,9 +1,11 @@
 use crate::words;
 use crate::words::Misuse;
+use clap::builder::ValueParser;
 use clap::error::ErrorKind;
 use clap::{Arg, ArgAction, ArgMatches, Error};
 use std::alloc::{AllocError, Global};
 use vp_list::Text;
+use vp_serve::Settings;
 
 const ABOUT: &str =
     "Answers questions about a Verilog design, to each user what the policy lets him see.";
@@ -39,6 +41,11 @@ sessions' events in the log, and the status is 0; or `differs N`, N the number o
 was answered otherwise, and the status is 1. A user who is not in the policy is fault 1604.
 
 With --explain, standard error shows what the user was told and what came to him, in order: each line begins with the number of what of one entry of the log goes to him, and behind a value stands the number of that with which it came. docs/FORMATS.md has the rest.";
+
+const SERVE_HELP: &str =
+    "It listens on 127.0.0.1 and prints `listening N`, N the port. Each connection is a session of its own: lines in, lines out, as \
+`run` reads and answers them, but that all share one simulation, which runs beside them. With --sessions M it ends when M \
+connections have ended, and prints `closed L`, L the number of entries of the log. docs/OPERATING.md tells how to run it for others.";
 
 /// The file of a design.
 fn design_word<'a>(alloc: Global) -> Arg<'a> {
@@ -110,6 +117,38 @@ fn audit_words<'a>(alloc: Global) -> Result<clap::Command<'a>, AllocError> {
         .arg(explain_word(alloc))
 }
 
+/// A number between two others, by a name.
+fn number_word<'a>(alloc: Global, name: &'static str, least: u64, most: u64) -> Arg<'a> {
+    Arg::new(alloc, name)
+        .long(name)
+        .value_parser(ValueParser::Unsigned(least, most))
+        .action(ArgAction::Set)
+}
+
+/// The words of `serve`.
+fn serve_words<'a>(alloc: Global) -> Result<clap::Command<'a>, AllocError> {
+    clap::Command::new(alloc, "serve")
+        .about("Serves a design under a policy to whoever connects")
+        .after_help(SERVE_HELP)
+        .arg(design_word(alloc))?
+        .arg(policy_word(alloc).required(true))?
+        .arg(
+            number_word(alloc, "port", 1, 65_535)
+                .required(true)
+                .help("The port of 127.0.0.1 on which it listens"),
+        )?
+        .arg(
+            number_word(alloc, "workers", 0, 16)
+                .default_value("2")
+                .help("How many threads search for races"),
+        )?
+        .arg(
+            number_word(alloc, "sessions", 0, 4_294_967_295)
+                .default_value("0")
+                .help("After how many connections it ends; 0: it does not end"),
+        )
+}
+
 /// The program's words.
 fn grammar<'a>(alloc: Global) -> Result<clap::Command<'a>, AllocError> {
     clap::Command::new(alloc, "vp_served")
@@ -119,7 +158,8 @@ fn grammar<'a>(alloc: Global) -> Result<clap::Command<'a>, AllocError> {
         .subcommand(run_words(alloc)?)?
         .subcommand(check_words(alloc)?)?
         .subcommand(view_words(alloc)?)?
-        .subcommand(audit_words(alloc)?)
+        .subcommand(audit_words(alloc)?)?
+        .subcommand(serve_words(alloc)?)
 }
 
 /// What the program's words ask, of which the first is the program's name; or what is wrong with them
@@ -131,6 +171,19 @@ pub fn command<'a>(alloc: Global, words: &'a [String]) -> Result<words::Command<
     match grammar.try_get_matches_from(words) {
         Ok(matches) => Ok(asked(&matches)),
         Err(error) => unmatched(alloc, &error),
+    }
+}
+
+/// What the words of `serve` ask.
+fn served<'a>(serve: &ArgMatches<'a>) -> words::Command<'a> {
+    words::Command::Serve {
+        design: serve.get_str("DESIGN").unwrap_or(""),
+        policy: serve.get_str("POLICY").unwrap_or(""),
+        port: serve.get_one("port").unwrap_or(0),
+        settings: Settings::new(
+            serve.get_one("workers").unwrap_or(0),
+            serve.get_one("sessions").unwrap_or(0),
+        ),
     }
 }
 
@@ -155,6 +208,9 @@ fn asked<'a>(matches: &ArgMatches<'a>) -> words::Command<'a> {
             user: audit.get_str("USER").unwrap_or(""),
             explain: audit.get_flag("explain"),
         };
+    }
+    if let Some(serve) = matches.subcommand_matches("serve") {
+        return served(serve);
     }
     match matches.subcommand_matches("view") {
         Some(view) => words::Command::View {

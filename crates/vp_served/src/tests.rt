@@ -3,6 +3,7 @@
 use crate::parser::command;
 use crate::words::{Command, Misuse};
 use std::alloc::Global;
+use vp_serve::Settings;
 
 /// The words of a command line, as strings.
 fn words(alloc: Global, line: &[&str]) -> Vec<String> {
@@ -47,6 +48,22 @@ fn asked(alloc: Global, line: &[&str]) -> &'static str {
         ) if design == "d.v" && policy == "p.json" && user == "ann" => {
             if explain { "audit explained" } else { "audit" }
         }
+        Ok(
+            Command::Serve {
+                design,
+                policy,
+                port,
+                settings,
+            },
+        ) if design == "d.v" && policy == "p.json" => {
+            if port == 7 && settings == Settings::new(2, 0) {
+                "serve"
+            } else if port == 65_535 && settings == Settings::new(16, 4_294_967_295) {
+                "serve most"
+            } else {
+                "serve other"
+            }
+        }
         Ok(Command::Show(_)) => "show",
         Err(Misuse::BadWords(_)) => "misuse",
         _ => "other",
@@ -55,7 +72,7 @@ fn asked(alloc: Global, line: &[&str]) -> &'static str {
 
 #[test]
 fn command_lines(rt: HostRuntime) {
-    let rows: [(&[&str], &str); 22] = [
+    let rows: [(&[&str], &str); 31] = [
         (&["vp_served"], "bundle"),
         (&["vp_served", "run", "d.v", "p.json"], "run"),
         (&["vp_served", "check", "d.v"], "check"),
@@ -84,6 +101,60 @@ fn command_lines(rt: HostRuntime) {
         (&["vp_served", "audit", "d.v", "p.json"], "misuse"),
         (
             &["vp_served", "audit", "d.v", "p.json", "ann", "q"],
+            "misuse",
+        ),
+        (
+            &["vp_served", "serve", "d.v", "p.json", "--port", "7"],
+            "serve",
+        ),
+        (
+            &[
+                "vp_served",
+                "serve",
+                "d.v",
+                "p.json",
+                "--port=65535",
+                "--workers",
+                "16",
+                "--sessions",
+                "4294967295",
+            ],
+            "serve most",
+        ),
+        (&["vp_served", "serve", "--help"], "show"),
+        (&["vp_served", "serve", "d.v", "p.json"], "misuse"),
+        (
+            &["vp_served", "serve", "d.v", "p.json", "--port", "0"],
+            "misuse",
+        ),
+        (
+            &["vp_served", "serve", "d.v", "p.json", "--port", "65536"],
+            "misuse",
+        ),
+        (
+            &["vp_served", "serve", "d.v", "p.json", "--port", "x"],
+            "misuse",
+        ),
+        (
+            &[
+                "vp_served",
+                "serve",
+                "d.v",
+                "p.json",
+                "--port=7",
+                "--workers=17",
+            ],
+            "misuse",
+        ),
+        (
+            &[
+                "vp_served",
+                "serve",
+                "d.v",
+                "p.json",
+                "--port=7",
+                "--sessions=4294967296",
+            ],
             "misuse",
         ),
         (&["vp_served", "walk"], "misuse"),

@@ -1,4 +1,5 @@
 use vp_list::Text;
+use vp_serve::Settings;
 
 /// What the program's words ask.
 #[derive(Drop)]
@@ -25,6 +26,13 @@ pub enum Command<'a> {
         policy: &'a str,
         user: &'a str,
         explain: bool,
+    },
+    /// To serve a design under a policy to whoever connects to a port.
+    Serve {
+        design: &'a str,
+        policy: &'a str,
+        port: u16,
+        settings: Settings,
     },
     /// To run the bundle of standard input.
     Bundle,

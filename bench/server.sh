@@ -1,0 +1,100 @@
+#!/bin/sh
+# How fast a server answers. Round trips of `time` over loopback, beside those of redis's PING by the same client; the time of a `value` beside a search for races, and without one; how much sooner
+# four workers find the races of a run than one; what an idle server with 64 sessions uses of a processor; and what an entry of the log takes of memory. Wants gcc, redis-server (Debian's packages), and
+# crates/vp_served/out/vp_served; four processors for the workers.
+set -eu
+top=$(cd "$(dirname "$0")/.." && pwd)
+. "$top/bench/common.sh"
+cc -O2 -pthread -o "$work/client" "$top/bench/server/client.c"
+echo '{"users":[{"name":"ann","token":"t1","open":"list+read+watch+put+race","run":true}]}' > "$work/policy.json"
+
+# A server of the design of a name on a port, with so many workers; `server` is its process.
+begin() {
+    "$program" serve "$work/$1.v" "$work/policy.json" --port "$2" --workers "$3" > "$work/out" &
+    server=$!
+    while ! grep -q listening "$work/out"; do sleep 0.05; done
+}
+
+end() {
+    kill "$server"
+    wait "$server" 2> /dev/null || true
+}
+
+# Trips a second, half and 99th percentile in microseconds.
+trips() { "$work/client" "$1" "$2" "$seconds" "$3" "$4"; }
+
+echo 'module top; reg a; initial a = 0; endmodule' > "$work/still.v"
+seconds=5
+
+redis-server --port 20151 --save "" --appendonly no > /dev/null &
+redis=$!
+sleep 1
+begin still 20150 2
+for clients in 1 16; do
+    theirs=$(trips 20151 "$clients" "" PING)
+    ours=$(trips 20150 "$clients" "$opening" '{"op":"time"}')
+    echo "clients: $clients; redis PING: $theirs; time: $ours (trips a second, half, 99th percentile in microseconds)"
+    echo "$ours $theirs" | awk '{printf "ratio: %.2f\n", $1 / $4}'
+done
+kill "$redis"
+end
+
+# Each of 200 slots has a race, and 2,000 steps of a loop, so that its 16 orders are long.
+echo 'module top; reg c, a, b, x; reg [15:0] i;
+initial begin a = 0; b = 1; x = 0; for (c = 0; 1; c = ~c) #5 ; end
+always @(posedge c) a = b;
+always @(posedge c) b = ~a;
+always @(posedge c) for (i = 0; i < 1000; i = i + 1) x = ~x;
+endmodule' > "$work/races.v"
+reading=$(printf '%s\n%s' "$opening" '{"op":"handle","name":"top.x"}')
+seconds=5
+begin races 20152 2
+idle=$(trips 20152 1 "$reading" '{"op":"value","h":1}')
+end
+begin races 20153 2
+python3 "$top/bench/server/search.py" 20153 1000 190 > "$work/searched" &
+sleep 0.3
+seconds=3
+searching=$(trips 20153 1 "$reading" '{"op":"value","h":1}')
+wait $!
+end
+echo "value, idle: $idle; beside a search: $searching; the search took $(cat "$work/searched") s"
+echo "$searching $idle" | awk '{printf "ratio of the 99th percentiles: %.2f\n", $3 / $6}'
+
+for workers in 1 4; do
+    begin races "2015$((workers + 3))" "$workers"
+    python3 "$top/bench/server/search.py" "2015$((workers + 3))" 1000 190 > "$work/with$workers"
+    end
+    echo "workers: $workers; seconds: $(cat "$work/with$workers")"
+done
+echo "$(cat "$work/with1") $(cat "$work/with4")" | awk '{printf "ratio: %.2f\n", $1 / $2}'
+
+# An idle server with 64 sessions: what it uses in ten seconds, in hundredths of a second of one processor.
+begin still 20158 2
+"$work/client" 20158 64 0 "$opening" '{"op":"time"}' > /dev/null &
+python3 - 20158 "$server" <<'P'
+import socket, sys, time
+port, server = int(sys.argv[1]), sys.argv[2]
+clients = [socket.create_connection(("127.0.0.1", port)) for _ in range(64)]
+for client in clients:
+    client.sendall(b'{"op":"open","user":"ann","token":"t1"}\n')
+    client.recv(100)
+def used():
+    fields = open(f"/proc/{server}/stat").read().rsplit(")", 1)[1].split()
+    return int(fields[11]) + int(fields[12])
+before = used()
+time.sleep(10)
+print(f"idle with 64 sessions: {(used() - before) / 10:.1f} % of one processor")
+P
+end
+
+# Memory by entries: so many requests of one session.
+begin still 20159 0
+resident() { awk '/^VmRSS/ {print $2}' "/proc/$server/status"; }
+first=$(resident)
+seconds=10
+asked=$(trips 20159 1 "$opening" '{"op":"time"}' | awk '{printf "%d", $1 * 10}')
+last=$(resident)
+echo "memory: $first kB before, $last kB behind $asked requests"
+echo "$first $last $asked" | awk '{printf "bytes an entry, with its receipt: %.0f\n", ($2 - $1) * 1024 / $3}'
+end

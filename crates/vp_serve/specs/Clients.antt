@@ -1,0 +1,51 @@
+-- What the client of a connection is answered.
+use Rattle.std.specs.Prelude.{◌≡◌, ◌⊎◌, Option, Some, None, Result, Ok, Err}
+use Rattle.vp_answer.specs.declared.reply.Refusal.{Refusal}
+use Rattle.vp_answer.specs.declared.reply.Refusal.TheVariants.{BadReceipt}
+use Rattle.vp_answer.specs.declared.reply.Reply.{Reply}
+use Rattle.vp_answer.specs.declared.reply.Reply.TheVariants as reply
+use Rattle.vp_answer.specs.declared.request.Request.{Request}
+use Rattle.vp_answer.specs.declared.request.Request.TheVariants as request
+use Rattle.vp_world.specs.Refusals.{refusal_of_error}
+use Rattle.vp_world.specs.Worlds.{Opening}
+use Rattle.vp_hub.specs.declared.fault.HubError.{HubError}
+use Rattle.vp_hub.specs.declared.fault.HubError.TheVariants as hub_error
+use Rattle.vp_hub.specs.Calls.{Passed}
+use Rattle.vp_hub.specs.Hubs.{IsAnswered, IsOpened}
+
+-- the refusal that a line tells of a hub's
+abbrev pub refusal_of : HubError → Refusal
+refusal_of (hub_error.World e) = refusal_of_error e
+refusal_of hub_error.Receipt = BadReceipt
+refusal_of hub_error.Mismatch = BadReceipt
+
+-- what a client is told of what a hub answers
+abbrev pub reply_of : Result Reply HubError → Reply
+reply_of (Ok answer) = answer
+reply_of (Err e) = reply.Error (refusal_of e)
+
+-- a request is refused, and the session stays as it was, if there is one
+abbrev pub IsRefused : (before : Option Passed) → Reply → (after : Option Passed) → Type 0
+IsRefused before answer after = (after ≡ before) × (e : Refusal) × (answer ≡ reply.Error e)
+
+-- a connection's session is opened, as the hub opens it; or that is refused, as it is where the connection has one
+abbrev pub IsOpening : Opening → (before : Option Passed) → Request → Reply → (after : Option Passed) → Type 0
+IsOpening opening (Some p) r answer after = IsRefused (Some p) answer after
+IsOpening opening None r answer after =
+    ((p : Passed) × (after ≡ Some p) × (answer ≡ reply.Opened p.session) × IsOpened opening r p) ⊎ IsRefused None answer after
+
+-- a grant is changed, or that is refused; a session stays as it was
+abbrev pub IsGranted : (before : Option Passed) → Reply → (after : Option Passed) → Type 0
+IsGranted before answer after = ((after ≡ before) × (answer ≡ reply.Done)) ⊎ IsRefused before answer after
+
+-- a request of a session is answered as the hub answers it; without a session it is refused
+abbrev pub IsAsked : Opening → (before : Option Passed) → Request → Reply → (after : Option Passed) → Type 0
+IsAsked opening None r answer after = IsRefused None answer after
+IsAsked opening (Some p) r answer after =
+    (q : Passed) × (after ≡ Some q) × (result : Result Reply HubError) × (answer ≡ reply_of result) × IsAnswered opening p r result q
+
+-- a client is answered: what becomes of its session
+abbrev pub Answers : Opening → (before : Option Passed) → Request → Reply → (after : Option Passed) → Type 0
+Answers opening before (request.Open user token) answer after = IsOpening opening before (request.Open user token) answer after
+Answers opening before (request.Grant change) answer after = IsGranted before answer after
+Answers opening before r answer after = IsAsked opening before r answer after

@@ -1,0 +1,94 @@
+ghost use Rattle.std.specs.Prelude.{◌≡◌, ◌⊎◌, Some, None, IfErr, IfOk, IfNone, IfSome};
+ghost use Rattle.vp_answer.specs.declared.reply.Reply.TheVariants as replies;
+ghost use Rattle.vp_answer.specs.declared.request.Request.TheVariants as requests;
+ghost use Rattle.vp_hub.specs.Calls.{IsCall};
+ghost use Rattle.vp_serve.specs.Clients.{Answers, IsAsked, IsGranted, IsOpening, refusal_of};
+
+use std::net::TcpStream;
+use std::sync::Wait;
+use vp_answer::{GrantChange, Refusal, Reply, Request};
+use vp_hub::{Hub, HubError, Opens, Pass};
+use vp_list::Text;
+use vp_race::Gate;
+use vp_wire::Caller;
+
+/// Who asks by a connection: nobody yet, or the user of a session.
+#[derive(Drop)]
+pub(crate) struct Client<'a, L: Opens, R: Wait, G: Gate> {
+    pub(crate) rt: &'a R,
+    pub(crate) hub: &'a Hub<L>,
+    pub(crate) gate: &'a G,
+    pub(crate) stream: &'a TcpStream,
+    pub(crate) pass: Option<Pass<L>>,
+}
+
+/// The refusal that a line tells of a hub's.
+fn refusal_of(error: HubError) -> Refusal
+    ensures { result ≡ refusal_of error }
+{
+    match error {
+        HubError::World(error) => Refusal::from(error),
+        HubError::Receipt | HubError::Mismatch => Refusal::BadReceipt,
+    }
+}
+
+impl<'a, L: Opens, R: Wait, G: Gate> Client<'a, L, R, G> {
+    /// Opens the connection's session, which from then on may be silent; refused where it has one, or by the hub.
+    fn open(&mut self, user: Text, token: Text) -> Reply
+        ensures { IsOpening L.opening self.old.pass (requests.Open user token) result self.new.pass }
+    {
+        if self.pass.is_some() {
+            return Reply::Error(Refusal::SessionsFull);
+        }
+        match self.hub.open(self.rt, user, token) {
+            Ok(pass) => {
+                let session = pass.session();
+                self.pass = Some(pass);
+                let _set = self.stream.set_read_timeout(None);
+                Reply::Opened(session)
+            }
+            Err(error) => Reply::Error(refusal_of(error)),
+        }
+    }
+
+    /// Changes a grant.
+    fn grant(&mut self, change: GrantChange) -> Reply
+        ensures { IsGranted self.old.pass result self.new.pass }
+    {
+        match self.hub.grant(self.rt, change) {
+            Ok(reply) => reply,
+            Err(error) => Reply::Error(refusal_of(error)),
+        }
+    }
+
+    /// Answers a request of the session, if there is one.
+    fn ask(&mut self, request: Request) -> Reply
+        requires { IsCall request }
+        ensures { IsAsked L.opening self.old.pass request result self.new.pass }
+    {
+        let Some(pass) = self.pass.take() else {
+            return Reply::Error(Refusal::NotOpen);
+        };
+        let (pass, answer) = self.hub.call(self.rt, pass, request);
+        self.pass = Some(pass);
+        match answer {
+            Ok(reply) => reply,
+            Err(error) => Reply::Error(refusal_of(error)),
+        }
+    }
+}
+
+impl<'a, L: Opens, R: Wait, G: Gate> Caller for Client<'a, L, R, G> {
+    ghost calls = { λ before r answer after.
+        Answers L.opening before.pass r answer after.pass };
+
+    /// Answers a request. The gate is asked once before.
+    fn call(&mut self, request: Request) -> Reply {
+        let _open = self.gate.turn();
+        match request {
+            Request::Open { user, token } => self.open(user, token),
+            Request::Grant(change) => self.grant(change),
+            request => self.ask(request),
+        }
+    }
+}

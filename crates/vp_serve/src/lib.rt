@@ -1,0 +1,16 @@
+//! The server: a world that many connections share, with threads that let its simulation run and search it for races.
+#![tactic(auto)]
+
+mod accept;
+mod background;
+mod client;
+mod connection;
+mod fault;
+mod passes;
+mod server;
+mod service;
+mod settings;
+
+pub use fault::ServerFault;
+pub use server::serve;
+pub use settings::Settings;

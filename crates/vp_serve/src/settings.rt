@@ -1,0 +1,26 @@
+use std::time::Duration;
+
+/// What a server is asked for.
+#[derive(Clone, Copy, Debug, PartialEq, Eq)]
+pub struct Settings {
+    /// So many threads search for races.
+    pub workers: u32,
+    /// It ends behind so many connections; where it is 0, it does not end.
+    pub sessions: u32,
+    /// How long a client may say nothing before its session is open.
+    pub opening_silence: Duration,
+    /// How long a client may read nothing of a reply.
+    pub reading_silence: Duration,
+}
+
+impl Settings {
+    /// A server whose clients have a minute to open a session, and ten seconds to read.
+    pub fn new(workers: u32, sessions: u32) -> Settings {
+        Settings {
+            workers,
+            sessions,
+            opening_silence: Duration::from_secs(60),
+            reading_silence: Duration::from_secs(10),
+        }
+    }
+}

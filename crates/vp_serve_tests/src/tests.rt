@@ -1,0 +1,5 @@
+mod clients;
+mod dialogues;
+mod limits;
+mod running;
+mod servers;

@@ -1,0 +1,193 @@
+//! Clients that are silent, that read nothing, and that are too many.
+use crate::tests::clients::{OK, OPEN, connect, is_ended, is_told, send, talk};
+use crate::tests::servers::{DESIGN, served};
+use std::alloc::Global;
+use std::net::{Net, TcpStream};
+use std::thread;
+use std::thread::join;
+use std::time::{Clock, Duration};
+use vp_race::OpenGate;
+use vp_serve::Settings;
+use vp_world::Limits;
+
+/// A server whose clients have a short time to open a session, and to read.
+fn impatient(sessions: u32) -> Settings {
+    Settings {
+        opening_silence: Duration::from_millis(300),
+        reading_silence: Duration::from_millis(300),
+        ..Settings::new(0, sessions)
+    }
+}
+
+/// A client that says nothing is ended; one that has opened its session may be silent.
+fn be_silent<R: Net<Stream = TcpStream> + Clock>(rt: &R, alloc: Global, port: u16) -> bool {
+    let (Some(silent), Some(opened)) = (connect(rt, port), connect(rt, port)) else {
+        return false;
+    };
+    if !is_told(alloc, &opened, OPEN, OK) {
+        return false;
+    }
+    thread::sleep(rt, Duration::from_millis(900));
+    is_ended(&silent) && is_told(alloc, &opened, "{\"op\":\"close\"}\n", OK)
+}
+
+#[test]
+fn silent_clients(rt: HostRuntime) {
+    let alloc = rt.alloc();
+    let (told, right) = join(
+        &rt,
+        || served(
+            &rt,
+            alloc,
+            DESIGN,
+            Limits::GREATEST,
+            40_130,
+            impatient(2),
+            &OpenGate,
+        ),
+        || be_silent(&rt, alloc, 40_130),
+    );
+    assert!(rt; right, "the silent one is ended, and the other is not");
+    assert!(rt; told == Ok(2));
+}
+
+/// A client sends requests and reads no reply, until the server has ended the connection.
+fn read_nothing<R: Net<Stream = TcpStream> + Clock>(rt: &R, port: u16) -> bool {
+    let Some(stream) = connect(rt, port) else {
+        return false;
+    };
+    let _set = stream.set_write_timeout(Some(Duration::from_secs(20)));
+    for _ in 0..2_000_000u32 {
+        if send(&stream, "{\"op\":\"get\",\"prop\":\"size\"}\n{}\n").is_none() {
+            return true;
+        }
+    }
+    false
+}
+
+#[test]
+fn a_client_that_reads_nothing(rt: HostRuntime) {
+    let alloc = rt.alloc();
+    let (told, ended) = join(
+        &rt,
+        || served(
+            &rt,
+            alloc,
+            DESIGN,
+            Limits::GREATEST,
+            40_131,
+            impatient(1),
+            &OpenGate,
+        ),
+        || read_nothing(&rt, 40_131),
+    );
+    assert!(rt; ended, "the server ends the connection");
+    assert!(rt; told == Ok(0));
+}
+
+/// So many clients, of whom each has opened a session.
+fn open_all<R: Net<Stream = TcpStream> + Clock>(
+    rt: &R,
+    alloc: Global,
+    port: u16,
+    count: usize,
+) -> Option<Vec<TcpStream>> {
+    let mut clients = Vec::new(alloc);
+    for _ in 0..count {
+        let stream = connect(rt, port)?;
+        if !is_told(alloc, &stream, OPEN, OK) {
+            return None;
+        }
+        clients.push(stream).ok()?;
+    }
+    Some(clients)
+}
+
+/// Each of the clients is answered; one more is told that there are too many sessions.
+fn be_many<R: Net<Stream = TcpStream> + Clock>(rt: &R, alloc: Global, port: u16) -> bool {
+    let Some(clients) = open_all(rt, alloc, port, 64) else {
+        return false;
+    };
+    if !talk(
+        rt,
+        alloc,
+        port,
+        &[(OPEN, "{\"error\":\"sessions full\"}\n")],
+    ) {
+        return false;
+    }
+    for client in &clients {
+        if !is_told(alloc, client, "{\"op\":\"close\"}\n", OK) {
+            return false;
+        }
+    }
+    true
+}
+
+#[test]
+fn sixty_five_sessions(rt: HostRuntime) {
+    let alloc = rt.alloc();
+    let settings = Settings::new(0, 65);
+    let (told, right) = join(
+        &rt,
+        || served(
+            &rt,
+            alloc,
+            DESIGN,
+            Limits::GREATEST,
+            40_132,
+            settings,
+            &OpenGate,
+        ),
+        || be_many(&rt, alloc, 40_132),
+    );
+    assert!(rt; right, "64 sessions are opened and answered");
+    assert!(rt; told == Ok(128));
+}
+
+/// So many clients that say nothing.
+fn connect_all<R: Net<Stream = TcpStream> + Clock>(
+    rt: &R,
+    alloc: Global,
+    port: u16,
+    count: usize,
+) -> Option<Vec<TcpStream>> {
+    let mut clients = Vec::new(alloc);
+    for _ in 0..count {
+        clients.push(connect(rt, port)?).ok()?;
+    }
+    Some(clients)
+}
+
+/// 256 clients say nothing; one more is dropped at once.
+fn be_too_many<R: Net<Stream = TcpStream> + Clock>(rt: &R, alloc: Global, port: u16) -> bool {
+    let Some(clients) = connect_all(rt, alloc, port, 256) else {
+        return false;
+    };
+    thread::sleep(rt, Duration::from_millis(500));
+    let Some(beyond) = connect(rt, port) else {
+        return false;
+    };
+    is_ended(&beyond) && is_told(alloc, &clients[0], OPEN, OK)
+}
+
+#[test]
+fn a_connection_too_many(rt: HostRuntime) {
+    let alloc = rt.alloc();
+    let settings = Settings::new(0, 257);
+    let (told, right) = join(
+        &rt,
+        || served(
+            &rt,
+            alloc,
+            DESIGN,
+            Limits::GREATEST,
+            40_133,
+            settings,
+            &OpenGate,
+        ),
+        || be_too_many(&rt, alloc, 40_133),
+    );
+    assert!(rt; right, "the one too many is dropped");
+    assert!(rt; told == Ok(2));
+}

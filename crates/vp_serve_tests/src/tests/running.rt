@@ -1,0 +1,190 @@
+//! The simulation beside the clients.
+use crate::tests::clients::{OK, OPEN, connect, is_told, line, send, talk};
+use crate::tests::servers::{DESIGN, served};
+use std::alloc::Global;
+use std::net::{Net, TcpStream};
+use std::thread;
+use std::thread::join;
+use std::time::{Clock, Duration};
+use vp_race::OpenGate;
+use vp_serve::Settings;
+use vp_world::Limits;
+
+/// A design whose simulation never ends, with an empty envelope.
+const ENDLESS: &str = "module top;
+`pragma protect begin
+`pragma protect end
+  reg r;
+  initial begin r = 0; forever r = ~r; end
+endmodule
+";
+
+/// A world whose log has room for some thousand events.
+const SMALL: Limits = Limits {
+    log: 20_000,
+    book: 16,
+    sessions: 64,
+};
+
+/// How often a request is answered beside an endless simulation, until the log is full.
+fn ask_on(alloc: Global, stream: &TcpStream) -> Option<u32> {
+    for count in 0..20_000u32 {
+        send(stream, "{\"op\":\"time\"}\n")?;
+        let told = line(alloc, stream)?;
+        if told.as_slice() == "{\"error\":\"log full\"}\n".as_bytes() {
+            return Some(count);
+        }
+        if told.as_slice() != "{\"finished\":false,\"time\":0}\n".as_bytes() {
+            return None;
+        }
+    }
+    None
+}
+
+/// A client lets an endless simulation run, and asks on.
+fn ask_beside<R: Net<Stream = TcpStream> + Clock>(rt: &R, alloc: Global, port: u16) -> Option<u32> {
+    let stream = connect(rt, port)?;
+    if !is_told(alloc, &stream, OPEN, OK) {
+        return None;
+    }
+    if !is_told(alloc, &stream, "{\"op\":\"run\",\"until\":0}\n", OK) {
+        return None;
+    }
+    ask_on(alloc, &stream)
+}
+
+#[test]
+fn an_endless_simulation(rt: HostRuntime) {
+    let alloc = rt.alloc();
+    let settings = Settings::new(2, 1);
+    let (told, asked) = join(
+        &rt,
+        || served(&rt, alloc, ENDLESS, SMALL, 40_140, settings, &OpenGate),
+        || ask_beside(&rt, alloc, 40_140),
+    );
+    assert!(rt;
+        matches!(asked, Some(count) if count > 0),
+        "requests are answered meanwhile"
+    );
+    assert!(rt; told == Ok(20_000));
+}
+
+/// One client lets the design run, and another waits until the time is 5, and reads what the first put.
+fn share<R: Net<Stream = TcpStream> + Clock>(rt: &R, alloc: Global, port: u16) -> bool {
+    let (Some(ann), Some(bob)) = (connect(rt, port), connect(rt, port)) else {
+        return false;
+    };
+    is_told(alloc, &ann, OPEN, OK)
+        && is_told(
+            alloc,
+            &bob,
+            "{\"op\":\"open\",\"user\":\"bob\",\"token\":\"t2\"}\n",
+            OK,
+        )
+        && is_told(alloc, &ann, "{\"op\":\"run\",\"until\":10}\n", OK)
+        && has_come(rt, alloc, &bob)
+        && is_told(
+            alloc,
+            &ann,
+            "{\"op\":\"handle\",\"name\":\"top.c\"}\n",
+            "{\"h\":1}\n",
+        )
+        && is_told(
+            alloc,
+            &ann,
+            "{\"op\":\"put\",\"h\":1,\"value\":\"z\"}\n",
+            OK,
+        )
+        && is_told(
+            alloc,
+            &bob,
+            "{\"op\":\"handle\",\"name\":\"top.u.k\"}\n",
+            "{\"h\":1}\n",
+        )
+        && is_told(
+            alloc,
+            &bob,
+            "{\"op\":\"value\",\"h\":1}\n",
+            "{\"value\":\"1\"}\n",
+        )
+        && is_told(
+            alloc,
+            &bob,
+            "{\"op\":\"handle\",\"name\":\"top.c\"}\n",
+            "{\"h\":2}\n",
+        )
+        && is_told(
+            alloc,
+            &bob,
+            "{\"op\":\"value\",\"h\":2}\n",
+            "{\"value\":\"z\"}\n",
+        )
+}
+
+/// Waits until the time is 5, at most ten seconds.
+fn has_come<R: Clock>(rt: &R, alloc: Global, stream: &TcpStream) -> bool {
+    for _ in 0..1_000u32 {
+        if is_told(
+            alloc,
+            stream,
+            "{\"op\":\"time\"}\n",
+            "{\"finished\":false,\"time\":5}\n",
+        ) {
+            return true;
+        }
+        thread::sleep(rt, Duration::from_millis(10));
+    }
+    false
+}
+
+#[test]
+fn users_share_a_simulation(rt: HostRuntime) {
+    let alloc = rt.alloc();
+    let settings = Settings::new(2, 2);
+    let (told, right) = join(
+        &rt,
+        || served(
+            &rt,
+            alloc,
+            DESIGN,
+            Limits::GREATEST,
+            40_141,
+            settings,
+            &OpenGate,
+        ),
+        || share(&rt, alloc, 40_141),
+    );
+    assert!(rt; right, "both see one simulation");
+    assert!(rt; told.is_ok());
+}
+
+/// Hundred connections one behind another, each with a session.
+fn come_and_go<R: Net<Stream = TcpStream> + Clock>(rt: &R, alloc: Global, port: u16) -> bool {
+    for _ in 0..100u32 {
+        if !talk(rt, alloc, port, &[(OPEN, OK)]) {
+            return false;
+        }
+    }
+    true
+}
+
+#[test]
+fn connections_one_behind_another(rt: HostRuntime) {
+    let alloc = rt.alloc();
+    let settings = Settings::new(2, 100);
+    let (told, right) = join(
+        &rt,
+        || served(
+            &rt,
+            alloc,
+            DESIGN,
+            Limits::GREATEST,
+            40_142,
+            settings,
+            &OpenGate,
+        ),
+        || come_and_go(&rt, alloc, 40_142),
+    );
+    assert!(rt; right, "each is answered");
+    assert!(rt; told == Ok(200));
+}

@@ -1,0 +1,91 @@
+//! Servers of worlds of texts.
+ghost use Rattle.std.specs.Prelude.{◌≡◌, ◌≤◌, ◌<◌, ◌^◌, [], length, IfSome};
+ghost use Rattle.vp_lex.specs.declared.token.TheConstants.{TEXT_LIMIT};
+ghost use Rattle.vp_policy.specs.PolicyState.{Fits};
+
+use std::alloc::Global;
+use std::net::{Ipv4Addr, Net, TcpListener, TcpStream};
+use std::sync::Wait;
+use std::thread::Threads;
+use std::time::Clock;
+use vp_elab::Design;
+use vp_policy::{Policy, read_policy};
+use vp_race::Gate;
+use vp_samples::shared_of;
+use vp_serve::{Settings, serve};
+use vp_world::{Limits, World};
+
+/// A module of a vendor, in an envelope, and one that has an instance of it.
+pub const DESIGN: &str = "module ip(input wire c, output reg q);
+`pragma protect author=\"acme\", begin
+  reg k, s;
+`pragma protect viewport=(object=\"ip.s\", access=\"read\")
+  initial begin k = 1'b1; s = 1'b0; end
+  always @(posedge c) begin s = k; q = s; end
+`pragma protect end
+endmodule
+module top;
+  reg c;
+  wire q;
+  ip u(.c(c), .q(q));
+  initial begin c = 0; #5 c = 1; end
+endmodule
+";
+
+/// A policy with two users, of whom the second has all rights in the envelope, and an operator.
+pub const POLICY: &[u8] = b"{\"operator\":\"op\",\"users\":[\
+{\"name\":\"ann\",\"token\":\"t1\",\"open\":\"list+read+watch+put+race\",\"run\":true},\
+{\"name\":\"bob\",\"token\":\"t2\",\"open\":\"list+read+watch+put+race\",\
+\"grants\":[{\"envelope\":1,\"access\":\"list+read+watch+put+race\"}]}]}";
+
+/// A policy for a design, read.
+fn policy_of(alloc: Global, policy: &[u8], design: &Design) -> Option<Policy>
+    ensures { IfSome result (λ policy. Fits policy design.now.tree) }
+{
+    read_policy(alloc, policy, design).ok()
+}
+
+/// A world of a text in which nothing has happened.
+fn world_of(alloc: Global, text: &str, limits: Limits) -> Option<World>
+    requires { length text.now ≤ TEXT_LIMIT }
+    ensures limits { IfSome result (λ world. world.opening.limits ≡ limits) }
+    ensures empty { IfSome result (λ world. world.log ≡ []) }
+{
+    let checked = shared_of(alloc, text)?;
+    let policy = policy_of(alloc, POLICY, checked.design())?;
+    World::new(alloc, checked, policy, limits).ok()
+}
+
+/// How many entries the log of a server of a text has at its end; or the number of its fault, or 0 where there is no world, or where it can't
+/// listen on its port.
+pub fn served<R, G>(
+    rt: &R,
+    alloc: Global,
+    text: &str,
+    limits: Limits,
+    port: u16,
+    settings: Settings,
+    gate: &G,
+) -> Result<usize, u32>
+where
+    R: Net<Listener = TcpListener, Stream = TcpStream> + Threads + Wait + Clock + Sync,
+    G: Gate + Sync,
+    requires text { length text.now ≤ TEXT_LIMIT }
+    requires room { limits.log < 2 ^ 32 }
+{
+    let Some(world) = world_of(alloc, text, limits) else {
+        return Err(0);
+    };
+    let Ok(listener) = TcpListener::bind(rt, (Ipv4Addr::LOCALHOST, port)) else {
+        drop(world);
+        return Err(0);
+    };
+    match serve(rt, alloc, world, limits, settings, &listener, gate) {
+        Ok(closed) => {
+            let entries = closed.log().len();
+            drop(closed);
+            Ok(entries)
+        }
+        Err(fault) => Err(fault.code()),
+    }
+}

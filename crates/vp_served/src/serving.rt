@@ -1,0 +1,98 @@
+// A server of files.
+ghost use Rattle.std.specs.Prelude.{◌≡◌, [], IfOk};
+ghost use Rattle.vp_script.specs.Scripts.{greatest};
+
+use std::net::{Ipv4Addr, Net, TcpListener, TcpStream};
+use std::rt::Files;
+use std::sync::Wait;
+use std::thread::Threads;
+use std::time::Clock;
+use vp_race::OpenGate;
+use vp_script::{Refused, ServeFault, SourceFiles, fresh_world};
+use vp_serve::{ServerFault, Settings, serve};
+use vp_wire::WireError;
+use vp_world::{Limits, World};
+
+/// Why files are not served to the end.
+#[derive(Drop)]
+pub enum Unserved {
+    /// They can't be read, or are refused.
+    Refused(Refused),
+    /// The server has ended by a fault.
+    Fault(ServerFault),
+}
+
+impl From<Refused> for Unserved {
+    fn from(refused: Refused) -> Unserved {
+        Unserved::Refused(refused)
+    }
+}
+
+impl From<ServerFault> for Unserved {
+    fn from(fault: ServerFault) -> Unserved {
+        Unserved::Fault(fault)
+    }
+}
+
+/// A world of the files of a design and a policy, with the greatest limits, in which nothing has happened; or the first fault.
+fn world_of_files<R: AllocGlobal + Files>(
+    rt: &R,
+    design: &str,
+    policy: &str,
+) -> Result<World, Refused>
+    ensures limits { IfOk result (λ world. world.opening.limits ≡ greatest) }
+    ensures empty { IfOk result (λ world. world.log ≡ []) }
+{
+    let alloc = rt.alloc();
+    let files = SourceFiles::read(rt, design, policy)?;
+    let sources = files.sources(alloc)?;
+    match fresh_world(alloc, sources.design, sources.policy) {
+        Ok(world) => Ok(world),
+        Err(fault) => Err(sources.refused(alloc, fault)),
+    }
+}
+
+/// Prints a line; or tells that it can't be printed (1505).
+fn print_line<R: AllocGlobal + Print>(rt: &R, word: &str, number: u64) -> Result<(), Unserved> {
+    match println!(rt; "{word} {number}") {
+        Ok(()) => Ok(()),
+        Err(_) => {
+            let fault = ServeFault::Lines(WireError::WriteFault);
+            Err(Unserved::Refused(Refused::new(rt.alloc(), fault)))
+        }
+    }
+}
+
+/// Serves the files of a design and a policy on a port of 127.0.0.1, and prints `listening` and the port before, and `closed` and the number of
+/// the log's entries at the end. The faults are first those of reading both, then that the port can't be listened on (1605), and then those of
+/// `vp_serve::serve`.
+pub fn serve_files<R>(
+    rt: &R,
+    design: &str,
+    policy: &str,
+    port: u16,
+    settings: Settings,
+) -> Result<(), Unserved>
+where
+    R: AllocGlobal
+        + Files
+        + Print
+        + Net<Listener = TcpListener, Stream = TcpStream>
+        + Threads
+        + Wait
+        + Clock
+        + Sync,
+{
+    let alloc = rt.alloc();
+    let world = world_of_files(rt, design, policy)?;
+    let Ok(listener) = TcpListener::bind(rt, (Ipv4Addr::LOCALHOST, port)) else {
+        drop(world);
+        return Err(Unserved::Refused(Refused::new(alloc, ServeFault::ListenFailed)));
+    };
+    print_line(rt, "listening", u64::from(port))?;
+    let limits = Limits::GREATEST;
+    let closed = serve(rt, alloc, world, limits, settings, &listener, &OpenGate)?;
+    let entries = closed.log().len();
+    drop(closed);
+    print_line(rt, "closed", entries as u64)
+}
