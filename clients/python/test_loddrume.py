@@ -495,6 +495,13 @@ class Serving(Asking):
                 Server(port).grant("op", "bob", 0, "list+read")
                 self.assertEqual(clock.get_value(), "x")
 
+    def test_a_port_that_is_taken(self) -> None:
+        with socket.create_server(("127.0.0.1", 0)) as listener:
+            words = [PROGRAM, "serve", str(self.design), str(self.policy), "--port", str(listener.getsockname()[1])]
+            told = subprocess.run(words, stdout=subprocess.PIPE, stderr=subprocess.PIPE, encoding="utf-8", timeout=30)
+        self.assertEqual((told.stdout, told.returncode), ("fault 1605 line 0\n", 1))
+        self.assertEqual(told.stderr, "fault 1605: the port can't be listened on\n")
+
     def test_races_of_a_server(self) -> None:
         with serving(self, self.design, self.policy, 1) as port:
             printed = self.command("races", "--server", f"127.0.0.1:{port}", "--user", "ann", "--still", "1", "10").splitlines()

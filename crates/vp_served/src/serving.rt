@@ -35,6 +35,7 @@ impl From<ServerFault> for Unserved {
 }
 
 /// A world of the files of a design and a policy, with the greatest limits, in which nothing has happened; or the first fault.
+#[tactic(auto, using(crate::proofs::Fresh::limits_of, crate::proofs::Fresh::log_of))]
 fn world_of_files<R: AllocGlobal + Files>(
     rt: &R,
     design: &str,

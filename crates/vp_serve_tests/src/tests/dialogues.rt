@@ -41,13 +41,13 @@ fn one_client(rt: HostRuntime) {
 
 /// A gate that holds its first turn until a second is asked, at most 10,000 milliseconds.
 #[derive(Drop)]
-struct Held<'a, R> {
-    rt: &'a R,
+struct Held<R> {
+    rt: R,
     turns: AtomicU32,
     in_time: AtomicU32,
 }
 
-impl<'a, R: Clock> Gate for Held<'a, R> {
+impl<R: Clock> Gate for Held<R> {
     ghost stays_open = { λ _. Unit {0} };
 
     fn turn(&self) -> bool {
@@ -57,7 +57,7 @@ impl<'a, R: Clock> Gate for Held<'a, R> {
                     self.in_time.store(1, Ordering::SeqCst);
                     break;
                 }
-                thread::sleep(self.rt, Duration::from_millis(1));
+                thread::sleep(&self.rt, Duration::from_millis(1));
             }
         }
         true
@@ -85,7 +85,7 @@ fn a_client_beside_one_that_waits(rt: HostRuntime) {
     let alloc = rt.alloc();
     let settings = Settings::new(0, 2);
     let gate = Held {
-        rt: &rt,
+        rt,
         turns: AtomicU32::new(0),
         in_time: AtomicU32::new(0),
     };
