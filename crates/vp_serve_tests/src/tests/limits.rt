@@ -168,7 +168,10 @@ fn be_too_many<R: Net<Stream = TcpStream> + Clock>(rt: &R, alloc: Global, port: 
     let Some(beyond) = connect(rt, port) else {
         return false;
     };
-    is_ended(&beyond) && is_told(alloc, &clients[0], OPEN, OK)
+    let Some(first) = clients.first() else {
+        return false;
+    };
+    is_ended(&beyond) && is_told(alloc, first, OPEN, OK)
 }
 
 #[test]
