@@ -39,7 +39,7 @@ done
 kill "$redis"
 end
 
-# Each of 200 slots has a race, and 2,000 steps of a loop, so that its 16 orders are long.
+# Each of 100 slots has a race, and 2,000 steps of a loop, so that its 16 orders are long.
 echo 'module top; reg c, a, b, x; reg [15:0] i;
 initial begin a = 0; b = 1; x = 0; for (c = 0; 1; c = ~c) #5 ; end
 always @(posedge c) a = b;
@@ -52,7 +52,7 @@ begin races 20152 2
 idle=$(trips 20152 1 "$reading" '{"op":"value","h":1}')
 end
 begin races 20153 2
-python3 "$top/bench/server/search.py" 20153 1000 190 > "$work/searched" &
+python3 "$top/bench/server/search.py" 20153 1000 100 > "$work/searched" &
 sleep 0.3
 seconds=3
 searching=$(trips 20153 1 "$reading" '{"op":"value","h":1}')
@@ -63,7 +63,7 @@ echo "$searching $idle" | awk '{printf "ratio of the 99th percentiles: %.2f\n", 
 
 for workers in 1 4; do
     begin races "2015$((workers + 3))" "$workers"
-    python3 "$top/bench/server/search.py" "2015$((workers + 3))" 1000 190 > "$work/with$workers"
+    python3 "$top/bench/server/search.py" "2015$((workers + 3))" 1000 100 > "$work/with$workers"
     end
     echo "workers: $workers; seconds: $(cat "$work/with$workers")"
 done

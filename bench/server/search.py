@@ -12,7 +12,7 @@ port, until, races = map(int, sys.argv[1:])
 with Server(port).open("ann", "t1") as session:
     begin = time.monotonic()
     session.run(until)
-    while len(session.races()) < races:
+    while len(list(session.races())) < races:
         if time.monotonic() - begin > 600:
             sys.exit("not found in ten minutes")
         time.sleep(0.02)
