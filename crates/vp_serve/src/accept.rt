@@ -13,7 +13,7 @@ use vp_race::Gate;
 pub(crate) const CONNECTION_LIMIT: usize = 256;
 
 /// Gives a connection a thread, unless there are too many connections, or there is no memory or no thread for it: then it is dropped.
-fn accept<'s, 'a, E, L: Opens + Send + Sync, R: Threads + Wait + Sync, G: Gate + Sync>(
+fn accept<'s, 'a, E, L: Opens + Send + Sync, R: Threads + Wait + Clock + Sync, G: Gate + Sync>(
     rt: &'s R,
     scope: &'s Scope<'s, E>,
     service: &'s Service<'a, L, G>,

@@ -6,6 +6,7 @@ ghost use Rattle.vp_serve.specs.Clients.{Answers, IsAsked, IsGranted, IsOpening,
 
 use std::net::TcpStream;
 use std::sync::Wait;
+use std::sync::atomic::{AtomicBool, Ordering};
 use vp_answer::{GrantChange, Refusal, Reply, Request};
 use vp_hub::{Hub, HubError, Opens, Pass};
 use vp_list::Text;
@@ -19,6 +20,8 @@ pub(crate) struct Client<'a, L: Opens, R: Wait, G: Gate> {
     pub(crate) hub: &'a Hub<L>,
     pub(crate) gate: &'a G,
     pub(crate) stream: &'a TcpStream,
+    /// He has shown a token that holds.
+    pub(crate) is_known: &'a AtomicBool,
     pub(crate) pass: Option<Pass<L>>,
 }
 
@@ -33,7 +36,13 @@ fn refusal_of(error: HubError) -> Refusal
 }
 
 impl<'a, L: Opens, R: Wait, G: Gate> Client<'a, L, R, G> {
-    /// Opens the connection's session, which from then on may be silent; refused where it has one, or by the hub.
+    /// The client has shown a token that holds: from now on he may be silent.
+    fn note_known(&self) {
+        self.is_known.store(true, Ordering::SeqCst);
+        let _set = self.stream.set_read_timeout(None);
+    }
+
+    /// Opens the connection's session; refused where it has one, or by the hub.
     fn open(&mut self, user: Text, token: Text) -> Reply
         ensures { IsOpening L.opening self.old.pass (requests.Open user token) result self.new.pass }
     {
@@ -44,7 +53,7 @@ impl<'a, L: Opens, R: Wait, G: Gate> Client<'a, L, R, G> {
             Ok(pass) => {
                 let session = pass.session();
                 self.pass = Some(pass);
-                let _set = self.stream.set_read_timeout(None);
+                self.note_known();
                 Reply::Opened(session)
             }
             Err(error) => Reply::Error(refusal_of(error)),
@@ -56,7 +65,10 @@ impl<'a, L: Opens, R: Wait, G: Gate> Client<'a, L, R, G> {
         ensures { IsGranted self.old.pass result self.new.pass }
     {
         match self.hub.grant(self.rt, change) {
-            Ok(reply) => reply,
+            Ok(reply) => {
+                self.note_known();
+                reply
+            }
             Err(error) => Reply::Error(refusal_of(error)),
         }
     }

@@ -6,6 +6,7 @@ mod background;
 mod client;
 mod connection;
 mod fault;
+mod incoming;
 mod passes;
 mod server;
 mod service;

@@ -7,8 +7,8 @@ pub struct Settings {
     pub workers: u32,
     /// It ends behind so many connections; where it is 0, it does not end.
     pub sessions: u32,
-    /// How long a client may say nothing before its session is open.
-    pub opening_silence: Duration,
+    /// How long a client may take until its session is open, or it has changed a grant as the operator.
+    pub opening_time: Duration,
     /// How long a client may read nothing of a reply.
     pub reading_silence: Duration,
 }
@@ -19,7 +19,7 @@ impl Settings {
         Settings {
             workers,
             sessions,
-            opening_silence: Duration::from_secs(60),
+            opening_time: Duration::from_secs(60),
             reading_silence: Duration::from_secs(10),
         }
     }

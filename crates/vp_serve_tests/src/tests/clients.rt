@@ -80,6 +80,16 @@ pub fn is_ended(stream: &TcpStream) -> bool {
     }
 }
 
+/// Sends each of these lines in turn, and tells whether these are its replies.
+pub fn are_told(alloc: Global, stream: &TcpStream, lines: &[(&str, &str)]) -> bool {
+    for (request, reply) in lines {
+        if !is_told(alloc, stream, request, reply) {
+            return false;
+        }
+    }
+    true
+}
+
 /// Connects, sends each of these lines in turn, and tells whether these are its replies.
 pub fn talk<R: Net<Stream = TcpStream> + Clock>(
     rt: &R,
@@ -87,13 +97,8 @@ pub fn talk<R: Net<Stream = TcpStream> + Clock>(
     port: u16,
     lines: &[(&str, &str)],
 ) -> bool {
-    let Some(stream) = connect(rt, port) else {
-        return false;
-    };
-    for (request, reply) in lines {
-        if !is_told(alloc, &stream, request, reply) {
-            return false;
-        }
+    match connect(rt, port) {
+        Some(stream) => are_told(alloc, &stream, lines),
+        None => false,
     }
-    true
 }

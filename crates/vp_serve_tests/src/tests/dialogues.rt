@@ -1,15 +1,13 @@
 //! Clients one by one and side by side.
 use crate::tests::clients::{OK, OPEN, connect, is_told, line, send, talk};
-use crate::tests::servers::{DESIGN, served};
+use crate::tests::servers::{DESIGN, Server, beside};
 use std::alloc::Global;
 use std::net::{Net, TcpStream};
 use std::sync::atomic::{AtomicU32, Ordering};
 use std::thread;
-use std::thread::join;
 use std::time::{Clock, Duration};
 use vp_race::{Gate, OpenGate};
 use vp_serve::Settings;
-use vp_world::Limits;
 
 /// The three requests of a short session, and their replies.
 const SHORT: [(&str, &str); 3] = [
@@ -21,18 +19,13 @@ const SHORT: [(&str, &str); 3] = [
 #[test]
 fn one_client(rt: HostRuntime) {
     let alloc = rt.alloc();
-    let settings = Settings::new(0, 1);
-    let (told, talked) = join(
+    let server = Server::new(40_123, Settings::new(0, 1));
+    let (told, talked) = beside(
         &rt,
-        || served(
-            &rt,
-            alloc,
-            DESIGN,
-            Limits::GREATEST,
-            40_123,
-            settings,
-            &OpenGate,
-        ),
+        alloc,
+        DESIGN,
+        server,
+        &OpenGate,
         || talk(&rt, alloc, 40_123, &SHORT),
     );
     assert!(rt; talked, "each line is answered");
@@ -83,23 +76,18 @@ fn beside_another<R: Net<Stream = TcpStream> + Clock>(rt: &R, alloc: Global, por
 #[test]
 fn a_client_beside_one_that_waits(rt: HostRuntime) {
     let alloc = rt.alloc();
-    let settings = Settings::new(0, 2);
     let gate = Held {
         rt,
         turns: AtomicU32::new(0),
         in_time: AtomicU32::new(0),
     };
-    let (told, talked) = join(
+    let server = Server::new(40_124, Settings::new(0, 2));
+    let (told, talked) = beside(
         &rt,
-        || served(
-            &rt,
-            alloc,
-            DESIGN,
-            Limits::GREATEST,
-            40_124,
-            settings,
-            &gate,
-        ),
+        alloc,
+        DESIGN,
+        server,
+        &gate,
         || beside_another(&rt, alloc, 40_124),
     );
     assert!(rt; talked, "both are answered");
@@ -118,18 +106,13 @@ fn break_off<R: Net<Stream = TcpStream> + Clock>(rt: &R, port: u16) -> bool {
 #[test]
 fn a_line_that_breaks_off(rt: HostRuntime) {
     let alloc = rt.alloc();
-    let settings = Settings::new(0, 1);
-    let (told, sent) = join(
+    let server = Server::new(40_126, Settings::new(0, 1));
+    let (told, sent) = beside(
         &rt,
-        || served(
-            &rt,
-            alloc,
-            DESIGN,
-            Limits::GREATEST,
-            40_126,
-            settings,
-            &OpenGate,
-        ),
+        alloc,
+        DESIGN,
+        server,
+        &OpenGate,
         || break_off(&rt, 40_126),
     );
     assert!(rt; sent, "the client has sent all");

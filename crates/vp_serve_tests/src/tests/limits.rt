@@ -1,20 +1,18 @@
 //! Clients that are silent, that read nothing, and that are too many.
 use crate::tests::clients::{OK, OPEN, connect, is_ended, is_told, send, talk};
-use crate::tests::servers::{DESIGN, served};
+use crate::tests::servers::{DESIGN, Server, beside};
 use std::alloc::Global;
 use std::net::{Net, TcpStream};
 use std::thread;
-use std::thread::join;
 use std::time::{Clock, Duration};
 use vp_race::OpenGate;
 use vp_serve::Settings;
-use vp_world::Limits;
 
-/// A server whose clients have a short time to open a session, and to read.
+/// A server whose clients have a few seconds to open a session, and to read.
 fn impatient(sessions: u32) -> Settings {
     Settings {
-        opening_silence: Duration::from_millis(300),
-        reading_silence: Duration::from_millis(300),
+        opening_time: Duration::from_secs(4),
+        reading_silence: Duration::from_secs(2),
         ..Settings::new(0, sessions)
     }
 }
@@ -27,27 +25,83 @@ fn be_silent<R: Net<Stream = TcpStream> + Clock>(rt: &R, alloc: Global, port: u1
     if !is_told(alloc, &opened, OPEN, OK) {
         return false;
     }
-    thread::sleep(rt, Duration::from_millis(900));
+    thread::sleep(rt, Duration::from_secs(6));
     is_ended(&silent) && is_told(alloc, &opened, "{\"op\":\"close\"}\n", OK)
 }
 
 #[test]
 fn silent_clients(rt: HostRuntime) {
     let alloc = rt.alloc();
-    let (told, right) = join(
+    let server = Server::new(40_130, impatient(2));
+    let (told, right) = beside(
         &rt,
-        || served(
-            &rt,
-            alloc,
-            DESIGN,
-            Limits::GREATEST,
-            40_130,
-            impatient(2),
-            &OpenGate,
-        ),
+        alloc,
+        DESIGN,
+        server,
+        &OpenGate,
         || be_silent(&rt, alloc, 40_130),
     );
     assert!(rt; right, "the silent one is ended, and the other is not");
+    assert!(rt; told == Ok(2));
+}
+
+/// A client sends a byte in each second, and then opens its session, to which the server must not have waited.
+fn drip<R: Net<Stream = TcpStream> + Clock>(rt: &R, alloc: Global, port: u16) -> bool {
+    let Some(stream) = connect(rt, port) else {
+        return false;
+    };
+    for _ in 0..8u32 {
+        let _sent = send(&stream, " ");
+        thread::sleep(rt, Duration::from_secs(1));
+    }
+    !is_told(alloc, &stream, OPEN, OK)
+}
+
+#[test]
+fn a_slow_client(rt: HostRuntime) {
+    let alloc = rt.alloc();
+    let server = Server::new(40_134, impatient(1));
+    let (told, ended) = beside(
+        &rt,
+        alloc,
+        DESIGN,
+        server,
+        &OpenGate,
+        || drip(&rt, alloc, 40_134),
+    );
+    assert!(rt; ended, "the server ends the connection");
+    assert!(rt; told == Ok(0));
+}
+
+/// The operator takes all rights but one from Bob in the envelope.
+const GRANT: &str =
+    "{\"op\":\"grant\",\"token\":\"op\",\"user\":\"bob\",\"envelope\":1,\"access\":\"list\"}\n";
+
+/// The operator changes a grant, and may be silent from then on.
+fn be_operator<R: Net<Stream = TcpStream> + Clock>(rt: &R, alloc: Global, port: u16) -> bool {
+    let Some(stream) = connect(rt, port) else {
+        return false;
+    };
+    if !is_told(alloc, &stream, GRANT, OK) {
+        return false;
+    }
+    thread::sleep(rt, Duration::from_secs(6));
+    is_told(alloc, &stream, GRANT, OK)
+}
+
+#[test]
+fn a_silent_operator(rt: HostRuntime) {
+    let alloc = rt.alloc();
+    let server = Server::new(40_135, impatient(1));
+    let (told, right) = beside(
+        &rt,
+        alloc,
+        DESIGN,
+        server,
+        &OpenGate,
+        || be_operator(&rt, alloc, 40_135),
+    );
+    assert!(rt; right, "the connection is not ended");
     assert!(rt; told == Ok(2));
 }
 
@@ -68,17 +122,13 @@ fn read_nothing<R: Net<Stream = TcpStream> + Clock>(rt: &R, port: u16) -> bool {
 #[test]
 fn a_client_that_reads_nothing(rt: HostRuntime) {
     let alloc = rt.alloc();
-    let (told, ended) = join(
+    let server = Server::new(40_131, impatient(1));
+    let (told, ended) = beside(
         &rt,
-        || served(
-            &rt,
-            alloc,
-            DESIGN,
-            Limits::GREATEST,
-            40_131,
-            impatient(1),
-            &OpenGate,
-        ),
+        alloc,
+        DESIGN,
+        server,
+        &OpenGate,
         || read_nothing(&rt, 40_131),
     );
     assert!(rt; ended, "the server ends the connection");
@@ -127,18 +177,13 @@ fn be_many<R: Net<Stream = TcpStream> + Clock>(rt: &R, alloc: Global, port: u16)
 #[test]
 fn sixty_five_sessions(rt: HostRuntime) {
     let alloc = rt.alloc();
-    let settings = Settings::new(0, 65);
-    let (told, right) = join(
+    let server = Server::new(40_132, Settings::new(0, 65));
+    let (told, right) = beside(
         &rt,
-        || served(
-            &rt,
-            alloc,
-            DESIGN,
-            Limits::GREATEST,
-            40_132,
-            settings,
-            &OpenGate,
-        ),
+        alloc,
+        DESIGN,
+        server,
+        &OpenGate,
         || be_many(&rt, alloc, 40_132),
     );
     assert!(rt; right, "64 sessions are opened and answered");
@@ -177,18 +222,13 @@ fn be_too_many<R: Net<Stream = TcpStream> + Clock>(rt: &R, alloc: Global, port: 
 #[test]
 fn a_connection_too_many(rt: HostRuntime) {
     let alloc = rt.alloc();
-    let settings = Settings::new(0, 257);
-    let (told, right) = join(
+    let server = Server::new(40_133, Settings::new(0, 257));
+    let (told, right) = beside(
         &rt,
-        || served(
-            &rt,
-            alloc,
-            DESIGN,
-            Limits::GREATEST,
-            40_133,
-            settings,
-            &OpenGate,
-        ),
+        alloc,
+        DESIGN,
+        server,
+        &OpenGate,
         || be_too_many(&rt, alloc, 40_133),
     );
     assert!(rt; right, "the one too many is dropped");

@@ -1,10 +1,9 @@
 //! The simulation beside the clients.
-use crate::tests::clients::{OK, OPEN, connect, is_told, line, send, talk};
-use crate::tests::servers::{DESIGN, served};
+use crate::tests::clients::{OK, OPEN, are_told, connect, is_told, line, send, talk};
+use crate::tests::servers::{DESIGN, Server, beside};
 use std::alloc::Global;
 use std::net::{Net, TcpStream};
 use std::thread;
-use std::thread::join;
 use std::time::{Clock, Duration};
 use vp_race::OpenGate;
 use vp_serve::Settings;
@@ -56,10 +55,16 @@ fn ask_beside<R: Net<Stream = TcpStream> + Clock>(rt: &R, alloc: Global, port: u
 #[test]
 fn an_endless_simulation(rt: HostRuntime) {
     let alloc = rt.alloc();
-    let settings = Settings::new(2, 1);
-    let (told, asked) = join(
+    let server = Server {
+        limits: SMALL,
+        ..Server::new(40_140, Settings::new(2, 1))
+    };
+    let (told, asked) = beside(
         &rt,
-        || served(&rt, alloc, ENDLESS, SMALL, 40_140, settings, &OpenGate),
+        alloc,
+        ENDLESS,
+        server,
+        &OpenGate,
         || ask_beside(&rt, alloc, 40_140),
     );
     assert!(rt;
@@ -69,56 +74,34 @@ fn an_endless_simulation(rt: HostRuntime) {
     assert!(rt; told == Ok(20_000));
 }
 
+/// Bob opens his session.
+const OPEN_OF_BOB: &str = "{\"op\":\"open\",\"user\":\"bob\",\"token\":\"t2\"}\n";
+
+/// Ann gives `top.c` the value z.
+const PUT: [(&str, &str); 2] = [
+    ("{\"op\":\"handle\",\"name\":\"top.c\"}\n", "{\"h\":1}\n"),
+    ("{\"op\":\"put\",\"h\":1,\"value\":\"z\"}\n", OK),
+];
+
+/// Bob reads `top.u.k`, and then `top.c`.
+const READ: [(&str, &str); 4] = [
+    ("{\"op\":\"handle\",\"name\":\"top.u.k\"}\n", "{\"h\":1}\n"),
+    ("{\"op\":\"value\",\"h\":1}\n", "{\"value\":\"1\"}\n"),
+    ("{\"op\":\"handle\",\"name\":\"top.c\"}\n", "{\"h\":2}\n"),
+    ("{\"op\":\"value\",\"h\":2}\n", "{\"value\":\"z\"}\n"),
+];
+
 /// One client lets the design run, and another waits until the time is 5, and reads what the first put.
 fn share<R: Net<Stream = TcpStream> + Clock>(rt: &R, alloc: Global, port: u16) -> bool {
     let (Some(ann), Some(bob)) = (connect(rt, port), connect(rt, port)) else {
         return false;
     };
-    is_told(alloc, &ann, OPEN, OK)
-        && is_told(
-            alloc,
-            &bob,
-            "{\"op\":\"open\",\"user\":\"bob\",\"token\":\"t2\"}\n",
-            OK,
-        )
-        && is_told(alloc, &ann, "{\"op\":\"run\",\"until\":10}\n", OK)
+    are_told(alloc, &ann, &[(OPEN, OK)])
+        && are_told(alloc, &bob, &[(OPEN_OF_BOB, OK)])
+        && are_told(alloc, &ann, &[("{\"op\":\"run\",\"until\":10}\n", OK)])
         && has_come(rt, alloc, &bob)
-        && is_told(
-            alloc,
-            &ann,
-            "{\"op\":\"handle\",\"name\":\"top.c\"}\n",
-            "{\"h\":1}\n",
-        )
-        && is_told(
-            alloc,
-            &ann,
-            "{\"op\":\"put\",\"h\":1,\"value\":\"z\"}\n",
-            OK,
-        )
-        && is_told(
-            alloc,
-            &bob,
-            "{\"op\":\"handle\",\"name\":\"top.u.k\"}\n",
-            "{\"h\":1}\n",
-        )
-        && is_told(
-            alloc,
-            &bob,
-            "{\"op\":\"value\",\"h\":1}\n",
-            "{\"value\":\"1\"}\n",
-        )
-        && is_told(
-            alloc,
-            &bob,
-            "{\"op\":\"handle\",\"name\":\"top.c\"}\n",
-            "{\"h\":2}\n",
-        )
-        && is_told(
-            alloc,
-            &bob,
-            "{\"op\":\"value\",\"h\":2}\n",
-            "{\"value\":\"z\"}\n",
-        )
+        && are_told(alloc, &ann, &PUT)
+        && are_told(alloc, &bob, &READ)
 }
 
 /// Waits until the time is 5, at most ten seconds.
@@ -140,18 +123,13 @@ fn has_come<R: Clock>(rt: &R, alloc: Global, stream: &TcpStream) -> bool {
 #[test]
 fn users_share_a_simulation(rt: HostRuntime) {
     let alloc = rt.alloc();
-    let settings = Settings::new(2, 2);
-    let (told, right) = join(
+    let server = Server::new(40_141, Settings::new(2, 2));
+    let (told, right) = beside(
         &rt,
-        || served(
-            &rt,
-            alloc,
-            DESIGN,
-            Limits::GREATEST,
-            40_141,
-            settings,
-            &OpenGate,
-        ),
+        alloc,
+        DESIGN,
+        server,
+        &OpenGate,
         || share(&rt, alloc, 40_141),
     );
     assert!(rt; right, "both see one simulation");
@@ -171,18 +149,13 @@ fn come_and_go<R: Net<Stream = TcpStream> + Clock>(rt: &R, alloc: Global, port: 
 #[test]
 fn connections_one_behind_another(rt: HostRuntime) {
     let alloc = rt.alloc();
-    let settings = Settings::new(2, 100);
-    let (told, right) = join(
+    let server = Server::new(40_142, Settings::new(2, 100));
+    let (told, right) = beside(
         &rt,
-        || served(
-            &rt,
-            alloc,
-            DESIGN,
-            Limits::GREATEST,
-            40_142,
-            settings,
-            &OpenGate,
-        ),
+        alloc,
+        DESIGN,
+        server,
+        &OpenGate,
         || come_and_go(&rt, alloc, 40_142),
     );
     assert!(rt; right, "each is answered");

@@ -6,7 +6,7 @@ ghost use Rattle.vp_policy.specs.PolicyState.{Fits};
 use std::alloc::Global;
 use std::net::{Ipv4Addr, Net, TcpListener, TcpStream};
 use std::sync::Wait;
-use std::thread::Threads;
+use std::thread::{Threads, join};
 use std::time::Clock;
 use vp_elab::Design;
 use vp_policy::{Policy, read_policy};
@@ -56,23 +56,41 @@ fn world_of(alloc: Global, text: &str, limits: Limits) -> Option<World>
     World::new(alloc, checked, policy, limits).ok()
 }
 
+/// A server on a port of 127.0.0.1.
+#[derive(Clone, Copy)]
+pub struct Server {
+    pub limits: Limits,
+    pub port: u16,
+    pub settings: Settings,
+}
+
+impl Server {
+    /// A server whose world has the greatest limits.
+    pub fn new(port: u16, settings: Settings) -> Server
+        ensures room { result.limits.log < 2 ^ 32 }
+    {
+        Server {
+            limits: Limits::GREATEST,
+            port,
+            settings,
+        }
+    }
+}
+
 /// How many entries the log of a server of a text has at its end; or the number of its fault, or 0 where there is no world, or where it can't
 /// listen on its port.
-pub fn served<R, G>(
-    rt: &R,
-    alloc: Global,
-    text: &str,
-    limits: Limits,
-    port: u16,
-    settings: Settings,
-    gate: &G,
-) -> Result<usize, u32>
+fn served<R, G>(rt: &R, alloc: Global, text: &str, server: Server, gate: &G) -> Result<usize, u32>
 where
     R: Net<Listener = TcpListener, Stream = TcpStream> + Threads + Wait + Clock + Sync,
     G: Gate + Sync,
     requires text { length text.now ≤ TEXT_LIMIT }
-    requires room { limits.log < 2 ^ 32 }
+    requires room { server.limits.log < 2 ^ 32 }
 {
+    let Server {
+        limits,
+        port,
+        settings,
+    } = server;
     let Some(world) = world_of(alloc, text, limits) else {
         return Err(0);
     };
@@ -88,4 +106,31 @@ where
         }
         Err(fault) => Err(fault.code()),
     }
+}
+
+/// What a server of a text comes to, as `served` tells it, and its clients beside it.
+pub fn beside<R, G, C, T>(
+    rt: &R,
+    alloc: Global,
+    text: &str,
+    server: Server,
+    gate: &G,
+    clients: C,
+) -> (Result<usize, u32>, T)
+where
+    R: Net<Listener = TcpListener, Stream = TcpStream> + Threads + Wait + Clock + Sync,
+    G: Gate + Sync,
+    C: FnOnce() -> T,
+    requires text { length text.now ≤ TEXT_LIMIT }
+    requires room { server.limits.log < 2 ^ 32 }
+    requires clients { C.pre clients }
+{
+    join(
+        rt,
+        move || -> Result<usize, u32>
+            requires text { length text.now ≤ TEXT_LIMIT }
+            requires room { server.limits.log < 2 ^ 32 }
+        { served(rt, alloc, text, server, gate) },
+        clients,
+    )
 }
