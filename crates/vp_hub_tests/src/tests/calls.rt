@@ -1,0 +1,131 @@
+//! What sessions ask of a hub.
+ghost use Rattle.vp_hub.specs.Calls.{IsCall};
+
+use std::alloc::Global;
+use std::sync::Wait;
+use std::thread;
+use std::time::{Clock, Duration};
+use vp_answer::{Reply, Request, ValueFormat};
+use vp_bits::Bits;
+use vp_hub::{Closed, Hub, HubError, Opens, Pass};
+use vp_list::Text;
+use vp_vpi::PutValue;
+
+/// A user opens a session by his token.
+pub fn open<L: Opens, R: Wait>(
+    rt: &R,
+    hub: &Hub<L>,
+    alloc: Global,
+    user: &str,
+    token: &str,
+) -> Option<Pass<L>> {
+    let user = Text::copy(alloc, user).ok()?;
+    let token = Text::copy(alloc, token).ok()?;
+    hub.open(rt, user, token).ok()
+}
+
+/// A session asks: its pass, and what it is answered.
+pub fn ask<L: Opens, R: Wait>(
+    rt: &R,
+    hub: &Hub<L>,
+    pass: Pass<L>,
+    request: Request,
+) -> (Pass<L>, Option<Reply>)
+    requires { IsCall request }
+{
+    let (pass, answer) = hub.call(rt, pass, request);
+    (pass, answer.ok())
+}
+
+/// A session asks, and is answered anything: its pass.
+pub fn order<L: Opens, R: Wait>(
+    rt: &R,
+    hub: &Hub<L>,
+    pass: Pass<L>,
+    request: Request,
+) -> Option<Pass<L>>
+    requires { IsCall request }
+{
+    let (pass, reply) = ask(rt, hub, pass, request);
+    reply.and(Some(pass))
+}
+
+/// A session has a handle of the object of a name.
+pub fn find<L: Opens, R: Wait>(
+    rt: &R,
+    hub: &Hub<L>,
+    alloc: Global,
+    pass: Pass<L>,
+    name: &str,
+) -> Option<Pass<L>> {
+    let name = Text::copy(alloc, name).ok()?;
+    order(rt, hub, pass, Request::Handle { name, scope: None })
+}
+
+/// A session gives the object of its first handle a value, and is answered that it was done.
+pub fn put<L: Opens, R: Wait>(
+    rt: &R,
+    hub: &Hub<L>,
+    alloc: Global,
+    pass: Pass<L>,
+    digits: &str,
+) -> Option<Pass<L>> {
+    let value = PutValue::Digits(Text::copy(alloc, digits).ok()?);
+    let (pass, reply) = ask(rt, hub, pass, Request::Put { handle: 1, value });
+    match reply {
+        Some(Reply::Done) => Some(pass),
+        _ => None,
+    }
+}
+
+/// What asks for the value of the object of a session's first handle.
+pub fn value() -> Request
+    ensures { IsCall result }
+{
+    Request::Value {
+        handle: 1,
+        format: ValueFormat::Binary,
+    }
+}
+
+/// The value that a reply tells.
+fn value_told(reply: Reply) -> Option<Bits> {
+    match reply {
+        Reply::Value(bits) => Some(bits),
+        _ => None,
+    }
+}
+
+/// A session is told the value of the object of its first handle.
+pub fn read<L: Opens, R: Wait>(rt: &R, hub: &Hub<L>, pass: Pass<L>) -> Option<(Pass<L>, Bits)> {
+    let (pass, reply) = ask(rt, hub, pass, value());
+    Some((pass, value_told(reply?)?))
+}
+
+/// Rests for a while, in which another thread may get on.
+pub fn rest<R: Clock>(rt: &R) {
+    thread::sleep(rt, Duration::from_micros(100));
+}
+
+/// The number of a refusal, and that of the world's behind it, else 0.
+pub fn codes_of(error: HubError) -> (u32, u32) {
+    match error {
+        HubError::World(reason) => (error.code(), reason.code()),
+        _ => (error.code(), 0),
+    }
+}
+
+/// The numbers of what a call is refused by; 0 where it is not refused.
+pub fn refusal_of<T: Drop>(answer: Result<T, HubError>) -> (u32, u32) {
+    match answer {
+        Ok(_) => (0, 0),
+        Err(error) => codes_of(error),
+    }
+}
+
+/// What is left of a hub of one session.
+pub fn close<L: Opens>(hub: Hub<L>, alloc: Global, pass: Pass<L>) -> Option<Closed> {
+    let mut passes = Vec::new(alloc);
+    passes.push(pass).ok()?;
+    hub.close(passes).ok()
+}

@@ -1,0 +1,93 @@
+//! A desk whose log is full.
+ghost use Rattle.std.specs.Prelude.{◌≡◌, ◌+◌, []};
+
+use crate::tests::calls::refusal_of;
+use crate::tests::hubs::{CLOCKED, USERS, blank_of, world_of};
+use std::alloc::Global;
+use std::marker::Brand;
+use std::sync::ledger::Blank;
+use vp_answer::Request;
+use vp_hub::{Desk, Opens, Pass};
+use vp_list::Text;
+use vp_world::{Event, Happening, World};
+
+/// The numbers of the refusal of an opening by another token than Ann's.
+fn opening<L: Opens>(alloc: Global, desk: &mut Desk<L>) -> Option<(u32, u32)> {
+    let user = Text::copy(alloc, "ann").ok()?;
+    let token = Text::copy(alloc, "no").ok()?;
+    Some(refusal_of(desk.open(user, token)))
+}
+
+/// Ann opens a session.
+fn open<L: Opens>(alloc: Global, desk: &mut Desk<L>) -> Option<Pass<L>> {
+    let user = Text::copy(alloc, "ann").ok()?;
+    let token = Text::copy(alloc, "t1").ok()?;
+    desk.open(user, token).ok()
+}
+
+/// The numbers of what a session's request for the time is refused by, and its pass.
+fn call<L: Opens>(desk: &mut Desk<L>, pass: Pass<L>) -> (Pass<L>, (u32, u32)) {
+    let (pass, answer) = desk.call(pass, Request::Time);
+    (pass, refusal_of(answer))
+}
+
+/// The log has two entries: a session was opened, and asked something.
+fn has_two_entries<L: Opens>(desk: &Desk<L>) -> bool {
+    let log = desk.log();
+    if log.len() != 2 {
+        return false;
+    }
+    let (opened, asked) = (&log[0], &log[1]);
+    matches!(opened.happening, Happening::Open { .. })
+        && matches!(asked.happening, Happening::Ask { .. })
+}
+
+/// What a session's two calls, and the search for a job behind them, are refused by.
+fn calls<L: Opens>(alloc: Global, desk: &mut Desk<L>) -> Option<[(u32, u32); 3]> {
+    let pass = open(alloc, desk)?;
+    let (pass, first) = call(desk, pass);
+    let (pass, second) = call(desk, pass);
+    drop(pass);
+    Some([first, second, refusal_of(desk.event(Event::TakeJob))])
+}
+
+/// The same, with the refusal of an opening before them, and whether the log has the two entries behind them.
+fn refusals_at<L: Opens>(
+    alloc: Global,
+    desk: &mut Desk<L>,
+) -> Option<((u32, u32), [(u32, u32); 3], bool)> {
+    let opening = opening(alloc, desk)?;
+    let calls = calls(alloc, desk)?;
+    Some((opening, calls, has_two_entries(desk)))
+}
+
+/// The same at a desk of a world.
+fn refusals_of<L: Opens>(
+    alloc: Global,
+    blank: Blank,
+    world: World,
+) -> Option<((u32, u32), [(u32, u32); 3], bool)>
+    requires name { blank.name ≡ L.name }
+    requires parts { blank.parts ≡ L.parts }
+    requires room { blank.parts ≡ world.opening.limits.log + 1 }
+    requires opening { world.opening ≡ L.opening }
+    requires empty { world.log ≡ [] }
+{
+    let mut desk = Desk::<L>::new(alloc, blank, world);
+    let refusals = refusals_at(alloc, &mut desk);
+    drop(desk);
+    refusals
+}
+
+/// The same at a new desk whose log holds two entries.
+fn refusals(alloc: Global) -> Option<((u32, u32), [(u32, u32); 3], bool)> {
+    let world = world_of(alloc, CLOCKED, USERS, 2)?;
+    refusals_of::<Brand>(alloc, blank_of(2), world)
+}
+
+#[test]
+fn full_desk(rt: HostRuntime) {
+    let calls = [(0, 0), (1403, 1304), (1403, 1304)];
+    let wanted = Some(((1403, 1302), calls, true));
+    assert_eq!(rt; refusals(rt.alloc()), wanted);
+}
