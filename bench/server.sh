@@ -1,6 +1,6 @@
 #!/bin/sh
 # How fast a server answers. Round trips of `time` over loopback, beside those of redis's PING by the same client; the time of a `value` beside a search for races, and without one; how much sooner
-# four workers find the races of a run than one; what an idle server with 64 sessions uses of a processor; and what an entry of the log takes of memory. Wants gcc, redis-server (Debian's packages), and
+# four workers find the races of a run than one; what an idle server with 64 sessions uses of a processor; and what an entry of the log and 1,000 connections take of memory. Wants gcc, redis-server (Debian's packages), and
 # crates/vp_served/out/vp_served; four processors for the workers.
 set -eu
 top=$(cd "$(dirname "$0")/.." && pwd)
@@ -52,18 +52,18 @@ begin races 20152 2
 idle=$(trips 20152 1 "$reading" '{"op":"value","h":1}')
 end
 begin races 20153 2
-python3 "$top/bench/server/search.py" 20153 1000 100 > "$work/searched" &
+python3 "$top/bench/server/search.py" 20153 8000 800 0.5 > "$work/searched" &
 sleep 0.3
 seconds=3
 searching=$(trips 20153 1 "$reading" '{"op":"value","h":1}')
 wait $!
 end
-echo "value, idle: $idle; beside a search: $searching; the search took $(cat "$work/searched") s"
+echo "value, idle: $idle; beside a search: $searching; the search took $(cat "$work/searched") s, of which the first 0.3 are not looked at, and the next 3"
 echo "$searching $idle" | awk '{printf "ratio of the 99th percentiles: %.2f\n", $3 / $6}'
 
 for workers in 1 4; do
     begin races "2015$((workers + 3))" "$workers"
-    python3 "$top/bench/server/search.py" "2015$((workers + 3))" 1000 100 > "$work/with$workers"
+    python3 "$top/bench/server/search.py" "2015$((workers + 3))" 1000 100 0.02 > "$work/with$workers"
     end
     echo "workers: $workers; seconds: $(cat "$work/with$workers")"
 done
@@ -97,4 +97,15 @@ asked=$(trips 20159 1 "$opening" '{"op":"time"}' | awk '{printf "%d", $1 * 10}')
 last=$(resident)
 echo "memory: $first kB before, $last kB behind $asked requests"
 echo "$first $last $asked" | awk '{printf "bytes an entry, with its receipt: %.0f\n", ($2 - $1) * 1024 / $3}'
+end
+
+# Memory by connections, one behind another: of 1,000 that only end, and of 1,000 that open a session and close it; each thousand three times.
+begin still 20160 0
+for kind in silent open; do
+    for thousand in 1 2 3; do
+        first=$(resident)
+        python3 "$top/bench/server/connections.py" 20160 1000 "$kind"
+        echo "1,000 connections, $kind: $(($(resident) - first)) kB more"
+    done
+done
 end
