@@ -1,6 +1,6 @@
 use denote.Param.Send.{sendable}
 use Rattle.std.proofs.Crossing.{crosses}
-use Rattle.vp_hub_tests.proofs.Crossing.{stage_sync}
+use Rattle.vp_hub_tests.proofs.tests.Crossing.{stage_sync}
 use Rattle.vp_hub_tests.proofs.tests.endless.beside.Goals as goal
 
 pub join-pass-requires-send-F : goal.join-pass-requires-send-F

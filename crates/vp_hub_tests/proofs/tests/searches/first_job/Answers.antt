@@ -1,6 +1,6 @@
 use denote.Param.Send.{sendable}
 use Rattle.std.proofs.Crossing.{crosses}
-use Rattle.vp_hub_tests.proofs.Crossing.{search_sync}
+use Rattle.vp_hub_tests.proofs.tests.Crossing.{search_sync}
 use Rattle.vp_hub_tests.proofs.tests.searches.first_job.Goals as goal
 
 pub join-worked-requires-send-F : goal.join-worked-requires-send-F
