@@ -63,7 +63,7 @@ echo "$searching $idle" | awk '{printf "ratio of the 99th percentiles: %.2f\n", 
 
 for workers in 1 4; do
     begin races "2015$((workers + 3))" "$workers"
-    python3 "$top/bench/server/search.py" "2015$((workers + 3))" 1000 100 0.02 > "$work/with$workers"
+    python3 "$top/bench/server/search.py" "2015$((workers + 3))" 8000 800 0.02 > "$work/with$workers"
     end
     echo "workers: $workers; seconds: $(cat "$work/with$workers")"
 done

@@ -1,5 +1,5 @@
-"""How long a server needs to find the races of a run: search.py PORT UNTIL RACES PAUSE. Lets the design run until a time, waits until so many races are listed, which it asks
-with a pause of so many seconds between, and prints the seconds that it took."""
+"""How long a server needs to find the races of a run: search.py PORT UNTIL RACES PAUSE. Lets the design run until a time, a hundred races at a time, since a world keeps 256
+segments to be searched; waits until so many races are listed, which it asks with a pause of so many seconds between, and prints the seconds that it took."""
 
 import sys
 import time
@@ -13,9 +13,10 @@ port, until, races = map(int, sys.argv[1:4])
 pause = float(sys.argv[4])
 with Server(port).open("ann", "t1") as session:
     begin = time.monotonic()
-    session.run(until)
-    while len(list(session.races())) < races:
-        if time.monotonic() - begin > 600:
-            sys.exit("not found in ten minutes")
-        time.sleep(pause)
+    for found in range(100, races + 1, 100):
+        session.run(until * found // races)
+        while len(list(session.races())) < found:
+            if time.monotonic() - begin > 60:
+                sys.exit("not found in a minute")
+            time.sleep(pause)
     print(f"{time.monotonic() - begin:.2f}")

@@ -33,7 +33,7 @@ impl Closed {
 }
 
 /// The session of what happened; none where it is of no session.
-fn session_of(happening: &Happening) -> Option<SessionId>
+pub fn session_of(happening: &Happening) -> Option<SessionId>
     ensures { result ≡ session_in (event_in happening.now) (reply_in happening.now) }
 {
     match happening {

@@ -10,7 +10,7 @@ mod opens;
 mod pass;
 mod receipt;
 
-pub use close::Closed;
+pub use close::{Closed, session_of};
 pub use desk::Desk;
 pub use fault::HubError;
 pub use hub::{Hub, Ran, Worked};

@@ -1,10 +1,10 @@
 mod calls;
 mod desks;
 mod endless;
+mod grant_log;
 mod grants;
 mod hubs;
 mod refusals;
 mod searches;
 mod sessions;
 mod stage;
-mod standings;

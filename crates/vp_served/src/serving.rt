@@ -7,6 +7,7 @@ use std::rt::Files;
 use std::sync::Wait;
 use std::thread::Threads;
 use std::time::Clock;
+use vp_hub::Closed;
 use vp_race::OpenGate;
 use vp_script::{Refused, ServeFault, SourceFiles, fresh_world};
 use vp_serve::{ServerFault, Settings, serve};
@@ -64,6 +65,26 @@ fn print_line<R: AllocGlobal + Print>(rt: &R, word: &str, number: u64) -> Result
     }
 }
 
+/// The number of entries of the log of a server that has ended.
+fn entry_count(closed: Closed) -> u64 {
+    closed.log().len() as u64
+}
+
+/// Serves a world in which nothing has happened, with the greatest limits, to whoever connects to a listener, and gives the number of the log's
+/// entries at the end; or the fault of `vp_serve::serve`.
+fn serve_world<R: AllocGlobal + Threads + Wait + Clock + Sync>(
+    rt: &R,
+    world: World,
+    settings: Settings,
+    listener: &TcpListener,
+) -> Result<u64, ServerFault>
+    requires limits { world.opening.limits ≡ greatest }
+    requires empty { world.log ≡ [] }
+{
+    let limits = Limits::GREATEST;
+    serve(rt, rt.alloc(), world, limits, settings, listener, &OpenGate).map(entry_count)
+}
+
 /// Serves the files of a design and a policy on a port of 127.0.0.1, and prints `listening` and the port before, and `closed` and the number of
 /// the log's entries at the end. The faults are first those of reading both, then that the port can't be listened on (1605), and then those of
 /// `vp_serve::serve`.
@@ -91,9 +112,6 @@ where
         return Err(Unserved::Refused(Refused::new(alloc, ServeFault::ListenFailed)));
     };
     print_line(rt, "listening", u64::from(port))?;
-    let limits = Limits::GREATEST;
-    let closed = serve(rt, alloc, world, limits, settings, &listener, &OpenGate)?;
-    let entries = closed.log().len();
-    drop(closed);
-    print_line(rt, "closed", entries as u64)
+    let entries = serve_world(rt, world, settings, &listener)?;
+    print_line(rt, "closed", entries)
 }

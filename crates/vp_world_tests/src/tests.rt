@@ -1,5 +1,4 @@
 mod audits;
-mod building;
 mod callbacks;
 mod copies;
 mod grants;

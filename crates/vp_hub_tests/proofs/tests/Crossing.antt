@@ -6,7 +6,7 @@ use Rattle.std.proofs.sync.Barrier.TheSendSync as barrier
 use Rattle.std.specs.declared.sync.ledger.Ledger as ledger
 use Rattle.vp_hub.proofs.Crossing.{hub_sync}
 use Rattle.vp_hub.specs.declared.opens.Opens as opens
-use Rattle.vp_hub_tests.specs.contracts.tests.searches.Stage as Search
+use Rattle.vp_hub_tests.specs.contracts.tests.searches.HeldSearch as HeldSearch
 use Rattle.vp_hub_tests.specs.contracts.tests.stage.Stage as Stage
 
 module _ (L : RattleType) (o : opens.Ghosts L.Denot) (l : ledger.Ghosts L.Denot) where
@@ -15,5 +15,5 @@ module _ (L : RattleType) (o : opens.Ghosts L.Denot) (l : ledger.Ghosts L.Denot)
   stage_sync = search (hub_sync, barrier.the_sync, sendable, crosses) depth 60 fits 5000
 
   -- a hub with a gate may be shared where the gate's clock may
-  pub search_sync : (R : RattleType) → IsSync R → IsSync (Search.the_row L R o l)
+  pub search_sync : (R : RattleType) → IsSync R → IsSync (HeldSearch.the_row L R o l)
   search_sync R s = search (hub_sync, sendable, crosses) depth 60 fits 5000

@@ -14,8 +14,8 @@ use vp_answer::Request;
 use vp_hub::{Closed, Desk, Hub, Opens, Pass};
 use vp_world::{Entry, Happening, World};
 
-/// The log holds so many entries.
-const ENTRIES: u32 = 4_096;
+/// The log holds so many entries: enough that the simulation is not over before a thread that was woken comes to run.
+const ENTRIES: u32 = 262_144;
 
 /// So far a session lets the design run.
 const UNTIL: u64 = 1_000_000;
@@ -24,9 +24,9 @@ const UNTIL: u64 = 1_000_000;
 #[derive(Drop)]
 struct Ended {
     closed: Closed,
-    ran: (u32, u32),
-    called: (u32, u32),
-    behind: (u32, u32),
+    run: (u32, u32),
+    call: (u32, u32),
+    later_call: (u32, u32),
 }
 
 /// A session asks for the time until it is refused: its pass, and the numbers of the refusal.
@@ -48,7 +48,7 @@ fn beside<L: Opens + Send + Sync, R: Threads + Wait + Sync>(
     stage: &Stage<L>,
     pass: Pass<L>,
 ) -> (Pass<L>, (u32, u32), (u32, u32)) {
-    let (ran, (pass, called)) = thread::join(
+    let (run, (pass, call)) = thread::join(
         rt,
         move || {
             stage.start.wait(rt);
@@ -59,7 +59,7 @@ fn beside<L: Opens + Send + Sync, R: Threads + Wait + Sync>(
             call_on(rt, &stage.hub, pass)
         },
     );
-    (pass, ran, called)
+    (pass, run, call)
 }
 
 /// What is left of a hub of a world behind that, and another call.
@@ -79,14 +79,14 @@ fn end_anew_of<L: Opens + Send + Sync, R: Threads + Wait + Sync>(
     let pass = open(rt, &hub, alloc, "ann", "t1")?;
     let pass = order(rt, &hub, pass, Request::Run { until: UNTIL })?;
     let stage = Stage::new(alloc, hub);
-    let (pass, ran, called) = beside(rt, &stage, pass);
+    let (pass, run, call) = beside(rt, &stage, pass);
     let hub = stage.into_hub();
     let (pass, answer) = hub.call(rt, pass, Request::Time);
     Some(Ended {
         closed: close(hub, alloc, pass)?,
-        ran,
-        called,
-        behind: refusal_of(answer),
+        run,
+        call,
+        later_call: refusal_of(answer),
     })
 }
 
@@ -125,7 +125,7 @@ fn count_between(log: &[Entry]) -> usize {
 fn between<R: Threads + Wait + Sync>(rt: &R, alloc: Global) -> Option<usize> {
     let ended = end_anew(rt, alloc)?;
     let full = (1403, 1304);
-    let are_refused = ended.ran == full && ended.called == full && ended.behind == full;
+    let are_refused = ended.run == full && ended.call == full && ended.later_call == full;
     let count = count_between(ended.closed.log());
     drop(ended);
     if are_refused { Some(count) } else { None }

@@ -3,9 +3,9 @@ ghost use Rattle.std.specs.Prelude.{◌≡◌, ◌+◌, []};
 ghost use Rattle.vp_hub.specs.Calls.{IsCall};
 
 use crate::tests::calls::{ask, close, find, open, order, put, rest, value};
+use crate::tests::grant_log::{are_logged, are_right};
 use crate::tests::hubs::{CLOCKED, OPERATED, blank_of, world_of};
 use crate::tests::stage::Stage;
-use crate::tests::standings::{are_logged, are_right};
 use std::alloc::Global;
 use std::marker::Brand;
 use std::sync::Wait;
@@ -27,7 +27,7 @@ const ALL: &str = "list+read+watch+put+race";
 
 /// A session's pass, and what it was told, in order.
 #[derive(Drop)]
-struct Told<L: Opens> {
+struct Conversation<L: Opens> {
     pass: Pass<L>,
     replies: Vec<Reply>,
 }
@@ -84,13 +84,18 @@ fn grants<L: Opens, R: Wait + Clock>(
 }
 
 /// A session polls, or reads `k`, and what it is told is kept.
-fn tell<L: Opens, R: Wait>(rt: &R, hub: &Hub<L>, told: Told<L>, request: Request) -> Option<Told<L>>
+fn ask_next<L: Opens, R: Wait>(
+    rt: &R,
+    hub: &Hub<L>,
+    conversation: Conversation<L>,
+    request: Request,
+) -> Option<Conversation<L>>
     requires { IsCall request }
 {
-    let Told { pass, mut replies } = told;
+    let Conversation { pass, mut replies } = conversation;
     let (pass, reply) = ask(rt, hub, pass, request);
     replies.push(reply?).ok()?;
-    Some(Told { pass, replies })
+    Some(Conversation { pass, replies })
 }
 
 /// A session polls, rests and reads, 100 times.
@@ -99,17 +104,17 @@ fn polls<L: Opens, R: Wait + Clock>(
     hub: &Hub<L>,
     alloc: Global,
     pass: Pass<L>,
-) -> Option<Told<L>> {
-    let mut told = Told {
+) -> Option<Conversation<L>> {
+    let mut conversation = Conversation {
         pass,
         replies: Vec::new(alloc),
     };
     for _round in 0..100 {
-        told = tell(rt, hub, told, Request::Poll)?;
+        conversation = ask_next(rt, hub, conversation, Request::Poll)?;
         rest(rt);
-        told = tell(rt, hub, told, value())?;
+        conversation = ask_next(rt, hub, conversation, value())?;
     }
-    Some(told)
+    Some(conversation)
 }
 
 /// Bob has a session which watches `k` and gives it the value 1.
@@ -125,8 +130,8 @@ fn beside<L: Opens + Send + Sync, R: Threads + Wait + Clock + Sync>(
     rt: &R,
     stage: &Stage<L>,
     pass: Pass<L>,
-) -> Option<(Told<L>, Vec<GrantChange>)> {
-    let (grants, told) = thread::join(
+) -> Option<(Conversation<L>, Vec<GrantChange>)> {
+    let (grants, conversation) = thread::join(
         rt,
         move || {
             stage.start.wait(rt);
@@ -137,7 +142,7 @@ fn beside<L: Opens + Send + Sync, R: Threads + Wait + Clock + Sync>(
             polls(rt, &stage.hub, stage.alloc, pass)
         },
     );
-    Some((told?, grants?))
+    Some((conversation?, grants?))
 }
 
 /// What is left of a hub of a world behind them.

@@ -1,13 +1,9 @@
 //! Texts, policies, and worlds of them in which nothing has happened.
 ghost use Rattle.std.specs.Prelude.{◌≡◌, ◌≤◌, ◌+◌, [], length, IfSome};
 ghost use Rattle.vp_lex.specs.declared.token.TheConstants.{TEXT_LIMIT};
-ghost use Rattle.vp_policy.specs.PolicyState.{Fits};
 
 use std::alloc::Global;
 use std::sync::ledger::Blank;
-use vp_elab::Design;
-use vp_policy::{Policy, read_policy};
-use vp_samples::shared_of;
 use vp_world::{Limits, World};
 
 /// A clock `c` at the top (object 1), and below it a module with an envelope, in which stand `k` and `s`.
@@ -59,13 +55,6 @@ pub const TWO_USERS: &[u8] = b"{\"users\":[\
 {\"name\":\"ann\",\"token\":\"t1\",\"open\":\"list+read+watch+put+race\",\"run\":true},\
 {\"name\":\"cem\",\"token\":\"t3\",\"open\":\"list\"}]}";
 
-/// A policy for a design, read.
-fn policy_of(alloc: Global, policy: &[u8], design: &Design) -> Option<Policy>
-    ensures { IfSome result (λ policy. Fits policy design.now.tree) }
-{
-    read_policy(alloc, policy, design).ok()
-}
-
 /// The limits of a world whose log holds so many entries.
 fn limits_of(entries: u32) -> Limits
     ensures { result.log ≡ entries }
@@ -82,9 +71,7 @@ pub fn world_of(alloc: Global, text: &str, policy: &[u8], entries: u32) -> Optio
     ensures empty { IfSome result (λ world. world.log ≡ []) }
     ensures limit { IfSome result (λ world. world.opening.limits.log ≡ entries) }
 {
-    let checked = shared_of(alloc, text)?;
-    let policy = policy_of(alloc, policy, checked.design())?;
-    World::new(alloc, checked, policy, limits_of(entries)).ok()
+    vp_world_samples::world_of(alloc, text, policy, limits_of(entries))
 }
 
 /// A ledger for such a world: with a part for each entry, and one more.

@@ -67,7 +67,7 @@ fn held_gate<R: Clock>(clock: R) -> HeldGate<R> {
 
 /// A hub, and the gate of its first search.
 #[derive(Drop)]
-struct Stage<L: Opens, R> {
+struct HeldSearch<L: Opens, R> {
     hub: Hub<L>,
     gate: HeldGate<R>,
 }
@@ -75,16 +75,16 @@ struct Stage<L: Opens, R> {
 /// In the first turn of a gate, and again in its second, a session reads that `a` is 1.
 fn read_in_turns<L: Opens, R: Wait + Clock>(
     rt: &R,
-    stage: &Stage<L, R>,
+    search: &HeldSearch<L, R>,
     pass: Pass<L>,
 ) -> Option<Pass<L>> {
-    let gate = &stage.gate;
+    let gate = &search.gate;
     let mut pass = pass;
     for turn in 1..3 {
         if !comes_to(rt, &gate.turns, turn) {
             return None;
         }
-        let (back, value) = read(rt, &stage.hub, pass)?;
+        let (back, value) = read(rt, &search.hub, pass)?;
         if value != Bits::of_number(1, 1) {
             return None;
         }
@@ -97,15 +97,15 @@ fn read_in_turns<L: Opens, R: Wait + Clock>(
 /// What a job comes to whose search is held while a session reads.
 fn first_job<L: Opens + Send + Sync, R: Threads + Wait + Clock + Copy + Send + Sync>(
     rt: &R,
-    stage: &Stage<L, R>,
+    search: &HeldSearch<L, R>,
     pass: Pass<L>,
 ) -> Option<(Pass<L>, Worked)> {
     let (worked, pass) = thread::join(
         rt,
-        move || stage.hub.work_once(rt, &stage.gate),
-        move || read_in_turns(rt, stage, pass),
+        move || search.hub.work_once(rt, &search.gate),
+        move || read_in_turns(rt, search, pass),
     );
-    if stage.gate.late.load(Ordering::SeqCst) != 0 {
+    if search.gate.late.load(Ordering::SeqCst) != 0 {
         return None;
     }
     Some((pass?, worked.ok()?))
@@ -121,13 +121,13 @@ fn begin<L: Opens, R: Wait>(rt: &R, hub: &Hub<L>, alloc: Global) -> Option<Pass<
 /// How far the design runs by at most 100 events, and what three jobs come to.
 fn work<L: Opens + Send + Sync, R: Threads + Wait + Clock + Copy + Send + Sync>(
     rt: &R,
-    stage: &Stage<L, R>,
+    search: &HeldSearch<L, R>,
     alloc: Global,
 ) -> Option<(Pass<L>, Ran, [Worked; 3])> {
-    let hub = &stage.hub;
+    let hub = &search.hub;
     let pass = begin(rt, hub, alloc)?;
     let ran = hub.run_sim(rt, 100).ok()?;
-    let (pass, first) = first_job(rt, stage, pass)?;
+    let (pass, first) = first_job(rt, search, pass)?;
     let second = hub.work_once(rt, &OpenGate).ok()?;
     let third = hub.work_once(rt, &OpenGate).ok()?;
     Some((pass, ran, [first, second, third]))
@@ -146,12 +146,12 @@ fn work_of<L: Opens + Send + Sync, R: Threads + Wait + Clock + Copy + Send + Syn
     requires opening { world.opening ≡ L.opening }
     requires empty { world.log ≡ [] }
 {
-    let stage = Stage {
+    let search = HeldSearch {
         hub: Hub::<L>::new(alloc, Desk::<L>::new(alloc, blank, world)),
         gate: held_gate(*rt),
     };
-    let (pass, ran, jobs) = work(rt, &stage, alloc)?;
-    drop(close(stage.hub, alloc, pass)?);
+    let (pass, ran, jobs) = work(rt, &search, alloc)?;
+    drop(close(search.hub, alloc, pass)?);
     Some((ran, jobs))
 }
 

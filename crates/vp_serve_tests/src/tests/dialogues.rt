@@ -19,14 +19,14 @@ const SHORT: [(&str, &str); 3] = [
 #[test]
 fn one_client(rt: HostRuntime) {
     let alloc = rt.alloc();
-    let server = Server::new(40_123, Settings::new(0, 1));
+    let server = Server::new(24_123, Settings::new(0, 1));
     let (told, talked) = beside(
         &rt,
         alloc,
         DESIGN,
         server,
         &OpenGate,
-        || talk(&rt, alloc, 40_123, &SHORT),
+        || talk(&rt, alloc, 24_123, &SHORT),
     );
     assert!(rt; talked, "each line is answered");
     assert!(rt; told == Ok(3));
@@ -81,14 +81,14 @@ fn a_client_beside_one_that_waits(rt: HostRuntime) {
         turns: AtomicU32::new(0),
         in_time: AtomicU32::new(0),
     };
-    let server = Server::new(40_124, Settings::new(0, 2));
+    let server = Server::new(24_124, Settings::new(0, 2));
     let (told, talked) = beside(
         &rt,
         alloc,
         DESIGN,
         server,
         &gate,
-        || beside_another(&rt, alloc, 40_124),
+        || beside_another(&rt, alloc, 24_124),
     );
     assert!(rt; talked, "both are answered");
     assert_eq!(rt; gate.in_time.load(Ordering::SeqCst), 1);
@@ -106,14 +106,14 @@ fn break_off<R: Net<Stream = TcpStream> + Clock>(rt: &R, port: u16) -> bool {
 #[test]
 fn a_line_that_breaks_off(rt: HostRuntime) {
     let alloc = rt.alloc();
-    let server = Server::new(40_126, Settings::new(0, 1));
+    let server = Server::new(24_126, Settings::new(0, 1));
     let (told, sent) = beside(
         &rt,
         alloc,
         DESIGN,
         server,
         &OpenGate,
-        || break_off(&rt, 40_126),
+        || break_off(&rt, 24_126),
     );
     assert!(rt; sent, "the client has sent all");
     assert!(rt; told == Ok(2));

@@ -4,7 +4,7 @@ use crate::tests::servers::{DESIGN, Server, beside};
 use std::alloc::Global;
 use std::net::{Net, TcpStream};
 use std::thread;
-use std::time::{Clock, Duration};
+use std::time::{Clock, Duration, Instant};
 use vp_race::OpenGate;
 use vp_serve::Settings;
 
@@ -32,14 +32,14 @@ fn be_silent<R: Net<Stream = TcpStream> + Clock>(rt: &R, alloc: Global, port: u1
 #[test]
 fn silent_clients(rt: HostRuntime) {
     let alloc = rt.alloc();
-    let server = Server::new(40_130, impatient(2));
+    let server = Server::new(24_130, impatient(2));
     let (told, right) = beside(
         &rt,
         alloc,
         DESIGN,
         server,
         &OpenGate,
-        || be_silent(&rt, alloc, 40_130),
+        || be_silent(&rt, alloc, 24_130),
     );
     assert!(rt; right, "the silent one is ended, and the other is not");
     assert!(rt; told == Ok(2));
@@ -60,14 +60,14 @@ fn drip<R: Net<Stream = TcpStream> + Clock>(rt: &R, alloc: Global, port: u16) ->
 #[test]
 fn a_slow_client(rt: HostRuntime) {
     let alloc = rt.alloc();
-    let server = Server::new(40_134, impatient(1));
+    let server = Server::new(24_134, impatient(1));
     let (told, ended) = beside(
         &rt,
         alloc,
         DESIGN,
         server,
         &OpenGate,
-        || drip(&rt, alloc, 40_134),
+        || drip(&rt, alloc, 24_134),
     );
     assert!(rt; ended, "the server ends the connection");
     assert!(rt; told == Ok(0));
@@ -92,28 +92,38 @@ fn be_operator<R: Net<Stream = TcpStream> + Clock>(rt: &R, alloc: Global, port: 
 #[test]
 fn a_silent_operator(rt: HostRuntime) {
     let alloc = rt.alloc();
-    let server = Server::new(40_135, impatient(1));
+    let server = Server::new(24_135, impatient(1));
     let (told, right) = beside(
         &rt,
         alloc,
         DESIGN,
         server,
         &OpenGate,
-        || be_operator(&rt, alloc, 40_135),
+        || be_operator(&rt, alloc, 24_135),
     );
     assert!(rt; right, "the connection is not ended");
     assert!(rt; told == Ok(2));
 }
 
-/// A client sends requests and reads no reply, until the server has ended the connection.
-fn read_nothing<R: Net<Stream = TcpStream> + Clock>(rt: &R, port: u16) -> bool {
+/// So many seconds a client waits until what it sends is taken.
+const PATIENCE: u64 = 20;
+
+/// A client opens a session, sends lines that are no requests and reads no reply, until the server has ended the connection: sooner than the client
+/// waits until a line is taken.
+fn read_nothing<R: Net<Stream = TcpStream> + Clock>(rt: &R, alloc: Global, port: u16) -> bool {
     let Some(stream) = connect(rt, port) else {
         return false;
     };
-    let _set = stream.set_write_timeout(Some(Duration::from_secs(20)));
+    let _set = stream.set_write_timeout(Some(Duration::from_secs(PATIENCE)));
+    if !is_told(alloc, &stream, OPEN, OK) {
+        return false;
+    }
     for _ in 0..2_000_000u32 {
-        if send(&stream, "{\"op\":\"get\",\"prop\":\"size\"}\n{}\n").is_none() {
-            return true;
+        let Ok(start) = Instant::now(rt) else {
+            return false;
+        };
+        if send(&stream, "{}\n{}\n{}\n{}\n").is_none() {
+            return matches!(start.elapsed(rt), Ok(elapsed) if elapsed.as_secs() < PATIENCE);
         }
     }
     false
@@ -122,17 +132,17 @@ fn read_nothing<R: Net<Stream = TcpStream> + Clock>(rt: &R, port: u16) -> bool {
 #[test]
 fn a_client_that_reads_nothing(rt: HostRuntime) {
     let alloc = rt.alloc();
-    let server = Server::new(40_131, impatient(1));
+    let server = Server::new(24_131, impatient(1));
     let (told, ended) = beside(
         &rt,
         alloc,
         DESIGN,
         server,
         &OpenGate,
-        || read_nothing(&rt, 40_131),
+        || read_nothing(&rt, alloc, 24_131),
     );
     assert!(rt; ended, "the server ends the connection");
-    assert!(rt; told == Ok(0));
+    assert!(rt; told == Ok(2));
 }
 
 /// So many clients, of whom each has opened a session.
@@ -177,14 +187,14 @@ fn be_many<R: Net<Stream = TcpStream> + Clock>(rt: &R, alloc: Global, port: u16)
 #[test]
 fn sixty_five_sessions(rt: HostRuntime) {
     let alloc = rt.alloc();
-    let server = Server::new(40_132, Settings::new(0, 65));
+    let server = Server::new(24_132, Settings::new(0, 65));
     let (told, right) = beside(
         &rt,
         alloc,
         DESIGN,
         server,
         &OpenGate,
-        || be_many(&rt, alloc, 40_132),
+        || be_many(&rt, alloc, 24_132),
     );
     assert!(rt; right, "64 sessions are opened and answered");
     assert!(rt; told == Ok(128));
@@ -222,14 +232,14 @@ fn be_too_many<R: Net<Stream = TcpStream> + Clock>(rt: &R, alloc: Global, port: 
 #[test]
 fn a_connection_too_many(rt: HostRuntime) {
     let alloc = rt.alloc();
-    let server = Server::new(40_133, Settings::new(0, 257));
+    let server = Server::new(24_133, Settings::new(0, 257));
     let (told, right) = beside(
         &rt,
         alloc,
         DESIGN,
         server,
         &OpenGate,
-        || be_too_many(&rt, alloc, 40_133),
+        || be_too_many(&rt, alloc, 24_133),
     );
     assert!(rt; right, "the one too many is dropped");
     assert!(rt; told == Ok(2));

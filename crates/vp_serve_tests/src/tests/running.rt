@@ -57,7 +57,7 @@ fn an_endless_simulation(rt: HostRuntime) {
     let alloc = rt.alloc();
     let server = Server {
         limits: SMALL,
-        ..Server::new(40_140, Settings::new(2, 1))
+        ..Server::new(24_140, Settings::new(2, 1))
     };
     let (told, asked) = beside(
         &rt,
@@ -65,7 +65,7 @@ fn an_endless_simulation(rt: HostRuntime) {
         ENDLESS,
         server,
         &OpenGate,
-        || ask_beside(&rt, alloc, 40_140),
+        || ask_beside(&rt, alloc, 24_140),
     );
     assert!(rt;
         matches!(asked, Some(count) if count > 0),
@@ -123,14 +123,14 @@ fn has_come<R: Clock>(rt: &R, alloc: Global, stream: &TcpStream) -> bool {
 #[test]
 fn users_share_a_simulation(rt: HostRuntime) {
     let alloc = rt.alloc();
-    let server = Server::new(40_141, Settings::new(2, 2));
+    let server = Server::new(24_141, Settings::new(2, 2));
     let (told, right) = beside(
         &rt,
         alloc,
         DESIGN,
         server,
         &OpenGate,
-        || share(&rt, alloc, 40_141),
+        || share(&rt, alloc, 24_141),
     );
     assert!(rt; right, "both see one simulation");
     assert!(rt; told.is_ok());
@@ -149,14 +149,14 @@ fn come_and_go<R: Net<Stream = TcpStream> + Clock>(rt: &R, alloc: Global, port: 
 #[test]
 fn connections_one_behind_another(rt: HostRuntime) {
     let alloc = rt.alloc();
-    let server = Server::new(40_142, Settings::new(2, 100));
+    let server = Server::new(24_142, Settings::new(2, 100));
     let (told, right) = beside(
         &rt,
         alloc,
         DESIGN,
         server,
         &OpenGate,
-        || come_and_go(&rt, alloc, 40_142),
+        || come_and_go(&rt, alloc, 24_142),
     );
     assert!(rt; right, "each is answered");
     assert!(rt; told == Ok(200));

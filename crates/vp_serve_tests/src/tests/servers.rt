@@ -1,19 +1,16 @@
 //! Servers of worlds of texts.
-ghost use Rattle.std.specs.Prelude.{◌≡◌, ◌≤◌, ◌<◌, ◌^◌, [], length, IfSome};
+ghost use Rattle.std.specs.Prelude.{◌≤◌, ◌<◌, ◌^◌, length};
 ghost use Rattle.vp_lex.specs.declared.token.TheConstants.{TEXT_LIMIT};
-ghost use Rattle.vp_policy.specs.PolicyState.{Fits};
 
 use std::alloc::Global;
 use std::net::{Ipv4Addr, Net, TcpListener, TcpStream};
 use std::sync::Wait;
 use std::thread::{Threads, join};
 use std::time::Clock;
-use vp_elab::Design;
-use vp_policy::{Policy, read_policy};
 use vp_race::Gate;
-use vp_samples::shared_of;
 use vp_serve::{Settings, serve};
-use vp_world::{Limits, World};
+use vp_world::Limits;
+use vp_world_samples::world_of;
 
 /// A module of a vendor, in an envelope, and one that has an instance of it.
 pub const DESIGN: &str = "module ip(input wire c, output reg q);
@@ -38,28 +35,11 @@ pub const POLICY: &[u8] = b"{\"operator\":\"op\",\"users\":[\
 {\"name\":\"bob\",\"token\":\"t2\",\"open\":\"list+read+watch+put+race\",\
 \"grants\":[{\"envelope\":1,\"access\":\"list+read+watch+put+race\"}]}]}";
 
-/// A policy for a design, read.
-fn policy_of(alloc: Global, policy: &[u8], design: &Design) -> Option<Policy>
-    ensures { IfSome result (λ policy. Fits policy design.now.tree) }
-{
-    read_policy(alloc, policy, design).ok()
-}
-
-/// A world of a text in which nothing has happened.
-fn world_of(alloc: Global, text: &str, limits: Limits) -> Option<World>
-    requires { length text.now ≤ TEXT_LIMIT }
-    ensures limits { IfSome result (λ world. world.opening.limits ≡ limits) }
-    ensures empty { IfSome result (λ world. world.log ≡ []) }
-{
-    let checked = shared_of(alloc, text)?;
-    let policy = policy_of(alloc, POLICY, checked.design())?;
-    World::new(alloc, checked, policy, limits).ok()
-}
-
 /// A server on a port of 127.0.0.1.
 #[derive(Clone, Copy)]
 pub struct Server {
     pub limits: Limits,
+    /// Below the ports that the system gives to connections, of which one that was used lately can't be listened on.
     pub port: u16,
     pub settings: Settings,
 }
@@ -91,7 +71,7 @@ where
         port,
         settings,
     } = server;
-    let Some(world) = world_of(alloc, text, limits) else {
+    let Some(world) = world_of(alloc, text, POLICY, limits) else {
         return Err(0);
     };
     let Ok(listener) = TcpListener::bind(rt, (Ipv4Addr::LOCALHOST, port)) else {

@@ -1,5 +1,4 @@
 //! What users can know of a world whose grants change, and what they were told there.
-use crate::tests::building::{policy_of, world_of};
 use crate::tests::grants::{DESIGN, POLICY, grant, open_both, session_of, watch_both};
 use crate::tests::sessions::{order_in, poll_in, put_in};
 use std::alloc::Global;
@@ -8,6 +7,7 @@ use vp_audit::{Audit, audit_user};
 use vp_policy::UserId;
 use vp_samples::shared_of;
 use vp_world::{Entry, Limits, World};
+use vp_world_samples::{policy_of, world_of};
 
 /// Ann and Bob watch `k`, of which Bob is told, and Ann no more after her grant has changed. Each has five events of his own.
 fn happens(alloc: Global, world: &mut World) -> Option<()> {

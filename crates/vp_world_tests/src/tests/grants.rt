@@ -1,7 +1,6 @@
 //! Grants that change: what they come to in a world of several sessions, and on a policy alone.
 ghost use Rattle.vp_policy.specs.PolicyState.{Fits};
 
-use crate::tests::building::{policy_of, world_of};
 use crate::tests::sessions::{find_in, open_as, order_in, poll_in, put_in};
 use std::alloc::Global;
 use vp_answer::{GrantChange, Request, SessionId};
@@ -11,6 +10,7 @@ use vp_policy::{Access, Policy, UserId};
 use vp_pragma::{Right, access};
 use vp_samples::shared_of;
 use vp_world::{Event, Limits, World};
+use vp_world_samples::{policy_of, world_of};
 
 /// A module whose reg `k` stands in an envelope. Its objects are `top` (0) and `k` (1).
 pub const DESIGN: &str = "module top;

@@ -3,13 +3,17 @@ ghost use Rattle.std.specs.Prelude.{◌≤◌, length};
 ghost use Rattle.vp_lex.specs.declared.token.TheConstants.{TEXT_LIMIT};
 ghost use Rattle.vp_answer.specs.Requests.{IsAsked};
 
-use crate::tests::building::world_of;
 use std::alloc::Global;
 use vp_answer::{Reply, Request, SessionId};
 use vp_list::Text;
 use vp_policy::UserId;
 use vp_vpi::PutValue;
 use vp_world::{Event, Limits, World};
+use vp_world_samples::world_of;
+
+/// A policy with one user, who may find and read what stands in the open text and let the design run.
+pub const READER: &[u8] =
+    b"{\"users\":[{\"name\":\"ann\",\"token\":\"t1\",\"open\":\"list+read\",\"run\":true}]}";
 
 /// A policy with one user, who may watch and put in the open text, and let the design run.
 const POLICY: &[u8] =

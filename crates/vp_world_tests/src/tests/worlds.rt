@@ -4,7 +4,7 @@ ghost use Rattle.std.specs.Prelude.{IfSome};
 ghost use Rattle.vp_elab.specs.Built.{Elaborated};
 ghost use Rattle.vp_world.specs.Events.{IsWellFormed};
 
-use crate::tests::building::{READER, policy_of, world_of};
+use crate::tests::sessions::READER;
 use std::alloc::Global;
 use vp_answer::{Reply, Request, SessionId};
 use vp_elab::{Design, ObjectId};
@@ -28,6 +28,8 @@ const ANN: SessionId = SessionId {
     user: UserId(0),
     opens: 1,
 };
+
+use vp_world_samples::{policy_of, world_of};
 
 /// The envelopes of a scope of a design that are closed to Ann.
 fn closed_in(alloc: Global, design: &Design, scope: Option<ObjectId>) -> Option<Sequence<u8>> {

@@ -7,32 +7,32 @@ use vp_policy::Barrier;
 use vp_pragma::Right;
 use vp_world::{Entry, Happening};
 
-/// What Bob has at a place of the log, after a watch of `k`, to which he gave a value.
+/// What Bob, who has watched `k` and given it a value, may see at a place of the log.
 #[derive(Clone, Copy)]
-struct Standing {
+struct Watch {
     /// He may read `k`.
     is_open: bool,
     /// So many notices wait.
     waiting: usize,
 }
 
-/// What Bob has behind a change of his grant: a callback that goes is not restored.
-fn standing_behind(standing: Standing, change: &GrantChange) -> Standing {
+/// What he may see after a change of his grant: a callback that goes is not restored.
+fn after_grant(watch: Watch, change: &GrantChange) -> Watch {
     let is_open = change.access.rights().has(Right::Read);
     let waiting = if change.access.rights().has(Right::Watch) {
-        standing.waiting
+        watch.waiting
     } else {
         0
     };
-    Standing { is_open, waiting }
+    Watch { is_open, waiting }
 }
 
-/// A reply to a read is that of what Bob may: the value, or that his grant denies it.
-fn is_read(standing: Standing, reply: &Reply) -> bool {
+/// A reply to a read is right: the value, or that his grant denies it.
+fn is_right_value(watch: Watch, reply: &Reply) -> bool {
     match reply {
-        Reply::Value(bits) => standing.is_open && *bits == Bits::of_number(1, 1),
+        Reply::Value(bits) => watch.is_open && *bits == Bits::of_number(1, 1),
         Reply::Denied(words) => {
-            !standing.is_open
+            !watch.is_open
                 && words.by() == Barrier::Grant
                 && words.envelope() == 1
                 && words.right() == Right::Read
@@ -41,64 +41,64 @@ fn is_read(standing: Standing, reply: &Reply) -> bool {
     }
 }
 
-/// A reply to a poll is of the notices that wait.
-fn is_poll(standing: Standing, reply: &Reply) -> bool {
+/// A reply to a poll is right: it has the notices that wait.
+fn is_right_poll(watch: Watch, reply: &Reply) -> bool {
     match reply {
         Reply::Notices(notices) => {
-            notices.notices().len() == standing.waiting && notices.lost() == 0
+            notices.notices().len() == watch.waiting && notices.lost() == 0
         }
         _ => false,
     }
 }
 
 /// A reply to a request is right.
-fn is_right(standing: Standing, request: &Request, reply: &Reply) -> bool {
+fn is_right(watch: Watch, request: &Request, reply: &Reply) -> bool {
     match request {
-        Request::Poll => is_poll(standing, reply),
-        _ => is_read(standing, reply),
+        Request::Poll => is_right_poll(watch, reply),
+        _ => is_right_value(watch, reply),
     }
 }
 
 /// A request is a poll or a read.
-fn is_told(request: &Request) -> bool {
+fn is_poll_or_read(request: &Request) -> bool {
     matches!(request, Request::Poll | Request::Value { .. })
 }
 
-/// What Bob has behind a reply to a request: a poll leaves no notice.
-fn standing_told(standing: Standing, request: &Request) -> Standing {
+/// What he may see after a reply to a request: a poll leaves no notice.
+fn after_reply(watch: Watch, request: &Request) -> Watch {
     match request {
-        Request::Poll => Standing {
+        Request::Poll => Watch {
             waiting: 0,
-            ..standing
+            ..watch
         },
-        _ => standing,
+        _ => watch,
     }
 }
 
 /// The reply at a place of a list is this one.
 fn is_at(replies: &[Reply], place: usize, reply: &Reply) -> bool {
     match replies.get(place) {
-        Some(told) => told.is_same(reply),
+        Some(own) => own.is_same(reply),
         None => false,
     }
 }
 
 /// The replies to polls and reads in a log are these, in order, and each is that of the grants before it.
 pub fn are_right(log: &[Entry], replies: &[Reply]) -> bool {
-    let mut standing = Standing {
+    let mut watch = Watch {
         is_open: true,
         waiting: 1,
     };
     let mut count = 0usize;
     for entry in log {
         match &entry.happening {
-            Happening::Grant { change } => standing = standing_behind(standing, change),
-            Happening::Ask { asked, reply } if is_told(&asked.request) => {
-                let is_right = is_right(standing, &asked.request, reply);
+            Happening::Grant { change } => watch = after_grant(watch, change),
+            Happening::Ask { asked, reply } if is_poll_or_read(&asked.request) => {
+                let is_right = is_right(watch, &asked.request, reply);
                 if !is_right || !is_at(replies, count, reply) {
                     return false;
                 }
-                standing = standing_told(standing, &asked.request);
+                watch = after_reply(watch, &asked.request);
                 count = count.saturating_add(1);
             }
             _ => {}

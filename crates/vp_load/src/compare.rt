@@ -1,0 +1,221 @@
+//! What was told, beside the log.
+ghost use Rattle.std.specs.Prelude.{◌≡◌};
+ghost use Rattle.std.specs.Arc.{arc_value};
+ghost use Rattle.vp_world.specs.Events.{IsWellFormed};
+ghost use Rattle.vp_load.specs.Logs.{AreWellFormed};
+
+use crate::difference::Difference;
+use crate::happening::{event_of, line_of};
+use crate::kinds::{WANTED, count};
+use crate::load::Transcripts;
+use crate::operator::Order;
+use crate::talk::OK;
+use crate::texts::world_of;
+use std::alloc::Global;
+use std::sync::Arc;
+use vp_answer::{GrantChange, Reply, Request, SessionId};
+use vp_expr::Checked;
+use vp_hub::session_of;
+use vp_list::Same;
+use vp_wire::{reply_line, request};
+use vp_world::{Entry, Event, Happening, Limits, World};
+
+/// What a world answers to the event of the entry at a place of a log; or by which number it refuses it.
+fn answer(world: &mut World, place: usize, event: Event) -> Result<Reply, Difference>
+    requires { IsWellFormed world.old.opening.design event }
+    ensures { world.new.opening ≡ world.old.opening }
+{
+    match world.apply(event) {
+        Ok(reply) => Ok(reply),
+        Err(error) => {
+            let code = error.code();
+            Err(Difference::Refusal { place, code })
+        }
+    }
+}
+
+/// The line of a reply is that of the entry at a place of a log, byte by byte.
+fn check_reply(
+    alloc: Global,
+    reply: &Reply,
+    place: usize,
+    entry: &Entry,
+) -> Result<(), Difference> {
+    let own = reply_line(alloc, reply)?;
+    let line = line_of(alloc, &entry.happening)?;
+    if own.as_slice() != line.as_slice() {
+        return Err(Difference::Reply { place });
+    }
+    Ok(())
+}
+
+/// The last that has happened to a world has left it at the time, and as finished, as the entry at a place of a log has it.
+fn check_time(world: &World, place: usize, entry: &Entry) -> Result<(), Difference> {
+    match world.log().last() {
+        Some(own) if own.time == entry.time && own.finished == entry.finished => Ok(()),
+        _ => Err(Difference::Time { place }),
+    }
+}
+
+/// Lets the event of the entry at a place of a log happen to a world, which is to answer it as the entry has it, and to come to the same time.
+fn repeat(alloc: Global, world: &mut World, place: usize, entry: &Entry) -> Result<(), Difference>
+    requires { IsWellFormed world.old.opening.design entry.now.event }
+    ensures { world.new.opening ≡ world.old.opening }
+{
+    let event = event_of(alloc, &entry.happening)?;
+    let reply = answer(world, place, event)?;
+    check_reply(alloc, &reply, place, entry)?;
+    check_time(world, place, entry)
+}
+
+/// The events of a log, one by one, come to the same in a fresh world.
+pub fn compare_world(alloc: Global, world: World, log: &[Entry]) -> Result<(), Difference>
+    requires { AreWellFormed world.opening.design log.now }
+{
+    let mut world = world;
+    for (place, entry) in log.iter().enumerate() {
+        repeat(alloc, &mut world, place, entry)?;
+    }
+    drop(world);
+    Ok(())
+}
+
+/// Takes a line from what is left of what a user was told, and tells whether it was the next there.
+fn is_next(own: &mut &[u8], line: &[u8]) -> bool {
+    match own.strip_prefix(line) {
+        Some(rest) => {
+            *own = rest;
+            true
+        }
+        None => false,
+    }
+}
+
+/// The line of the entry at a place of a log, which is of a session, is the next that its user was told; it is taken from what is left of what
+/// the users were told.
+fn take_line(
+    alloc: Global,
+    rests: &mut [&[u8]],
+    session: SessionId,
+    place: usize,
+    entry: &Entry,
+) -> Result<(), Difference> {
+    let line = line_of(alloc, &entry.happening)?;
+    if session.opens != 1 {
+        return Err(Difference::Stranger { place });
+    }
+    let Some(own) = rests.get_mut(session.user.0) else {
+        return Err(Difference::Stranger { place });
+    };
+    if !is_next(own, line.as_slice()) {
+        let number = session.user.0.saturating_add(1);
+        return Err(Difference::Transcript { place, number });
+    }
+    Ok(())
+}
+
+/// What is left of these transcripts at first, which is all.
+fn whole_rests<'a>(alloc: Global, transcripts: &'a [Vec<u8>]) -> Result<Vec<&'a [u8]>, Difference> {
+    let mut rests = Vec::new(alloc);
+    for transcript in transcripts {
+        rests.push(transcript.as_slice())?;
+    }
+    Ok(rests)
+}
+
+/// Nothing is left of what the users were told.
+fn check_no_rest(rests: &[&[u8]]) -> Result<(), Difference> {
+    for (place, own) in rests.iter().enumerate() {
+        if !own.is_empty() {
+            let number = place.saturating_add(1);
+            return Err(Difference::Excess { number });
+        }
+    }
+    Ok(())
+}
+
+/// What each user was told are the lines of the replies to his session's events in a log, in order.
+fn compare_users(alloc: Global, users: &[Vec<u8>], log: &[Entry]) -> Result<(), Difference> {
+    let mut rests = whole_rests(alloc, users)?;
+    for (place, entry) in log.iter().enumerate() {
+        if let Some(session) = session_of(&entry.happening) {
+            take_line(alloc, &mut rests, session, place, entry)?;
+        }
+    }
+    check_no_rest(&rests)
+}
+
+/// The change of a grant that the order of a number asks.
+fn change_of(alloc: Global, number: usize, order: &Order) -> Result<GrantChange, Difference> {
+    match request(alloc, order.line.as_bytes()) {
+        Ok(Request::Grant(change)) => Ok(change),
+        _ => Err(Difference::NoOrder { number }),
+    }
+}
+
+/// The changes of grants of which the operator was told that they are done, in order, each with the number of its order.
+fn changes_of(alloc: Global, orders: &[Order]) -> Result<Vec<(usize, GrantChange)>, Difference> {
+    let mut changes = Vec::new(alloc);
+    for (place, order) in orders.iter().enumerate() {
+        if order.reply.as_slice() == OK {
+            let number = place.saturating_add(1);
+            changes.push((number, change_of(alloc, number, order)?))?;
+        }
+    }
+    Ok(changes)
+}
+
+/// The changes of grants in a log are those of which the operator was told that they are done: each once, in order.
+fn compare_grants(alloc: Global, orders: &[Order], log: &[Entry]) -> Result<(), Difference> {
+    let changes = changes_of(alloc, orders)?;
+    let mut next = 0usize;
+    for (place, entry) in log.iter().enumerate() {
+        if let Happening::Grant { change } = &entry.happening {
+            match changes.get(next) {
+                Some((_, own)) if own.is_same(change) => next = next.saturating_add(1),
+                _ => return Err(Difference::Grant { place }),
+            }
+        }
+    }
+    match changes.get(next) {
+        Some((number, _)) => Err(Difference::LostOrder { number: *number }),
+        None => Ok(()),
+    }
+}
+
+/// A log has something of each kind that is wanted.
+fn check_kinds(log: &[Entry]) -> Result<(), Difference> {
+    for kind in WANTED {
+        if count(log, kind) == 0 {
+            return Err(Difference::NoneOf(kind));
+        }
+    }
+    Ok(())
+}
+
+/// Compares a log with what the clients and the operator were told.
+pub fn compare_transcripts(
+    alloc: Global,
+    log: &[Entry],
+    transcripts: &Transcripts,
+) -> Result<(), Difference> {
+    compare_users(alloc, transcripts.users.as_slice(), log)?;
+    compare_grants(alloc, transcripts.orders.as_slice(), log)?;
+    check_kinds(log)
+}
+
+/// Compares a log with what comes of its events in a fresh world, and with what the clients and the operator were told.
+pub fn compare(
+    alloc: Global,
+    checked: &Arc<Checked>,
+    log: &[Entry],
+    transcripts: &Transcripts,
+) -> Result<(), Difference>
+    requires { AreWellFormed (arc_value checked.now) log.now }
+{
+    let Some(world) = world_of(alloc, checked, Limits::GREATEST) else {
+        return Err(Difference::NoWorld);
+    };
+    compare_world(alloc, world, log)?;
+    compare_transcripts(alloc, log, transcripts)
+}

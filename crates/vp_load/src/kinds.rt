@@ -1,0 +1,79 @@
+//! What can happen, by its kind.
+use std::fmt;
+use vp_world::{Entry, Happening};
+
+/// The kind of what happened.
+#[derive(Clone, Copy, Debug, PartialEq, Eq)]
+pub enum Kind {
+    Open,
+    Ask,
+    Put,
+    Close,
+    Grant,
+    Step,
+    Advance,
+    TakeJob,
+    Book,
+}
+
+/// Each kind.
+pub const KINDS: [Kind; 9] = [
+    Kind::Open,
+    Kind::Ask,
+    Kind::Put,
+    Kind::Close,
+    Kind::Grant,
+    Kind::Step,
+    Kind::Advance,
+    Kind::TakeJob,
+    Kind::Book,
+];
+
+/// The kinds of which each load has something.
+pub const WANTED: [Kind; 7] = [
+    Kind::Open,
+    Kind::Ask,
+    Kind::Put,
+    Kind::Close,
+    Kind::Grant,
+    Kind::Step,
+    Kind::Advance,
+];
+
+impl fmt::Display for Kind {
+    fn fmt<W: fmt::Write>(&self, f: &mut fmt::Formatter<W>) -> fmt::Result {
+        f.write_str(match self {
+            Kind::Open => "open",
+            Kind::Ask => "ask",
+            Kind::Put => "put",
+            Kind::Close => "close",
+            Kind::Grant => "grant",
+            Kind::Step => "step",
+            Kind::Advance => "advance",
+            Kind::TakeJob => "job",
+            Kind::Book => "race",
+        })
+    }
+}
+
+/// The kind of what happened.
+fn kind_of(happening: &Happening) -> Kind {
+    match happening {
+        Happening::Open { .. } => Kind::Open,
+        Happening::Ask { .. } => Kind::Ask,
+        Happening::Put { .. } => Kind::Put,
+        Happening::Close { .. } => Kind::Close,
+        Happening::Grant { .. } => Kind::Grant,
+        Happening::Step { .. } | Happening::StepWithChange { .. } => Kind::Step,
+        Happening::Advance => Kind::Advance,
+        Happening::TakeJob { .. } => Kind::TakeJob,
+        Happening::Book { .. } => Kind::Book,
+    }
+}
+
+/// So many entries of a log are of a kind.
+pub fn count(log: &[Entry], kind: Kind) -> usize {
+    log.iter()
+        .filter(|entry| kind_of(&entry.happening) == kind)
+        .count()
+}
