@@ -4,7 +4,7 @@ use Rattle.vp_bits.specs.declared.bit.Bit.{Bit}
 use Rattle.vp_pragma.specs.declared.rights.Right.{Right}
 use Rattle.vp_pragma.specs.declared.rights.Right.TheVariants as right
 use Rattle.vp_elab.specs.declared.object.ObjectId.{ObjectId}
-use Rattle.vp_waking.specs.declared.change.Change.{Change}
+use Rattle.vp_notify.specs.Change.{Change}
 use Rattle.vp_notify.specs.declared.registry.Callback.{Callback}
 use Rattle.vp_notify.specs.declared.notice.Notice.{Notice}
 use Rattle.vp_notify.specs.Registry.{RegistryState}

@@ -21,7 +21,7 @@ use Rattle.vp_names.specs.declared.fault.ElabError.{ElabError}
 use Rattle.vp_names.specs.declared.fault.ElabError.TheVariants.{Undeclared}
 use Rattle.vp_names.specs.Items.{expressions_in, is_operand, is_signal, items_in, named_at, statements_in, terms_in}
 use Rattle.vp_names.specs.Refusals.{assigned_by, first_in, first_of_two, name_in, refused_at, target_of, undeclared, unfit}
-use Rattle.vp_modules.specs.Refusals as modules
+use Rattle.vp_elab.specs.modules as modules
 use Rattle.vp_elab.specs.Built.{Elaborated, IsFoundAs, ItemsAreFound}
 use Rattle.vp_elab.specs.Elaboration.{range_width}
 use Rattle.vp_elab.specs.Tree.{Node, first_of}

@@ -22,8 +22,7 @@ use std::sync::Arc;
 use std::sync::ledger::{Blank, Book, Share};
 use vp_answer::{Reply, Request};
 use vp_list::Text;
-use vp_race::{Finding, Segment, Shared};
-use vp_sim::SimError;
+use vp_race::{Finding, Segment, Shared, SimError};
 use vp_world::{Entry, Event, World, WorldError};
 
 /// What stands behind the lock of a hub: a world, and the total of the ledger of its sessions' calls. A contract sees both, and how

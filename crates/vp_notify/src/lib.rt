@@ -14,3 +14,4 @@ pub use fault::NotifyError;
 pub use notice::{Notice, Notices, PolledNotice};
 pub use registry::{CALLBACK_LIMIT, Callback, NOTICE_LIMIT, Registry};
 pub use renumbering::{number_now, rises};
+pub use vp_waking::Change;

@@ -3,7 +3,7 @@ use Rattle.std.proofs.Common.{◌≡◌, ◌∙◌, ◌≤◌, ◌||◌, ◌++�
 use Rattle.std.specs.Prelude.{nat_lt, slice_get, option_and_then}
 use Rattle.std.proofs.lemmas.Bool.{ltb-false}
 use Rattle.std.proofs.lemmas.Option.{slice_get_past}
-use Rattle.vp_expr.specs.Tables.{tables_of}
+use Rattle.vp_sim.specs.Tables.{tables_of}
 use Rattle.vp_sim.specs.States.{Outcome, Refuses, State, eligible, happened, step, with_activation}
 use Rattle.vp_sim.specs.declared.fault.SimError.TheVariants.{Finished, Idle, NoSuchChoice}
 use Rattle.vp_strata.specs.Queues.{activated, is_done, peeked, ready}

@@ -1,7 +1,7 @@
 -- An open segment in which the run takes a step.
 use Rattle.std.proofs.Common.{◌≡◌, ◌∙◌, ◌||◌, ℕ, Bool, Option, Some, None, length, ap, sym}
 use Rattle.std.specs.Prelude.{nat_lt, option_map}
-use Rattle.vp_waking.specs.declared.change.Change.{Change}
+use Rattle.vp_sim.specs.Change.{Change}
 use Rattle.vp_sim.specs.States.{Goes, Outcome, State, eligible, step}
 use Rattle.vp_race.specs.Orders.{chose_from, reached}
 use Rattle.vp_race.specs.Recording.{Begun, Stands, with_choice}

@@ -1,3 +1,4 @@
+pub use Rattle.vp_sim.specs.States
 pub mod Booking
 pub mod Faults
 pub mod Orders

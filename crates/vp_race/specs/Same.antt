@@ -9,8 +9,8 @@ use Rattle.vp_active.specs.declared.event.Event.TheVariants.{Evaluation, NetUpda
 use Rattle.vp_active.specs.declared.event.NonblockingUpdate.{NonblockingUpdate}
 use Rattle.vp_strata.specs.declared.event.Timed.{Timed}
 use Rattle.vp_strata.specs.Queues.{Queue}
-use Rattle.vp_waking.specs.declared.waiting.Waiting.{Waiting}
-use Rattle.vp_waking.specs.declared.waiting.Waiting.TheVariants as wait
+use Rattle.vp_sim.specs.Waiting.{Waiting}
+use Rattle.vp_sim.specs.Waiting.TheVariants as wait
 use Rattle.vp_sim.specs.States.{State}
 use Rattle.vp_race.specs.Segments.{Run}
 

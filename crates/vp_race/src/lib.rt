@@ -30,3 +30,4 @@ pub use recording::Recording;
 pub use seeds::search;
 pub use segment::Segment;
 pub use shared::Shared;
+pub use vp_sim::{Sim, SimError};

@@ -15,9 +15,7 @@ use std::marker::Model;
 use std::sync::Arc;
 use vp_bits::Bits;
 use vp_elab::ObjectId;
-use vp_expr::Checked;
-use vp_sim::{Sim, SimError};
-use vp_waking::Change;
+use vp_sim::{Change, Checked, Sim, SimError};
 
 /// A simulation whose time slots are recorded as segments (docs/FORMATS.md, "Races"). A contract sees the state of the simulation, and the
 /// segments.

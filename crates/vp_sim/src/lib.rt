@@ -14,3 +14,5 @@ mod steps;
 pub use fault::SimError;
 pub use kept::KeptSim;
 pub use sim::Sim;
+pub use vp_expr::Checked;
+pub use vp_waking::Change;

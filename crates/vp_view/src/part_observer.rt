@@ -13,8 +13,7 @@ use vp_elab::{Kind, ObjectId};
 use vp_list::{Sequence, Text};
 use vp_policy::{DenialWords, View};
 use vp_pragma::Right;
-use vp_race::Shared;
-use vp_vpi::{Found, Observe, RaceLine, RaceTold, SeenRace};
+use vp_vpi::{Found, Observe, RaceLine, RaceTold, SeenRace, Shared};
 
 /// A view, with the values that its user knows, the time, whether `$finish` was executed, and the races that he is shown.
 #[derive(Drop)]

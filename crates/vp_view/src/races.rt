@@ -4,8 +4,7 @@ ghost use Rattle.vp_vpi.specs.Calls.{line_of, lines_from, race_told, shown_at};
 
 use std::alloc::{AllocError, Global};
 use vp_list::{Sequence, Text};
-use vp_race::Shared;
-use vp_vpi::{RaceLine, RaceTold, SeenRace};
+use vp_vpi::{RaceLine, RaceTold, SeenRace, Shared};
 
 /// At most so many races are told in one list.
 const RACE_LIMIT: usize = 100;

@@ -13,7 +13,7 @@ use Rattle.vp_policy.specs.declared.denial.Look.{Look}
 use Rattle.vp_policy.specs.declared.denial.Look.TheVariants as look
 use Rattle.vp_policy.specs.Users.{Member}
 use Rattle.vp_policy.specs.Filter.{closed_in, denial_at, listed, look_in, words_of}
-use Rattle.vp_sim.specs.States as sim
+use Rattle.vp_race.specs.States as sim
 use Rattle.vp_vpi.specs.declared.races.SeenRace.{SeenRace}
 
 -- what is found under a name: an object, a denial in words, or nothing

@@ -9,7 +9,7 @@ use Rattle.vp_policy.specs.Filter.{denial_at}
 use Rattle.vp_policy.specs.Users.{Member}
 use Rattle.vp_race.specs.Orders.{sources_of}
 use Rattle.vp_race.specs.Segments.{Told, value_behind}
-use Rattle.vp_sim.specs.States.{State}
+use Rattle.vp_race.specs.States.{State}
 use Rattle.vp_vpi.specs.declared.races.SeenRace.{SeenRace}
 use Rattle.vp_vpi.specs.Observers.{Observer, kind_at, observer_of, with_races}
 

@@ -2,7 +2,7 @@
 use Rattle.std.specs.Prelude.{ℕ, zero, suc, ◌+◌, ◌&&◌, not, nat_le, Bool, List, [], ◌∷◌, ◌++◌, length, map, count_by, slice_get, slice_set, Option, Some, None, is_some, option_map}
 use Rattle.std.specs.Option.{option_flatten}
 use Rattle.vp_elab.specs.declared.object.ObjectId.{ObjectId}
-use Rattle.vp_waking.specs.declared.change.Change.{Change}
+use Rattle.vp_notify.specs.Change.{Change}
 use Rattle.vp_notify.specs.declared.notice.PolledNotice.{PolledNotice}
 use Rattle.vp_notify.specs.Registry as registry
 

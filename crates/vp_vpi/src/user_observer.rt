@@ -14,8 +14,7 @@ use vp_elab::{Kind, ObjectId};
 use vp_list::{Sequence, Text};
 use vp_policy::{DenialWords, Look, Policy, UserId};
 use vp_pragma::Right;
-use vp_race::{Book, Finding};
-use vp_sim::Sim;
+use vp_race::{Book, Finding, Sim};
 
 /// At most so many races are told in one list.
 const RACE_LIMIT: usize = 100;

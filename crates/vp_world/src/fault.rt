@@ -5,8 +5,7 @@ use std::alloc::{AllocError, AllocFailed};
 use std::error::Error;
 use std::fmt;
 use vp_answer::Refusal;
-use vp_race::RaceError;
-use vp_sim::SimError;
+use vp_race::{RaceError, SimError};
 
 /// Why an event is refused. Those of an event are tested in the order in which they stand here, but that a step and an advance
 /// meet the log's limit first.

@@ -11,10 +11,9 @@ use crate::fault::VpiError;
 use crate::notices::SharedNotices;
 use crate::observer::Observe;
 use vp_elab::{Kind, ObjectId};
-use vp_notify::Callback;
+use vp_notify::{Callback, Change};
 use vp_policy::Policy;
 use vp_pragma::{Right, Rights};
-use vp_waking::Change;
 
 /// An object is there whose changes can be watched: a net or a reg.
 fn is_watchable(kind: Option<Kind>) -> bool
