@@ -1,3 +1,6 @@
+ghost use Rattle.std.specs.Duration.{as_nanos};
+ghost use Rattle.std.specs.Prelude.{◌≡◌, ◌*◌};
+
 use std::time::Duration;
 
 /// What a server is asked for.
@@ -15,7 +18,12 @@ pub struct Settings {
 
 impl Settings {
     /// A server whose clients have a minute to open a session, and ten seconds to read.
-    pub fn new(workers: u32, sessions: u32) -> Settings {
+    pub fn new(workers: u32, sessions: u32) -> Settings
+        ensures workers { result.workers ≡ workers }
+        ensures sessions { result.sessions ≡ sessions }
+        ensures opening { as_nanos result.opening_time ≡ 60 * 1_000_000_000 }
+        ensures reading { as_nanos result.reading_silence ≡ 10 * 1_000_000_000 }
+    {
         Settings {
             workers,
             sessions,
