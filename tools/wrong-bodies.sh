@@ -4,6 +4,7 @@
 # as long as a check of the crate from nothing, and a third of a minute for each edit.
 set -eu
 top=$(cd "$(dirname "$0")/.." && pwd)
+"$top/tools/edits"
 copy=$(mktemp -d)
 trap 'rm -rf "$copy"' EXIT
 git clone -q "$top" "$copy/loddrume"
