@@ -61,18 +61,22 @@ end
 echo "value, idle: $idle; beside a search: $searching; the search took $(cat "$work/searched") s, of which the first 0.3 are not looked at, and the next 3"
 echo "$searching $idle" | awk '{printf "ratio of the 99th percentiles: %.2f\n", $3 / $6}'
 
-for workers in 1 4; do
-    begin races "2015$((workers + 3))" "$workers"
-    python3 "$top/bench/server/search.py" "2015$((workers + 3))" 8000 800 0.02 > "$work/with$workers"
-    end
-    echo "workers: $workers; seconds: $(cat "$work/with$workers")"
+# Three runs of each in turn, since one of them alone is a tenth more or less.
+for turn in 0 1 2; do
+    for workers in 1 4; do
+        port=$((20154 + 2 * turn + workers / 4))
+        begin races "$port" "$workers"
+        python3 "$top/bench/server/search.py" "$port" 8000 800 0.02 >> "$work/with$workers"
+        end
+    done
 done
-echo "$(cat "$work/with1") $(cat "$work/with4")" | awk '{printf "ratio: %.2f\n", $1 / $2}'
+paste "$work/with1" "$work/with4" | awk '{ one += $1; four += $2; printf "workers: 1 and 4; seconds: %s and %s; ratio: %.2f\n", $1, $2, $1 / $2 }
+    END { printf "in all: %.2f and %.2f; ratio: %.2f\n", one, four, one / four }'
 
 # An idle server with 64 sessions: what it uses in ten seconds, in hundredths of a second of one processor.
-begin still 20158 2
-"$work/client" 20158 64 0 "$opening" '{"op":"time"}' > /dev/null &
-python3 - 20158 "$server" <<'P'
+begin still 20160 2
+"$work/client" 20160 64 0 "$opening" '{"op":"time"}' > /dev/null &
+python3 - 20160 "$server" <<'P'
 import socket, sys, time
 port, server = int(sys.argv[1]), sys.argv[2]
 clients = [socket.create_connection(("127.0.0.1", port)) for _ in range(64)]
@@ -89,22 +93,22 @@ P
 end
 
 # Memory by entries: so many requests of one session.
-begin still 20159 0
+begin still 20161 0
 resident() { awk '/^VmRSS/ {print $2}' "/proc/$server/status"; }
 first=$(resident)
 seconds=10
-asked=$(trips 20159 1 "$opening" '{"op":"time"}' | awk '{printf "%d", $1 * 10}')
+asked=$(trips 20161 1 "$opening" '{"op":"time"}' | awk '{printf "%d", $1 * 10}')
 last=$(resident)
 echo "memory: $first kB before, $last kB behind $asked requests"
 echo "$first $last $asked" | awk '{printf "bytes an entry, with its receipt: %.0f\n", ($2 - $1) * 1024 / $3}'
 end
 
 # Memory by connections, one behind another: of 1,000 that only end, and of 1,000 that open a session and close it; each thousand three times.
-begin still 20160 0
+begin still 20163 0
 for kind in silent open; do
     for thousand in 1 2 3; do
         first=$(resident)
-        python3 "$top/bench/server/connections.py" 20160 1000 "$kind"
+        python3 "$top/bench/server/connections.py" 20163 1000 "$kind"
         echo "1,000 connections, $kind: $(($(resident) - first)) kB more"
     done
 done
