@@ -1,5 +1,5 @@
 #!/bin/sh
-# Whether a step costs the same in a large design, beside procedures that sleep, and behind a long log: the instructions (callgrind) of a time unit of a
+# Whether a step costs the same in a large design, beside procedures that sleep, and after a long log: the instructions (callgrind) of a time unit of a
 # counter, alone, beside 30,000 regs, beside 3,000 procedures that wait, and from time 10,000 on. Wants valgrind (Debian's package) and
 # crates/vp_served/out/vp_served, which `rt run` in crates/vp_served builds. Takes the time units that are counted (8000).
 set -eu
@@ -30,8 +30,8 @@ instructions() {
 # The instructions of a time unit of a design from a time on.
 cost() {
     before=$(instructions "$1" "$2")
-    behind=$(instructions "$1" "$(($2 + units))")
-    echo "$1: $(((behind - before) / units)) instructions a time unit, from time $2 on"
+    after=$(instructions "$1" "$(($2 + units))")
+    echo "$1: $(((after - before) / units)) instructions a time unit, from time $2 on"
 }
 cost alone 10
 cost large 10

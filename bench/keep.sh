@@ -12,8 +12,8 @@ build_program keep_speed "$top/bench/keep/main.txt" "time 0" vp_lex vp_sim vp_sa
 # The instructions of a time unit beside so many others, with so many copies. The first 300 units, in which the copies become 256, are left out.
 cost() {
     before=$(instructions_of "time 300" "$work/keep_speed" "$1" "$2" 300)
-    behind=$(instructions_of "time $((300 + units))" "$work/keep_speed" "$1" "$2" "$((300 + units))")
-    echo "$(((behind - before) / units))"
+    after=$(instructions_of "time $((300 + units))" "$work/keep_speed" "$1" "$2" "$((300 + units))")
+    echo "$(((after - before) / units))"
 }
 for others in 50 30000; do
     plain=$(cost "$others" 0)

@@ -35,7 +35,7 @@ for count in 10000 100000 1000000; do
     run "$count" '{"op":"time"}' "$count requests, each an entry of the log"
 done
 
-# Five requests in turn, of which each put is a change. No handle is freed, so behind 65,536 no more is made.
+# Five requests in turn, of which each put is a change. No handle is freed, so after 65,536 no more is made.
 turn() {
     echo '{"op":"handle","name":"top.a"}'
     echo '{"op":"value","h":1}'

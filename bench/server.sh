@@ -99,11 +99,11 @@ first=$(resident)
 seconds=10
 asked=$(trips 20161 1 "$opening" '{"op":"time"}' | awk '{printf "%d", $1 * 10}')
 last=$(resident)
-echo "memory: $first kB before, $last kB behind $asked requests"
+echo "memory: $first kB before, $last kB after $asked requests"
 echo "$first $last $asked" | awk '{printf "bytes an entry, with its receipt: %.0f\n", ($2 - $1) * 1024 / $3}'
 end
 
-# Memory by connections, one behind another: of 1,000 that only end, and of 1,000 that open a session and close it; each thousand three times.
+# Memory by connections, one after another: of 1,000 that only end, and of 1,000 that open a session and close it; each thousand three times.
 begin still 20163 0
 for kind in silent open; do
     for thousand in 1 2 3; do

@@ -11,8 +11,8 @@ build_program watch_speed "$top/bench/watch/main.txt" "time 1" vp_list vp_lex vp
 # The instructions of a time unit with so many sessions and callbacks.
 cost() {
     before=$(instructions_of "time 10" "$work/watch_speed" "$1" "$2" 10)
-    behind=$(instructions_of "time $((10 + units))" "$work/watch_speed" "$1" "$2" "$((10 + units))")
-    echo "$(((behind - before) / units))"
+    after=$(instructions_of "time $((10 + units))" "$work/watch_speed" "$1" "$2" "$((10 + units))")
+    echo "$(((after - before) / units))"
 }
 few=$(cost 1 1)
 many=$(cost 64 1024)

@@ -10,8 +10,8 @@ between. Some lines are no requests; some scripts ask before they open, open wit
 The designs and policies are those of the README's tour, of docs/POLICY.md, and of a race between envelopes, from the repository's own files; where a
 policy names no operator, it gets one.
 
-What is expected is counted here, by docs/FORMATS.md: an `open` that is answered ok is an event of its user, and so is each request behind it that
-is no `open` and no `grant`, and the closing, by `close` or at the end of the input; behind that nothing is. So for who opened the session
+What is expected is counted here, by docs/FORMATS.md: an `open` that is answered ok is an event of its user, and so is each request after it that
+is no `open` and no `grant`, and the closing, by `close` or at the end of the input; after that nothing is. So for who opened the session
 `same N` is printed, N the number of these, and for another user of the policy `same 0`. Ends with status 1 where anything else is printed.
 """
 
@@ -133,7 +133,7 @@ def opening(dice, place, user):
 
 
 def body(dice, place, user):
-    """Each line behind the `open`, with whether it is a request of the session."""
+    """Each line after the `open`, with whether it is a request of the session."""
     lines = [(json.dumps(request(dice, place)), True) for _ in range(dice.randint(20, 60))]
     others = [json.dumps(grant(dice, place)) for _ in range(dice.randint(2, 6))]
     others += dice.sample(NO_REQUESTS, dice.choice([0, 0, 1, 2]))

@@ -1,4 +1,4 @@
-"""Connections one behind another: connections.py PORT COUNT silent|open. Each ends at once, or opens a session, closes it and ends."""
+"""Connections one after another: connections.py PORT COUNT silent|open. Each ends at once, or opens a session, closes it and ends."""
 
 import socket
 import sys

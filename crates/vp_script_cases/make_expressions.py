@@ -5,7 +5,7 @@ Run it in this folder: ./make_expressions.py. It wants iverilog and vvp on the p
 apt-get update && apt-get install -y iverilog). The seed is fixed, so that it makes the same files again.
 
 The module has source regs s0, s1, .., which are given new literals again and again, and target regs r0, r1, ..: each is
-assigned one or more random expressions, as a whole, by a bit or by a part. The script of the case reads each target behind
+assigned one or more random expressions, as a whole, by a bit or by a part. The script of the case reads each target after
 the run, and its last value, as vvp prints it, is what it must be told.
 
 Each assignment is also evaluated here, by IEEE Std 1364-2005, clause 5, from the values that vvp showed just before it.
@@ -19,7 +19,7 @@ Any other difference ends the script, with the case.
 
 Signed operands: the only ones are decimal numbers without a base, below 2^31. They have 32 bits of which the greatest is
 0, so that their extension by the sign (5.5.2) is the same as by zeros; and an operator on them, as the minus of -1,
-is computed at the size of its context, so that nothing signed is extended behind an operator. So all operands are
+is computed at the size of its context, so that nothing signed is extended after an operator. So all operands are
 extended by zeros here. Relational operators with two signed operands, where the sign counts, are not made.
 """
 
@@ -311,7 +311,7 @@ def random_width():
 
 
 def written(digits):
-    """Digits in either case, with some underscores behind the first."""
+    """Digits in either case, with some underscores after the first."""
     digits = random.choice([digits, digits, digits.upper()])
     return digits[0] + "".join(random.choice(["_", "", "", "", "", "", "", ""]) + d for d in digits[1:])
 
@@ -627,7 +627,7 @@ def program(regs, statements):
 
 
 def shown_by_icarus(regs, targets, assignments):
-    """The digits of the assigned reg behind each assignment, and in the end the line of each target."""
+    """The digits of the assigned reg after each assignment, and in the end the line of each target."""
     statements = [f'{a.text()} $display("%b", {a.reg.name});' for a in assignments]
     statements += [f'$display("{r.name} %b", {r.name});' for r in targets]
     with tempfile.TemporaryDirectory() as folder:

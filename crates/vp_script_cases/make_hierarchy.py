@@ -9,7 +9,7 @@ A design has some modules, each with input and output ports, regs, nets, localpa
 instances of modules before it. They are free of races: a reg is assigned once, by the one `initial` of its module, which reads
 none but regs that it assigned before; a net is driven once, by an expression over inputs, regs, localparams and nets before it, or by an
 output of an instance whose inputs read no others; so all nets settle. Some nets and inputs are left open. The script of a case
-reads each net, reg and localparam of each instance behind the run.
+reads each net, reg and localparam of each instance after the run.
 
 Each value is also computed here, by IEEE Std 1364-2005, clauses 5, 6 and 12. A design in which Icarus departs from the
 standard, in one of the ways that make_expressions.py names or in what a port is given, whose expression Icarus sizes by itself and
@@ -60,7 +60,7 @@ class Module:
     name: str
     inputs: list[Declared] = field(default_factory=list)
     outputs: list[Declared] = field(default_factory=list)
-    order: list = field(default_factory=list)  # drivers of nets and instances, each behind those that it reads
+    order: list = field(default_factory=list)  # drivers of nets and instances, each after those that it reads
     procedure: list[Driver] = field(default_factory=list)
     inside: list[Declared] = field(default_factory=list)
     constants: dict[str, Node] = field(default_factory=dict)
@@ -182,7 +182,7 @@ def written(module):
 # ---- what the standard says
 
 def values_of(module, path, given, departures, told):
-    """The values of an instance behind the run, by what its inputs are given; with those of the instances in it, by their paths."""
+    """The values of an instance after the run, by what its inputs are given; with those of the instances in it, by their paths."""
     values = {d.name: "z" * d.width for d in module.inputs + module.outputs + module.inside if d.word == "wire"}
     values.update({d.name: "x" * d.width for d in module.outputs + module.inside if d.word == "reg"})
     environment = Environment(values, departures)

@@ -91,7 +91,7 @@ def main():
     listing = '{"users":[{"name":"ann","token":"t1","open":"list"}]}'
     asked = ['{"op":"handle","name":"m"}', '{"op":"handle","name":"m.Aaa"}', '{"op":"iterate","h":1,"kind":"reg"}', '{"op":"handle","name":"m.Aab"}', '{"op":"iterate","h":1,"kind":"net"}']
     answered = ['{"h":1}', '{"h":2}', '{"error":"too many handles"}', '{"h":3}', '{"closed":[],"items":[]}']
-    case("an iteration over 65,535 regs behind two handles makes none", regs(65_535), listing, "\n".join([OPEN] + asked), "\n".join([OK] + answered))
+    case("an iteration over 65,535 regs after two handles makes none", regs(65_535), listing, "\n".join([OPEN] + asked), "\n".join([OK] + answered))
     callbacks()
     notices()
     case("256 users", "", users(256), OPEN, OK)

@@ -14,7 +14,7 @@ Programs are free of races, for each time modulo 10 has its own work:
 
 - A reg `ck` of the top module is the clock, handed down through ports: it rises at 5, 15, .. and falls at 10, 20, ... A reg `go` rises at 1.
 - Synchronous processes run at 5 (and at 8, those that a reset wakes too). They read everything, assign their own state regs by
-  nonblocking assignments, and their private temporaries at once. So state regs change behind all that is active at 5, and at 7, 8, 9 and 0.
+  nonblocking assignments, and their private temporaries at once. So state regs change after all that is active at 5, and at 7, 8, 9 and 0.
   A reg `cnt` in each module counts the rising edges.
 - Scripts run at 6. They assign private regs, and read these, state regs, and what hangs on state regs alone; at 7, 9, 0, 3 and 4 they may touch their
   own private regs. Whatever they wait for, they go on at 6: `@(posedge ck) #1`, `@(negedge ck) #6`. What they wait for first is a
@@ -31,7 +31,7 @@ make_expressions.py and make_hierarchy.py name, or in one of these, is left out 
 - WAITS_NESTED, SKIPS_IDLE and LOSES_SELECT of simulate_programs.py, which holds the simulator.
 
 Not made, since the profile leaves it out: all that the grammar of docs/FORMATS.md leaves out. Not made though the profile has it: races; strings of several
-declarations or assignments behind one word; names of events that are localparams; loops without an end at one time; a process that
+declarations or assignments after one word; names of events that are localparams; loops without an end at one time; a process that
 assigns what another one assigns, but for the first value of a state reg.
 """
 
@@ -64,7 +64,7 @@ SYNCHRONOUS_DELAYS = [None, None, None, None, 0, 2, 3, 4, 10, 12]  # of nonblock
 RESET_DELAYS = [None, None, None, 0, 2, 10, 12]  # at 5 and 8
 SCRIPT_DELAYS = [None, None, 0, 1, 3, 4, 10, 11]  # at 6
 AT_ONCE_DELAYS = [None, None, 0]
-INTERLUDES = [1, 3, 4, 7, 8]  # behind 6, the times at which a script may touch its private regs
+INTERLUDES = [1, 3, 4, 7, 8]  # after 6, the times at which a script may touch its private regs
 
 # ---- random expressions
 
@@ -358,7 +358,7 @@ def wild_literal(size):
 @dataclass
 class Steps:
     """What scripts of a module wait for."""
-    steady: list[Declared] = field(default_factory=list)  # change behind a rising edge of the clock, once, and at no other time
+    steady: list[Declared] = field(default_factory=list)  # change after a rising edge of the clock, once, and at no other time
     states: list[Declared] = field(default_factory=list)
     late_states: list[Declared] = field(default_factory=list)  # those that get no value at time 0
     flags: list[Declared] = field(default_factory=list)  # private regs of scripts that become 1 once
@@ -370,7 +370,7 @@ class Script(Author):
     steps: Steps = None
     flag: Declared = None  # its own
     toggle: Declared = None
-    own_nets: list[Declared] = field(default_factory=list)  # what hangs on no other script's regs; it has settled behind #0
+    own_nets: list[Declared] = field(default_factory=list)  # what hangs on no other script's regs; it has settled after #0
 
     def simple(self):
         if random.random() < 0.03:
@@ -393,7 +393,7 @@ class Script(Author):
         return self.stepped(self.body(size))
 
     def stepped(self, body):
-        """A statement behind a wait from one time to the next."""
+        """A statement after a wait from one time to the next."""
         make = random.choice([self.for_time, self.to_rise, self.to_rise, self.to_fall, self.to_steady, self.to_steady, self.to_condition,
                               self.to_condition, self.to_state, self.to_state, self.to_flag])
         return chained(make(), body)
@@ -444,13 +444,13 @@ class Script(Author):
         return binary(random.choice(["!=", "==", "<"]), small, whole(random.choice(self.at_once)))
 
     def no_time(self, _size):
-        """Something behind all that is active, so that nets have settled, but before what is assigned by nonblocking assignments."""
-        before, behind = self.instants(self.readable), self.instants(self.readable + self.own_nets * 3)
+        """Something after all that is active, so that nets have settled, but before what is assigned by nonblocking assignments."""
+        before, after = self.instants(self.readable), self.instants(self.readable + self.own_nets * 3)
         first = [later(before.assignment_to(random.choice(self.at_once)), random.choice(AT_ONCE_DELAYS)),
                  Assign(before.assignment_to(random.choice(self.at_once)))]
         target, net = random.choice(self.at_once), random.choice(self.own_nets or self.readable)
         make = random.choice([lambda size: Assign(Assignment(target, binary(random.choice("+^|"), whole(net), known_literal())))] * 2
-                             + [behind.conditional, behind.selection])
+                             + [after.conditional, after.selection])
         return Block(shuffled(first)[:random.randint(1, 2)] + [Delay(0, make(1))])
 
     def instants(self, readable):
@@ -466,13 +466,13 @@ class Script(Author):
     def own_event(self, size):
         """An event that a nonblocking assignment of its own makes, now or later."""
         change = Assignment(self.toggle, unary("~", whole(self.toggle)))
-        return self.behind(change, at([(CHANGE, self.toggle.name)]), size)
+        return self.after(change, at([(CHANGE, self.toggle.name)]), size)
 
     def own_wait(self, size):
         first, second = Assignment(self.toggle, sized_number(1, 0)), Assignment(self.toggle, sized_number(1, 1))
-        return Block([Assign(first), self.behind(second, waiting(whole(self.toggle)), size)])
+        return Block([Assign(first), self.after(second, waiting(whole(self.toggle)), size)])
 
-    def behind(self, assignment, control, size):
+    def after(self, assignment, control, size):
         if random.random() < 0.4:
             return Block([later(assignment, random.choice([None, 0])), control(self.body(size))])
         return Block([later(assignment, 4), chained([control, delayed(6)], self.body(size))])
@@ -788,7 +788,7 @@ def add_private_regs(unit, number):
 
 
 def add_parts(unit, lower):
-    """Nets, combinational processes and instances, each behind what it reads; in the end what drives the outputs that are left."""
+    """Nets, combinational processes and instances, each after what it reads; in the end what drives the outputs that are left."""
     makes = [add_net] * 4 + [add_combinational] * 3 + [add_beat] + [add_instance] * 4 * bool(lower)
     for k in range(random.randint(1, 2 + unit.plan.share // 4) if unit.plan.share else 1):
         random.choice(makes)(unit, k, lower)
@@ -1181,7 +1181,7 @@ def judged():
         assert run == other, f"a race:\n{text}" + "\n".join(changed(run, other))
     assert run.until % 10 == 2, f"at another time:\n{text}"
     told = shown_by_standard(top, run.until - 1, ())
-    assert told == (run.values, not run.is_finished), f"the values change behind what is shown:\n{text}"
+    assert told == (run.values, not run.is_finished), f"the values change after what is shown:\n{text}"
     return modules, text, run, departures_in(top, text, run, told)
 
 

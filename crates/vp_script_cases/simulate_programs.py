@@ -64,7 +64,7 @@ def indented(lines):
 
 
 def headed(head, body):
-    """A statement behind its head, on the same line where there is room."""
+    """A statement after its head, on the same line where there is room."""
     lines = body.lines()
     if len(head) + len(lines[0]) < WIDEST:
         return [f"{head} {lines[0]}"] + lines[1:]
@@ -90,7 +90,7 @@ class Statement:
         return []
 
     def is_open(self):
-        """Whether an `else` behind it would be its own."""
+        """Whether an `else` after it would be its own."""
         return False
 
     def forms(self):
@@ -653,7 +653,7 @@ class Simulation:
         (self.at(delay)[1] if delay else self.updates).append((True, update))
 
     def run(self, until):
-        """All up to a time, but nothing behind a `$finish`."""
+        """All up to a time, but nothing after a `$finish`."""
         events = 0
         while not self.is_finished:
             if self.active:

@@ -15,7 +15,7 @@ number b = cond b 1 0
 abbrev weight : Slot → ℕ
 weight s = cond (is_ready s) 1 0
 
--- a block behind all slots is empty
+-- a block after all slots is empty
 pub block_past : (n : ℕ) (ss : List Slot) → length ss ≤ 16 * n → block_of n ss ≡ []
 block_past n ss past = ap (take 16) (drop_all (16 * n) ss past)
 
@@ -193,7 +193,7 @@ more_length false cs m c = length-set cs m c
 pub length-counted_more : (empty p : ℕ) (ready : Bool) (cs : List ℕ) → length (counted_more empty p ready cs) ≡ length cs
 length-counted_more empty p ready cs = more_length (eqb empty 0) cs (p / 16) (get_or cs (p / 16) 0 + cond ready 1 0)
 
--- behind the blocks of all slots no slot is counted
+-- after the blocks of all slots no slot is counted
 past_blocks : (b : Bool) (ss : List Slot) (cs : List ℕ) (n : ℕ) → AreBlocksCounted (cond b [] ss) cs → length ss ≤ 16 * n → get_or cs n 0 ≡ 0
 past_blocks true ss cs n h past = h n ∙ ap (count_by is_ready) (block_past n [] (omega arith))
 past_blocks false ss cs n h past = h n ∙ ap (count_by is_ready) (block_past n ss past)

@@ -44,14 +44,14 @@ eqb_swap m n = elim (cases_eq m n) [
   | inr other ↦ ne_eqb m n other ∙ sym (ne_eqb n m (λ h. other (sym h)))
 ]
 
--- ---- marks behind older updates
+-- ---- marks after older updates
 
 is_marked_same : (b c : ℕ → Bool) (s : Slot) → ((n : ℕ) → b n ≡ c n) → IsMarked b s → IsMarked c s
 is_marked_same b c Empty same h = tt
 is_marked_same b c (Evaluation process) same h = tt
 is_marked_same b c (NetUpdate process value waiting) same h = h ∙ same process
 
--- marks are right behind updates of the same nets
+-- marks are right after updates of the same nets
 pub marked_same : (b c : ℕ → Bool) (ss : List Slot) → ((n : ℕ) → b n ≡ c n) → AreMarkedBehind b ss → AreMarkedBehind c ss
 marked_same b c [] same h = tt
 marked_same b c (s ∷ ss) same h =

@@ -113,7 +113,7 @@ ready_place place (s ∷ ss) k n found = ready_place_at (is_ready s) place k n s
 
 -- ---- the slots of a block
 
--- the k-th stands in a block, or behind it
+-- the k-th stands in a block, or after it
 pub block_behind : (ss : List Slot) (cs : List ℕ) (n left : ℕ) → AreBlocksCounted ss cs → get_or cs n 0 ≤ left → slice_get (ready_from (16 * (n + 1)) (drop (16 * (n + 1)) ss)) (left - get_or cs n 0) ≡ slice_get (ready_from (16 * n) (drop (16 * n) ss)) left
 block_behind ss cs n left h few =
     let from = drop (16 * n) ss in
@@ -157,7 +157,7 @@ blocks_behind ss cs k (suc n) left h within all =
 
 -- ---- the next update of a net
 
--- what is found in slots that stand behind others is the one that is released
+-- what is found in slots that stand after others is the one that is released
 record IsFound (process place n : ℕ) (ss : List Slot) (does_wait : Bool) : Type 0 where
   pub at : ℕ
   pub is : n ≡ place + at

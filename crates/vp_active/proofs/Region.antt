@@ -40,7 +40,7 @@ events_front front s = flat_map-append events_at front (s ∷ []) ∙ ap (λ (es
 rank_here : (front ss : List Slot) → rank (front ++ ss) (length front) ≡ length (events_of front)
 rank_here front ss = ap (λ (xs : List Slot). length (events_of xs)) (take_at front ss (length front) refl)
 
--- what holds of the slots behind one
+-- what holds of the slots after one
 abbrev Behind : (ℕ → Bool) → List Slot → List Slot → Type 0
 Behind b front ss = AreMarkedBehind b ss → ((n : ℕ) → b n ≡ list_any (drives n) (events_of front)) → eligible_behind (events_of front) (events_of ss) ≡ map (rank (front ++ ss)) (ready_from (length front) ss)
 

@@ -22,14 +22,14 @@ is_nonblocking (Evaluation process) = false
 is_nonblocking (NetUpdate process value) = false
 is_nonblocking (Nonblocking update) = true
 
--- an event behind older ones is eligible: an evaluation always, an update of a net where no older one is of that net, and an update of a
+-- an event after older ones is eligible: an evaluation always, an update of a net where no older one is of that net, and an update of a
 -- nonblocking assignment if it is the oldest (profile)
 abbrev pub is_eligible : (older : List Event) → Event → Bool
 is_eligible older (Evaluation process) = true
 is_eligible older (NetUpdate process value) = not (list_any (drives process) older)
 is_eligible older (Nonblocking update) = not (list_any is_nonblocking older)
 
--- the places of the eligible events among these, which stand behind older ones
+-- the places of the eligible events among these, which stand after older ones
 abbrev pub eligible_behind : (older : List Event) → List Event → List ℕ
 eligible_behind older [] = []
 eligible_behind older (e ∷ es) =

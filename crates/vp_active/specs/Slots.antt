@@ -57,14 +57,14 @@ events_of slots = flat_map events_at slots
 abbrev pub count_empty : List Slot → ℕ
 count_empty slots = count_by is_empty slots
 
--- a slot has a mark that is right behind older updates, which are those of the nets that some processes drive: an update waits for an older one of
+-- a slot has a mark that is right after older updates, which are those of the nets that some processes drive: an update waits for an older one of
 -- its net
 abbrev pub IsMarked : (older : ℕ → Bool) → Slot → Type 0
 IsMarked older Empty = Unit {0}
 IsMarked older (Evaluation process) = Unit {0}
 IsMarked older (NetUpdate process value waiting) = waiting ≡ older process
 
--- slots have marks that are right behind older updates
+-- slots have marks that are right after older updates
 abbrev pub AreMarkedBehind : (older : ℕ → Bool) → List Slot → Type 0
 AreMarkedBehind older [] = Unit {0}
 AreMarkedBehind older (s ∷ ss) = IsMarked older s × AreMarkedBehind (λ process. older process || is_update_of process s) ss

@@ -198,7 +198,7 @@ impl ActiveRegion {
         }
     }
 
-    /// Some events become active, one behind another.
+    /// Some events become active, one after another.
     pub fn push_all(&mut self, events: &[Event])
         requires room { length events.now ≤ self.old.room }
         requires events { All (λ e. IsPushed self.old.processes e) events.now }

@@ -178,7 +178,7 @@ impl ActiveSlots {
         self.counts.grow(blocks)
     }
 
-    /// One more event, behind all others.
+    /// One more event, after all others.
     #[inline(always)]
     pub fn push(&mut self, slot: Slot)
         requires room { 1 ≤ self.old.room }

@@ -15,7 +15,7 @@ use Rattle.vp_answer.specs.declared.reply.Refusal.TheVariants as refusal
 use Rattle.vp_answer.specs.declared.reply.Reply.{Reply}
 use Rattle.vp_answer.specs.declared.reply.Reply.TheVariants as reply
 
--- what comes of a request: its reply, the session behind it, the goal that it sets, if it sets one, and the value that it puts on
+-- what comes of a request: its reply, the session after it, the goal that it sets, if it sets one, and the value that it puts on
 -- an object, if it puts one
 pub record Response : Type 0 where
   pub reply : Reply

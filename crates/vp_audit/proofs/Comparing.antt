@@ -8,7 +8,7 @@ use Rattle.vp_audit.specs.Audits.{IsFirstOther}
 use Rattle.vp_audit.specs.Projections.{is_own, own_of, replies_of}
 use Rattle.vp_audit.proofs.LogReading.{entry_first}
 
--- the first of a list, and others behind them
+-- the first of a list, and others after them
 take_joined : {X : Type 0} (xs ys : List X) (n : ℕ) → n ≤ length xs → take n (take n xs ++ ys) ≡ take n xs
 take_joined xs ys zero h = refl
 take_joined [] ys (suc n) h = absurd (let no : suc n ≤ 0 = h in omega (arith, no))
@@ -37,7 +37,7 @@ replies_own u log n e there own =
     ap (replies_of u) (entry_first log n e there)
     ∙ ap (λ (r : Option Reply). cons_option r (replies_of u (drop (n + 1) log))) (given e.reply (own_of u e.event e.reply) own)
 
--- the first other reply, behind so many that are the same
+-- the first other reply, after so many that are the same
 pub first_other : (told replayed rest : List Reply) (n : ℕ) → n ≤ length replayed → told ≡ take n replayed ++ rest → (slice_get rest 0 ≡ slice_get replayed n → ⊥) → IsFirstOther told replayed (n + 1)
 first_other told replayed rest n within are other =
     let next : n + 1 ≡ suc n = omega arith in

@@ -1,4 +1,4 @@
--- What of an entry goes to a user, and the reading behind it.
+-- What of an entry goes to a user, and the reading after it.
 use Rattle.std.proofs.Common.{◌≡◌, ◌∙◌, ℕ, Bool, List, Option, None, Ok, refl, ap, sym}
 use Rattle.std.specs.Prelude.{option_map}
 use Rattle.std.specs.Option.{option_map_or}
@@ -51,7 +51,7 @@ same_items : (own own' : Option Own) (granted granted' : Option Granted) (change
     (record { own = own'; granted = granted'; change = change'; time = time'; finished = finished'; race = race' })
 same_items own own' granted granted' change change' time time' finished finished' race race' a b c d e f = cc
 
--- what goes to him of a change of his grants by the event, and the reading behind the entry
+-- what goes to him of a change of his grants by the event, and the reading after the entry
 pub record Leaves (u : ℕ) (opening : Opening) (s : State) (known : List Bool) (e : Entry) (granted : Option Granted) (mid : Reading) : Type 0 where
   pub item : granted ≡ option_map (granted_of u (after opening s e.event) known (known_behind u s (after opening s e.event) known e.event)) (regrant_of u s.policy e.event)
   pub reading : followed mid e ≡ reading_of u (after opening s e.event) (known_behind u s (after opening s e.event) known e.event)

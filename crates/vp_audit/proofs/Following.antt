@@ -24,7 +24,7 @@ use Rattle.vp_audit.specs.Readings.{Reading, book_behind, followed, reading_of}
 use Rattle.vp_audit.specs.laws.Cases.{outcome_changes, outcome_leaves}
 use Rattle.vp_audit.specs.laws.Sims.{Changes, advance_changes, step_changes}
 
--- behind something the design and the policy are as before, and the values and the book are these
+-- after something the design and the policy are as before, and the values and the book are these
 pub record Stays (s t : State) (change : Option Change) (book : List Told) : Type 0 where
   pub design : t.run.design ≡ s.run.design
   pub values : t.run.values ≡ values_behind s.run.values change
@@ -68,7 +68,7 @@ abbrev pub IsNoGrant : Event → Type 0
 IsNoGrant (event.Grant change) = ⊥
 IsNoGrant e = Unit {0}
 
--- behind each of them
+-- after each of them
 pub stays : (opening : Opening) (s : State) (e : Event) → IsNoGrant e → Stays s (after opening s e) (changed s e) (book_behind s.book e)
 stays opening s (event.Open name token) n = opens s (login_of s.policy.members name token)
 stays opening s (event.Ask id request) n = asks_at s (index_of s.sessions id) request

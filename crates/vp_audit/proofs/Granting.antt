@@ -18,7 +18,7 @@ use Rattle.vp_audit.specs.Parts.{Granted}
 use Rattle.vp_audit.specs.Projections.{granted_of, known_behind, moved_numbers, regrant_of, values_seen}
 use Rattle.vp_audit.specs.Readings.{Grants, Reading, reading_of}
 
--- what he knows behind a change of his own
+-- what he knows after a change of his own
 abbrev pub known_then : (user : ℕ) → State → (known : List Bool) → List Bool
 known_then u t known = known_also t.run.design.tree (member_at t.policy.members u) known t.run.design.tree.nodes
 
@@ -30,11 +30,11 @@ module _ (opening : Opening) (u : ℕ) (s : State) (known : List Bool) (change :
   abbrev behind : State
   behind = after opening s (event.Grant change)
 
-  -- the state behind it
+  -- the state after it
   pub behind_is : behind ≡ granted_to s change v
   behind_is = ap (λ x. option_map_or (granted_to s change) x s) found
 
-  -- the reading of the state behind it
+  -- the reading of the state after it
   pub regranted_is : regranted_reading (reading_of u s known) v change ≡ reading_of u behind known
   regranted_is = ap (λ (t : State). reading_of u t known) (sym behind_is)
 

@@ -249,7 +249,7 @@ module _ (tree : Tree) (u : Member) (known listed now : List Bool) (are : listed
   as_long : length known ≡ length listed
   as_long = long ∙ sym (listed_long tree u listed are)
 
-  -- what is known behind it is as much
+  -- what is known after it is as much
   pub learned_long : length now ≡ length tree.nodes
   learned_long = ap length is ∙ either_length known listed as_long ∙ long
 

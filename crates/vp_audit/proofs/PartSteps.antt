@@ -43,17 +43,17 @@ eyes_are v values values' time finished races races' h k = ap (λ x. observer_se
 
 -- ---- what else goes to him
 
--- the part behind a change, at a time
+-- the part after a change, at a time
 abbrev pub changed_part : Part → (time : ℕ) → (finished : Bool) → Option Change → Part
 changed_part p time finished change = record p { sessions = map (session_notified change time) p.sessions; values = values_after p.values change; time = time; finished = finished }
 
--- behind none it is as before, but for the time
+-- after none it is as before, but for the time
 pub unchanged_part : (p : Part) (time : ℕ) (finished : Bool) → record p { time = time; finished = finished } ≡ changed_part p time finished None
 unchanged_part p time finished =
     ap (λ (ts : List SessionState). (let q : Part = record p { sessions = ts; time = time; finished = finished } in q))
     (sym (map_same (session_notified None time) (λ t. refl) p.sessions))
 
--- with a race, if one is shown, it is the part behind what of an entry goes to him
+-- with a race, if one is shown, it is the part after what of an entry goes to him
 pub entry_part : (p q : Part) (i : Item) (time : ℕ) (finished : Bool) (change : Option Change) (race : Option SeenRace) → time ≡ unwrap_or i.time p.time → finished ≡ unwrap_or i.finished p.finished
     → i.change ≡ change → i.race ≡ race → q ≡ changed_part p time finished change → record q { races = races_after q.races race } ≡ part_after_entry p None i
 entry_part p q i time finished change race at flag changes shows is =

@@ -9,7 +9,7 @@ use Rattle.vp_answer.specs.declared.reply.Reply.TheVariants as reply
 pub use Rattle.vp_audit.specs.declared.explaining.Explained.{Explained}
 use Rattle.vp_audit.specs.Parts.{Asks, Granted, Item, Own, Part, part_after, reply_of, session_in}
 
--- the numbers of the items with which the values of the known objects last came, behind the item of a number: a change of grants brings all of them
+-- the numbers of the items with which the values of the known objects last came, after the item of a number: a change of grants brings all of them
 abbrev pub brought_by : (number : ℕ) → (brought : List ℕ) → Option Granted → Option Change → List ℕ
 brought_by number brought (Some g) change = map (λ v. number) g.values
 brought_by number brought None (Some c) = slice_set brought c.object.0 number

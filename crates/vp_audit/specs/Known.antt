@@ -10,7 +10,7 @@ known_also tree u [] nodes = []
 known_also tree u (k ∷ known) [] = []
 known_also tree u (k ∷ known) (node ∷ nodes) = (k || is_listed tree u node) ∷ known_also tree u known nodes
 
--- the place of the marked of a number; behind the last of them it goes on past all places
+-- the place of the marked of a number; after the last of them it goes on past all places
 abbrev pub place_of : (marks : List Bool) → ℕ → ℕ
 place_of [] k = k
 place_of (true ∷ marks) zero = zero

@@ -75,28 +75,28 @@ with_answer sessions place None given = sessions
 with_answer sessions place (Some session) None = sessions
 with_answer sessions place (Some session) (Some given) = slice_set sessions place (record session { seat = given.seat })
 
--- the open sessions behind an event of his own
+-- the open sessions after an event of his own
 abbrev pub sessions_behind : Part → Own → List SessionState
 sessions_behind p (Opens id) = p.sessions ++ record { id = record { user = id.user; opens = p.opens + 1 }; seat = new_seat id.user.0 } ∷ []
 sessions_behind p (Asks id r) =
     option_map_or (λ place. with_answer p.sessions place (slice_get p.sessions place) (response_in p (slice_get p.sessions place) r)) (index_of p.sessions id) p.sessions
 sessions_behind p (Closes id) = option_map_or (remove p.sessions) (index_of p.sessions id) p.sessions
 
--- how often he has opened a session behind an event of his own
+-- how often he has opened a session after an event of his own
 abbrev pub opens_behind : Part → Own → ℕ
 opens_behind p (Opens id) = p.opens + 1
 opens_behind p (Asks id r) = p.opens
 opens_behind p (Closes id) = p.opens
 
--- the part behind an event of his own, of which nothing else came to him yet
+-- the part after an event of his own, of which nothing else came to him yet
 abbrev pub with_own : Part → Own → Part
 with_own p own = record p { opens = opens_behind p own; sessions = sessions_behind p own }
 
--- a session behind a change
+-- a session after a change
 abbrev pub session_notified : Option Change → (time : ℕ) → SessionState → SessionState
 session_notified change time t = record t { seat = with_due change time t.seat }
 
--- the values behind a change
+-- the values after a change
 abbrev pub values_after : List (Option (List Bit)) → Option Change → List (Option (List Bit))
 values_after values None = values
 values_after values (Some c) = slice_set values c.object.0 (Some c.value)
@@ -110,11 +110,11 @@ races_after races (Some race) = races ++ race ∷ []
 abbrev pub moved_session : (ℕ → ℕ) → (gone : ℕ → Bool) → SessionState → SessionState
 moved_session f gone t = record t { seat = retired gone (moved_seat f t.seat) }
 
--- a session behind a change of grants: its objects have their numbers in the new view, and what may not be watched any more is out of it
+-- a session after a change of grants: its objects have their numbers in the new view, and what may not be watched any more is out of it
 abbrev pub granted_session : Granted → SessionState → SessionState
 granted_session g t = moved_session (moved_to g.moved (length g.view.nodes)) (λ o. is_some (denied_seen g.view right.Watch o)) t
 
--- the part behind a change of grants
+-- the part after a change of grants
 abbrev pub part_granted : Part → Granted → Part
 part_granted p g = record {
   view = g.view;
@@ -126,7 +126,7 @@ part_granted p g = record {
   races = g.races;
 }
 
--- the part behind what of an entry with an event of his own, or of nobody's, goes to him
+-- the part after what of an entry with an event of his own, or of nobody's, goes to him
 abbrev pub part_after_entry : Part → Option Own → Item → Part
 part_after_entry p own i = record {
   view = p.view;
@@ -138,7 +138,7 @@ part_after_entry p own i = record {
   races = races_after p.races i.race;
 }
 
--- the part behind what of an entry goes to him
+-- the part after what of an entry goes to him
 abbrev pub part_after : Part → Item → Part
 part_after p i = option_map_or (part_granted p) i.granted (part_after_entry p i.own i)
 

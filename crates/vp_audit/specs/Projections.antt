@@ -89,7 +89,7 @@ abbrev pub regrant_of : (user : ℕ) → PolicyState → Event → Option GrantC
 regrant_of u policy (event.Grant change) = if option_map_or (λ v. v == u) (user_of policy.members change.user) false then Some change else None
 regrant_of u policy e = None
 
--- what a user knows behind an event
+-- what a user knows after an event
 abbrev pub known_behind : (user : ℕ) → (before behind : State) → (known : List Bool) → Event → List Bool
 known_behind u s t known e =
     option_map_or (λ g. known_also t.run.design.tree (member_at t.policy.members u) known t.run.design.tree.nodes) (regrant_of u s.policy e) known
@@ -121,7 +121,7 @@ abbrev pub race_of_event : Tree → Member → Event → Option SeenRace
 race_of_event tree u (event.Book finding) = if is_shown tree u finding then Some (race_seen tree u finding) else None
 race_of_event tree u e = None
 
--- what of an entry goes to a user, by the states before and behind it
+-- what of an entry goes to a user, by the states before and after it
 abbrev pub item_of : (user : ℕ) → (before behind : State) → (known now : List Bool) → Entry → Item
 item_of u s t known now e = record {
   own = own_of u e.event e.reply;

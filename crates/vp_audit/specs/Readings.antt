@@ -62,12 +62,12 @@ abbrev pub value_of : Tree → (values : List (List Bit)) → Member → ℕ →
 value_of tree values u o =
     if is_readable (kind_at tree o) && is_none (denial_at tree u right.Read o) then Some (slice_index_or values o (Unknown ∷ [])) else None
 
--- the races of a book behind an event
+-- the races of a book after an event
 abbrev pub book_behind : List Told → Event → List Told
 book_behind book (event.Book finding) = book ++ finding ∷ []
 book_behind book e = book
 
--- the values, the book and the time behind an entry
+-- the values, the book and the time after an entry
 abbrev pub followed : Reading → Entry → Reading
 followed r e = record r {
   values = values_behind r.values e.change;
@@ -76,12 +76,12 @@ followed r e = record r {
   finished = e.finished;
 }
 
--- what goes to a user of a change of a grant, and the reading behind it
+-- what goes to a user of a change of a grant, and the reading after it
 pub record Grants (u : ℕ) (s t : State) (known : List Bool) (change : GrantChange) (result : Result (Option Granted) AuditError) (r : Reading) : Type 0 where
   pub item : IfOk result (λ g. g ≡ option_map (granted_of u t known (known_behind u s t known (event.Grant change))) (regrant_of u s.policy (event.Grant change)))
   pub reading : OnOk result (r ≡ reading_of u t (known_behind u s t known (event.Grant change)))
 
--- what goes to a user of an entry, and the reading behind it
+-- what goes to a user of an entry, and the reading after it
 pub record Reads (u : ℕ) (opening : Opening) (s : State) (known : List Bool) (e : Entry) (result : Result (Option Item) AuditError) (r : Reading) : Type 0 where
   pub item : IfOk result (λ i. i ≡ item_if (item_of u s (after opening s e.event) known (known_behind u s (after opening s e.event) known e.event) e))
   pub reading : OnOk result (r ≡ reading_of u (after opening s e.event) (known_behind u s (after opening s e.event) known e.event))

@@ -390,7 +390,7 @@ impl<'a> Reading<'a> {
         Ok(std::mem::replace(&mut self.known, known))
     }
 
-    /// What goes to him of a change of his grants, behind it, where he knew these objects before it. Refused for want of memory (1307).
+    /// What goes to him of a change of his grants, after it, where he knew these objects before it. Refused for want of memory (1307).
     fn granted(&self, before: &[bool], change: &GrantChange) -> Result<Granted, AuditError>
         requires { length before.now ≡ length self.now.known }
         ensures granted { (t : State) → self.now ≡ reading_of self.now.user t self.now.known
@@ -435,7 +435,7 @@ impl<'a> Reading<'a> {
         Ok(Some(Shared::new(self.alloc, granted)?))
     }
 
-    /// The values, the book and the time are as behind an entry. Takes memory for a race.
+    /// The values, the book and the time are as after an entry. Takes memory for a race.
     fn follow(&mut self, entry: &Entry) -> Result<(), AllocError>
         ensures { OnOk result (self.new ≡ followed self.old entry.now) }
     {

@@ -143,7 +143,7 @@ reason_here shown table otherwise word i other l e =
     ap (λ rest. reason_in (map shown rest) otherwise word) (drop_more table i other l)
     ∙ ap (λ (b : Bool). cond b (shown (get_or table i other)).1 (reason_in (map shown (drop (i + 1) table)) otherwise word)) e
 
--- and else that of those behind it
+-- and else that of those after it
 pub reason_passed : {X : Type 0} (shown : X → List ℕ × List ℕ) (table : List X) (otherwise word : List ℕ) (i : ℕ) (other : X) → i < length table → bytes_eq word (shown (get_or table i other)).0 ≡ false → reason_in (map shown (drop i table)) otherwise word ≡ reason_in (map shown (drop (i + 1) table)) otherwise word
 reason_passed shown table otherwise word i other l e =
     ap (λ rest. reason_in (map shown rest) otherwise word) (drop_more table i other l)

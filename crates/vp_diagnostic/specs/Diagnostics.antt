@@ -36,7 +36,7 @@ pub record IsAtToken (text : List ℕ) (token : Token) (f : DesignFault) (locate
   pub offset : located.place.offset ≡ token.column - 1
   pub notes : AreNotes text token f located.notes
 
--- a fault of tokens stands behind the longest front of its line that has tokens, without notes
+-- a fault of tokens stands after the longest front of its line that has tokens, without notes
 pub record IsAtFront (text : List ℕ) (e : LexError) (located : Located) : Type 0 where
   pub line : located.place.line ≡ lex.line_of e
   pub offset : IsOffset text e (lex.line_of e) located.place.offset

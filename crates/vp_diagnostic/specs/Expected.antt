@@ -18,7 +18,7 @@ use Rattle.vp_diagnostic.specs.Rendering.{ellipsis}
 
 -- ---- trials
 
--- a text with a candidate behind it, on a line of its own, and a further token on the next
+-- a text with a candidate after it, on a line of its own, and a further token on the next
 abbrev pub tried : List ℕ → List ℕ → List ℕ
 tried front candidate = front ++ (10 ∷ candidate ++ codes "\nendmodule\n")
 
@@ -41,12 +41,12 @@ Stops line text =
     ⊎ ((tokens : List Token) × AreTokens text tokens
     × ((e : ParseError) × (e ≢ grammar.NoMemory) × Tells tokens (symbols_of text tokens) e (read (symbols_of text tokens)) × (line_of e ≤ line))))
 
--- a candidate is read behind a text, or is not
+-- a candidate is read after a text, or is not
 abbrev pub IsReadOrNot : Bool → (front candidate : List ℕ) → Type 0
 IsReadOrNot is_read front candidate =
     MatchBool is_read (GoesOn (line_tried front) (tried front candidate)) (Stops (line_tried front) (tried front candidate))
 
--- the words of those candidates of a table, each with its words, that are read behind a text
+-- the words of those candidates of a table, each with its words, that are read after a text
 abbrev pub AreRead : List ℕ → List (List ℕ × List ℕ) → List (List ℕ) → Type 0
 AreRead front [] words = words ≡ []
 AreRead front (c ∷ table) words =

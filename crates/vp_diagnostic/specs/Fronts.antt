@@ -1,4 +1,4 @@
--- Where the tokens of a text are at fault on a line: behind the longest front of the line up to which there are none at fault.
+-- Where the tokens of a text are at fault on a line: after the longest front of the line up to which there are none at fault.
 use Rattle.std.specs.Prelude.{◌≡◌, ◌<◌, ◌≤◌, ◌⊎◌, ◌+◌, ◌-◌, ℕ, List, length, take, min}
 use Rattle.std.specs.Str.{IsCharBoundary}
 use Rattle.vp_lex.specs.declared.token.Token.{Token}

@@ -33,11 +33,11 @@ line_of number text = text_in (first_of (parts 10 (drop (line_start number text)
 abbrev pub goes_on_character : ℕ → Bool
 goes_on_character byte = is_in_range 128 191 byte
 
--- what leads under the place behind a byte: a tab under a tab, a space under another character
+-- what leads under the place after a byte: a tab under a tab, a space under another character
 abbrev pub blank_of : ℕ → List ℕ
 blank_of byte = if byte == 9 then 9 ∷ [] else (if goes_on_character byte then [] else 32 ∷ [])
 
--- what leads under the place behind these bytes
+-- what leads under the place after these bytes
 abbrev pub blanks : List ℕ → List ℕ
 blanks front = flat_map blank_of front
 
@@ -45,6 +45,6 @@ blanks front = flat_map blank_of front
 abbrev pub count_characters : List ℕ → ℕ
 count_characters front = count_by (λ byte. not (goes_on_character byte)) front
 
--- the column behind these bytes of a line: 1, and one more for each character; it is told up to 2 ^ 64 - 1
+-- the column after these bytes of a line: 1, and one more for each character; it is told up to 2 ^ 64 - 1
 abbrev pub column_behind : List ℕ → ℕ
 column_behind front = min (count_characters front + 1) 18446744073709551615

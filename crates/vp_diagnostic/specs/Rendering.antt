@@ -10,19 +10,19 @@ use Rattle.vp_diagnostic.specs.Lines.{blanks, column_behind, line_of}
 abbrev pub ellipsis : List ℕ
 ellipsis = 226 ∷ 128 ∷ 166 ∷ []
 
--- a line of more bytes is cut, to so many before the caret and so many behind it at most
+-- a line of more bytes is cut, to so many before the caret and so many after it at most
 abbrev pub width_limit : ℕ
 width_limit = 200
 
 abbrev pub half_width : ℕ
 half_width = 100
 
--- a part of a line before the caret is shown by this: whole, or the end of it that begins with a character, behind an ellipsis
+-- a part of a line before the caret is shown by this: whole, or the end of it that begins with a character, after an ellipsis
 abbrev pub IsFrontShown : List ℕ → List ℕ → Type 0
 IsFrontShown front shown =
     (shown ≡ front) ⊎ ((at : ℕ) × IsCharBoundary front at × (length front ≤ at + half_width) × (shown ≡ ellipsis ++ drop at front))
 
--- a part of a line behind the caret is shown by this: whole, or the front of it that ends with a character, and an ellipsis
+-- a part of a line after the caret is shown by this: whole, or the front of it that ends with a character, and an ellipsis
 abbrev pub IsRestShown : List ℕ → List ℕ → Type 0
 IsRestShown rest shown =
     (shown ≡ rest) ⊎ ((at : ℕ) × IsCharBoundary rest at × (at ≤ half_width) × (shown ≡ take at rest ++ ellipsis))

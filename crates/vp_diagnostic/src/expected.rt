@@ -45,7 +45,7 @@ const TOLD_LIMIT: usize = 6;
 /// A token of more bytes is not repeated.
 const TOKEN_LIMIT: usize = 40;
 
-/// The grammar reads a text past the second line behind so many newlines.
+/// The grammar reads a text past the second line after so many newlines.
 fn goes_on(alloc: Global, text: &str, newlines: usize) -> Result<bool, AllocError>
     ensures { IfOk result (λ on. MatchBool on (GoesOn (newlines + 2) text.now)
         (Stops (newlines + 2) text.now)) }
@@ -75,14 +75,14 @@ fn newlines(text: &str) -> usize
         .count()
 }
 
-/// A text with a candidate behind it, and a further token behind that.
+/// A text with a candidate after it, and a further token after that.
 fn tried(alloc: Global, front: &str, candidate: &str) -> Result<String, AllocError>
     ensures { IfOk result (λ text. string_bytes text ≡ tried front.now candidate.now) }
 {
     format!(in alloc; "{front}\n{candidate}\nendmodule\n")
 }
 
-/// A candidate is read behind a text.
+/// A candidate is read after a text.
 fn is_read(alloc: Global, front: &str, candidate: &str) -> Result<bool, AllocError>
     ensures { IfOk result (λ read. IsReadOrNot read front.now candidate.now) }
 {
@@ -90,7 +90,7 @@ fn is_read(alloc: Global, front: &str, candidate: &str) -> Result<bool, AllocErr
     goes_on(alloc, text.as_str(), newlines(front))
 }
 
-/// The words of those candidates of a table that are read behind a text.
+/// The words of those candidates of a table that are read after a text.
 fn words_read(
     alloc: Global,
     front: &str,
@@ -164,7 +164,7 @@ fn found(alloc: Global, text: &str, token: Token, at_end: bool) -> Result<String
     }
 }
 
-/// What the candidates are tried behind: the text, or what stands before the token.
+/// What the candidates are tried after: the text, or what stands before the token.
 fn front_of(text: &str, token: Token, at_end: bool) -> &str
     ensures { result.now
         ≡ (if at_end then text.now else part_of text.now 0 token.start) }

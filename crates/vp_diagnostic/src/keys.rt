@@ -31,7 +31,7 @@ fn refused_front(
     Ok(Some(refused))
 }
 
-/// The first key of a user behind others with which he is refused.
+/// The first key of a user after others with which he is refused.
 fn refused_key<'a>(
     alloc: Global,
     others: &[Value],
@@ -47,7 +47,7 @@ fn refused_key<'a>(
     Ok(None)
 }
 
-/// The number, from 0, of the first of a user's grants behind other users with which he is refused.
+/// The number, from 0, of the first of a user's grants after other users with which he is refused.
 fn refused_grant(
     alloc: Global,
     others: &[Value],
@@ -100,7 +100,7 @@ fn push_unknown(alloc: Global, text: &mut String, key: &str) -> Result<(), Alloc
     }
 }
 
-/// Adds the key at which a user behind others is at fault.
+/// Adds the key at which a user after others is at fault.
 fn push_key(
     alloc: Global,
     text: &mut String,

@@ -75,14 +75,14 @@ fn count_characters(front: &str) -> usize
         .count()
 }
 
-/// The column behind a part of a line, in characters from 1.
+/// The column after a part of a line, in characters from 1.
 pub fn column_behind(front: &str) -> usize
     ensures { result ≡ column_behind front.now }
 {
     count_characters(front).saturating_add(1)
 }
 
-/// Adds what leads under the place behind a byte.
+/// Adds what leads under the place after a byte.
 fn push_blank(text: &mut String, byte: u8) -> Result<(), AllocError>
     ensures { OnOk result (string_bytes text.new ≡ string_bytes text.old ++ blank_of byte) }
 {
@@ -95,7 +95,7 @@ fn push_blank(text: &mut String, byte: u8) -> Result<(), AllocError>
     }
 }
 
-/// Adds what leads under the place behind a part of a line.
+/// Adds what leads under the place after a part of a line.
 #[tactic(auto, using(crate::proofs::Steps::blanks_more))]
 pub fn push_blanks(text: &mut String, front: &str) -> Result<(), AllocError>
     ensures { OnOk result (string_bytes text.new ≡ string_bytes text.old ++ blanks front.now) }

@@ -26,7 +26,7 @@ fn note(
     }
 }
 
-/// The text of a fault without a line, and a note behind it.
+/// The text of a fault without a line, and a note after it.
 fn noted(alloc: Global, name: &str, code: u32, words: &str, note: &str) -> Result<Text, AllocError>
     ensures { IfOk result
         (λ text. text ≡ head_without_line name.now code words.now ++ note.now) }

@@ -11,7 +11,7 @@ use vp_list::Text;
 /// A line of more bytes is cut.
 const WIDTH_LIMIT: usize = 200;
 
-/// So many bytes stay before the caret of a line that is cut, and so many behind it, at most.
+/// So many bytes stay before the caret of a line that is cut, and so many after it, at most.
 const HALF_WIDTH: usize = 100;
 
 /// A place of a text.
@@ -32,7 +32,7 @@ fn front_shown(alloc: Global, front: &str) -> Result<String, AllocError>
     format!(in alloc; "…{end}")
 }
 
-/// What is shown of a line's part behind the caret.
+/// What is shown of a line's part after the caret.
 fn rest_shown(alloc: Global, rest: &str) -> Result<String, AllocError>
     ensures { IfOk result (λ shown. IsRestShown rest.now (string_bytes shown)) }
 {

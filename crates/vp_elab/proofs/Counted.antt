@@ -101,7 +101,7 @@ module _ (source : Source) (envelopes : List Envelope) where
   pub many : OBJECT_LIMIT < object_count source → too_many source envelopes ≡ Some TooManyObjects
   many more = ap (λ (b : Bool). cond b (Some TooManyObjects) None) (many_is ∙ lt_yes OBJECT_LIMIT (object_count source) more)
 
--- ---- the refusals, one behind the other
+-- ---- the refusals, one after the other
 
 module _ (source : Source) (protection : Protection) (right : modules.refusal_of source ≡ None) where
   -- there are too many objects

@@ -114,7 +114,7 @@ module _ (source : Source) where
       ∙ rest_by m (drop (suc k) source.modules) (is_top source m)
       ∙ ap (λ (n : ℕ). cond (is_top source m) (1 + whole_size source m) 0 + total (λ m. 1 + whole_size source m) (filter (is_top source) (drop n source.modules))) next
 
-  -- the room that is left behind a module that is a top module, and behind one that is not
+  -- the room that is left after a module that is a top module, and after one that is not
   pub top_room : (k n : ℕ) → k < length source.modules → is_top source (get_or source.modules k nowhere) ≡ true → n + total (λ m. 1 + whole_size source m) (filter (is_top source) (drop k source.modules)) ≤ OBJECT_LIMIT → (n + (1 + whole_size source (get_or source.modules k nowhere))) + total (λ m. 1 + whole_size source m) (filter (is_top source) (drop (k + 1) source.modules)) ≤ OBJECT_LIMIT
   top_room k n within top room =
       let rest = rest_is k within in

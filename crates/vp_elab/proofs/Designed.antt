@@ -55,7 +55,7 @@ module _ (source : Source) (envelopes : List Envelope) where
       length-append own (entries_within source envelopes (suc further_limit) (k + 1) (next + length own) ms) ∙ omega arith
   long_by k next m ms false rest few = rest (k + 1) next few
 
-  -- how far an item stands behind the object of its module
+  -- how far an item stands after the object of its module
   pub slot_at : (next k : ℕ) (is : List Item) (i : Item) → slice_get is k ≡ Some i → slice_index_or (slots_from source next is) k 0 ≡ capped (next + total (full_size source envelopes) (take k is))
   slot_at next k [] i at = absurd cc
   slot_at next zero (x ∷ is) i at = ap capped (let sum : next ≡ next + 0 = omega arith in sum)
@@ -281,7 +281,7 @@ module _ (source : Source) (protection : Protection) (tables : Tables) (scopes :
   abbrev pub index_in : List Object → List (List (List ℕ)) → ℕ → List ℕ → Option ℕ
   index_in os ns id name = option_and_then (λ (xs : List (List ℕ)). position (bytes_eq name) xs) (option_and_then (slice_get ns) (option_and_then (λ (o : Object). o.scope) (slice_get os id)))
 
-  -- how far an item stands behind an object
+  -- how far an item stands after an object
   abbrev pub slot_in : List Object → List Declared → ℕ → ℕ → ℕ
   slot_in os ss id index = option_map_or (λ (s : Declared). slice_index_or s.slots index 0) (option_and_then (slice_get ss) (option_and_then (λ (o : Object). o.scope) (slice_get os id))) 0
 

@@ -37,7 +37,7 @@ pub new_by : (b : Bool) (e : ElabError) (o : Option ElabError) → cond b (Some 
 new_by true e o h = absurd cc
 new_by false e o h = (refl, h)
 
--- a module that is accepted has a new name, and the modules behind it are accepted
+-- a module that is accepted has a new name, and the modules after it are accepted
 pub accepted : (source : Source) (names : List (List ℕ)) (m : Module) (ms : List Module) → twice_in source names (m ∷ ms) ≡ None → (is_among names (word_at source m.name) ≡ false) × (twice_in source (names ++ word_at source m.name ∷ []) ms ≡ None)
 accepted source names m ms h =
     let w : List ℕ = word_at source m.name in
@@ -66,7 +66,7 @@ other_at : (source : Source) (w : List ℕ) (front : List Module) (m : Module) (
 other_at source w [] m back h = h.0
 other_at source w (x ∷ front) m back h = other_at source w front m back h.1
 
--- the name of a module differs from those before it and behind it
+-- the name of a module differs from those before it and after it
 pub others : (source : Source) (names : List (List ℕ)) (before : List Module) (m : Module) (after : List Module) → twice_in source names (before ++ m ∷ after) ≡ None → AllOther source (word_at source m.name) before × AllOther source (word_at source m.name) after
 others source names [] m after h =
     let w : List ℕ = word_at source m.name in

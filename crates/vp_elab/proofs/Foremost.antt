@@ -11,7 +11,7 @@ use Rattle.vp_elab.specs.declared.object.ObjectId.{ObjectId}
 use Rattle.vp_elab.specs.Objects.{AreFirsts, is_of}
 use Rattle.vp_elab.specs.laws.Positions.{or_else, position_from-append, position_is}
 
--- an object, for a number behind the end of a list
+-- an object, for a number past the end of a list
 abbrev pub no_object : Object
 no_object = record { kind = kind.Module; parent = None; index = 0; scope = None; place = 0; envelope = 0; width = 0; lowest = None }
 

@@ -16,7 +16,7 @@ dotted_behind t (u ∷ path) s =
     ap (λ (x : List ℕ). t.name ++ 46 ∷ x) (dotted_behind u path s)
     ∙ sym (append_assoc t.name (46 ∷ dotted (names_of (u ∷ path))) (46 ∷ s.name))
 
--- the same behind a path that ends in a step
+-- the same after a path that ends in a step
 dotted_below : (above : List Step) (t s : Step) → dotted (names_of ((above ++ t ∷ []) ++ s ∷ [])) ≡ dotted (names_of (above ++ t ∷ [])) ++ 46 ∷ s.name
 dotted_below [] t s = refl
 dotted_below (u ∷ above) t s = dotted_behind u (above ++ t ∷ []) s

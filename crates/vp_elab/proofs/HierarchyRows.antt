@@ -108,7 +108,7 @@ nodes_of_inverters :
 unfolding digits is_utf8 chars encode_utf8 further_limit
 nodes_of_inverters = refl
 
--- how far the items stand behind the object of their module: what stands behind an instance stands behind its items
+-- how far the items stand after the object of their module: what stands after an instance stands after its items
 slots_of_inverters :
     map (slots_in inverters) inverters.modules
     ≡ (1 ∷ 2 ∷ 3 ∷ [])
@@ -138,7 +138,7 @@ parents_of_inverters :
 unfolding digits is_utf8 chars encode_utf8 further_limit
 parents_of_inverters = refl
 
--- what is declared in no scope, in the top module, in each of its instances, in a reg, and behind the last object
+-- what is declared in no scope, in the top module, in each of its instances, in a reg, and after the last object
 children_of_inverters :
     map (children_of (nodes_of inverters [])) (None ∷ Some 0 ∷ Some 5 ∷ Some 9 ∷ Some 1 ∷ Some 14 ∷ [])
     ≡ (0 ∷ [])
@@ -156,7 +156,7 @@ accepted_inverters : refusal_of inverters (record { envelopes = []; viewports = 
 unfolding digits is_utf8 chars encode_utf8 further_limit
 accepted_inverters = refl
 
--- a reg, an initial, and an always behind it
+-- a reg, an initial, and an always after it
 abbrev procedures : Source
 procedures =
     let parts : Source = source (codes "module m;\n  reg r;\n  initial r = 1'b1;\n  always @(posedge r) ;\nendmodule\n")
@@ -205,7 +205,7 @@ kinds_named = refl
 
 -- ---- full names
 
--- the full names of the top module, of one of its instances, of that instance's net, and behind the last object
+-- the full names of the top module, of one of its instances, of that instance's net, and after the last object
 full_names_of_inverters :
     map (full_name_at (tree_of inverters (record { envelopes = []; viewports = [] }))) (0 ∷ 5 ∷ 7 ∷ 14 ∷ [])
     ≡ codes "top"

@@ -11,7 +11,7 @@ use Rattle.vp_elab.specs.Objects.{StandsFor}
 use Rattle.vp_elab.specs.Tree.{Node, Step, Tree, fits_module, last_step, matches, matches_at, matches_node, name_at, node_envelope, path_of, step_named}
 use Rattle.vp_elab.proofs.Sights.{none_at_root}
 
--- the last step of a path is the one that stands behind the others
+-- the last step of a path is the one that stands after the others
 pub last_behind : (above : List Step) (s : Step) → last_step (above ++ s ∷ []) ≡ Some s
 last_behind [] s = refl
 last_behind (t ∷ []) s = refl

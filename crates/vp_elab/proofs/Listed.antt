@@ -51,7 +51,7 @@ module _ (source : Source) (envelopes : List Envelope) where
     abbrev nodes : List Node
     nodes = map (node_at source envelopes) all
 
-    -- the object of a number is declared behind these names
+    -- the object of a number is declared after these names
     abbrev pub listed : List (List ℕ) → ℕ → Bool
     listed scope e = option_map_or (is_in scope) (slice_get nodes e) false
 
@@ -113,7 +113,7 @@ module _ (source : Source) (envelopes : List Envelope) where
         (starts_rise (full_size source envelopes) size_some 0 (id + 1) (omega arith) (items_in source m))
         (λ e h. child_there id o m e at inside h) (λ k e at_e. child_back id o m k e at inside at_e)
 
-    -- which stand as far behind it as its slots say
+    -- which stand as far after it as its slots say
     pub child_slots : (id : ℕ) (o : Entry) (m : Module) → length all ≤ OBJECT_LIMIT → slice_get all id ≡ Some o → module_at source envelopes o ≡ Some m → map (λ s. id + s) (slots_in source m) ≡ starts (full_size source envelopes) (id + 1) (items_in source m)
     child_slots id o m few at inside =
         ap (map (λ s. id + s))

@@ -82,7 +82,7 @@ module _ (source : Source) (protection : Protection) (tables : Tables) (scopes :
   abbrev slots_by : Option Module → List ℕ
   slots_by m = option_map_or (λ (s : Declared). s.slots) (option_map (declared_in source protection) m) []
 
-  -- the numbers so far behind an object are those of what is declared in it, and none is too large
+  -- the numbers so far after an object are those of what is declared in it, and none is too large
   abbrev AreChildren : ℕ → List ℕ → Type 0
   AreChildren id slots = (map (λ slot. id + slot) slots ≡ children_of nodes (Some id)) × ((k x : ℕ) → slice_get slots k ≡ Some x → id + x < OBJECT_LIMIT)
 

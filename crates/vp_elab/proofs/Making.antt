@@ -1,4 +1,4 @@
--- Objects, made one behind the other.
+-- Objects, made one after the other.
 use Rattle.std.proofs.Common.{◌≡◌, ℕ, zero, suc, ◌+◌, ◌-◌, ◌<◌, ◌≤◌, Bool, true, false, cond, List, [], ◌∷◌, ◌++◌, length, drop, get_or, Option, Some, sym, ap, ◌∙◌, arith}
 use Rattle.std.specs.Prelude.{slice_get}
 use Rattle.std.specs.Option.{option_and_then, option_map_or}
@@ -19,7 +19,7 @@ use Rattle.vp_elab.proofs.Parts.{definition_at, nowhere}
 use Rattle.vp_elab.proofs.Stable.{long_below, long_item}
 
 module _ (source : Source) (envelopes : List Envelope) where
-  -- an object, and those below it, behind others
+  -- an object, and those below it, after others
   pub object_made :
       (old pushed new : List Object) (o : Object) (further id : ℕ) (m : Module) (there : Option Module)
       → pushed ≡ old ++ o ∷ [] → 1 ≤ further → id ≡ length old → Some m ≡ there → new ≡ pushed ++ objects_below source envelopes (suc (further - 1)) id m

@@ -10,7 +10,7 @@ use Rattle.vp_source.specs.declared.source.Item.{Item}
 use Rattle.vp_modules.specs.Definitions.{definitions_in}
 use Rattle.vp_names.specs.Items.{definition_number, definition_of, instantiated, items_in, module_number}
 
--- a module, for a place behind the end of a list
+-- a module, for a place past the end of a list
 abbrev pub nowhere : Module
 nowhere = record { name = 0; items = record { first = 0; end = 0 }; ports = 0; statements = record { first = 0; end = 0 }; expressions = record { first = 0; end = 0 }; terms = record { first = 0; end = 0 }; choices = record { first = 0; end = 0 } }
 

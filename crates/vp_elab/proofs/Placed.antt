@@ -43,7 +43,7 @@ take_front zero (x ∷ xs) ys e = absurd (omega arith)
 take_front (suc n) [] ys e = absurd (omega arith)
 take_front (suc n) (x ∷ xs) ys e = ap (λ zs. x ∷ zs) (take_front n xs ys (omega arith))
 
--- what stands behind a front of so many
+-- what stands after a front of so many
 pub at_behind : {X : Type 0} (n : ℕ) (all xs : List X) (y : X) (ys : List X) → all ≡ xs ++ y ∷ ys → length xs ≡ n → slice_get all n ≡ Some y
 at_behind n all xs y ys e l = ap (λ zs. slice_get zs n) e ∙ ap (slice_get (xs ++ y ∷ ys)) (sym l) ∙ slice_get_behind xs y ys
 
@@ -55,7 +55,7 @@ module _ (source : Source) (envelopes : List Envelope) where
   abbrev pub full_size : Item → ℕ
   full_size i = item_size source (suc further_limit) i
 
-  -- how far an item of a module stands behind its object
+  -- how far an item of a module stands after its object
   abbrev pub slot : Module → ℕ → ℕ
   slot m k = 1 + total full_size (take k (items_in source m))
 
@@ -86,7 +86,7 @@ module _ (source : Source) (envelopes : List Envelope) where
         → all ≡ front ++ (item_entries source envelopes (entries_below source envelopes d) above p m k next i ++ back) → length front ≡ next
         → HasRole next (Inner above p m k i) → AllFrom Good next (item_entries source envelopes (entries_below source envelopes d) above p m k next i)
 
-    -- the entries of items that are left, behind those that are done
+    -- the entries of items that are left, after those that are done
     walk :
         (d : ℕ) → ItemGood d → d ≤ suc further_limit → (above : List Step) (p : ℕ) (m : Module) (e : Entry)
         → slice_get all p ≡ Some e → module_at source envelopes e ≡ Some m → path_at source envelopes e ≡ above

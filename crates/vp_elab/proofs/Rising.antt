@@ -97,7 +97,7 @@ module _ (p : ℕ → Bool) where
 -- ---- sizes
 
 module _ {X : Type 0} (size : X → ℕ) where
-  -- where each starts, the first at this number, and each behind those before it
+  -- where each starts, the first at this number, and each after those before it
   abbrev pub starts : ℕ → List X → List ℕ
   starts n [] = []
   starts n (x ∷ xs) = n ∷ starts (n + size x) xs
@@ -118,7 +118,7 @@ module _ {X : Type 0} (size : X → ℕ) where
   starts_read n zero (y ∷ xs) e at = let same : n ≡ e = cc in (y, refl, omega arith)
   starts_read n (suc k) (y ∷ xs) e at = let it = starts_read (n + size y) k xs e at in (it.0, it.1, omega (arith, it.2))
 
-  -- so far behind a number
+  -- so far after a number
   pub starts_behind : (m n k : ℕ) → k ≡ m + n → (xs : List X) → map (λ s. m + s) (starts n xs) ≡ starts k xs
   starts_behind m n k is [] = refl
   starts_behind m n k is (x ∷ xs) = ap (λ (e : ℕ). e ∷ map (λ s. m + s) (starts (n + size x) xs)) (sym is) ∙ ap (λ (es : List ℕ). k ∷ es) (starts_behind m (n + size x) (k + size x) (omega arith) xs)

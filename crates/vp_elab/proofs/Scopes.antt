@@ -74,7 +74,7 @@ step_by : (n : List ℕ) (s t : Step) (b : Bool) (o : Option Step) → bytes_eq 
 step_by n s t true o is h = ((bytes_eq-Decides n s.name).0 is, h)
 step_by n s t false o is h = absurd cc
 
--- a step that stands behind these names is the last of its path
+-- a step that stands after these names is the last of its path
 pub step_read : (scope : List (List ℕ)) (path : List Step) (t : Step) → step_in scope path ≡ Some t → (above : List Step) × (path ≡ above ++ t ∷ []) × (names_of above ≡ scope)
 step_read [] [] t h = absurd cc
 step_read [] (s ∷ []) t h = let same : s ≡ t = cc in ([], ap (λ x. x ∷ []) same, refl)
@@ -85,7 +85,7 @@ step_read (n ∷ scope) (s ∷ path) t h =
     let it = step_read scope path t parts.1 in
     (s ∷ it.0, ap (λ xs. s ∷ xs) it.1, ap (λ x. x ∷ names_of it.0) (sym parts.0) ∙ ap (λ xs. n ∷ xs) it.2)
 
--- and the last of a path stands behind the names of the others
+-- and the last of a path stands after the names of the others
 pub step_last : (above : List Step) (t : Step) → step_in (names_of above) (above ++ t ∷ []) ≡ Some t
 step_last [] t = refl
 step_last (s ∷ above) t = ap (λ b. cond b (step_in (names_of above) (above ++ t ∷ [])) None) (bytes_eq-self s.name) ∙ step_last above t
@@ -118,7 +118,7 @@ module _ (source : Source) (envelopes : List Envelope) (once : twice_in source [
   abbrev nodes : List Node
   nodes = map (node_at source envelopes) all
 
-  -- something is declared in an envelope, behind these names
+  -- something is declared in an envelope, after these names
   abbrev declares : List (List ℕ) → ℕ → Bool
   declares scope e = list_any (λ (s : Step). s.envelope == e) (declared_in scope nodes)
 
@@ -130,7 +130,7 @@ module _ (source : Source) (envelopes : List Envelope) (once : twice_in source [
       let last = step_read scope n.path s step in
       (j, there.0, s, last.0, there.1, sym (path_is source envelopes once all placed there.0) ∙ ap (λ (x : Node). x.path) there.2 ∙ last.1, last.2, is)
 
-  -- an entry that is declared in an envelope, behind these names
+  -- an entry that is declared in an envelope, after these names
   declared_entry : (scope : List (List ℕ)) (e : ℕ) → declares scope e ≡ true → (j : ℕ) × (f : Entry) × (s : Step) × (above : List Step) × (slice_get all j ≡ Some f) × (path_at source envelopes f ≡ above ++ s ∷ []) × (names_of above ≡ scope) × ((s.envelope == e) ≡ true)
   declared_entry scope e h =
       let it = exists (λ (n : Node). option_map_or (λ (s : Step). s.envelope == e) (step_in scope n.path) false) nodes (sym (any_filter_map (λ (s : Step). s.envelope == e) (λ (n : Node). step_in scope n.path) nodes) ∙ h) in

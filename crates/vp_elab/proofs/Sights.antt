@@ -42,7 +42,7 @@ tail_at xs i x lt is =
     let next : suc i ≡ i + 1 = omega arith in
     drop-cons xs i x lt ∙ ap (λ y. y ∷ drop (suc i) xs) (sym is) ∙ ap (λ n. x ∷ drop n xs) next
 
--- what is opened behind one viewport, which matches or not
+-- what is opened after one viewport, which matches or not
 pub rights_next :
     (s : Step) (vs : List declared.Viewport) (i : ℕ) (v : declared.Viewport) (b : Bool) (before : RightSet)
     → i < length vs → v ≡ get_or vs i v → b ≡ matches s (viewport_of v)
@@ -53,7 +53,7 @@ rights_next s vs i v b before lt is matched =
     ∙ ap (λ t. either before (cond t (either (set_of v.rights) rest) rest)) matched
     ∙ ap (λ ws. beside before ws s) (sym (tail_at vs i v lt is))
 
--- the first viewport behind others
+-- the first viewport after others
 abbrev pub first_beside : Option ℕ → ℕ → List declared.Viewport → Step → Option ℕ
 first_beside before n vs s = option_or before (position_from (matches s) n (map viewport_of vs))
 
@@ -62,7 +62,7 @@ first_by true None n rest = refl
 first_by true (Some k) n rest = refl
 first_by false before n rest = refl
 
--- the first behind one viewport, which matches or not
+-- the first after one viewport, which matches or not
 pub first_next :
     (s : Step) (vs : List declared.Viewport) (i : ℕ) (v : declared.Viewport) (b : Bool) (before : Option ℕ)
     → i < length vs → v ≡ get_or vs i v → b ≡ matches s (viewport_of v)
@@ -73,7 +73,7 @@ first_next s vs i v b before lt is matched =
     ∙ ap (λ t. option_or before (cond t (Some i) rest)) matched
     ∙ ap (λ ws. first_beside before i ws s) (sym (tail_at vs i v lt is))
 
--- behind the last viewport
+-- after the last viewport
 pub first_none : (before : Option ℕ) → option_or before None ≡ before
 first_none None = refl
 first_none (Some n) = refl

@@ -43,7 +43,7 @@ module _ (source : Source) (envelopes : List Envelope) (v : Viewport) (m : Modul
   abbrev is_named : Item → Bool
   is_named i = bytes_eq v.item (item_name source i)
 
-  -- names of items that are accepted behind others are none of those
+  -- names of items that are accepted after others are none of those
   new_names : (names front back : List (List ℕ)) (w : List ℕ) (is : List Item) → names ≡ front ++ w ∷ back → bytes_eq v.item w ≡ true → twice source names is ≡ None → list_any is_named is ≡ false
   new_names names front back w [] e h k = refl
   new_names names front back w (i ∷ is) e h k =

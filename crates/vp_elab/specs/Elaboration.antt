@@ -88,7 +88,7 @@ root_node source envelopes m = record {
   definition = Some (word_at source m.name);
 }
 
--- the node of an item of a module, behind the steps of the module's object
+-- the node of an item of a module, after the steps of the module's object
 abbrev pub item_node : Source → List Envelope → List Step → declared.Module → Item → Node
 item_node source envelopes above m i = record {
   path = above ++ item_step source envelopes m i ∷ [];
@@ -123,7 +123,7 @@ tops source = filter (is_top source) source.modules
 abbrev pub nodes_within : Source → List Envelope → ℕ → List Node
 nodes_within source envelopes further = flat_map (top_nodes source envelopes further) (tops source)
 
--- how many steps a path may have behind its first: 64 in all (profile)
+-- how many steps a path may have after its first: 64 in all (profile)
 unfoldable pub further_limit : ℕ
 further_limit = 63
 

@@ -24,7 +24,7 @@ abbrev pub numbers_of : List Envelope → List ℕ → List ℕ
 numbers_of envelopes places =
     filter (λ e. list_any (λ place. envelope_at envelopes place == e) places) (below (suc (length envelopes)))
 
--- what the items of a module have in common in each of its instances: the envelopes of their places, how far each stands behind
+-- what the items of a module have in common in each of its instances: the envelopes of their places, how far each stands after
 -- the module's object, and what viewports open of it
 pub record Declared : Type 0 where
   pub envelopes : List ℕ
@@ -71,12 +71,12 @@ item_object source envelopes parent index i = record {
   lowest = lowest_of (item_range source i);
 }
 
--- the objects of an item behind so many others: its own, and those below an instance
+-- the objects of an item after so many others: its own, and those below an instance
 abbrev pub item_objects : Source → List Envelope → (ℕ → declared.Module → List Object) → ℕ → ℕ → ℕ → Item → List Object
 item_objects source envelopes below parent index next i =
     item_object source envelopes parent index i ∷ option_map_or (below next) (definition_of source i) []
 
--- the objects of items, of which the first has this index, behind so many others
+-- the objects of items, of which the first has this index, after so many others
 abbrev pub objects_from : Source → List Envelope → (ℕ → declared.Module → List Object) → ℕ → ℕ → ℕ → List Item → List Object
 objects_from source envelopes below parent index next [] = []
 objects_from source envelopes below parent index next (i ∷ is) =
@@ -89,12 +89,12 @@ objects_below source envelopes zero root m = []
 objects_below source envelopes (suc d) root m =
     objects_from source envelopes (objects_below source envelopes d) root 0 (root + 1) (items_in source m)
 
--- the objects of a top module behind so many others
+-- the objects of a top module after so many others
 abbrev pub top_objects : Source → List Envelope → ℕ → ℕ → ℕ → declared.Module → List Object
 top_objects source envelopes further number next m =
     root_object envelopes number m ∷ objects_below source envelopes further next m
 
--- the objects of these modules' top modules, of which the first has this number, behind so many others
+-- the objects of these modules' top modules, of which the first has this number, after so many others
 abbrev pub objects_within : Source → List Envelope → ℕ → ℕ → ℕ → List declared.Module → List Object
 objects_within source envelopes further number next [] = []
 objects_within source envelopes further number next (m ∷ ms) =

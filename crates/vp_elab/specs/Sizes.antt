@@ -27,7 +27,7 @@ abbrev pub item_size : Source → ℕ → Item → ℕ
 item_size source zero i = many
 item_size source (suc d) i = 1 + option_map_or (λ m. total (item_size source d) (items_in source m)) (definition_of source i) 0
 
--- how many objects stand below one of a module, behind which paths may have so many steps
+-- how many objects stand below one of a module, after which paths may have so many steps
 abbrev pub size : Source → ℕ → declared.Module → ℕ
 size source d m = total (item_size source d) (items_in source m)
 
@@ -39,13 +39,13 @@ whole_size source m = size source further_limit m
 abbrev pub object_count : Source → ℕ
 object_count source = total (λ m. 1 + whole_size source m) (tops source)
 
--- where items stand behind the object of their module: the first so far behind, and each further behind what stands before it
+-- where items stand after the object of their module: the first so far after, and each further after what stands before it
 abbrev pub slots_from : Source → ℕ → List Item → List ℕ
 slots_from source next [] = []
 slots_from source next (i ∷ is) =
     capped next ∷ slots_from source (next + (1 + option_map_or (whole_size source) (definition_of source i) 0)) is
 
--- where the items of a module stand behind its object
+-- where the items of a module stand after its object
 abbrev pub slots_in : Source → declared.Module → List ℕ
 slots_in source m = slots_from source 1 (items_in source m)
 
@@ -55,7 +55,7 @@ slots_in source m = slots_from source 1 (items_in source m)
 abbrev pub size_by : List ℕ → Option ℕ → ℕ
 size_by sizes definition = capped (1 + option_map_or (λ k. slice_index_or sizes k 0) definition 0)
 
--- where items that instantiate these stand, the first so far behind
+-- where items that instantiate these stand, the first so far after
 abbrev pub slots_by : List ℕ → ℕ → List (Option ℕ) → List ℕ
 slots_by sizes next [] = []
 slots_by sizes next (d ∷ ds) = capped next ∷ slots_by sizes (capped (next + size_by sizes d)) ds

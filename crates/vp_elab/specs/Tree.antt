@@ -71,7 +71,7 @@ is_named [] (s ∷ path) = false
 is_named (n ∷ names) [] = false
 is_named (n ∷ names) (s ∷ path) = bytes_eq n s.name && is_named names path
 
--- the last step of a path that has one step behind these names
+-- the last step of a path that has one step after these names
 abbrev pub step_in : List (List ℕ) → List Step → Option Step
 step_in [] [] = None
 step_in [] (s ∷ []) = Some s
@@ -229,7 +229,7 @@ declared_envelopes tree scope = option_map_or (envelopes_in tree) (scope_names t
 abbrev pub definition_at : List Node → ℕ → Option (List ℕ)
 definition_at nodes id = option_and_then (λ n. n.definition) (slice_get nodes id)
 
--- what a name names in an object: how far that stands behind the object, its kind, and its bits
+-- what a name names in an object: how far that stands after the object, its kind, and its bits
 pub record Named : Type 0 where
   pub distance : ℕ
   pub kind : Kind
@@ -244,7 +244,7 @@ seen_from id number n = record { distance = number - id; kind = n.kind; width = 
 abbrev pub named_in : List Node → (id : ℕ) → (name : List ℕ) → Option Named
 named_in nodes id name = option_and_then (λ i. option_map (seen_from id i) (slice_get nodes i)) (find_in nodes (Some id) name)
 
--- the instances of a module are alike: what a name names stands as far behind one as behind another, and is of the same kind and
+-- the instances of a module are alike: what a name names stands as far after one as after another, and is of the same kind and
 -- bits (clause 12.1.2)
 abbrev pub AreAlike : List Node → Type 0
 AreAlike nodes =

@@ -7,7 +7,7 @@ use crate::object::{Object, ObjectId};
 use std::alloc::{AllocError, Global};
 use vp_list::Sequence;
 
-/// The objects that stand so far behind an object. Takes memory.
+/// The objects that stand so far after an object. Takes memory.
 pub fn objects_behind(
     alloc: Global,
     object: ObjectId,

@@ -130,7 +130,7 @@ fn child_item(source: &Source, objects: &[Object], id: ObjectId, index: u32) -> 
     items_of(source, module).get(index as usize).copied()
 }
 
-/// How far the item of an index stands behind the object of its module.
+/// How far the item of an index stands after the object of its module.
 fn slot_at(objects: &[Object], scopes: &[Scope], id: ObjectId, index: usize) -> u32
     ensures { result ≡ option_map_or (λ s. slice_index_or s.slots index 0)
         (option_and_then (slice_get scopes.now)
@@ -232,7 +232,7 @@ impl Design {
         self.objects.all.len() as u32
     }
 
-    /// The object of a number; none behind the end.
+    /// The object of a number; none past the end.
     pub fn object(&self, id: ObjectId) -> Option<Object>
         ensures node { MatchOption result (slice_get self.now.tree.nodes id.0 ≡ None)
             (λ o. StandsFor self.now.tree.nodes id.0 o) }
@@ -242,7 +242,7 @@ impl Design {
         object_at(self.objects.all.as_slice(), id)
     }
 
-    /// What the object of a number is; none behind the end.
+    /// What the object of a number is; none past the end.
     pub fn kind(&self, id: ObjectId) -> Option<Kind>
         ensures { result ≡ option_map (λ n. n.kind) (slice_get self.now.tree.nodes id.0) }
     {
@@ -252,7 +252,7 @@ impl Design {
         }
     }
 
-    /// How many bits the object of a number has, from 1; 0 behind the end.
+    /// How many bits the object of a number has, from 1; 0 past the end.
     pub fn width(&self, id: ObjectId) -> u32
         ensures { result ≡ option_map_or (λ n. n.width) (slice_get self.now.tree.nodes id.0) 0 }
     {
@@ -262,7 +262,7 @@ impl Design {
         }
     }
 
-    /// The number of the envelope in which the object of a number is declared; 0 for the open text, and behind the end.
+    /// The number of the envelope in which the object of a number is declared; 0 for the open text, and past the end.
     pub fn envelope(&self, id: ObjectId) -> u8
         ensures { result ≡ option_map_or node_envelope (slice_get self.now.tree.nodes id.0) 0 }
     {
@@ -272,7 +272,7 @@ impl Design {
         }
     }
 
-    /// The item of the text that the object of a number is; none of a top module, and behind the end.
+    /// The item of the text that the object of a number is; none of a top module, and past the end.
     pub fn item(&self, id: ObjectId) -> Option<Item>
         ensures { result ≡ option_and_then (node_item self.now.source)
             (slice_get self.now.tree.nodes id.0) }
@@ -285,7 +285,7 @@ impl Design {
         }
     }
 
-    /// The module that the object of a number instantiates; none of a top module, and behind the end.
+    /// The module that the object of a number instantiates; none of a top module, and past the end.
     pub fn instantiated(&self, id: ObjectId) -> Option<Module>
         ensures { result ≡ instantiated_at self.now.source self.now.tree.nodes id.0 }
     {
@@ -296,7 +296,7 @@ impl Design {
         }
     }
 
-    /// The object above that of a number, in which it is declared; none of a top module, and behind the end.
+    /// The object above that of a number, in which it is declared; none of a top module, and past the end.
     pub fn parent(&self, id: ObjectId) -> Option<ObjectId>
         ensures { option_map (λ o. o.0) result
             ≡ option_and_then (parent_of self.now.tree.nodes) (slice_get self.now.tree.nodes id.0) }
@@ -304,7 +304,7 @@ impl Design {
         parent_at(self.objects.all.as_slice(), id)
     }
 
-    /// The name of the object of a number, as it stands in paths; empty behind the end.
+    /// The name of the object of a number, as it stands in paths; empty past the end.
     pub fn name(&self, id: ObjectId) -> &str
         ensures { result.now ≡ name_at self.now.tree id.0 }
     {
@@ -322,7 +322,7 @@ impl Design {
     }
 
     /// The full name of the object of a number, as `top.u.y`: the names of its path, from the top module down (IEEE Std
-    /// 1364-2005, 26.6). Empty behind the end. Takes memory.
+    /// 1364-2005, 26.6). Empty past the end. Takes memory.
     pub fn full_name(&self, alloc: Global, id: ObjectId) -> Result<Text, AllocError>
         ensures { IfOk result (λ name. name ≡ full_name_at self.now.tree id.0) }
     {
@@ -331,7 +331,7 @@ impl Design {
         Ok(Text::from_string(name))
     }
 
-    /// The full name of the object of a number, behind a text.
+    /// The full name of the object of a number, after a text.
     fn push_full_name(&self, id: ObjectId, text: &mut String) -> Result<(), AllocError>
         ensures { OnOk result (string_bytes text.new
             ≡ string_bytes text.old ++ full_name_at self.now.tree id.0) }
@@ -349,7 +349,7 @@ impl Design {
         }
     }
 
-    /// The line of the object of a number, from 1; 0 behind the end.
+    /// The line of the object of a number, from 1; 0 past the end.
     pub fn line(&self, id: ObjectId) -> u32
         ensures { result ≡ option_map_or (λ n. n.line) (slice_get self.now.tree.nodes id.0) 0 }
     {
@@ -367,7 +367,7 @@ impl Design {
         module_name(&self.tables.modules, self.objects.all.as_slice(), id)
     }
 
-    /// What the viewports that match the object of a number open of it; nothing behind the end.
+    /// What the viewports that match the object of a number open of it; nothing past the end.
     pub fn sight(&self, id: ObjectId) -> Sight
         ensures { shown result ≡ sight_at self.now.tree id.0 }
     {
@@ -406,7 +406,7 @@ impl Design {
         self.def_name(object.parent?)
     }
 
-    /// A viewport matches the object of a number; none does behind the end.
+    /// A viewport matches the object of a number; none does past the end.
     pub fn is_on(&self, viewport: &Viewport, id: ObjectId) -> bool
         ensures { result ≡ matches_at self.now.tree (viewport_of viewport.now) id.0 }
     {
@@ -477,7 +477,7 @@ impl Design {
         }
     }
 
-    /// The modules of the source hold all of its lists, one behind the other.
+    /// The modules of the source hold all of its lists, one after the other.
     pub fn source_is_whole(&self)
         ensures { AreWhole self.now.source }
     {
@@ -505,7 +505,7 @@ impl Design {
         let _ = &self.source;
     }
 
-    /// The instances of a module are alike: what a name names stands as far behind one as behind another.
+    /// The instances of a module are alike: what a name names stands as far after one as after another.
     pub fn instances_are_alike(&self)
         ensures { AreAlike self.now.tree.nodes }
     {

@@ -28,7 +28,7 @@ pub fn module_at(source: &Source, number: Option<usize>) -> Option<Module>
     source.modules.as_slice().get(number?).copied()
 }
 
-/// An object, and those below it where it is one of a module, at the end. Behind it paths may have so many steps.
+/// An object, and those below it where it is one of a module, at the end. After it paths may have so many steps.
 #[cycle(add_object)]
 fn add_object(
     objects: &mut Vec<Object>,
@@ -64,7 +64,7 @@ fn add_object(
     }
 }
 
-/// The objects below one of a module, at the end. Behind its items paths may have so many steps.
+/// The objects below one of a module, at the end. After its items paths may have so many steps.
 #[cycle(add_object)]
 fn add_items(
     objects: &mut Vec<Object>,

@@ -25,7 +25,7 @@ use vp_source::{Item, Module, Source};
 pub struct Scope {
     /// The numbers of the envelopes of their places, rising, each once.
     envelopes: Sequence<u8>,
-    /// How far each stands behind the module's object.
+    /// How far each stands after the module's object.
     slots: Sequence<u32>,
     /// What viewports open of each.
     sights: Sequence<Sight>,
@@ -53,21 +53,21 @@ impl Scope {
         self.envelopes.as_slice()
     }
 
-    /// How far each item stands behind the module's object.
+    /// How far each item stands after the module's object.
     pub fn slots(&self) -> &[u32]
         ensures { result.now ≡ self.now.slots }
     {
         self.slots.as_slice()
     }
 
-    /// How far the item of an index stands behind the module's object; 0 behind the end.
+    /// How far the item of an index stands after the module's object; 0 past the end.
     pub fn slot(&self, index: usize) -> u32
         ensures { result ≡ slice_index_or self.now.slots index 0 }
     {
         self.slots.as_slice().get(index).copied().unwrap_or(0)
     }
 
-    /// What viewports open of the item of an index; nothing behind the end.
+    /// What viewports open of the item of an index; nothing past the end.
     pub fn sight(&self, index: usize) -> Sight
         ensures { shown result ≡ slice_index_or self.now.sights index (nothing, None) }
     {

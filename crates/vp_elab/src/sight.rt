@@ -39,7 +39,7 @@ impl Sight {
         }
     }
 
-    /// One more viewport matches, behind these.
+    /// One more viewport matches, after these.
     fn with(self, number: usize, rights: Rights) -> Sight
         ensures rights { set_of result.rights ≡ either (set_of self.rights) (set_of rights) }
         ensures viewport { result.viewport ≡ option_or self.viewport (Some number) }

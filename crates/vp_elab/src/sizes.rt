@@ -16,7 +16,7 @@ use vp_source::{Item, Module, Source};
 /// More objects than there may be.
 const MANY: u32 = OBJECT_LIMIT as u32 + 1;
 
-/// How many steps a path may have behind its first: 64 in all.
+/// How many steps a path may have after its first: 64 in all.
 pub fn further_limit() -> u32
     ensures { result ≡ further_limit }
 {
@@ -66,7 +66,7 @@ fn first_size(items: &[Item]) -> u32
     if items.is_empty() { 0 } else { MANY }
 }
 
-/// The sizes of modules behind which paths have no step left.
+/// The sizes of modules after which paths have no step left.
 fn first_sizes(alloc: Global, source: &Source) -> Result<Vec<u32>, AllocError>
     ensures { IfOk result (λ sizes. sizes.items
         ≡ map (λ m. capped (total (λ i. many) (items_in source.now m))) source.now.modules) }
@@ -78,7 +78,7 @@ fn first_sizes(alloc: Global, source: &Source) -> Result<Vec<u32>, AllocError>
     Ok(sizes)
 }
 
-/// The sizes of modules behind which paths have one step more than behind those of these sizes.
+/// The sizes of modules after which paths have one step more than after those of these sizes.
 fn next_sizes(
     alloc: Global,
     source: &Source,
@@ -153,7 +153,7 @@ pub fn check_count(source: &Source, tops: &[bool], sizes: &[u32]) -> Result<(), 
     }
 }
 
-/// Where items that instantiate these stand behind the object of their module, as far as there may be so many.
+/// Where items that instantiate these stand after the object of their module, as far as there may be so many.
 pub fn slots_of(
     alloc: Global,
     definitions: &[Option<usize>],

@@ -43,7 +43,7 @@ own_line None told = []
 own_line (Some own) [] = []
 own_line (Some own) (t ∷ told) = told_line t
 
--- what he was told behind an item
+-- what he was told after an item
 abbrev pub told_behind : Option Own → List Explained → List Explained
 told_behind None told = told
 told_behind (Some own) told = drop 1 told
@@ -82,7 +82,7 @@ item_lines v number i =
 
 -- ---- all of it
 
--- what he sees behind an item
+-- what he sees after an item
 abbrev pub view_behind : View → Option Granted → View
 view_behind v None = v
 view_behind v (Some g) = g.view

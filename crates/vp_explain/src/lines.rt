@@ -16,7 +16,7 @@ use vp_vpi::SeenRace;
 use vp_waking::Change;
 use vp_wire::reply_text;
 
-/// Adds the line of a reply behind a word.
+/// Adds the line of a reply after a word.
 fn push_reply(alloc: Global, text: &mut String, reply: &Reply) -> Result<(), AllocError>
     ensures { OnOk result (string_bytes text.new ≡ string_bytes text.old ++ 32 ∷ line_of reply.now) }
 {
@@ -136,7 +136,7 @@ fn push_item(
     Ok(())
 }
 
-/// Adds the line for an event of the user's own, by what he was told from there on, and gives what he was told behind it.
+/// Adds the line for an event of the user's own, by what he was told from there on, and gives what he was told after it.
 fn push_own<'a>(
     alloc: Global,
     text: &mut String,

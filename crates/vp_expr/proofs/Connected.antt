@@ -15,7 +15,7 @@ abbrev is_blank : Option ℕ → Bool
 is_blank None = true
 is_blank (Some p) = false
 
--- the place of the first connection, behind so many, that is to the port of an index by its position; how many there are, where there
+-- the place of the first connection, after so many, that is to the port of an index by its position; how many there are, where there
 -- is none
 abbrev place_from : ℕ → ℕ → List Connection → ℕ
 place_from index before [] = 0
@@ -28,7 +28,7 @@ behind_by index before (Some p) n b e l = refl
 behind_by index before None n true e l = let same : before ≡ index = eqb-true before index e in absurd (omega arith)
 behind_by index before None n false e l = ap (λ (x : Bool). cond x 0 (1 + n)) e
 
--- behind its index none is
+-- after its index none is
 behind : (index before : ℕ) (cs : List Connection) → index < before → place_from index before cs ≡ length cs
 behind index before [] l = refl
 behind index before (c ∷ cs) l =

@@ -15,7 +15,7 @@ use Rattle.vp_resolve.proofs.Gapless.{in_range}
 abbrev all : List (List Awaited) → List Awaited
 all awaits = flat_map (λ changes. changes) awaits
 
--- where each list of changes ends behind others
+-- where each list of changes ends after others
 abbrev ends_behind : List Awaited → List (List Awaited) → List ℕ
 ends_behind others [] = []
 ends_behind others (changes ∷ awaits) = length (others ++ changes) ∷ ends_behind (others ++ changes) awaits
@@ -34,7 +34,7 @@ none false k xs h = refl
 none_before : {X : Type 0} (xs : List X) (n : ℕ) → range_of xs n 0 ≡ []
 none_before xs n = none (has_range xs n 0) (0 - n) (drop n xs) (omega arith)
 
--- what stands behind others
+-- what stands after others
 cut_first : (others changes rest : List Awaited) → range_of (others ++ (changes ++ rest)) (length others) (length (others ++ changes)) ≡ changes
 cut_first others changes rest =
     let from = length others in

@@ -34,7 +34,7 @@ six = record {
   choices = record { first = 0; end = 0 };
 }
 
--- a design without objects, in which it is laid out behind another number
+-- a design without objects, in which it is laid out after another number
 abbrev design : Elaborated
 design = record {
   source = record {
@@ -106,7 +106,7 @@ nested = record {
 abbrev in_u : List ℕ → Selection → Term
 in_u name s = named_term nested (Some 2) (find_in nested.tree.nodes (Some 2) name) s
 
--- the reg stands one behind its instance
+-- the reg stands one after its instance
 slot_in_an_instance : in_u (codes "a") Whole ≡ term.Object 1 4
 unfolding is_utf8 chars encode
 slot_in_an_instance = refl
@@ -115,7 +115,7 @@ slot_of_a_bit : in_u (codes "a") (Bit 1 (Number 2 3) 3) ≡ term.BitSelect 1 1 (
 unfolding is_utf8 chars encode
 slot_of_a_bit = refl
 
--- and its value one behind that of the instance
+-- and its value one after that of the instance
 value_in_an_instance : value (value_in (drop 2 ((Unknown ∷ []) ∷ (Zero ∷ Zero ∷ []) ∷ (Unknown ∷ []) ∷ (One ∷ Zero ∷ One ∷ One ∷ []) ∷ []))) 4 (in_u (codes "a") Whole) ≡ One ∷ Zero ∷ One ∷ One ∷ []
 unfolding is_utf8 chars encode
 value_in_an_instance = refl

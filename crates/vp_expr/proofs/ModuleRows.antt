@@ -96,7 +96,7 @@ two = record {
   };
 }
 
--- in m the name is two objects behind the module, in n one
+-- in m the name is two objects after the module, in n one
 each_in_its_scope : operands_of two ≡ operand.Object (record { 0 = 2 }) 4 ∷ operand.Object (record { 0 = 1 }) 2 ∷ []
 unfolding is_utf8 chars encode
 each_in_its_scope = refl

@@ -28,7 +28,7 @@ start_there d (p ∷ os) (n ∷ ns) (suc id) o k w is =
     let widths : map (λ (o : Object). o.width) os ≡ map (λ (n : Node). n.width) ns = cc in
     start_there d os ns id o kinds widths is
 
--- behind the objects there are no nodes
+-- after the objects there are no nodes
 pub none_there : (d : Elaborated) (os : List Object) (ns : List Node) (id : ℕ) → map (λ (o : Object). o.kind) os ≡ map (λ (n : Node). n.kind) ns → slice_get os id ≡ None → no_value ≡ option_map_or (start_of d) (slice_get ns id) no_value
 none_there d [] [] id k is = refl
 none_there d [] (n ∷ ns) id k is = absurd cc

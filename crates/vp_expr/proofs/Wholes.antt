@@ -17,7 +17,7 @@ module _ (d : Elaborated) where
   abbrev es : List Expression
   es = d.source.expressions
 
-  -- behind so many stand the operands of a module, which is one of these
+  -- after so many stand the operands of a module, which is one of these
   record StandAmong (m : Module) (ms : List Module) (from : ℕ) : Type 0 where
     os : List Operand
     rest : List Operand

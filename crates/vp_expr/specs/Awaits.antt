@@ -47,7 +47,7 @@ abbrev pub body_reads : List (List Slot) → (before : Option ℕ) → (body : �
 body_reads read None body = part_reads read body
 body_reads read (Some before) body = if before == body then [] else part_reads read body
 
--- what choices read, behind one with a body, or none: their labels and their bodies, that of an item with several labels once
+-- what choices read, after one with a body, or none: their labels and their bodies, that of an item with several labels once
 abbrev pub choice_reads : List Operand → List (List Slot) → (before : Option ℕ) → List Choice → List Slot
 choice_reads operands read before [] = []
 choice_reads operands read before (c ∷ cs) =
@@ -79,7 +79,7 @@ reads_from source operands read statement.Finish = []
 reads_from source operands read (statement.Forever body) = part_reads read body
 reads_from source operands read (statement.For start turns) = part_reads read start ++ part_reads read turns
 
--- what statements read, and behind them one more
+-- what statements read, and after them one more
 abbrev pub with_reads : Source → List Operand → List (List Slot) → Statement → List (List Slot)
 with_reads source operands read s = read ++ reads_from source operands read s ∷ []
 
@@ -119,7 +119,7 @@ abbrev pub terms_at : Source → Span → List EventTerm
 terms_at source s = range_of source.terms s.first s.end
 
 -- the changes for which a statement waits, in a module by its object, and by what each statement reads: of the terms of an event;
--- of what the statement behind @* reads, or the condition of a wait (clauses 9.7.2, 9.7.5 and 9.7.6)
+-- of what the statement after @* reads, or the condition of a wait (clauses 9.7.2, 9.7.5 and 9.7.6)
 abbrev pub awaited_by : Elaborated → (scope : Option ℕ) → List Operand → List (List Slot) → Statement → List Awaited
 awaited_by design scope operands read (statement.Event terms body) =
     filter_map (term_change design scope) (terms_at design.source terms)
@@ -137,11 +137,11 @@ awaits_of design operands = flat_map (awaits_in design operands (reads_of design
 
 -- ---- as one list
 
--- the changes of one more statement behind those of others, and where they end behind where each of the others' do
+-- the changes of one more statement after those of others, and where they end after where each of the others' do
 abbrev pub laid_behind : List Awaited × List ℕ → List Awaited → List Awaited × List ℕ
 laid_behind laid changes = (laid.0 ++ changes, laid.1 ++ length (laid.0 ++ changes) ∷ [])
 
--- the changes of all statements, one statement's behind the other's, and where those of each end
+-- the changes of all statements, one statement's after the other's, and where those of each end
 abbrev pub laid_of : List (List Awaited) → List Awaited × List ℕ
 laid_of awaits = fold laid_behind ([], []) awaits
 

@@ -67,7 +67,7 @@ abbrev mutual
       term.BitSelect (slot_in scope object).0 (lowest_in design object) (expr_term design scope e)
   named_term design scope (Some object) (Part r) = part_term design scope object (put_range r)
 
-  -- the expressions in braces, one behind the other (clause 5.1.14)
+  -- the expressions in braces, one after the other (clause 5.1.14)
   pub parts_term : Elaborated → (scope : Option ℕ) → Parts → Term
   parts_term design scope (First e) = term.Concatenated (expr_term design scope e)
   parts_term design scope (More l comma e) = term.Appended (parts_term design scope l) (expr_term design scope e)

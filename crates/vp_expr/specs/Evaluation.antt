@@ -10,7 +10,7 @@ use Rattle.vp_operand.specs.Arena.{term_at, value_at, value_in}
 use Rattle.vp_operand.specs.Terms.{index_place, own_value}
 use Rattle.vp_operand.specs.Ids.{Sized}
 
--- the value of an expression, by its place and the size of its context (clause 5.4); one unknown bit behind the end
+-- the value of an expression, by its place and the size of its context (clause 5.4); one unknown bit past the end
 abbrev pub eval : Tables → List (List Bit) → Sized → List Bit
 eval tables values e = value_at tables.operands values e.place e.size
 

@@ -53,12 +53,12 @@ AreNamed source cs names firsts = (name : List ℕ) → first_index names firsts
 abbrev pub port_name : Source → Item → List ℕ
 port_name source i = word_at source (item_place i)
 
--- a connection behind so many is to the port of this index and name: by its port's name where it has one (clause 12.3.6), or else by
+-- a connection after so many is to the port of this index and name: by its port's name where it has one (clause 12.3.6), or else by
 -- its position (clause 12.3.5)
 abbrev pub is_to : Source → (index : ℕ) → (name : List ℕ) → (before : ℕ) → Connection → Bool
 is_to source index name before c = option_map_or (λ place. bytes_eq name (word_at source place)) c.port (before == index)
 
--- the first of these connections, behind so many, that is to the port of this index and name
+-- the first of these connections, after so many, that is to the port of this index and name
 abbrev pub connected : Source → (index : ℕ) → (name : List ℕ) → (before : ℕ) → List Connection → Option Connection
 connected source index name before [] = None
 connected source index name before (c ∷ cs) =

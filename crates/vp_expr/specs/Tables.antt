@@ -59,7 +59,7 @@ abbrev pub named_target : Elaborated → (scope object : Option ℕ) → Selecti
 named_target design scope None s = None
 named_target design scope (Some object) s = selected_target design scope object s
 
--- the size of the expression at a place, by the sizes of all; 1 behind the end
+-- the size of the expression at a place, by the sizes of all; 1 past the end
 abbrev pub size_at : (sizes : List ℕ) → (place : ℕ) → ℕ
 size_at sizes place = slice_index_or sizes place 1
 

@@ -219,7 +219,7 @@ fn action_of(design: &Design, scope: Option<ObjectId>, sizes: &[u8], statement: 
     }
 }
 
-/// The statements of a module as actions, behind others. Takes memory.
+/// The statements of a module as actions, after others. Takes memory.
 fn add_actions(
     design: &Design,
     scope: Option<ObjectId>,

@@ -19,7 +19,7 @@ pub struct Awaited {
     pub slot: Slot,
 }
 
-/// The changes for which statements wait, one statement's behind the other's, and where those of each end.
+/// The changes for which statements wait, one statement's after the other's, and where those of each end.
 #[derive(Drop)]
 pub struct Awaits {
     pub awaited: Vec<Awaited>,

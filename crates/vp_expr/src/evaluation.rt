@@ -189,7 +189,7 @@ fn value_of(tables: &Tables, values: &[Bits], place: usize, operand: Operand, co
 
 /// The value of an expression of a design in its context, for an instance of the module in which it stands, from the values of
 /// the objects (IEEE Std 1364-2005, 5.4): that of the derivation that stands at its place in a module, whose names are those of
-/// the module; one unknown bit, extended by zeros, behind the end.
+/// the module; one unknown bit, extended by zeros, past the end.
 pub fn eval(checked: &Checked, values: &Values, instance: ObjectId, id: ExprId) -> Bits
     ensures value { result ≡ eval (tables_of checked.now) (drop instance.0 values.now) id }
     ensures width { length result ≡ id.size }

@@ -54,7 +54,7 @@ impl NamedPorts {
     }
 }
 
-/// The port that the connection of an index names, behind others. Takes memory.
+/// The port that the connection of an index names, after others. Takes memory.
 fn add_port(
     alloc: Global,
     source: &Source,

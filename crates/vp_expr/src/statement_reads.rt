@@ -143,7 +143,7 @@ fn add_block(
     add_below(source, operands, statements, below, chain, slots)
 }
 
-/// Adds the slots that the body of a choice reads, which stands before an end, behind a choice with a body, or none.
+/// Adds the slots that the body of a choice reads, which stands before an end, after a choice with a body, or none.
 #[cycle(statement_reads)]
 fn add_body(
     source: &Source,

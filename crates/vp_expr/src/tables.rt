@@ -57,18 +57,18 @@ pub enum Action {
     },
     /// A statement that does nothing (A.6.4).
     Null,
-    /// A nonblocking assignment of a value, sized as that of a blocking one, perhaps behind a delay (9.2.2).
+    /// A nonblocking assignment of a value, sized as that of a blocking one, perhaps after a delay (9.2.2).
     Nonblocking {
         target: Target,
         value: ExprId,
         delay: Option<u32>,
     },
-    /// A statement behind a delay (9.7.1).
+    /// A statement after a delay (9.7.1).
     Delay {
         amount: u32,
         body: u32,
     },
-    /// A statement behind an event; what it waits for stands in the table of what is awaited (9.7.2 to 9.7.5).
+    /// A statement after an event; what it waits for stands in the table of what is awaited (9.7.2 to 9.7.5).
     Event {
         body: u32,
     },
@@ -161,7 +161,7 @@ pub struct Tables {
     pub sizes: Sequence<u8>,
     pub actions: Sequence<Action>,
     pub processes: Sequence<Process>,
-    /// The changes for which statements wait, one statement's behind the other's.
+    /// The changes for which statements wait, one statement's after the other's.
     pub awaited: Sequence<Awaited>,
     /// Of each statement, by its place, where its own changes end.
     pub awaited_ends: Sequence<usize>,

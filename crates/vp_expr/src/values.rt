@@ -56,7 +56,7 @@ fn start_at(checked: &Checked, id: ObjectId) -> Bits
     }
 }
 
-/// The value at a place of a list; one unknown bit behind the end.
+/// The value at a place of a list; one unknown bit past the end.
 pub fn value_in(values: &[Bits], place: u32) -> Bits
     ensures { result ≡ value_in values.now place }
 {
@@ -98,7 +98,7 @@ impl Values {
         value_in(self.values.as_slice(), id.0)
     }
 
-    /// The values of an instance and of the objects behind it: that of an object of the instance stands at its slot.
+    /// The values of an instance and of the objects after it: that of an object of the instance stands at its slot.
     pub fn of_instance(&self, instance: ObjectId) -> &[Bits]
         ensures { result.now ≡ drop instance.0 self.now }
     {

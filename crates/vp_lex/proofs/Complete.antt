@@ -20,7 +20,7 @@ no_tail kind b bytes k s (c ∷ tail) rest is splits =
     let is : is_piece kind (b ∷ tail) ≡ true = subst (λ (x : ℕ). is_piece kind (x ∷ tail) ≡ true) byte is in
     s tail rest tails (sym (ends_decide kind b (begins-from b bytes kind k) tail) ∙ is)
 
--- nothing may stand behind the first byte: there is no piece
+-- nothing may stand after the first byte: there is no piece
 no_piece_shown : (kind : PieceKind) (b : ℕ) (bytes : List ℕ) → kind_in_front b bytes ≡ Some kind → Shows kind b bytes (Err BadCharacter) → NoPiece (b ∷ bytes)
 no_piece_shown kind b bytes k s piece rest is splits =
     elim (front_kind (b ∷ bytes) piece.kind piece.bytes rest is splits) [
@@ -143,7 +143,7 @@ cut_text_is text pieces h = cut_from_is (length text) 0 text pieces (omega arith
 pub refused_has_no_cut : (text : List ℕ) (refusal : Refusal) (pieces : List Piece) → cut_text text ≡ Err refusal → Cut text pieces → ⊥
 refused_has_no_cut text refusal pieces e h = let f = cut_text_is text pieces h in cc
 
--- what is left behind a piece is cut with as many turns as it has bytes
+-- what is left after a piece is cut with as many turns as it has bytes
 pub cut_more : (at : ℕ) (text : List ℕ) (piece : Piece) → first_piece text ≡ Ok piece → cut_from (length text) at text ≡ behind_piece piece (cut_from (length (drop (length piece.bytes) text)) (at + length piece.bytes) (drop (length piece.bytes) text))
 cut_more at [] piece e = absurd cc
 cut_more at (b ∷ bytes) piece e =

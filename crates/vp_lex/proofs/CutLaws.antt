@@ -30,7 +30,7 @@ no_kind_longer kind b bytes tail k h other behind is e =
       | inr short ↦ omega (arith, short.1)
     ]
 
--- and so is what is shown behind its first byte
+-- and so is what is shown after its first byte
 pub longest_shown : (kind : PieceKind) (b : ℕ) (bytes tail : List ℕ) → kind_in_front b bytes ≡ Some kind → (h : Reaches (ends kind b) bytes tail) → Longest (b ∷ bytes) (record { kind = kind; bytes = b ∷ tail }) h.rest
 longest_shown kind b bytes tail k h =
     let whole : Reaches (is_piece kind) (b ∷ bytes) (b ∷ tail) = reaches_more (ends kind b) (is_piece kind) b bytes tail (ends_decide kind b (begins-from b bytes kind k)) h in
@@ -40,7 +40,7 @@ longest_shown kind b bytes tail k h =
       none_longer = no_kind_longer kind b bytes tail k whole;
     }
 
--- a piece with what is behind it, the longest, and read
+-- a piece with what is after it, the longest, and read
 abbrev pub Found : List ℕ → Piece → Type 0
 Found text piece = (rest : List ℕ) × Longest text piece rest × IsRead piece
 
@@ -105,7 +105,7 @@ one_longest text piece other rest behind h k =
     let both : ◌≡◌ {A = Option PieceKind} (Some piece.kind) (Some other.kind) = sym (longest_kind text piece rest h) ∙ longest_kind text other behind k in
     same_piece piece other (cc) bytes
 
--- and so is what is behind it
+-- and so is what is after it
 pub one_rest : (text : List ℕ) (piece other : Piece) (rest behind : List ℕ) → Longest text piece rest → Longest text other behind → rest ≡ behind
 one_rest text piece other rest behind h k =
     let same = one_longest text piece other rest behind h k in
@@ -132,7 +132,7 @@ one_cut text (piece ∷ pieces) (other ∷ others) h k =
 pub rest_is : (text : List ℕ) (piece : Piece) (rest : List ℕ) → Longest text piece rest → drop (length piece.bytes) text ≡ rest
 rest_is text piece rest h = front_rest text piece.bytes rest h.splits
 
--- what is left behind a piece is shorter
+-- what is left after a piece is shorter
 pub rest_shorter : (text : List ℕ) (piece : Piece) (rest : List ℕ) → Longest text piece rest → length rest < length text
 rest_shorter text piece rest h =
     omega (arith, piece_has_byte piece.kind piece.bytes h.is, length-append piece.bytes rest, ap length h.splits)

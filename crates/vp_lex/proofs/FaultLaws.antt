@@ -53,7 +53,7 @@ first_piece_fault (b ∷ bytes) fault l h = first_piece_fault_of b bytes fault (
 
 -- ---- the whole text
 
--- what is left of a text behind so many bytes is refused
+-- what is left of a text after so many bytes is refused
 record RefusedFrom (start : ℕ) (text : List ℕ) (refusal : Refusal) : Type 0 where
   remainder : List ℕ
   cut : CutTo text refusal.pieces remainder
@@ -61,7 +61,7 @@ record RefusedFrom (start : ℕ) (text : List ℕ) (refusal : Refusal) : Type 0 
   more : 1 ≤ length remainder
   why : Explains refusal.fault remainder
 
--- a refusal behind one more piece
+-- a refusal after one more piece
 abbrev refusal_behind : Piece → Refusal → Refusal
 refusal_behind piece refusal = record { fault = refusal.fault; at = refusal.at; pieces = piece ∷ refusal.pieces }
 
@@ -105,7 +105,7 @@ cut_from_refused (suc turns) at (b ∷ bytes) refusal l h =
     ] in
     on (first_piece text) refl h
 
--- what is refused is so for the fault that is told, behind pieces that are read
+-- what is refused is so for the fault that is told, after pieces that are read
 pub cut_text_refused : (text : List ℕ) (refusal : Refusal) → cut_text text ≡ Err refusal → IsRefused text refusal
 cut_text_refused text refusal h =
     let r = cut_from_refused (length text) 0 text refusal (omega arith) h in

@@ -66,7 +66,7 @@ solidus_alone b bytes e h =
     let short : leb (length (b ∷ bytes)) 1 ≡ true = rw e at alone in
     leb-true (length (b ∷ bytes)) 1 short
 
--- ---- what a piece is behind its first byte
+-- ---- what a piece is after its first byte
 
 -- the bytes that begin a piece of a kind
 abbrev pub begins : PieceKind → ℕ → Bool
@@ -80,7 +80,7 @@ begins Quoted byte = is_quote byte
 begins Operator byte = is_symbol (byte ∷ [])
 begins Directive byte = is_accent byte
 
--- what may stand behind the first byte of a piece of a kind
+-- what may stand after the first byte of a piece of a kind
 abbrev pub ends : PieceKind → ℕ → List ℕ → Bool
 ends WhiteSpace byte bytes = list_all is_space bytes
 ends Comment byte bytes = ends_comment bytes
@@ -111,7 +111,7 @@ is_piece-parts Quoted b bytes = refl
 is_piece-parts Operator b bytes = operator_parts b bytes (is_symbol (b ∷ bytes)) refl
 is_piece-parts Directive b bytes = refl
 
--- behind a byte that begins its kind, only the rest of a piece decides
+-- after a byte that begins its kind, only the rest of a piece decides
 pub ends_decide : (kind : PieceKind) (b : ℕ) → begins kind b ≡ true → (x : List ℕ) → is_piece kind (b ∷ x) ≡ ends kind b x
 ends_decide kind b h x = is_piece-parts kind b x ∙ ap (λ (v : Bool). v && ends kind b x) h
 

@@ -24,7 +24,7 @@ longest_more test more byte bytes tail same h (b ∷ other) behind e passes =
     let le = h.longest other behind others (sym (same other) ∙ passed) in
     omega arith
 
--- a byte in front, where the longer test is the shorter one behind it
+-- a byte in front, where the longer test is the shorter one after it
 pub reaches_more : (test more : List ℕ → Bool) (byte : ℕ) (bytes tail : List ℕ) → ((x : List ℕ) → more (byte ∷ x) ≡ test x) → Reaches test bytes tail → Reaches more (byte ∷ bytes) (byte ∷ tail)
 reaches_more test more byte bytes tail same h = record {
   rest = h.rest;

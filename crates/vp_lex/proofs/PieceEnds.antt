@@ -1,4 +1,4 @@
--- A token begins and ends with an ASCII byte, so a text may be cut before it and behind it.
+-- A token begins and ends with an ASCII byte, so a text may be cut before it and after it.
 use Rattle.std.proofs.Common.{◌≡◌, Option, Some, None, inl, inr, eqb, ℕ, zero, suc, ◌+◌, ◌-◌, ◌<◌, ◌≤◌, Bool, true, false, cond, ◌&&◌, ◌||◌, ltb, List, [], ◌∷◌, length, get_or, drop, refl, sym, ◌∙◌, subst, arith}
 use Rattle.std.specs.Prelude.{not, slice_range, IsUtf8}
 use Rattle.std.specs.Str.{IsCharBoundary}

@@ -8,7 +8,7 @@ use Rattle.vp_lex.specs.Pieces.{WhiteSpace, Comment, Word, SystemWord, Number, B
 use Rattle.vp_lex.specs.Cutting.{cut_text}
 use Rattle.vp_lex.specs.Words.{keyword_of}
 
--- a name may have digits and dollar signs behind its first byte
+-- a name may have digits and dollar signs after its first byte
 pub row-word : is_piece Word (codes "_a1$") ≡ true
 row-word = refl
 
@@ -21,7 +21,7 @@ row-word_nothing = refl
 pub row-number : is_piece Number (codes "1_000") ≡ true
 row-number = refl
 
--- all digits of a base part, a space behind the letter, and an underscore behind a digit
+-- all digits of a base part, a space after the letter, and an underscore after a digit
 pub row-base_part : is_piece BasePart (codes "'B 01xXzZ?_") ≡ true
 row-base_part = refl
 
@@ -107,7 +107,7 @@ row-block_open = refl
 pub row-block_two : is_piece Comment (codes "/**/ */") ≡ false
 row-block_two = refl
 
--- a quotation mark (34) behind a backslash (92) ends no string, but one behind two does
+-- a quotation mark (34) after a backslash (92) ends no string, but one after two does
 pub row-escape : is_piece Quoted (34 ∷ 92 ∷ 34 ∷ 34 ∷ []) ≡ true
 row-escape = refl
 
@@ -139,7 +139,7 @@ pub row-cut : cut_text (codes "a1 =2") ≡ Ok (
     ∷ [])
 row-cut = refl
 
--- the first fault, behind three bytes
+-- the first fault, after three bytes
 pub row-refusal : cut_text (codes "a1 $ `x") ≡ Err (record {
   fault = BadCharacter;
   at = 3;

@@ -1,4 +1,4 @@
--- The line and the column behind more bytes.
+-- The line and the column after more bytes.
 use Rattle.std.proofs.Common.{◌≡◌, ℕ, ◌+◌, ◌-◌, ◌<◌, ◌≤◌, get_or, take, drop, Bool, true, false, cond, ◌&&◌, List, [], ◌∷◌, ◌++◌, length, refl, ◌∙◌, ap, arith}
 use Rattle.std.specs.Prelude.{not, reverse, eqb, slice_range}
 use Rattle.std.specs.List.{prefix_len, suffix_len, list_all, count_by}
@@ -57,7 +57,7 @@ column_same_line before bytes h =
     let parts = suffix_parts p before bytes ∙ ap (λ (v : Bool). cond v (length (reverse bytes) + suffix_len p before) (prefix_len p (reverse bytes))) (eq-eqb _ _ whole) in
     omega (arith, parts, length-reverse bytes)
 
--- behind a newline, what stood before it no longer counts
+-- after a newline, what stood before it no longer counts
 pub column_new_line : (before bytes : List ℕ) → list_all (λ byte. not (is_newline byte)) bytes ≡ false → column_behind (before ++ bytes) ≡ column_behind bytes
 column_new_line before bytes h =
     let p : ℕ → Bool = λ byte. not (is_newline byte) in
@@ -71,15 +71,15 @@ column_new_line before bytes h =
 line_by : (text : List ℕ) (at : ℕ) → at < length text → line_behind (take (at + 1) text) ≡ line_behind (take at text) + (0 + cond (is_newline (get_or text at 0)) 1 0)
 line_by text at l = ap line_behind (take_more text at 0 l) ∙ line_behind-append (take at text) (get_or text at 0 ∷ [])
 
--- behind a newline stands the next line
+-- after a newline stands the next line
 pub line_newline : (text : List ℕ) (at : ℕ) → at < length text → is_newline (get_or text at 0) ≡ true → line_behind (take (at + 1) text) ≡ line_behind (take at text) + 1
 line_newline text at l e = let by = rw e at (line_by text at l) in omega arith
 
--- behind another byte stands the same
+-- after another byte stands the same
 pub line_other : (text : List ℕ) (at : ℕ) → at < length text → is_newline (get_or text at 0) ≡ false → line_behind (take (at + 1) text) ≡ line_behind (take at text)
 line_other text at l e = let by = rw e at (line_by text at l) in omega arith
 
--- behind a newline the columns begin again
+-- after a newline the columns begin again
 pub column_newline : (text : List ℕ) (at : ℕ) → at < length text → is_newline (get_or text at 0) ≡ true → column_behind (take (at + 1) text) ≡ 1
 column_newline text at l e =
     let b : ℕ = get_or text at 0 in
@@ -87,7 +87,7 @@ column_newline text at l e =
     let one : column_behind (b ∷ []) ≡ 1 = rw e refl in
     ap column_behind (take_more text at 0 l) ∙ column_new_line (take at text) (b ∷ []) none ∙ one
 
--- behind another byte stands the next column
+-- after another byte stands the next column
 pub column_other : (text : List ℕ) (at : ℕ) → at < length text → is_newline (get_or text at 0) ≡ false → column_behind (take (at + 1) text) ≡ column_behind (take at text) + 1
 column_other text at l e =
     let b : ℕ = get_or text at 0 in
@@ -98,7 +98,7 @@ column_other text at l e =
 pub line_counted : (text : List ℕ) (at : ℕ) → at ≤ length text → line_behind (take at text) ≤ at + 1
 line_counted text at l = omega (arith, count_by-le-length is_newline (take at text), length-take at text)
 
--- no newline stands in a part and the byte behind it
+-- no newline stands in a part and the byte after it
 pub all_more : (p : ℕ → Bool) (text : List ℕ) (start at : ℕ) → start ≤ at → at < length text → list_all p (slice_range text start (at + 1)) ≡ (list_all p (slice_range text start at) && p (get_or text at 0))
 all_more p text start at l m =
     let n : ℕ = at - start in

@@ -1,4 +1,4 @@
--- Runs and base parts: what is computed behind a first byte is the longest that may stand there.
+-- Runs and base parts: what is computed after a first byte is the longest that may stand there.
 use Rattle.std.proofs.Common.{◌≡◌, ℕ, suc, ◌+◌, Bool, true, false, cond, List, [], ◌∷◌, ◌++◌, take, Option, Some, None, Result, Ok, Err, refl, sym, ◌∙◌, ap, subst, arith}
 use Rattle.std.specs.Prelude.{option_map}
 use Rattle.std.proofs.lemmas.Bool.{and_parts}

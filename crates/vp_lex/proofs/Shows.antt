@@ -1,4 +1,4 @@
--- What is computed behind the first byte of a piece is the longest that may stand there, and whether it is read; or nothing may.
+-- What is computed after the first byte of a piece is the longest that may stand there, and whether it is read; or nothing may.
 use Rattle.std.proofs.Common.{◌≡◌, ℕ, ◌≤◌, Bool, true, false, cond, ◌&&◌, ◌||◌, List, [], ◌∷◌, ◌++◌, length, take, drop, Option, Some, None, Result, Ok, Err, refl, sym, ◌∙◌, ap, subst, arith}
 use Rattle.std.specs.Prelude.{not}
 use Rattle.std.specs.List.{list_all, take_while}
@@ -15,7 +15,7 @@ use Rattle.vp_lex.proofs.Fronts.{Reaches, reaches_more, reaches_nothing, reaches
 use Rattle.vp_lex.proofs.FirstBytes.{ends, begins-from, comment_goes_on, symbol_short}
 use Rattle.vp_lex.proofs.Reaching.{reaches_run_front, run_found, reaches_base, base_there, base_fault}
 
--- what a result says of the bytes behind the first byte of a piece of a kind
+-- what a result says of the bytes after the first byte of a piece of a kind
 abbrev pub Shows : PieceKind → ℕ → List ℕ → Result (List ℕ) Fault → Type 0
 Shows kind b bytes (Ok tail) = Reaches (ends kind b) bytes tail × (unread kind (b ∷ tail) ≡ None)
 Shows kind b bytes (Err BadCharacter) = (tail rest : List ℕ) → bytes ≡ tail ++ rest → ends kind b tail ≡ true → ⊥
@@ -151,7 +151,7 @@ comment_shows b (c ∷ bytes) g =
 
 -- ---- symbols
 
--- a symbol behind its first byte is some of the next two bytes
+-- a symbol after its first byte is some of the next two bytes
 symbol_part : (b : ℕ) (bytes other behind : List ℕ) → bytes ≡ other ++ behind → is_symbol (b ∷ other) ≡ true → (length other ≤ 2) × (length other ≤ length bytes) × (take (length other) bytes ≡ other)
 symbol_part b bytes other behind e h = (
   omega (arith, symbol_short (b ∷ other) h),

@@ -10,7 +10,7 @@ pub row-empty : string_value (34 ∷ 34 ∷ []) ≡ []
 unfolding chars encode
 row-empty = refl
 
--- a quotation mark and a backslash (92) behind a backslash
+-- a quotation mark and a backslash (92) after a backslash
 pub row-named : string_value (34 ∷ codes "a" ++ 92 ∷ 34 ∷ codes "b" ++ 92 ∷ 92 ∷ codes "c" ++ 34 ∷ []) ≡ codes "a" ++ 34 ∷ codes "b" ++ 92 ∷ codes "c"
 unfolding chars encode
 row-named = refl

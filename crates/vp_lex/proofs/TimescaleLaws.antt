@@ -35,7 +35,7 @@ late_at : (limit : Option ℕ) (timescale : Timescale) (others : List Timescale)
 late_at limit timescale others first true e = ap (λ (v : Bool). differing first (cond v (timescale ∷ timescales_before limit others) (timescales_before limit others))) e
 late_at limit timescale others first false e = refl
 
--- a directive behind the line that limits
+-- a directive after the line that limits
 pub behind_late : (first : Option (List (List ℕ))) (text : List ℕ) (limit : Option ℕ) (line i : ℕ) (tokens : List Token) (token : Token) → i < length tokens → token ≡ get_or tokens i token → begins_line line token ≡ true → is_before limit token.line ≡ false → differing_behind first text limit line (drop i tokens) ≡ differing_behind first text limit token.line (drop (i + 1) tokens)
 behind_late first text limit line i tokens token l e b t =
     begun first text limit line i tokens token l e b

@@ -10,7 +10,7 @@ use Rattle.vp_lex.specs.Cuts.{CutTo, Cut, joined}
 use Rattle.vp_lex.specs.Tokens.{is_mark, marks, token_kind, token_at, with_token, with_bytes, tokens_behind, bytes_of, bytes_of_pieces, AreInOrder, Scan, error_at, told, told_fault, AreTokens}
 use Rattle.vp_lex.proofs.CutLaws.{piece_has_byte}
 
--- a text is its pieces, one behind the other, and what is left
+-- a text is its pieces, one after the other, and what is left
 pub cut_joins : (text : List ℕ) (pieces : List Piece) (remainder : List ℕ) → CutTo text pieces remainder → text ≡ joined pieces ++ remainder
 cut_joins text [] remainder h = h
 cut_joins text (piece ∷ pieces) remainder h =
@@ -81,7 +81,7 @@ order_behind before marked text (piece ∷ pieces) h =
     let more : AreInOrder (length before + length piece.bytes) (length before + length text) tokens = subst (λ (n : ℕ). AreInOrder n (length before + length text) tokens) long more in
     order_with before marked piece (length before + length text) (token_kind piece.kind piece.bytes) tokens (piece_has_byte piece.kind piece.bytes h.1.is) more
 
--- the tokens stand in the text, one behind the other
+-- the tokens stand in the text, one after the other
 pub tokens_in_order : (text : List ℕ) (tokens : List Token) → AreTokens text tokens → AreInOrder 0 (length text) tokens
 tokens_in_order text tokens h =
     let cut = of_pieces text tokens h in

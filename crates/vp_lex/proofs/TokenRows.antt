@@ -33,7 +33,7 @@ pub row-lines : tokens_of (codes "reg" ++ 10 ∷ codes "r") ≡ Ok (
     ∷ [])
 row-lines = refl
 
--- a and b on two lines, b behind two spaces
+-- a and b on two lines, b after two spaces
 pub row-columns : tokens_of (codes "a" ++ 10 ∷ codes "  b") ≡ Ok (
     record { kind = token.Name; start = 0; end = 1; line = 1; column = 1; directive = false }
     ∷ record { kind = token.Name; start = 4; end = 5; line = 2; column = 3; directive = false }
@@ -89,7 +89,7 @@ pub row-escape : tokens_of (34 ∷ 92 ∷ 110 ∷ 92 ∷ 34 ∷ 34 ∷ codes ";"
     ∷ [])
 row-escape = refl
 
--- a block comment over two lines, and a name behind it
+-- a block comment over two lines, and a name after it
 pub row-block : tokens_of (codes "/* " ++ 10 ∷ codes "**/a // b") ≡ Ok (record { kind = token.Name; start = 7; end = 8; line = 2; column = 4; directive = false } ∷ [])
 row-block = refl
 
@@ -117,7 +117,7 @@ row-pragmas = refl
 pub row-underscore : tokens_of (codes "4'b_1") ≡ Err (BadCharacter 1)
 row-underscore = refl
 
--- a fault on line 2, behind a token
+-- a fault on line 2, after a token
 pub row-fault_line : tokens_of (codes "a" ++ 10 ∷ codes "b $") ≡ Err (BadCharacter 2)
 row-fault_line = refl
 
@@ -152,7 +152,7 @@ pub row-timescale_longer : tokens_of (codes "`timescale 1" ++ 10 ∷ codes "`tim
 unfolding is_utf8 chars encode
 row-timescale_longer = refl
 
--- a fault on the line of the timescale comes before it, and one on the next line behind it
+-- a fault on the line of the timescale comes before it, and one on the next line after it
 pub row-timescale_fault : tokens_of (codes "`timescale 1" ++ 10 ∷ codes "`timescale 2 $") ≡ Err (BadCharacter 2)
 unfolding is_utf8 chars encode
 row-timescale_fault = refl
@@ -161,7 +161,7 @@ pub row-timescale_before : tokens_of (codes "`timescale 1" ++ 10 ∷ codes "`tim
 unfolding is_utf8 chars encode
 row-timescale_before = refl
 
--- one behind a `pragma on its line says nothing
+-- one after a `pragma on its line says nothing
 pub row-timescale_pragma : tokens_of (codes "`timescale" ++ 10 ∷ codes "`pragma `timescale a") ≡ Ok (
     record { kind = token.Directive; start = 0; end = 10; line = 1; column = 1; directive = true }
     ∷ record { kind = token.Directive; start = 11; end = 18; line = 2; column = 1; directive = true }

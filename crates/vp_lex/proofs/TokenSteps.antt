@@ -1,4 +1,4 @@
--- The tokens of what is left of a text behind a place, and how they go on by one piece: what a loop over the text keeps.
+-- The tokens of what is left of a text after a place, and how they go on by one piece: what a loop over the text keeps.
 use Rattle.std.proofs.Common.{◌≡◌, ℕ, ◌+◌, ◌-◌, ◌<◌, ◌≤◌, Bool, true, false, List, [], ◌∷◌, ◌++◌, length, take, drop, Option, Some, None, Result, Ok, Err, refl, sym, ◌∙◌, ap, arith}
 use Rattle.std.proofs.Math.Seq.{take-add, take-append_seam}
 use Rattle.std.specs.Prelude.{option_map, option_to_list, slice_range}
@@ -13,7 +13,7 @@ use Rattle.vp_lex.specs.Tokens.{error_of, line_behind, is_mark, marks, token_kin
 use Rattle.vp_lex.proofs.CutLaws.{first_piece_found}
 use Rattle.vp_lex.proofs.Complete.{cut_more}
 
--- what is read of what is left of a text behind so many bytes
+-- what is read of what is left of a text after so many bytes
 abbrev pub scan_left : List ℕ → ℕ → Bool → Scan
 scan_left text at marked = scanned text (take at text) marked (cut_from (length (drop at text)) at (drop at text))
 
@@ -43,7 +43,7 @@ after_piece : (text before : List ℕ) (marked : Bool) (piece : Piece) (r : Resu
 after_piece text before marked piece (Ok pieces) = refl
 after_piece text before marked piece (Err refusal) = refl
 
--- behind a piece that is read the tokens go on, and its own is before them
+-- after a piece that is read the tokens go on, and its own is before them
 pub piece_left : (text : List ℕ) (at : ℕ) (marked : Bool) (piece : Piece) → first_piece (drop at text) ≡ Ok piece → scan_left text at marked ≡ on_tokens (with_token (take at text) marked piece (token_kind piece.kind piece.bytes)) (scan_left text (at + length piece.bytes) (marks marked piece))
 piece_left text at marked piece e =
     let found = first_piece_found (drop at text) piece e in
@@ -60,7 +60,7 @@ more_tokens : (before : List ℕ) (marked : Bool) (piece : Piece) (o : Option To
 more_tokens before marked piece None items scan = ap (λ (x : List Token). (let s : Scan = record { tokens = x ++ scan.tokens; fault = scan.fault } in s)) (sym (append-nil items))
 more_tokens before marked piece (Some its) items scan = ap (λ (x : List Token). (let s : Scan = record { tokens = x; fault = scan.fault } in s)) (sym (append_assoc items (token_at before marked piece.bytes its (is_mark piece.kind) ∷ []) scan.tokens))
 
--- what is left behind a piece, and its token behind those that there were
+-- what is left after a piece, and its token after those that there were
 pub left_next : (text : List ℕ) (at end : ℕ) (marked : Bool) (kind : PieceKind) (items : List Token) → at < end → end ≤ length text → first_piece (drop at text) ≡ Ok (record { kind = kind; bytes = slice_range text at end }) → scan_of text ≡ on_tokens (λ more. items ++ more) (scan_left text at marked) → scan_of text ≡ on_tokens (λ more. (items ++ option_to_list (option_map (λ its. token_at (take at text) marked (slice_range text at end) its (is_mark kind)) (token_kind kind (slice_range text at end)))) ++ more) (scan_left text end (marks marked (record { kind = kind; bytes = slice_range text at end })))
 left_next text at end marked kind items l m first remainder =
     let bytes : List ℕ = slice_range text at end in

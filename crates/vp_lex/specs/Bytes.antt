@@ -69,7 +69,7 @@ is_quote byte = byte == 34
 abbrev pub is_backslash : ℕ → Bool
 is_backslash byte = byte == 92
 
--- a solidus begins a comment, with another byte behind it (IEEE Std 1364-2005, 3.3)
+-- a solidus begins a comment, with another byte after it (IEEE Std 1364-2005, 3.3)
 abbrev pub is_solidus : ℕ → Bool
 is_solidus byte = byte == 47
 

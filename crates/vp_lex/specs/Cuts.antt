@@ -4,13 +4,13 @@ use Rattle.vp_lex.specs.declared.piece.Fault.{Fault}
 use Rattle.vp_lex.specs.declared.piece.Fault.TheVariants.{BadCharacter}
 use Rattle.vp_lex.specs.Pieces.{Piece, IsPiece, IsRead, unread}
 
--- the piece is at the front of the text, with this rest behind it, and no longer piece of any kind is (IEEE Std 1364-2005, 3.1)
+-- the piece is at the front of the text, with this rest after it, and no longer piece of any kind is (IEEE Std 1364-2005, 3.1)
 pub record Longest (text : List ℕ) (piece : Piece) (rest : List ℕ) : Type 0 where
   pub splits : text ≡ piece.bytes ++ rest
   pub is : IsPiece piece
   pub none_longer : (other : Piece) (behind : List ℕ) → IsPiece other → text ≡ other.bytes ++ behind → length other.bytes ≤ length piece.bytes
 
--- the text is these pieces, one behind the other, and then what is left; each is the longest that begins where it does, and is read (IEEE Std 1364-2005, 3.1; profile)
+-- the text is these pieces, one after the other, and then what is left; each is the longest that begins where it does, and is read (IEEE Std 1364-2005, 3.1; profile)
 abbrev pub CutTo : List ℕ → List Piece → List ℕ → Type 0
 CutTo text [] remainder = text ≡ remainder
 CutTo text (piece ∷ pieces) remainder = (rest : List ℕ) × Longest text piece rest × IsRead piece × CutTo rest pieces remainder
@@ -19,7 +19,7 @@ CutTo text (piece ∷ pieces) remainder = (rest : List ℕ) × Longest text piec
 abbrev pub Cut : List ℕ → List Piece → Type 0
 Cut text pieces = CutTo text pieces []
 
--- the bytes of pieces, one piece behind the other
+-- the bytes of pieces, one piece after the other
 abbrev pub joined : List Piece → List ℕ
 joined [] = []
 joined (piece ∷ pieces) = piece.bytes ++ joined pieces

@@ -32,11 +32,11 @@ abbrev pub goes_on_comment : List ℕ → Bool
 goes_on_comment [] = false
 goes_on_comment (byte ∷ bytes) = is_solidus byte || is_asterisk byte
 
--- a comment begins with this byte, with these behind it (IEEE Std 1364-2005, 3.3)
+-- a comment begins with this byte, with these after it (IEEE Std 1364-2005, 3.3)
 abbrev pub begins_comment : ℕ → List ℕ → Bool
 begins_comment byte bytes = is_solidus byte && goes_on_comment bytes
 
--- the kind of piece that a byte begins, with these behind it (IEEE Std 1364-2005, 3)
+-- the kind of piece that a byte begins, with these after it (IEEE Std 1364-2005, 3)
 abbrev pub kind_in_front : ℕ → List ℕ → Option PieceKind
 kind_in_front byte bytes = if begins_comment byte bytes then Some Comment else kind_begun byte
 
@@ -50,7 +50,7 @@ abbrev pub behind_byte : ℕ → Result (List ℕ) Fault → Result (List ℕ) F
 behind_byte byte (Err fault) = Err fault
 behind_byte byte (Ok bytes) = Ok (byte ∷ bytes)
 
--- any white space in front, and the longest run of digits of a base behind it (IEEE Std 1364-2005, 3.5.1)
+-- any white space in front, and the longest run of digits of a base after it (IEEE Std 1364-2005, 3.5.1)
 abbrev pub digits_front : Base → List ℕ → Option (List ℕ)
 digits_front base bytes =
     option_map (λ digits. take (prefix_len is_space bytes) bytes ++ digits) (run_front (is_digit base) (goes_on_digits base) (behind_space bytes))
@@ -65,12 +65,12 @@ abbrev pub based_front : List ℕ → Result (List ℕ) Fault
 based_front [] = Err BadCharacter
 based_front (letter ∷ bytes) = behind_byte letter (any_digits_front (base_of letter) bytes)
 
--- what ends a base part, behind its apostrophe (IEEE Std 1364-2005, 3.5.1)
+-- what ends a base part, after its apostrophe (IEEE Std 1364-2005, 3.5.1)
 abbrev pub base_front : List ℕ → Result (List ℕ) Fault
 base_front [] = Err BadCharacter
 base_front (byte ∷ bytes) = if is_sign byte then behind_byte byte (based_front bytes) else based_front (byte ∷ bytes)
 
--- what ends a string, behind its opening quotation mark, and behind a backslash that escapes or not (IEEE Std 1364-2005, 3.6; profile)
+-- what ends a string, after its opening quotation mark, and after a backslash that escapes or not (IEEE Std 1364-2005, 3.6; profile)
 abbrev pub string_front : Bool → List ℕ → Result (List ℕ) Fault
 string_front escaped [] = Err OpenString
 string_front escaped (byte ∷ bytes) =
@@ -78,19 +78,19 @@ string_front escaped (byte ∷ bytes) =
     (if is_newline byte then Err OpenString else
     behind_byte byte (string_front (escapes escaped byte) bytes)))
 
--- what ends a block comment, behind its first two bytes, and behind an asterisk or not (IEEE Std 1364-2005, 3.3)
+-- what ends a block comment, after its first two bytes, and after an asterisk or not (IEEE Std 1364-2005, 3.3)
 abbrev pub block_front : Bool → List ℕ → Result (List ℕ) Fault
 block_front starred [] = Err OpenComment
 block_front starred (byte ∷ bytes) =
     if starred && is_solidus byte then Ok (byte ∷ []) else behind_byte byte (block_front (is_asterisk byte) bytes)
 
--- what ends a comment, behind its first solidus (IEEE Std 1364-2005, 3.3)
+-- what ends a comment, after its first solidus (IEEE Std 1364-2005, 3.3)
 abbrev pub comment_front : List ℕ → Result (List ℕ) Fault
 comment_front [] = Err BadCharacter
 comment_front (byte ∷ bytes) =
     behind_byte byte (if is_solidus byte then Ok (take_while is_within_line bytes) else block_front false bytes)
 
--- what goes on the longest symbol behind its first byte (IEEE Std 1364-2005, 3.4)
+-- what goes on the longest symbol after its first byte (IEEE Std 1364-2005, 3.4)
 abbrev pub symbol_front : ℕ → List ℕ → List ℕ
 symbol_front byte bytes =
     (if is_symbol (byte ∷ take 2 bytes) then take 2 bytes else
@@ -106,7 +106,7 @@ abbrev pub known_directive : Option (List ℕ) → Result (List ℕ) Fault
 known_directive None = Err BadCharacter
 known_directive (Some name) = if is_known_name name then Ok name else Err UnknownDirective
 
--- how far a piece of a kind goes on behind its first byte
+-- how far a piece of a kind goes on after its first byte
 abbrev pub front_of : PieceKind → ℕ → List ℕ → Result (List ℕ) Fault
 front_of WhiteSpace byte bytes = Ok (take_while is_space bytes)
 front_of Comment byte bytes = comment_front bytes
@@ -133,7 +133,7 @@ abbrev pub first_piece : List ℕ → Result Piece Fault
 first_piece [] = Err BadCharacter
 first_piece (byte ∷ bytes) = piece_begun (kind_in_front byte bytes) byte bytes
 
--- goes on behind a piece, or tells the fault at this place
+-- goes on after a piece, or tells the fault at this place
 abbrev pub on_piece : ℕ → Result Piece Fault → (Piece → Result (List Piece) Refusal) → Result (List Piece) Refusal
 on_piece at (Err fault) next = Err (record { fault = fault; at = at; pieces = [] })
 on_piece at (Ok piece) next = next piece
@@ -143,7 +143,7 @@ abbrev pub behind_piece : Piece → Result (List Piece) Refusal → Result (List
 behind_piece piece (Err refusal) = Err (record { fault = refusal.fault; at = refusal.at; pieces = piece ∷ refusal.pieces })
 behind_piece piece (Ok pieces) = Ok (piece ∷ pieces)
 
--- the pieces of what is left of a text behind so many bytes, at most so many pieces
+-- the pieces of what is left of a text after so many bytes, at most so many pieces
 abbrev pub cut_from : ℕ → ℕ → List ℕ → Result (List Piece) Refusal
 cut_from zero at text = Ok []
 cut_from (suc turns) at [] = Ok []

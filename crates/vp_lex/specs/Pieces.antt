@@ -29,7 +29,7 @@ abbrev pub is_run : (ℕ → Bool) → (ℕ → Bool) → List ℕ → Bool
 is_run begins goes_on [] = false
 is_run begins goes_on (byte ∷ bytes) = begins byte && list_all goes_on bytes
 
--- what is left behind the white space in front
+-- what is left after the white space in front
 abbrev pub behind_space : List ℕ → List ℕ
 behind_space bytes = drop (prefix_len is_space bytes) bytes
 
@@ -46,7 +46,7 @@ is_white_space bytes = is_run is_space is_space bytes
 abbrev pub is_within_line : ℕ → Bool
 is_within_line byte = not (is_newline byte)
 
--- behind the first two bytes of a block comment, and behind an asterisk or not: no asterisk and solidus stand there but at the end (IEEE Std 1364-2005, 3.3)
+-- after the first two bytes of a block comment, and after an asterisk or not: no asterisk and solidus stand there but at the end (IEEE Std 1364-2005, 3.3)
 abbrev pub ends_block : Bool → List ℕ → Bool
 ends_block starred [] = true
 ends_block starred (byte ∷ bytes) = if starred && is_solidus byte then is_empty bytes else ends_block (is_asterisk byte) bytes
@@ -56,7 +56,7 @@ abbrev pub has_block_end : Bool → List ℕ → Bool
 has_block_end starred [] = false
 has_block_end starred (byte ∷ bytes) = (starred && is_solidus byte) || has_block_end (is_asterisk byte) bytes
 
--- behind the first solidus of a comment: another, and a line; or an asterisk, and a block (IEEE Std 1364-2005, 3.3)
+-- after the first solidus of a comment: another, and a line; or an asterisk, and a block (IEEE Std 1364-2005, 3.3)
 abbrev pub ends_comment : List ℕ → Bool
 ends_comment [] = false
 ends_comment (byte ∷ bytes) =
@@ -67,7 +67,7 @@ abbrev pub is_comment : List ℕ → Bool
 is_comment [] = false
 is_comment (byte ∷ bytes) = is_solidus byte && ends_comment bytes
 
--- behind the first solidus of a comment: the comment ends (IEEE Std 1364-2005, 3.3)
+-- after the first solidus of a comment: the comment ends (IEEE Std 1364-2005, 3.3)
 abbrev pub has_comment_end : List ℕ → Bool
 has_comment_end [] = false
 has_comment_end (byte ∷ bytes) = is_solidus byte || has_block_end false bytes
@@ -99,7 +99,7 @@ abbrev pub ends_based : List ℕ → Bool
 ends_based [] = false
 ends_based (letter ∷ bytes) = ends_digits (base_of letter) bytes
 
--- behind the apostrophe: s or not, a letter that names a base, any white space, and digits (IEEE Std 1364-2005, 3.5.1)
+-- after the apostrophe: s or not, a letter that names a base, any white space, and digits (IEEE Std 1364-2005, 3.5.1)
 abbrev pub ends_base_part : List ℕ → Bool
 ends_base_part [] = false
 ends_base_part (byte ∷ bytes) = if is_sign byte then ends_based bytes else ends_based (byte ∷ bytes)
@@ -117,7 +117,7 @@ closes escaped byte = not escaped && is_quote byte
 abbrev pub escapes : Bool → ℕ → Bool
 escapes escaped byte = not escaped && is_backslash byte
 
--- behind the opening quotation mark, and behind a backslash that escapes or not: no newline stands there, and no quotation mark that closes but at the end (IEEE Std 1364-2005, 3.6)
+-- after the opening quotation mark, and after a backslash that escapes or not: no newline stands there, and no quotation mark that closes but at the end (IEEE Std 1364-2005, 3.6)
 abbrev pub ends_string : Bool → List ℕ → Bool
 ends_string escaped [] = true
 ends_string escaped (byte ∷ bytes) =

@@ -3,7 +3,7 @@ use Rattle.std.specs.Prelude.{◌≡◌, ℕ, ◌+◌, ◌≤◌, List, length, 
 use Rattle.vp_lex.specs.declared.token.Position.{Position}
 use Rattle.vp_lex.specs.Tokens.{line_behind, column_behind}
 
--- the place is in the text, on the line behind the bytes before it, and as far behind that line's start as their column says
+-- the place is in the text, on the line after the bytes before it, and as far after that line's start as their column says
 pub record IsPlace (text : List ℕ) (here : Position) : Type 0 where
   pub within : here.at ≤ length text
   pub line : here.line ≡ line_behind (take here.at text)

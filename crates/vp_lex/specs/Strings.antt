@@ -25,7 +25,7 @@ octal_digits characters = take_while is_octal (take 3 characters)
 abbrev pub octal_number : List ℕ → ℕ
 octal_number digits = fold (λ number digit. number * 8 + (digit - 48)) 0 digits
 
--- what an escape by one character behind its backslash stands for, and how many characters that takes: none, where the backslash stands for itself (IEEE Std 1364-2005, 3.6.3; profile)
+-- what an escape by one character after its backslash stands for, and how many characters that takes: none, where the backslash stands for itself (IEEE Std 1364-2005, 3.6.3; profile)
 abbrev pub named_escape : List ℕ → ℕ × ℕ
 named_escape [] = (92, 0)
 named_escape (character ∷ characters) =
@@ -39,12 +39,12 @@ abbrev pub octal_escape : List ℕ → List ℕ → ℕ × ℕ
 octal_escape [] characters = named_escape characters
 octal_escape (digit ∷ digits) characters = (octal_number (digit ∷ digits), length (digit ∷ digits))
 
--- the character that a character stands for with those behind it, and how many of these that takes (IEEE Std 1364-2005, 3.6.3)
+-- the character that a character stands for with those after it, and how many of these that takes (IEEE Std 1364-2005, 3.6.3)
 abbrev pub element : ℕ → List ℕ → ℕ × ℕ
 element character characters =
     if is_backslash character then octal_escape (octal_digits characters) characters else (character, 0)
 
--- the characters that characters stand for, behind so many that are taken (IEEE Std 1364-2005, 3.6)
+-- the characters that characters stand for, after so many that are taken (IEEE Std 1364-2005, 3.6)
 abbrev pub value_behind : ℕ → List ℕ → List ℕ
 value_behind taken [] = []
 value_behind zero (character ∷ characters) =

@@ -4,7 +4,7 @@ use Rattle.std.specs.Cmp.Lexicographic.{pointwise}
 use Rattle.vp_lex.specs.declared.token.Token.{Token}
 use Rattle.vp_lex.specs.Texts.{text_of}
 
--- a timescale directive: its line, and the texts of the tokens behind it on its line (IEEE Std 1364-2005, 19.8)
+-- a timescale directive: its line, and the texts of the tokens after it on its line (IEEE Std 1364-2005, 19.8)
 pub record Timescale : Type 0 where
   pub line : ℕ
   pub texts : List (List ℕ)
@@ -25,7 +25,7 @@ is_timescale text token = bytes_eq (text_of text token) (codes "`timescale")
 abbrev pub texts_on : List ℕ → ℕ → List Token → List (List ℕ)
 texts_on text line tokens = map (text_of text) (take_while (is_on line) tokens)
 
--- in front of others, the timescale that a directive is with the tokens behind it, if it is one
+-- in front of others, the timescale that a directive is with the tokens after it, if it is one
 abbrev pub with_timescale : List ℕ → Token → List Token → List Timescale → List Timescale
 with_timescale text token tokens others =
     if is_timescale text token then record { line = token.line; texts = texts_on text token.line tokens } ∷ others else others

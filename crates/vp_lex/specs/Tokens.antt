@@ -39,11 +39,11 @@ token_kind Directive bytes = Some token.Directive
 
 -- ---- where a token stands
 
--- the line behind these bytes: 1, and one more for each newline (profile)
+-- the line after these bytes: 1, and one more for each newline (profile)
 abbrev pub line_behind : List ℕ → ℕ
 line_behind before = count_by is_newline before + 1
 
--- the column behind these bytes: 1, and one more for each byte since the last newline (profile)
+-- the column after these bytes: 1, and one more for each byte since the last newline (profile)
 abbrev pub column_behind : List ℕ → ℕ
 column_behind before = suffix_len (λ byte. not (is_newline byte)) before + 1
 
@@ -56,7 +56,7 @@ is_mark kind = false
 abbrev pub marks : Bool → Piece → Bool
 marks marked piece = (is_mark piece.kind || marked) && list_all (λ byte. not (is_newline byte)) piece.bytes
 
--- the token of this kind that these bytes are, behind those before, on a line with a directive before it or not
+-- the token of this kind that these bytes are, after those before, on a line with a directive before it or not
 abbrev pub token_at : List ℕ → Bool → List ℕ → TokenKind → Bool → Token
 token_at before marked bytes kind mark = record {
   kind = kind;
@@ -71,7 +71,7 @@ token_at before marked bytes kind mark = record {
 abbrev pub bytes_of : List ℕ → Token → List ℕ
 bytes_of text token = take (token.end - token.start) (drop token.start text)
 
--- the tokens begin no earlier than this place, one behind the other, each has a byte, and they end no later than that place
+-- the tokens begin no earlier than this place, one after the other, each has a byte, and they end no later than that place
 abbrev pub AreInOrder : ℕ → ℕ → List Token → Type 0
 AreInOrder start end [] = start ≤ end
 AreInOrder start end (token ∷ tokens) = (start ≤ token.start) × (token.start < token.end) × AreInOrder token.end end tokens
@@ -81,7 +81,7 @@ abbrev pub with_token : List ℕ → Bool → Piece → Option TokenKind → Lis
 with_token before marked piece None tokens = tokens
 with_token before marked piece (Some kind) tokens = token_at before marked piece.bytes kind (is_mark piece.kind) ∷ tokens
 
--- the tokens of pieces behind these bytes, on a line with a directive before them or not
+-- the tokens of pieces after these bytes, on a line with a directive before them or not
 abbrev pub tokens_behind : List ℕ → Bool → List Piece → List Token
 tokens_behind before marked [] = []
 tokens_behind before marked (piece ∷ pieces) =
@@ -150,7 +150,7 @@ IsFaultOf text e = (e ≡ error.NoMemory) ⊎ IsError text e
 
 -- ---- all of them, computed
 
--- what is read of a text behind these bytes, on a line with a directive before it or not, where this is its cut
+-- what is read of a text after these bytes, on a line with a directive before it or not, where this is its cut
 abbrev pub scanned : List ℕ → List ℕ → Bool → Result (List Piece) Refusal → Scan
 scanned text before marked (Ok pieces) = record { tokens = tokens_behind before marked pieces; fault = None }
 scanned text before marked (Err refusal) = record { tokens = tokens_behind before marked refusal.pieces; fault = Some (error_at text refusal) }

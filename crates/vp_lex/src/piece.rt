@@ -179,7 +179,7 @@ fn kind_begun(byte: u8) -> Option<Kind>
     }
 }
 
-/// A comment goes on here, behind its first solidus.
+/// A comment goes on here, after its first solidus.
 fn goes_on_comment(bytes: &[u8], at: usize) -> bool
     requires { at ≤ length bytes.now }
     ensures { result ≡ goes_on_comment (drop at bytes.now) }
@@ -200,7 +200,7 @@ fn kind_at(bytes: &[u8], start: usize) -> Option<Kind>
     }
 }
 
-/// The end of a string, from behind its opening quotation mark.
+/// The end of a string, from after its opening quotation mark.
 #[tactic(auto, using(crate::proofs::Scans::string_more, crate::proofs::Scans::string_none))]
 fn string_end(bytes: &[u8], start: usize) -> Result<usize, Fault>
     requires { start ≤ length bytes.now }
@@ -219,7 +219,7 @@ fn string_end(bytes: &[u8], start: usize) -> Result<usize, Fault>
     Err(Fault::OpenString)
 }
 
-/// The end of a block comment, from behind its first two bytes.
+/// The end of a block comment, from after its first two bytes.
 #[tactic(auto, using(crate::proofs::Scans::block_more, crate::proofs::Scans::block_none))]
 fn block_end(bytes: &[u8], start: usize) -> Result<usize, Fault>
     requires { start ≤ length bytes.now }
@@ -235,7 +235,7 @@ fn block_end(bytes: &[u8], start: usize) -> Result<usize, Fault>
     Err(Fault::OpenComment)
 }
 
-/// The end of a comment, from behind its first solidus.
+/// The end of a comment, from after its first solidus.
 #[tactic(auto, using(crate::proofs::Scans::comment_more, crate::proofs::Scans::comment_none))]
 fn comment_end(bytes: &[u8], start: usize) -> Result<usize, Fault>
     requires { start ≤ length bytes.now }
@@ -251,7 +251,7 @@ fn comment_end(bytes: &[u8], start: usize) -> Result<usize, Fault>
     }
 }
 
-/// The end of a base part, from behind its apostrophe: an s or not, a base letter, optional white space, digits.
+/// The end of a base part, from after its apostrophe: an s or not, a base letter, optional white space, digits.
 #[tactic(auto, using(crate::proofs::Scans::base_more, crate::proofs::Scans::base_none))]
 fn base_end(bytes: &[u8], start: usize) -> Result<usize, Fault>
     requires { start ≤ length bytes.now }
@@ -291,7 +291,7 @@ fn digits_end(bytes: &[u8], start: usize, base: Base) -> Result<usize, Fault>
     }
 }
 
-/// The end of the name of a system task or function, from behind its dollar sign.
+/// The end of the name of a system task or function, from after its dollar sign.
 fn system_end(bytes: &[u8], start: usize) -> Result<usize, Fault>
     requires { start ≤ length bytes.now }
     ensures { result ≡ end_of start
@@ -303,7 +303,7 @@ fn system_end(bytes: &[u8], start: usize) -> Result<usize, Fault>
     }
 }
 
-/// The end of a directive that is read, from behind its accent.
+/// The end of a directive that is read, from after its accent.
 fn directive_end(bytes: &[u8], start: usize) -> Result<usize, Fault>
     requires { start ≤ length bytes.now }
     ensures { result ≡ end_of start
@@ -326,7 +326,7 @@ fn is_known(name: &[u8]) -> bool
     name == b"pragma".as_slice() || name == b"timescale".as_slice()
 }
 
-/// The end of a piece of a kind, from behind its first byte.
+/// The end of a piece of a kind, from after its first byte.
 fn piece_end(bytes: &[u8], start: usize, kind: Kind) -> Result<usize, Fault>
     requires { start < length bytes.now }
     ensures { result ≡ end_of (start + 1)

@@ -64,7 +64,7 @@ fn octal_character(digits: &[char]) -> char
     }
 }
 
-/// What an escape by one character behind its backslash stands for, and how many characters that takes.
+/// What an escape by one character after its backslash stands for, and how many characters that takes.
 fn named_escape(characters: &[char]) -> (char, usize)
     ensures { result ≡ named_escape characters.now }
 {
@@ -77,7 +77,7 @@ fn named_escape(characters: &[char]) -> (char, usize)
     }
 }
 
-/// The character that the first stands for with those behind it, and how many of these that takes.
+/// The character that the first stands for with those after it, and how many of these that takes.
 fn element(characters: &[char]) -> (char, usize)
     requires { 0 < length characters.now }
     ensures value { result ≡ element (slice_index characters.now 0) (drop 1 characters.now) }

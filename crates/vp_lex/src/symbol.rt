@@ -102,7 +102,7 @@ fn symbol_length(bytes: &[u8]) -> usize
     }
 }
 
-/// The end of the longest symbol from a byte on, or behind that byte.
+/// The end of the longest symbol from a byte on, or after that byte.
 #[tactic(auto, using(std::proofs::lemmas::List::drop_more))]
 pub fn symbol_end(bytes: &[u8], start: usize) -> usize
     requires { start < length bytes.now }

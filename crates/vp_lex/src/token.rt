@@ -164,7 +164,7 @@ impl Position {
         }
     }
 
-    /// The place behind a piece from here to this end.
+    /// The place after a piece from here to this end.
     fn behind(self, bytes: &[u8], end: usize, kind: Kind) -> Position
         requires within { (self.at ≤ end) × (end ≤ length bytes.now) }
         requires place { IsPlace bytes.now self }
@@ -184,7 +184,7 @@ impl Position {
         here
     }
 
-    /// The place behind the next byte. A newline begins a line, on which no directive stands yet.
+    /// The place after the next byte. A newline begins a line, on which no directive stands yet.
     fn behind_byte(self, bytes: &[u8]) -> Position
         requires within { self.at < length bytes.now }
         requires place { IsPlace bytes.now self }

@@ -33,7 +33,7 @@ pub split_part : (separator : ℕ) (text : List ℕ) → position_or_len (is_it 
 split_part separator [] h = absurd (omega arith)
 split_part separator (byte ∷ bytes) h = split_by separator byte bytes (is_it separator byte) refl (split_part separator bytes) h
 
--- a list is what stands before a place, what stands there, and what stands behind it
+-- a list is what stands before a place, what stands there, and what stands after it
 pub split_at : (xs : List ℕ) (n : ℕ) → n < length xs → xs ≡ take n xs ++ get_or xs n 0 ∷ drop (n + 1) xs
 split_at [] n h = absurd (omega arith)
 split_at (x ∷ xs) zero h = refl

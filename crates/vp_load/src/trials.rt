@@ -71,7 +71,7 @@ fn is_lack_found(alloc: Global, log: &[Entry], transcripts: &Transcripts) -> Opt
     Some(matches!(difference, Some(Difference::Transcript { .. })))
 }
 
-/// A log in which u1 opened a session and asked the time, of which he was told this, and such was the time behind it.
+/// A log in which u1 opened a session and asked the time, of which he was told this, and such was the time after it.
 fn short_log(alloc: Global, reply: Reply, time: u64) -> Result<Vec<Entry>, AllocError>
     ensures { (design : Elaborated) → IfOk result (λ log. AreWellFormed design log.items) }
 {

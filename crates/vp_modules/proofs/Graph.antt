@@ -11,7 +11,7 @@ use Rattle.std.specs.Option.{option_map_or}
 use Rattle.vp_modules.specs.Definitions.{is_member, is_number, with_number, with_numbers}
 use Rattle.vp_modules.proofs.Numbers.{or_is_false}
 
--- for each number what there is behind it
+-- for each number what there is after it
 abbrev pub Graph : Type 0
 Graph = ℕ → List (Option ℕ)
 

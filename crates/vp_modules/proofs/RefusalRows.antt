@@ -80,7 +80,7 @@ instantiates_itself :
 unfolding digits is_utf8 chars encode_utf8
 instantiates_itself = refl
 
--- two modules that instantiate each other, behind one that instantiates the second: the first of the two is told
+-- two modules that instantiate each other, after one that instantiates the second: the first of the two is told
 instantiate_each_other :
     refusal_of (source (codes "module t; b u(); endmodule\nmodule a; b u(); endmodule\nmodule b; a u(); endmodule")
     (module_of 1 (span 0 1) 0 (span 0 0) ∷ module_of 10 (span 1 2) 1 (span 0 0) ∷ module_of 19 (span 2 3) 2 (span 0 0) ∷ [])
@@ -111,7 +111,7 @@ declared_twice :
 unfolding digits is_utf8 chars encode_utf8
 declared_twice = refl
 
--- a text with one module of these items, behind so many ports, statements, expressions and terms of events
+-- a text with one module of these items, after so many ports, statements, expressions and terms of events
 abbrev procedural : List ℕ → ℕ → List Item → List Statement → List Expression → List EventTerm → Source
 procedural text ports items statements expressions terms =
     let m : Module = record {
@@ -223,7 +223,7 @@ second_is_on_top : map (is_top inverters) inverters.modules ≡ false ∷ true �
 unfolding digits is_utf8 chars encode_utf8
 second_is_on_top = refl
 
--- two modules that instantiate each other, and one behind them that stands alone
+-- two modules that instantiate each other, and one after them that stands alone
 abbrev ring : Source
 ring =
     source (codes "module a; b u(), v(); endmodule module b; a u(); endmodule module c; endmodule")

@@ -39,12 +39,12 @@ recursive source m = if leads source (word_at source m.name) (length source.modu
 
 -- ---- drivers (clauses 6.1 and 12.3.9; one of each net: profile)
 
--- the place of the net that a connection to a module's port, behind so many, drives: that of an output's value
+-- the place of the net that a connection to a module's port, after so many, drives: that of an output's value
 abbrev pub driven_from : Source → declared.Module → ℕ → Connection → Option ℕ
 driven_from source target before c =
     option_and_then (λ port. option_and_then (λ v. if is_input port then None else Some c.place) c.value) (port_of source target before c)
 
--- the places of the nets that connections to a module's ports, behind so many, drive
+-- the places of the nets that connections to a module's ports, after so many, drive
 abbrev pub driven_through : Source → declared.Module → ℕ → List Connection → List ℕ
 driven_through source target before [] = []
 driven_through source target before (c ∷ cs) =

@@ -11,7 +11,7 @@ use vp_names::{
 };
 use vp_source::{Connection, Direction, Item, Module, Source};
 
-/// The place of the net that a connection to a module's port, behind so many, drives.
+/// The place of the net that a connection to a module's port, after so many, drives.
 fn driven_from(
     source: &Source,
     target: Scope<'_>,
@@ -30,7 +30,7 @@ fn driven_from(
     }
 }
 
-/// The places of the nets that an instance drives, behind others.
+/// The places of the nets that an instance drives, after others.
 fn add_driven(
     source: &Source,
     target: Scope<'_>,
@@ -49,7 +49,7 @@ fn add_driven(
     Ok(())
 }
 
-/// The places at which an item drives nets, behind others.
+/// The places at which an item drives nets, after others.
 fn add_driven_by(
     source: &Source,
     tables: &Tables,

@@ -83,7 +83,7 @@ fn check_uses(alloc: Global, source: &Source, tables: &Tables) -> Result<(), Ela
 }
 
 /// Tests the items of a text by its names, and tells for each the number of the module that it instantiates, and which modules are
-/// top modules; or the first refusal behind that of a name declared twice. Takes memory.
+/// top modules; or the first refusal after that of a name declared twice. Takes memory.
 fn check_items(
     alloc: Global,
     source: &Source,

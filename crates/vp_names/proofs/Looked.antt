@@ -8,7 +8,7 @@ use Rattle.std.specs.Str.{bytes_eq}
 use Rattle.vp_list.specs.laws.Searches.{position-map}
 use Rattle.vp_source.specs.declared.source.Module.{Module}
 
--- a module that is in no text, for what stands behind the end of a list
+-- a module that is in no text, for what stands past the end of a list
 abbrev pub nowhere : Module
 nowhere = record { name = 0; items = record { first = 0; end = 0 }; ports = 0; statements = record { first = 0; end = 0 }; expressions = record { first = 0; end = 0 }; terms = record { first = 0; end = 0 }; choices = record { first = 0; end = 0 } }
 

@@ -10,7 +10,7 @@ use Rattle.vp_names.specs.declared.fault.ElabError.TheVariants.{Duplicate, NoMem
 use Rattle.vp_names.specs.Items.{is_among, items_in}
 use Rattle.vp_names.specs.Refusals.{first_of_two, twice, twice_in}
 
--- behind a module whose names are new and declared once, the modules go on
+-- after a module whose names are new and declared once, the modules go on
 pub twice_behind :
     (source : Source) (names : List (List ℕ)) (m : Module) (ms : List Module)
     → is_among names (word_at source m.name) ≡ false → twice source [] (items_in source m) ≡ None
@@ -30,7 +30,7 @@ twice_next source names ms i d in_list new once =
     ap (twice_in source names) (drop-cons ms i d in_list) ∙ twice_behind source names m (drop (suc i) ms) new once
     ∙ ap (λ (n : ℕ). twice_in source (names ++ word_at source m.name ∷ []) (drop n ms)) next
 
--- a refusal by a module and those behind it is that of the text, where those before it are in order
+-- a refusal by a module and those after it is that of the text, where those before it are in order
 pub refused_at :
     (source : Source) (names : List (List ℕ)) (ms : List Module) (i : ℕ) (d : Module) (e : ElabError) → i < length ms
     → twice_in source names (drop i ms) ≡ twice_in source [] ms

@@ -125,8 +125,8 @@ with_port source names c = option_map_or (λ p. with_name names (word_at source 
 abbrev pub is_named_in : Source → List (List ℕ) → Connection → Bool
 is_named_in source names c = option_map_or (λ p. is_among names (word_at source p)) c.port false
 
--- the fault of a connection in a module to a port of another, behind so many that name these ports: at the name of a port that there
--- is not or that was named before, at a position behind the ports, or at an output's value that is no whole net
+-- the fault of a connection in a module to a port of another, after so many that name these ports: at the name of a port that there
+-- is not or that was named before, at a position after the ports, or at an output's value that is no whole net
 abbrev pub connection_fault : Source → declared.Module → declared.Module → List (List ℕ) → ℕ → Connection → Option ℕ
 connection_fault source m target names before c =
     let named : ℕ = option_map_or (λ p. p) c.port c.place in
@@ -134,7 +134,7 @@ connection_fault source m target names before c =
     else if suits source m c port then None else Some c.place)
     (port_of source target before c) (Some named)
 
--- the first fault of connections behind so many that name these ports
+-- the first fault of connections after so many that name these ports
 abbrev pub connections_fault : Source → declared.Module → declared.Module → List (List ℕ) → ℕ → List Connection → Option ℕ
 connections_fault source m target names before [] = None
 connections_fault source m target names before (c ∷ cs) =

@@ -125,7 +125,7 @@ fn is_named_in(source: &Source, names: &Names, connection: Connection) -> bool
     }
 }
 
-/// The fault of a connection in `outer` to a port of `target`, behind so many that name these ports.
+/// The fault of a connection in `outer` to a port of `target`, after so many that name these ports.
 fn connection_fault(
     source: &Source,
     outer: Scope<'_>,
@@ -152,7 +152,7 @@ fn connection_fault(
     }
 }
 
-/// The name of the port that a connection names, behind these.
+/// The name of the port that a connection names, after these.
 fn add_port(
     alloc: Global,
     source: &Source,

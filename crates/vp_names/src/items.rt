@@ -127,7 +127,7 @@ pub fn is_operand(item: Item) -> bool
     }
 }
 
-/// The line and the column of the token at a place; 0 behind the end.
+/// The line and the column of the token at a place; 0 past the end.
 fn position_of(source: &Source, place: u32) -> (u32, u32)
     ensures line { result.0 ≡ line_at source.now place }
     ensures column { result.1 ≡ column_at source.now place }

@@ -30,7 +30,7 @@ impl Names {
         }
     }
 
-    /// Adds a name behind the others; false, and nothing is changed, where it is there already. Takes memory.
+    /// Adds a name after the others; false, and nothing is changed, where it is there already. Takes memory.
     pub fn add(&mut self, name: String) -> Result<bool, AllocFailed<String>>
         ensures added { IfOk result (λ added. added ≡ not (is_among self.old (string_bytes name))) }
         ensures names { IfOk result (λ added. self.new
@@ -46,7 +46,7 @@ impl Names {
         self.names.get_index_of(name)
     }
 
-    /// The name of an index; empty behind the end.
+    /// The name of an index; empty past the end.
     pub fn at(&self, index: usize) -> &str
         ensures { result.now ≡ slice_index_or self.now index [] }
     {

@@ -76,7 +76,7 @@ between_is callbacks object by below upper within lower inside =
     ∙ ap (filter (λ c. not (is_below object c))) (parts (is_by object) callbacks by upper within).0
     ∙ on_of callbacks object
 
--- one more callback behind those of its object and of lower ones
+-- one more callback after those of its object and of lower ones
 pub with_callback_at : (callbacks : List Callback) (i : ℕ) (new : Callback) → IsPartitionPoint (λ c. is_by new.object.0 c ≡ true) (λ c. is_by new.object.0 c ≡ false) callbacks i → i ≤ length callbacks → insert callbacks i new ≡ with_callback callbacks new
 with_callback_at callbacks i new parted within =
     let split = parts (is_by new.object.0) callbacks i parted within in

@@ -1,4 +1,4 @@
--- Notices that are looked at one by one: what comes of the first goes behind the others, or it goes.
+-- Notices that are looked at one by one: what comes of the first goes after the others, or it goes.
 use Rattle.std.proofs.Common.{◌≡◌, ◌∙◌, ℕ, zero, suc, ◌+◌, ◌-◌, ◌≤◌, ◌<◌, Bool, true, false, List, [], ◌∷◌, ◌++◌, length, filter, drop, map, Option, Some, None, refl, sym, ap, subst, arith, append_assoc, append-nil}
 use Rattle.std.specs.Prelude.{cond, if◌then◌else◌, slice_get}
 use Rattle.std.specs.List.{cons_option, filter_map}
@@ -6,7 +6,7 @@ use Rattle.circular_buffer.specs.Buffer.{Buffer, buffer, keep_last}
 use Rattle.std.proofs.lemmas.List.{length-append, length-drop}
 use Rattle.vp_notify.specs.declared.notice.Notice.{Notice}
 
--- of the notices that waited, so many are left to be looked at, and behind them stand those that were kept
+-- of the notices that waited, so many are left to be looked at, and after them stand those that were kept
 pub record IsRetiring (each : Notice → Option Notice) (before now : List Notice) (count : ℕ) : Type 0 where
   pub left : List Notice
   pub kept : List Notice
@@ -49,7 +49,7 @@ gone_by each before now (m ∷ left) kept count n split long same first h =
 pub gone : (each : Notice → Option Notice) (before now : List Notice) (count next : ℕ) (n : Notice) → count ≡ suc next → IsRetiring each before now count → slice_get now 0 ≡ Some n → each n ≡ None → IsRetiring each before (drop 1 now) next
 gone each before now count next n one r first h = gone_by each before now r.left r.kept next n r.split (r.long ∙ one) r.same first h
 
--- the first that is left goes behind the others
+-- the first that is left goes after the others
 turned_by : (each : Notice → Option Notice) (before now left kept : List Notice) (count : ℕ) (n new : Notice) → now ≡ left ++ kept → length left ≡ suc count → kept ++ filter_map each left ≡ filter_map each before
     → slice_get now 0 ≡ Some n → each n ≡ Some new → IsRetiring each before (drop 1 now ++ new ∷ []) count
 turned_by each before now [] kept count n new split long same first h = absurd (omega arith)
@@ -103,7 +103,7 @@ goes each before now popped count next n one r first is h =
       room = omega (arith, r.room);
     })
 
--- the first is looked at, and what comes of it goes behind the others
+-- the first is looked at, and what comes of it goes after the others
 pub turns : (each : Notice → Option Notice) (before now popped pushed : Buffer Notice) (count next : ℕ) (n new : Notice) → count ≡ suc next → Retires each before now count → slice_get now.items 0 ≡ Some n
     → popped ≡ buffer (drop 1 now.items) now.capacity → pushed ≡ buffer (keep_last popped.capacity (popped.items ++ new ∷ [])) popped.capacity → each n ≡ Some new → Retires each before pushed next
 turns each before now popped pushed count next n new one r first is put h =

@@ -75,7 +75,7 @@ due_to_none = refl
 no_change : due three None 5 ≡ three
 no_change = refl
 
--- a later change waits behind
+-- a later change waits after
 behind : (due (due three (Some (change 2)) 5) (Some (change 1)) 7).waiting ≡ told 1 2 5 ∷ told 3 2 5 ∷ told 2 1 7 ∷ []
 behind = refl
 

@@ -53,7 +53,7 @@ empty_registry = record { callbacks = []; given = 0; waiting = []; lost = 0 }
 abbrev pub is_full : RegistryState → Bool
 is_full r = not (nat_lt (length r.callbacks) 1024) || (r.given == 2 ^ 32 - 1)
 
--- a callback of an object stands behind those of the object and of lower ones, and before those of higher ones (profile)
+-- a callback of an object stands after those of the object and of lower ones, and before those of higher ones (profile)
 abbrev pub with_callback : List Callback → Callback → List Callback
 with_callback callbacks new = filter (is_by new.object.0) callbacks ++ new ∷ filter (is_beyond new.object.0) callbacks
 

@@ -149,7 +149,7 @@ take_terms os k h = take_made term_from os k h
 pub term_there : (os : List Operand) (k : ℕ) (o : Operand) → k < length os → o ≡ get_or os k o → part_in (terms_of os) k ≡ term_from (take k (terms_of os)) o
 term_there os k o h at = made_there term_from os k o blank h at
 
--- a part behind the end
+-- a part past the end
 pub part_past : (terms : List Term) (end place : ℕ) → end ≤ place → part_in (take end terms) place ≡ blank
 part_past terms end place h = get_or_past (take end terms) place blank (omega (arith, length-take end terms))
 

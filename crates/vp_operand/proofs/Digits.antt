@@ -44,7 +44,7 @@ read_next : (width : ℕ) (value : List Bit) (digits : List ℕ) (found : Option
 read_next width value digits None = refl
 read_next width value digits (Some d) = pushed_below value (digit_bits width d) (digits_bits width digits)
 
--- the digits of bytes, put behind a vector one by one, are its lowest bits
+-- the digits of bytes, put after a vector one by one, are its lowest bits
 pub all_read : (width : ℕ) (value : List Bit) (bytes : List ℕ) → fold (with_byte width) value bytes ≡ take (length value) (digits_bits width (filter_map digit_at bytes) ++ value)
 all_read width value [] = sym (take_all (length value) value (omega arith))
 all_read width value (byte ∷ bytes) =

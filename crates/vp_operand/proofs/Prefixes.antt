@@ -6,7 +6,7 @@ use Rattle.std.proofs.lemmas.Option.{get_or_from_slice_get, slice_get_within}
 use Rattle.std.specs.Prelude.{slice_get}
 use Rattle.std.specs.List.{fold}
 
--- no item behind the end
+-- no item past the end
 pub past_end : {X : Type 0} (xs : List X) (k : ℕ) → None ≡ slice_get xs k → length xs ≤ k
 past_end [] k h = omega arith
 past_end (x ∷ xs) zero h = absurd cc
@@ -57,7 +57,7 @@ module _ {A B : Type 0} (make : List B → A → B) where
       ∙ get_or_push (made_of (take k xs)) (make (made_of (take k xs)) x) d k n
       ∙ ap (λ (ys : List B). make ys x) (sym (take_made xs k (omega arith)))
 
-  -- nothing is made behind the end
+  -- nothing is made past the end
   pub made_missing : (xs : List A) (end place : ℕ) (d : B) → length xs ≤ place → get_or (take end (made_of xs)) place d ≡ d
   made_missing xs end place d h =
       get_or_past (take end (made_of xs)) place d (omega (arith, length-take end (made_of xs), length-made [] xs))

@@ -21,7 +21,7 @@ each_time = refl
 in_braces : reads (Replicated 2 (Appended (Appended (Concatenated (Object 4 1)) (Object 1 8)) (Constant (One ∷ []) false))) ≡ 4 ∷ 1 ∷ []
 in_braces = refl
 
--- 3[1 + 5] ? 7 : 3, part by part in a list, in which 3 is read twice; the place behind the end reads nothing
+-- 3[1 + 5] ? 7 : 3, part by part in a list, in which 3 is read twice; the place past the end reads nothing
 abbrev operands : List Operand
 operands =
     operand.Constant (One ∷ []) false

@@ -34,7 +34,7 @@ term_from terms (operand.Concatenated a) = Concatenated (part_in terms a)
 term_from terms (operand.Appended list a) = Appended (part_in terms list) (part_in terms a)
 term_from terms (operand.Replicated count list) = Replicated count (part_in terms list)
 
--- terms, and behind them that of one more operand
+-- terms, and after them that of one more operand
 abbrev pub with_term : List Term → Operand → List Term
 with_term terms o = terms ++ term_from terms o ∷ []
 
@@ -54,7 +54,7 @@ term_below operands end place = part_in (take end (terms_of operands)) place
 abbrev pub term_made : List Operand → (place : ℕ) → Operand → Term
 term_made operands place o = term_from (take place (terms_of operands)) o
 
--- the value of an object by its slot, from the values of an instance and of the objects behind it; one unknown bit for one that
+-- the value of an object by its slot, from the values of an instance and of the objects after it; one unknown bit for one that
 -- is not there
 abbrev pub value_in : List (List Bit) → ℕ → List Bit
 value_in values slot = slice_index_or values slot no_value

@@ -12,6 +12,6 @@ pushed value digit = take (length value) (digit ++ value)
 abbrev pub with_byte : ℕ → List Bit → ℕ → List Bit
 with_byte width value byte = option_map_or (λ digit. pushed value (digit_bits width digit)) (digit_at byte) value
 
--- a number with the digit of a byte behind it, if it stands for one
+-- a number with the digit of a byte after it, if it stands for one
 abbrev pub number_with : ℕ → ℕ → ℕ
 number_with number byte = option_map_or (with_digit number) (digit_at byte) number

@@ -10,13 +10,13 @@ use Rattle.vp_operand.specs.Values.{no_value}
 
 -- ---- digits
 
--- the digit that a byte behind the base letter stands for: `?` is `z`; white space and `_` stand for none (clause 3.5.1)
+-- the digit that a byte after the base letter stands for: `?` is `z`; white space and `_` stand for none (clause 3.5.1)
 abbrev pub digit_at : ℕ → Option ℕ
 digit_at byte =
     (if is_ascii_whitespace byte || (byte == 95) then None else
     (if byte == 63 then Some 122 else Some byte))
 
--- the digits of a base part: what stands behind its apostrophe and base letter (clause 3.5.1)
+-- the digits of a base part: what stands after its apostrophe and base letter (clause 3.5.1)
 abbrev pub digits_of : List ℕ → List ℕ
 digits_of text = filter_map digit_at (drop 2 text)
 
@@ -65,7 +65,7 @@ sized_bits width size digits = take size (digits_bits width digits ++ replicate 
 
 -- ---- base 10
 
--- a number, and one more digit behind it (clause 3.5.1)
+-- a number, and one more digit after it (clause 3.5.1)
 abbrev pub with_digit : ℕ → ℕ → ℕ
 with_digit number digit = number * 10 + digit_value digit
 

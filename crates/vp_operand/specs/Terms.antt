@@ -20,7 +20,7 @@ use Rattle.vp_operand.specs.declared.operand.Comparison.TheVariants as compariso
 use Rattle.vp_operand.specs.declared.operand.Logical.{Logical}
 use Rattle.vp_operand.specs.declared.operand.Logical.TheVariants as logical
 
--- an expression over the objects of an instance, each by its slot, how far it stands behind the instance: an object, which has a
+-- an expression over the objects of an instance, each by its slot, how far it stands after the instance: an object, which has a
 -- width; a constant with its sign; a bit of an object by its index, where the least significant bit has the lowest; a part of an
 -- object from a place on; operators; concatenations (IEEE Std 1364-2005, 5)
 pub data Term : Type 0 where
@@ -150,7 +150,7 @@ part_at bits place width = if nat_le (place + width) (length bits) then selected
 -- ---- values
 
 -- the value of a term in a context of a size, by the values of objects: what the context sizes is extended by zeros before its
--- operator is applied, and what sizes itself behind it (IEEE Std 1364-2005, 5.4 and 5.5)
+-- operator is applied, and what sizes itself after it (IEEE Std 1364-2005, 5.4 and 5.5)
 abbrev pub value : (ℕ → List Bit) → ℕ → Term → List Bit
 value at n (Object slot width) = resized n (at slot)
 value at n (Constant bits s) = resized n bits

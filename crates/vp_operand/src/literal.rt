@@ -12,7 +12,7 @@ const UNSIZED_WIDTH: u8 = 32;
 /// The greatest width of a vector, in bits.
 const WIDTH_LIMIT: u32 = 64;
 
-/// The digit that a byte behind the base letter stands for.
+/// The digit that a byte after the base letter stands for.
 fn digit_at(byte: u8) -> Option<u8>
     ensures { result ≡ digit_at byte }
 {
@@ -120,7 +120,7 @@ fn sized_bits(width: u8, size: u8, bytes: &[u8]) -> Bits
     value
 }
 
-/// A number modulo 2^64 with the digit of a byte behind it, if it stands for one.
+/// A number modulo 2^64 with the digit of a byte after it, if it stands for one.
 fn number_with(number: u64, byte: u8) -> u64
     ensures { result ≡ number_with number byte % 2 ^ 64 }
 {

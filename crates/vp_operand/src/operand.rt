@@ -3,8 +3,8 @@ ghost use Rattle.vp_operand.specs.Arena.{blank, term_below, term_made};
 
 use vp_bits::Bits;
 
-/// How far an object stands behind the object of the module in which it is declared. In each instance of a module its objects
-/// stand as far behind the instance, so that a slot names one of them for all instances.
+/// How far an object stands after the object of the module in which it is declared. In each instance of a module its objects
+/// stand as far after the instance, so that a slot names one of them for all instances.
 #[derive(Clone, Copy, Debug, PartialEq, Eq)]
 pub struct Slot(pub u32);
 
@@ -132,13 +132,13 @@ pub enum Operand {
     Conditional(u32, u32, u32),
     /// Braces round one expression.
     Concatenated(u32),
-    /// A concatenation so far, and one more expression behind it.
+    /// A concatenation so far, and one more expression after it.
     Appended { list: u32, part: u32 },
     /// A concatenation so many times.
     Replicated { count: u32, list: u32 },
 }
 
-/// The operand at a place; none behind the end.
+/// The operand at a place; none past the end.
 fn operand_at(operands: &[Operand], place: u32) -> Option<Operand>
     ensures { result ≡ slice_get operands.now place }
 {

@@ -8,7 +8,7 @@ use vp_list::Sequence;
 /// The greatest size of a vector, in bits.
 const SIZE_LIMIT: u64 = 64;
 
-/// The size of the operand at a place, in bits; 1 behind the end.
+/// The size of the operand at a place, in bits; 1 past the end.
 pub fn size_at(sizes: &[u8], place: u32) -> u8
     ensures size { result ≡ slice_index_or sizes.now place 1 }
     ensures small { result < 2 ^ 8 }
@@ -79,7 +79,7 @@ pub fn sizes_of(alloc: Global, operands: &[Operand]) -> Result<Option<Sequence<u
     Ok(Some(Sequence::from_vec(sizes)))
 }
 
-/// The operand at a place is signed; none is behind the end.
+/// The operand at a place is signed; none is past the end.
 pub fn sign_at(signs: &[bool], place: u32) -> bool
     ensures { result ≡ slice_index_or signs.now place false }
 {

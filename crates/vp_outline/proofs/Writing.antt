@@ -17,7 +17,7 @@ use Rattle.vp_outline.specs.Outline.{envelope_line, every_right, line_at, line_o
 
 -- ---- words
 
--- words behind words
+-- words after words
 words_text-append : (a b : List (List ℕ)) → words_text (a ++ b) ≡ words_text a ++ words_text b
 words_text-append a b = flat_map-append (λ (word : List ℕ). 32 ∷ word) a b
 
@@ -69,7 +69,7 @@ steps_are : (nodes : List SeenNode) (parent : Option ℕ) → steps_above (steps
 steps_are nodes None = refl
 steps_are nodes (Some n) = steps_there nodes n
 
--- the line for an object behind these
+-- the line for an object after these
 line_behind : (nodes : List SeenNode) (o : SeenObject) → node_line (node_behind nodes o) ≡ object_line (steps_above (steps_to nodes) o.parent) o
 line_behind nodes o =
     line_at-append (node_behind nodes o) (path_to nodes o.parent) (own_step o)
@@ -80,13 +80,13 @@ nodes_from-append : (nodes : List SeenNode) (os : List SeenObject) (o : SeenObje
 nodes_from-append nodes [] o = refl
 nodes_from-append nodes (x ∷ os) o = nodes_from-append (nodes ++ node_behind nodes x ∷ []) os o
 
--- behind a text the lines for these objects are written, and so many steps lead to each, at most one for each of so many objects
+-- after a text the lines for these objects are written, and so many steps lead to each, at most one for each of so many objects
 pub record IsWritten (os : List SeenObject) (before text : List ℕ) (steps : List ℕ) (count : ℕ) : Type 0 where
   pub written : text ≡ before ++ flat_map node_line (nodes_from [] os)
   pub steps_are : steps ≡ steps_to (nodes_from [] os)
   pub few : (n : ℕ) → get_or steps n 0 ≤ count
 
--- what is at most so much stays so behind one more that is
+-- what is at most so much stays so after one more that is
 few_more : (xs : List ℕ) (x high : ℕ) → ((n : ℕ) → get_or xs n 0 ≤ high) → x ≤ high → (n : ℕ) → get_or (xs ++ x ∷ []) n 0 ≤ high
 few_more [] x high few small zero = small
 few_more [] x high few small (suc n) = few n
@@ -141,7 +141,7 @@ module _ (os : List SeenObject) (o : SeenObject) (i above : ℕ) (within : i < l
 
 -- ---- one line
 
--- texts behind one another
+-- texts after one another
 behind : (b i n t w d a e c z : List ℕ) → ((((((((b ++ i) ++ n) ++ t) ++ w) ++ d) ++ a) ++ e) ++ c) ++ z ≡ b ++ (i ++ (n ++ ((t ++ (w ++ (d ++ (a ++ (e ++ c))))) ++ z)))
 behind b i n t w d a e c z = simp append_assoc refl
 
@@ -165,7 +165,7 @@ pub record AddsWords (before indentation name type access : List ℕ) (width def
   pub closes : after_closed ≡ after_envelope ++ words_text closed
   pub ends : text ≡ after_closed ++ 10 ∷ []
 
--- then the line stands behind what was there
+-- then the line stands after what was there
 pub line_written :
     (before indentation name type access : List ℕ) (width definition envelope closed : List (List ℕ)) (text : List ℕ)
     → AddsWords before indentation name type access width definition envelope closed text

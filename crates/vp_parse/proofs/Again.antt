@@ -371,7 +371,7 @@ port_longer (Declared direction range name) rest =
     let h = width_longer range (symbol_at symbol.Name name ∷ rest) in let k = direction_longer direction (width_text range (symbol_at symbol.Name name ∷ rest)) in omega arith
 port_longer (Bare name) rest = omega arith
 
--- behind a direction a range or a name is next
+-- after a direction a range or a name is next
 after_direction : (range : Option Range) (name : ℕ) (rest : List Symbol) → (is_next (symbol.Keyword keyword.Wire) (width_text range (symbol_at symbol.Name name ∷ rest)) ≡ false) × (is_next (symbol.Keyword keyword.Reg) (width_text range (symbol_at symbol.Name name ∷ rest)) ≡ false)
 after_direction None name rest = (refl, refl)
 after_direction (Some range) name rest = (refl, refl)

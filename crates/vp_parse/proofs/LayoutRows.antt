@@ -87,7 +87,7 @@ hierarchy =
     }
     ∷ []
 
--- both ports have the range of the first; the net is followed by its assignment; the blank connection begins at the comma behind it
+-- both ports have the range of the first; the net is followed by its assignment; the blank connection begins at the comma after it
 lists_of_hierarchy : put_source hierarchy ≡ (
   record {
     name = 1;
@@ -124,7 +124,7 @@ lists_of_hierarchy : put_source hierarchy ≡ (
 )
 lists_of_hierarchy = refl
 
--- `always @(posedge c) if (a) b <= #2 c; else ;`: each statement stands behind those in it, so the one behind its event is the last
+-- `always @(posedge c) if (a) b <= #2 c; else ;`: each statement stands after those in it, so the one after its event is the last
 lists_of_clocked : put_source clocked ≡ (
   record {
     name = 1;

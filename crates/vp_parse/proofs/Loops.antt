@@ -18,7 +18,7 @@ use Rattle.vp_parse.specs.Placing.{Kept, Keeper, Made, further_into, item_into, 
 abbrev comma : List Symbol → Bool
 comma ts = is_next (symbol.Punctuator punctuator.Comma) ts
 
--- what is behind the next comma
+-- what is after the next comma
 abbrev behind_comma : List Symbol → Result (List Symbol) Stop
 behind_comma ts = behind (symbol.Punctuator punctuator.Comma) ts
 

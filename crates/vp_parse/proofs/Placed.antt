@@ -60,7 +60,7 @@ viewed : {X Y B : Type 0} (h : Y → X) (g : X → B) (r : Result X Stop) (s : R
 viewed {X} {Y} {B} h g r (Ok y) e = ap (λ (r : Result X Stop). (let b : Result B Stop = r >>= λ x. Ok (g x) in b)) e
 viewed {X} {Y} {B} h g r (Err s) e = ap (λ (r : Result X Stop). (let b : Result B Stop = r >>= λ x. Ok (g x) in b)) e
 
--- a part behind the parts of the lists, its place, and what is left
+-- a part after the parts of the lists, its place, and what is left
 abbrev part_made : {A : Type 0} → (A → layout.Lists → ℕ × layout.Lists) → Lists → A × List Symbol → Made ℕ
 part_made put lists x = ((put x.0 lists.parts).0, record lists { parts = (put x.0 lists.parts).1 }, x.1)
 
@@ -106,7 +106,7 @@ expr_first (Conditional c question a colon b) rest tail =
 expr_first (Concatenation opening l closing) rest tail = refl
 expr_first (Replication opening count_place count inner_opening l inner_closing closing) rest tail = refl
 
--- a value begins at its first symbol, or at the one behind it
+-- a value begins at its first symbol, or at the one after it
 value_first : (v : Option Expr) (s : Symbol) (rest : List Symbol) → first_place (value_text v (s ∷ rest)) ≡ first_place (value_text v (s ∷ []))
 value_first None s rest = refl
 value_first (Some e) s rest = expr_first e (s ∷ rest) (s ∷ [])
@@ -357,7 +357,7 @@ module _ (limit : ℕ) where
 
 -- ---- ports
 
--- what is left behind the keyword `wire`, if it is next
+-- what is left after the keyword `wire`, if it is next
 abbrev unwired : Option ℕ × List Symbol → List Symbol
 unwired w = w.1
 
@@ -390,11 +390,11 @@ unfolding direction_into direction_at
 direction_seen [] = refl
 direction_seen (s ∷ ts) = direction_by_seen s.kind s.place ts
 
--- the direction and range of a port, which stands behind one of these, the lists with it, and what is left
+-- the direction and range of a port, which stands after one of these, the lists with it, and what is left
 abbrev port_made : PortType → Lists → Port × List Symbol → Made PortType
 port_made before lists p = (port_type before p.0, put_port (port_type before p.0) (port_name p.0) lists, p.1)
 
--- a port of a type, behind that type
+-- a port of a type, after that type
 abbrev step_of : Lists → PortType × List Symbol → Result (Made PortType) Stop
 step_of lists t = port_into t.0 lists t.1 >>= λ p. Ok (t.0, p.0, p.1)
 
@@ -420,7 +420,7 @@ declared_seen before lists ts =
     bind_assoc (terminal symbol.Name w.1) (λ n. Ok (put_port (record { direction = put_direction d.0; range = option_map put_declared w.0 }) n.0 lists, n.1)) (λ p. Ok (record { direction = put_direction d.0; range = option_map put_declared w.0 }, p.0, p.1))
     ∙ bind_seen (λ (n : ℕ × List Symbol). n) all (terminal symbol.Name w.1) (terminal symbol.Name w.1) _ _ (all_seen (terminal symbol.Name w.1)) (λ n. refl)))
 
--- a port behind another, of its type and its name
+-- a port after another, of its type and its name
 abbrev next_into : PortType → Lists → List Symbol → Result (Made PortType) Stop
 next_into before lists ts = next_type_into before ts >>= λ t. port_into t.0 lists t.1 >>= λ p. Ok (t.0, p.0, p.1)
 
@@ -499,7 +499,7 @@ module_seen limit lists ts =
     (λ l. bind_seen left all (behind (symbol.Keyword keyword.Endmodule) l.1) (terminal (symbol.Keyword keyword.Endmodule) l.1) _ _ (behind_seen (symbol.Keyword keyword.Endmodule) l.1)
     (λ z. refl))))))
 
--- modules behind these, and the lists with their parts
+-- modules after these, and the lists with their parts
 abbrev modules_made : List module_of.Module → Lists → Derivation → List module_of.Module × Lists
 modules_made modules lists d = (modules ++ (put_modules d lists).0, (put_modules d lists).1)
 

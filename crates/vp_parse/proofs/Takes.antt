@@ -146,7 +146,7 @@ module _ (limit : ℕ) where
       Holds-bind (λ (v : Option Expr × List Symbol). v.0 ≡ None → (v.1 ≡ ts) × (is_end ts ≡ true)) all (value_at limit ts) _ (value_ends ts)
       (λ v h f. h (blank_none v.0 f))
 
-  -- behind a comma there is a further part
+  -- after a comma there is a further part
   further_some : (named : Bool) (m : ℕ) (ts : List Symbol) → is_next comma_kind ts ≡ true → 0 < m → Holds (λ (l : List (Further Connection) × List Symbol). l.0 ≡ [] → ⊥) (further_at (connection_at limit named) m ts)
   unfolding further_at
   further_some named zero ts h lt = absurd (omega arith)
@@ -177,7 +177,7 @@ module _ (limit : ℕ) where
   longer_on [] e = absurd cc
   longer_on (s ∷ rest) e = omega arith
 
-  -- behind a connection without symbols there is a further one
+  -- after a connection without symbols there is a further one
   behind_blank : (named : Bool) (c : Connection) (rest ts : List Symbol) → is_next (symbol.Punctuator punctuator.RightParenthesis) ts ≡ false → (is_blank c ≡ true → (rest ≡ ts) × (is_end ts ≡ true))
       → Holds (λ (l : List (Further Connection) × List Symbol). is_blank c ≡ true → l.0 ≡ [] → ⊥) (further_at (connection_at limit named) (length rest) rest)
   behind_blank named c rest ts unclosed ends =
@@ -213,7 +213,7 @@ module _ (limit : ℕ) where
 
 -- ---- declarators
 
--- what is read of a declarator is one of its declaration, behind these symbols
+-- what is read of a declarator is one of its declaration, after these symbols
 abbrev DeclaratorReads : ℕ → Declaration → Reader Declarator → Type 0
 DeclaratorReads limit d read = Reads declarator_text (IsDeclarator d) declarator_height limit read
 
@@ -430,7 +430,7 @@ listed_takes : (ts : List Symbol) → Holds (ArePortsTaken ts) (listed_at ts)
 unfolding listed_at
 listed_takes ts = Holds-if (ArePortsTaken ts) (is_next (symbol.Punctuator punctuator.RightParenthesis) ts) _ _ (λ end. (refl, tt)) (λ on. ports_takes ts)
 
--- what is read behind a module's name is spelled so
+-- what is read after a module's name is spelled so
 abbrev IsHeaderTaken : List Symbol → Header × List Symbol → Type 0
 IsHeaderTaken ts h = (ts ≡ header_text h.0 h.1) × IsHeader h.0
 

@@ -36,7 +36,7 @@ Keeper = Lists → List Symbol → Result Kept Stop
 
 -- ---- lists with commas, ranges and values
 
--- further parts, each behind a comma; a number bounds how many
+-- further parts, each after a comma; a number bounds how many
 unfoldable pub further_into : Keeper → ℕ → Keeper
 further_into part zero lists ts = Ok (lists, ts)
 further_into part (suc m) lists ts =
@@ -100,18 +100,18 @@ connections_into limit lists ts =
 
 -- ---- declarators
 
--- a value, from behind a name (6.1.2)
+-- a value, from after a name (6.1.2)
 unfoldable pub valued_into : Placer → Lists → List Symbol → Result (Made ℕ) Stop
 valued_into value lists ts = behind (symbol.Punctuator punctuator.Equals) ts >>= λ rest. part_into value lists rest
 
--- a net, from behind its name (6.1.1)
+-- a net, from after its name (6.1.1)
 unfoldable pub net_into : (limit : ℕ) → Option DeclaredRange → (name : ℕ) → Keeper
 net_into limit range name lists ts =
     if is_next (symbol.Punctuator punctuator.Equals) ts
     then (valued_into (value_into limit) lists ts >>= λ v. Ok (with_item (item_of.Assignment name v.0) (with_item (item_of.Net name range) v.1), v.2))
     else Ok (with_item (item_of.Net name range) lists, ts)
 
--- an instance of a module, from behind its name (12.1.2)
+-- an instance of a module, from after its name (12.1.2)
 unfoldable pub instance_into : (limit definition name : ℕ) → Keeper
 instance_into limit definition name lists ts = do
   rest ← behind (symbol.Punctuator punctuator.LeftParenthesis) ts
@@ -123,7 +123,7 @@ instance_into limit definition name lists ts = do
 abbrev pub sized_into : Placer
 sized_into lists ts = literal_into lists.expressions ts >>= λ e. Ok (e.0, record lists { expressions = e.2 }, e.3)
 
--- a declarator of a declaration, from behind its name
+-- a declarator of a declaration, from after its name
 unfoldable pub declarator_by_into : (limit : ℕ) → declaration.Declaration → (name : ℕ) → Keeper
 declarator_by_into limit (declaration_of.Nets range) name lists ts = net_into limit range name lists ts
 declarator_by_into limit (declaration_of.Regs range) name lists ts = Ok (with_item (item_of.Reg name range) lists, ts)
@@ -147,12 +147,12 @@ declarators_into limit declaration lists ts = do
 
 -- ---- items
 
--- an initial or an always construct, from behind its keyword (9.9.1, 9.9.2)
+-- an initial or an always construct, from after its keyword (9.9.1, 9.9.2)
 unfoldable pub procedure_into : Placer → (ℕ → item.Item) → Keeper
 procedure_into statement construct lists ts =
     part_into statement lists ts >>= λ b. Ok (with_item (construct b.0) b.1, b.2)
 
--- an item, from behind its first symbol, by that symbol's kind and place (12.1)
+-- an item, from after its first symbol, by that symbol's kind and place (12.1)
 unfoldable pub item_by_into : (limit : ℕ) → Placer → SymbolKind → ℕ → Keeper
 item_by_into limit statement (symbol.Keyword keyword.Wire) place lists ts =
     width_into ts >>= λ range. declarators_into limit (declaration_of.Nets range.0) lists range.1
@@ -180,11 +180,11 @@ items_into limit statement (suc m) lists ts =
 
 -- ---- ports
 
--- what is left behind the keyword `wire`, if it is next (12.3.3)
+-- what is left after the keyword `wire`, if it is next (12.3.3)
 unfoldable pub wire_into : List Symbol → Result (List Symbol) Stop
 wire_into ts = if is_next (symbol.Keyword keyword.Wire) ts then behind (symbol.Keyword keyword.Wire) ts else Ok ts
 
--- an output, from behind its keyword (12.3.3)
+-- an output, from after its keyword (12.3.3)
 unfoldable pub output_into : List Symbol → Result (direction.Direction × List Symbol) Stop
 output_into ts =
     if is_next (symbol.Keyword keyword.Reg) ts
@@ -209,7 +209,7 @@ port_type_into ts = do
   range ← width_into direction.1
   Ok (record { direction = direction.0; range = range.0 }, range.1)
 
--- the direction and range of a port behind another: those of that, where its name is next (12.3.3)
+-- the direction and range of a port after another: those of that, where its name is next (12.3.3)
 unfoldable pub next_type_into : PortType → List Symbol → Result (PortType × List Symbol) Stop
 next_type_into before ts = if is_next symbol.Name ts then Ok (before, ts) else port_type_into ts
 
@@ -221,7 +221,7 @@ type_shown t = record { direction = t.direction; range = t.range }
 unfoldable pub port_into : PortType → Keeper
 port_into type lists ts = terminal symbol.Name ts >>= λ n. Ok (put_port type n.0 lists, n.1)
 
--- further ports, behind one of this direction and range; a number bounds how many (12.3.1)
+-- further ports, after one of this direction and range; a number bounds how many (12.3.1)
 unfoldable pub ports_into : PortType → ℕ → Keeper
 ports_into before zero lists ts = Ok (lists, ts)
 ports_into before (suc m) lists ts =
@@ -230,7 +230,7 @@ ports_into before (suc m) lists ts =
     port_into t.0 lists t.1 >>= λ p. ports_into t.0 m p.0 p.1)
     else Ok (lists, ts)
 
--- the ports of a module, from behind their parenthesis, up to the other (12.3.1)
+-- the ports of a module, from after their parenthesis, up to the other (12.3.1)
 unfoldable pub listed_into : Keeper
 listed_into lists ts =
     if is_next (symbol.Punctuator punctuator.RightParenthesis) ts
@@ -245,7 +245,7 @@ parentheses_into lists ts = do
   rest ← behind (symbol.Punctuator punctuator.RightParenthesis) ports.1
   Ok (ports.0, rest)
 
--- what stands behind the name of a module (12.3.1)
+-- what stands after the name of a module (12.3.1)
 unfoldable pub header_into : Keeper
 header_into lists ts =
     if is_next (symbol.Punctuator punctuator.LeftParenthesis) ts then parentheses_into lists ts else Ok (lists, ts)
@@ -275,7 +275,7 @@ module_into limit lists ts = do
     rest,
   )
 
--- all modules, behind these; a number bounds how many (12.1)
+-- all modules, after these; a number bounds how many (12.1)
 unfoldable pub modules_into : (limit : ℕ) → ℕ → List module_of.Module → Lists → List Symbol → Result (List module_of.Module × Lists) Stop
 modules_into limit zero modules lists ts = if length ts == 0 then Ok (modules, lists) else refused ts
 modules_into limit (suc m) modules lists ts =

@@ -15,7 +15,7 @@ use Rattle.vp_source.specs.Grammar.{Further, Connection, Ordered, Named, Connect
 
 -- ---- lists with commas, ranges and values
 
--- further parts, each behind a comma; a number bounds how many
+-- further parts, each after a comma; a number bounds how many
 unfoldable pub further_at : {X : Type 0} → Reader X → ℕ → Reader (List (Further X))
 further_at part zero ts = Ok ([], ts)
 further_at part (suc m) ts =
@@ -75,19 +75,19 @@ connections_at limit ts =
 
 -- ---- declarators
 
--- a name with a value, from behind the name (6.1.2)
+-- a name with a value, from after the name (6.1.2)
 unfoldable pub valued_at : Reader Expr → (name : ℕ) → Reader Declarator
 valued_at value name ts = do
   equals ← terminal (symbol.Punctuator punctuator.Equals) ts
   value ← value equals.1
   Ok (Valued name equals.0 value.0, value.1)
 
--- a net, from behind its name (6.1.1)
+-- a net, from after its name (6.1.1)
 unfoldable pub net_at : (limit name : ℕ) → Reader Declarator
 net_at limit name ts =
     if is_next (symbol.Punctuator punctuator.Equals) ts then valued_at (expr_at limit 0) name ts else Ok (Plain name, ts)
 
--- an instance, from behind its name (12.1.2)
+-- an instance, from after its name (12.1.2)
 unfoldable pub instance_at : (limit name : ℕ) → Reader Declarator
 instance_at limit name ts = do
   opening ← terminal (symbol.Punctuator punctuator.LeftParenthesis) ts
@@ -95,7 +95,7 @@ instance_at limit name ts = do
   closing ← terminal (symbol.Punctuator punctuator.RightParenthesis) connections.1
   Ok (Instance name opening.0 connections.0 closing.0, closing.1)
 
--- a declarator of a declaration, from behind its name
+-- a declarator of a declaration, from after its name
 unfoldable pub declarator_by : (limit : ℕ) → Declaration → (name : ℕ) → Reader Declarator
 declarator_by limit (Nets place range) name ts = net_at limit name ts
 declarator_by limit (Regs place range) name ts = Ok (Plain name, ts)
@@ -117,17 +117,17 @@ declarators_at limit declaration ts = do
 
 -- ---- items
 
--- a declaration of nets or of regs, from behind its keyword (4.2.1, 4.2.2)
+-- a declaration of nets or of regs, from after its keyword (4.2.1, 4.2.2)
 unfoldable pub ranged_at : (limit : ℕ) → (Option Range → Declaration) → Reader Item
 ranged_at limit declaration ts = width_at ts >>= λ range. declarators_at limit (declaration range.0) range.1
 
--- an initial or an always construct, from behind its keyword (9.9.1, 9.9.2)
+-- an initial or an always construct, from after its keyword (9.9.1, 9.9.2)
 unfoldable pub procedure_at : Reader Stmt → (Stmt → Item) → Reader Item
 procedure_at statement construct ts = do
   body ← statement ts
   Ok (construct body.0, body.1)
 
--- an item, from behind its first symbol, by that symbol's kind and place (12.1)
+-- an item, from after its first symbol, by that symbol's kind and place (12.1)
 unfoldable pub item_by : (limit : ℕ) → Reader Stmt → SymbolKind → ℕ → Reader Item
 item_by limit statement (symbol.Keyword keyword.Wire) place ts = ranged_at limit (Nets place) ts
 item_by limit statement (symbol.Keyword keyword.Reg) place ts = ranged_at limit (Regs place) ts
@@ -160,7 +160,7 @@ wire_at ts =
     then (terminal (symbol.Keyword keyword.Wire) ts >>= λ w. Ok (Some w.0, w.1))
     else Ok (None, ts)
 
--- an output, from behind its keyword (12.3.3)
+-- an output, from after its keyword (12.3.3)
 unfoldable pub output_at : ℕ → Reader Direction
 output_at place ts =
     if is_next (symbol.Keyword keyword.Reg) ts
@@ -186,7 +186,7 @@ declared_at ts = do
   name ← terminal symbol.Name range.1
   Ok (Declared direction.0 range.0 name.0, name.1)
 
--- a port behind another (12.3.3)
+-- a port after another (12.3.3)
 unfoldable pub port_at : Reader Port
 port_at ts =
     if is_next symbol.Name ts
@@ -212,7 +212,7 @@ parentheses_at ts = do
   closing ← terminal (symbol.Punctuator punctuator.RightParenthesis) ports.1
   Ok (Ports opening.0 ports.0 closing.0, closing.1)
 
--- what stands behind the name of a module (12.3.1)
+-- what stands after the name of a module (12.3.1)
 unfoldable pub header_at : Reader Header
 header_at ts =
     if is_next (symbol.Punctuator punctuator.LeftParenthesis) ts then parentheses_at ts else Ok (NoHeader, ts)

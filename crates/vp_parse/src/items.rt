@@ -153,7 +153,7 @@ fn connection<'a>(
     }
 }
 
-/// Further connections, each behind a comma, by name or by position.
+/// Further connections, each after a comma, by name or by position.
 fn further_connections<'a>(
     arena: &mut Arena,
     limit: u32,
@@ -203,7 +203,7 @@ fn connections<'a>(
 
 // ---- declarators
 
-/// The value of a name, from behind the name.
+/// The value of a name, from after the name.
 #[tactic(auto, unfolding(crate::specs::Placing::valued_into))]
 fn valued<'a>(
     arena: &mut Arena,
@@ -221,7 +221,7 @@ fn valued<'a>(
     value(&mut arena.parts, limit, rest)
 }
 
-/// The literal of a local parameter, from behind its name.
+/// The literal of a local parameter, from after its name.
 #[tactic(auto, unfolding(crate::specs::Placing::valued_into))]
 fn sized<'a>(arena: &mut Arena, symbols: &'a [Symbol]) -> Result<(u32, &'a [Symbol]), Stop>
     requires { weight arena.old symbols.now < 2 ^ 32 }
@@ -236,7 +236,7 @@ fn sized<'a>(arena: &mut Arena, symbols: &'a [Symbol]) -> Result<(u32, &'a [Symb
     Ok((found.place, found.rest))
 }
 
-/// A net, from behind its name, with a continuous assignment where it has a value.
+/// A net, from after its name, with a continuous assignment where it has a value.
 #[tactic(auto, unfolding(crate::specs::Placing::net_into))]
 fn net<'a>(
     arena: &mut Arena,
@@ -263,7 +263,7 @@ fn net<'a>(
     Ok(rest)
 }
 
-/// An instance of a module, from behind its name.
+/// An instance of a module, from after its name.
 #[tactic(auto, unfolding(crate::specs::Placing::instance_into))]
 fn instance<'a>(
     arena: &mut Arena,
@@ -293,7 +293,7 @@ fn instance<'a>(
     Ok(rest)
 }
 
-/// A declarator of a declaration, from behind its name.
+/// A declarator of a declaration, from after its name.
 #[tactic(auto, unfolding(crate::specs::Placing::declarator_by_into))]
 fn declarator_behind<'a>(
     arena: &mut Arena,
@@ -361,7 +361,7 @@ fn declarator<'a>(
     declarator_behind(arena, limit, declaration, name, rest)
 }
 
-/// Further declarators of a declaration, each behind a comma.
+/// Further declarators of a declaration, each after a comma.
 fn further_declarators<'a>(
     arena: &mut Arena,
     limit: u32,
@@ -428,7 +428,7 @@ fn declarators<'a>(
 
 // ---- items
 
-/// An `initial`, from behind its keyword, whose statements and expressions nest at most so deep.
+/// An `initial`, from after its keyword, whose statements and expressions nest at most so deep.
 #[tactic(auto, unfolding(crate::specs::Placing::procedure_into))]
 fn initial<'a>(
     arena: &mut Arena,
@@ -449,7 +449,7 @@ fn initial<'a>(
     Ok(rest)
 }
 
-/// An `always`, from behind its keyword, whose statements and expressions nest at most so deep.
+/// An `always`, from after its keyword, whose statements and expressions nest at most so deep.
 #[tactic(auto, unfolding(crate::specs::Placing::procedure_into))]
 fn always<'a>(
     arena: &mut Arena,

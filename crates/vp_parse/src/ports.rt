@@ -31,7 +31,7 @@ fn wire(symbols: &[Symbol]) -> Result<&[Symbol], Stop>
     }
 }
 
-/// An output, from behind its keyword.
+/// An output, from after its keyword.
 #[tactic(auto, unfolding(crate::specs::Placing::output_into))]
 fn output(symbols: &[Symbol]) -> Result<(Direction, &[Symbol]), Stop>
     ensures read { Gives (λ found. (found.0, found.1.now)) result (output_into symbols.now) }
@@ -84,7 +84,7 @@ fn port_type(symbols: &[Symbol]) -> Result<(PortType, &[Symbol]), Stop>
     Ok((PortType { direction, range }, rest))
 }
 
-/// The direction and the range of a port behind another: those of that one, where a name is next.
+/// The direction and the range of a port after another: those of that one, where a name is next.
 #[tactic(auto, unfolding(crate::specs::Placing::next_type_into))]
 fn next_type(before: PortType, symbols: &[Symbol]) -> Result<(PortType, &[Symbol]), Stop>
     ensures read { Gives (λ found. (type_shown found.0, found.1.now)) result
@@ -118,7 +118,7 @@ fn port<'a>(arena: &mut Arena, of: PortType, symbols: &'a [Symbol]) -> Result<&'
     Ok(rest)
 }
 
-/// Further ports, each behind a comma.
+/// Further ports, each after a comma.
 fn further_ports<'a>(
     arena: &mut Arena,
     first: PortType,
@@ -142,7 +142,7 @@ fn further_ports<'a>(
     Ok(rest)
 }
 
-/// The ports of a module, from behind their parenthesis, up to the other.
+/// The ports of a module, from after their parenthesis, up to the other.
 #[tactic(auto, unfolding(crate::specs::Placing::listed_into))]
 fn listed<'a>(arena: &mut Arena, symbols: &'a [Symbol]) -> Result<&'a [Symbol], Stop>
     requires { weight arena.old symbols.now < 2 ^ 32 }
@@ -178,7 +178,7 @@ fn parentheses<'a>(arena: &mut Arena, symbols: &'a [Symbol]) -> Result<&'a [Symb
     skip(SymbolKind::Punctuator(Punctuator::RightParenthesis), rest)
 }
 
-/// What stands behind the name of a module: its ports in parentheses, or nothing.
+/// What stands after the name of a module: its ports in parentheses, or nothing.
 #[tactic(auto, unfolding(crate::specs::Placing::header_into))]
 pub fn header<'a>(arena: &mut Arena, symbols: &'a [Symbol]) -> Result<&'a [Symbol], Stop>
     requires { weight arena.old symbols.now < 2 ^ 32 }

@@ -183,12 +183,12 @@ row_not_bare = refl
 
 -- ---- depth
 
--- so many terms `1` joined by +, behind the first
+-- so many terms `1` joined by +, after the first
 abbrev terms : ℕ → List SymbolKind
 terms zero = []
 terms (suc n) = sign punctuator.Plus ∷ number 1 ∷ terms n
 
--- the sum of so many more terms, each behind a left operand, from the place of its operator on
+-- the sum of so many more terms, each after a left operand, from the place of its operator on
 abbrev sum_of : ℕ → Expr → ℕ → Expr
 sum_of zero left place = left
 sum_of (suc n) left place = sum_of n (Binary binary.Add left place (Number (place + 1) 1)) (place + 2)

@@ -47,7 +47,7 @@ example =
     (Replication 2 3 2 4 (More (First (Name 5 Whole)) 6 (Name 7 (Bit 8 (Name 9 Whole) 10))) 11 12) 13
     (Group 14 (Binary binary.Add (Name 15 (Part (record { opening = 16; msb_place = 17; msb = 7; colon = 18; lsb_place = 19; lsb = 0; closing = 20 }))) 21 (Number 22 1)) 23)
 
--- the condition first; a concatenation and one more; the replication behind it; no part for parentheses; the whole last
+-- the condition first; a concatenation and one more; the replication after it; no part for parentheses; the whole last
 row_list : (put_expr example []).1
     ≡ node_of.Name 0 selection_of.Whole ∷ node_of.Name 5 selection_of.Whole ∷ node_of.Concatenation 4 1 ∷ node_of.Name 9 selection_of.Whole
     ∷ node_of.Name 7 (selection_of.Bit 3) ∷ node_of.Appended 4 2 4 ∷ node_of.Replication 2 2 5

@@ -21,7 +21,7 @@ pub record Stops (least : ℕ) (ts : List Symbol) : Type 0 where
   pub no_bracket : is_next (symbol.Punctuator punctuator.LeftBracket) ts ≡ false
   pub no_base : is_base_next ts ≡ false
 
--- these symbols begin with an expression, that nests at most so deep; its parts lie behind others in the list
+-- these symbols begin with an expression, that nests at most so deep; its parts lie after others in the list
 pub record IsExpressionOf (limit : ℕ) (nodes : List node.Expression) (ts : List Symbol) (x : Made) (e : Expr) : Type 0 where
   pub spelled : ts ≡ expr_text e x.3
   pub is : IsExpr e
@@ -36,7 +36,7 @@ pub record BeginsExpression (limit : ℕ) (ts : List Symbol) (e : Expr) (rest : 
   pub fits : expr_depth e ≤ limit
   pub stops : Stops 0 rest
 
--- these symbols begin with a selection, whose index nests at most so deep; its parts lie behind others in the list
+-- these symbols begin with a selection, whose index nests at most so deep; its parts lie after others in the list
 pub record IsSelectionOf (limit : ℕ) (nodes : List node.Expression) (ts : List Symbol) (x : MadeSelection) (s : Selection) : Type 0 where
   pub spelled : ts ≡ selection_text s x.3
   pub is : IsSelection s
@@ -57,7 +57,7 @@ pub record IsRangeOf (ts : List Symbol) (x : range.Range × List Symbol) (r : Ra
   pub is : IsRange r
   pub bounds : x.0 ≡ put_range r
 
--- these symbols begin with a literal with a size; it lies behind others in the list (3.5.1)
+-- these symbols begin with a literal with a size; it lies after others in the list (3.5.1)
 pub record IsLiteralOf (nodes : List node.Expression) (ts : List Symbol) (x : Made) (e : Expr) : Type 0 where
   pub spelled : ts ≡ expr_text e x.3
   pub is : IsExpr e

@@ -40,7 +40,7 @@ Selector = List node.Expression → List Symbol → Result MadeSelection Stop
 
 -- ---- ranges and literals
 
--- a number that is at most so great, by the kind of its symbol and from behind it (4.3.1)
+-- a number that is at most so great, by the kind of its symbol and from after it (4.3.1)
 unfoldable pub bound_by_into : (greatest : ℕ) → SymbolKind → List Symbol → Result (ℕ × List Symbol) Stop
 bound_by_into greatest (symbol.Number value) ts = if nat_le value greatest then Ok (value, ts) else Err (Unexpected (length ts + 1))
 bound_by_into greatest _ ts = Err (Unexpected (length ts + 1))
@@ -60,13 +60,13 @@ range_into ts = do
   rest ← behind (symbol.Punctuator punctuator.RightBracket) lsb.1
   Ok (record { msb = msb.0; lsb = lsb.0 }, rest)
 
--- a literal with a size, from behind its size (3.5.1)
+-- a literal with a size, from after its size (3.5.1)
 unfoldable pub sized_into : (size place : ℕ) → Placer
 sized_into size place nodes [] = Err (Unexpected 1)
 sized_into size place nodes (s ∷ ts) =
     if is_size_of size s.kind then Ok (made (node_of.Literal place size s.place) 1 nodes ts) else Err (Unexpected (length ts + 2))
 
--- a literal with a size, or a number, from behind its first symbol (3.5.1)
+-- a literal with a size, or a number, from after its first symbol (3.5.1)
 unfoldable pub number_into : (value place : ℕ) → Placer
 number_into value place nodes ts =
     if is_base_next ts
@@ -84,7 +84,7 @@ unfoldable pub literal_into : Placer
 literal_into nodes [] = refused []
 literal_into nodes (s ∷ ts) = literal_by_into s.kind s.place nodes ts
 
--- a literal without a size, from behind it (3.5.1)
+-- a literal without a size, from after it (3.5.1)
 unfoldable pub based_into : (digits : ℕ) → Placer
 based_into digits nodes ts = Ok (made (node_of.Based digits) 1 nodes ts)
 
@@ -113,20 +113,20 @@ select_into index nodes ts =
 
 -- ---- primaries
 
--- a name and what is selected of it, from behind the name (5.2.1)
+-- a name and what is selected of it, from after the name (5.2.1)
 unfoldable pub name_into : (ℕ → Placer) → ℕ → Placer
 name_into next place nodes ts = do
   selected ← select_into (next 0) nodes ts
   Ok (made (node_of.Name place selected.0) (selected.1 + 1) selected.2 selected.3)
 
--- an expression in parentheses, from behind the first (5.1.2)
+-- an expression in parentheses, from after the first (5.1.2)
 unfoldable pub group_into : (ℕ → Placer) → Placer
 group_into next nodes ts = do
   value ← next 0 nodes ts
   rest ← behind (symbol.Punctuator punctuator.RightParenthesis) value.3
   Ok (value.0, value.1 + 1, value.2, rest)
 
--- an operator, if there is one, and its only operand, from behind the operator (5.1)
+-- an operator, if there is one, and its only operand, from after the operator (5.1)
 unfoldable pub unary_into : (ℕ → Placer) → Option UnaryOperator → ℕ → Placer
 unary_into next None place nodes ts = Err (Unexpected (length ts + 1))
 unary_into next (Some o) place nodes ts = next 11 nodes ts >>= λ e. Ok (made (node_of.Unary o place e.0) (e.1 + 1) e.2 e.3)
@@ -161,14 +161,14 @@ unfoldable pub parts_into : (ℕ → Placer) → (opening : ℕ) → Placer
 parts_into next opening nodes ts =
     first_part_into next opening nodes ts >>= λ p. further_parts_into next (length p.3) opening p.0 p.1 p.2 p.3
 
--- a concatenation, from behind its brace (5.1.14)
+-- a concatenation, from after its brace (5.1.14)
 unfoldable pub concatenation_into : (ℕ → Placer) → (opening : ℕ) → Placer
 concatenation_into next opening nodes ts = do
   parts ← parts_into next opening nodes ts
   rest ← behind (symbol.Punctuator punctuator.RightBrace) parts.3
   Ok (parts.0, parts.1 + 1, parts.2, rest)
 
--- a replication, from behind its brace (5.1.14)
+-- a replication, from after its brace (5.1.14)
 unfoldable pub replication_into : (ℕ → Placer) → (opening : ℕ) → Placer
 replication_into next opening nodes ts = do
   count ← bound_into (NUMBER_LIMIT - 1) ts
@@ -177,14 +177,14 @@ replication_into next opening nodes ts = do
   rest ← behind (symbol.Punctuator punctuator.RightBrace) list.3
   Ok (made (node_of.Replication opening count.0 list.0) list.1 list.2 rest)
 
--- a concatenation or a replication, from behind its brace (5.1.14)
+-- a concatenation or a replication, from after its brace (5.1.14)
 unfoldable pub braces_into : (ℕ → Placer) → (opening : ℕ) → Placer
 braces_into next opening nodes ts =
     if is_number_before (symbol.Punctuator punctuator.LeftBrace) ts
     then replication_into next opening nodes ts
     else concatenation_into next opening nodes ts
 
--- an operand, from behind its first symbol, by that symbol's kind and place (5.1, 5.2)
+-- an operand, from after its first symbol, by that symbol's kind and place (5.1, 5.2)
 unfoldable pub operand_by_into : (ℕ → Placer) → SymbolKind → ℕ → Placer
 operand_by_into next symbol.Name place nodes ts = name_into next place nodes ts
 operand_by_into next (symbol.Number value) place nodes ts = number_into value place nodes ts
@@ -201,7 +201,7 @@ operand_into next nodes (s ∷ ts) = operand_by_into next s.kind s.place nodes t
 
 -- ---- operators of two operands, and ?:
 
--- an operator and its right operand behind the left one, which nests at most so deep (5.1)
+-- an operator and its right operand after the left one, which nests at most so deep (5.1)
 unfoldable pub binary_into : (ℕ → Placer) → (limit : ℕ) → BinaryOperator → (left depth : ℕ) → Placer
 binary_into next limit o left depth nodes [] = refused []
 binary_into next limit o left depth nodes (s ∷ ts) =
@@ -217,7 +217,7 @@ more_into next limit (suc m) least left depth nodes ts =
     (λ o. binary_into next limit o left depth nodes ts >>= λ e. more_into next limit m least e.0 e.1 e.2 e.3)
     (Ok (left, depth, nodes, ts))
 
--- ?: and its arms behind its condition, which nests at most so deep (5.1.13)
+-- ?: and its arms after its condition, which nests at most so deep (5.1.13)
 unfoldable pub conditional_into : (ℕ → Placer) → (limit condition depth : ℕ) → Placer
 conditional_into next limit condition depth nodes ts =
     if nat_le depth limit
@@ -231,7 +231,7 @@ unfoldable pub choice_into : (ℕ → Placer) → (limit least condition depth :
 choice_into next limit least condition depth nodes ts =
     if is_choice least ts then conditional_into next limit condition depth nodes ts else Ok (condition, depth, nodes, ts)
 
--- an operand, the operators behind it, and ?: behind them (5.1.2)
+-- an operand, the operators after it, and ?: after them (5.1.2)
 unfoldable pub chain_into : (ℕ → Placer) → (limit least : ℕ) → Placer
 chain_into next limit least nodes ts = do
   first ← operand_into next nodes ts

@@ -41,19 +41,19 @@ abbrev pub is_number_before : SymbolKind → List Symbol → Bool
 is_number_before kind [] = false
 is_number_before kind (s ∷ ts) = is_number s.kind && is_next kind ts
 
--- behind a bracket a part is selected: a number and a colon are next (5.2.1)
+-- after a bracket a part is selected: a number and a colon are next (5.2.1)
 abbrev pub is_part : List Symbol → Bool
 is_part [] = false
 is_part (s ∷ ts) = is_number_before (symbol.Punctuator punctuator.Colon) ts
 
--- between these and those left behind them stands one symbol, a literal without a size or a number
+-- between these and those left after them stands one symbol, a literal without a size or a number
 abbrev pub is_bare : (ts rest : List Symbol) → Bool
 is_bare [] rest = false
 is_bare (s ∷ ts) rest = is_alone s.kind && (length ts == length rest)
 
 -- ---- ranges
 
--- a bound of a range that is at most so great, and its place, from behind the symbol before it (4.3.1)
+-- a bound of a range that is at most so great, and its place, from after the symbol before it (4.3.1)
 unfoldable pub bound_by : (greatest : ℕ) → SymbolKind → ℕ → List Symbol → Result (ℕ × ℕ × List Symbol) Stop
 bound_by greatest (symbol.Number value) place ts =
     if nat_le value greatest then Ok (value, place, ts) else Err (Unexpected (length ts + 1))
@@ -87,17 +87,17 @@ range_at ts = do
 
 -- ---- literals
 
--- a size has 1 to 65,535 bits, and a symbol of this kind may stand behind it (3.5.1, profile)
+-- a size has 1 to 65,535 bits, and a symbol of this kind may stand after it (3.5.1, profile)
 abbrev pub is_size_of : ℕ → SymbolKind → Bool
 is_size_of size kind = is_sized_base kind && (nat_le 1 size && nat_le size 65535)
 
--- a literal with a size, from behind its size (3.5.1)
+-- a literal with a size, from after its size (3.5.1)
 unfoldable pub sized_at : (size place : ℕ) → Reader Expr
 sized_at size place [] = Err (Unexpected 1)
 sized_at size place (s ∷ ts) =
     if is_size_of size s.kind then Ok (Sized place size s.kind s.place, ts) else Err (Unexpected (length ts + 2))
 
--- a literal with a size, or a number, from behind its first symbol (3.5.1, profile)
+-- a literal with a size, or a number, from after its first symbol (3.5.1, profile)
 unfoldable pub number_at : (value place : ℕ) → Reader Expr
 number_at value place ts =
     if is_base_next ts
@@ -139,20 +139,20 @@ select_at index ts =
 
 -- ---- primaries
 
--- a name and what is selected of it, from behind the name (5.2.1)
+-- a name and what is selected of it, from after the name (5.2.1)
 unfoldable pub name_at : (ℕ → Reader Expr) → ℕ → Reader Expr
 name_at next place ts = do
   selection ← select_at (next 0) ts
   Ok (Name place selection.0, selection.1)
 
--- an expression in parentheses, from behind the first (5.1.2)
+-- an expression in parentheses, from after the first (5.1.2)
 unfoldable pub group_at : (ℕ → Reader Expr) → ℕ → Reader Expr
 group_at next opening ts = do
   value ← next 0 ts
   closing ← terminal (symbol.Punctuator punctuator.RightParenthesis) value.1
   Ok (Group opening value.0 closing.0, closing.1)
 
--- an operator, if there is one, and its only operand, from behind the operator (5.1)
+-- an operator, if there is one, and its only operand, from after the operator (5.1)
 unfoldable pub unary_at : (ℕ → Reader Expr) → Option UnaryOperator → ℕ → Reader Expr
 unary_at next None place ts = Err (Unexpected (length ts + 1))
 unary_at next (Some o) place ts = next 11 ts >>= λ e. Ok (Unary o place e.0, e.1)
@@ -180,14 +180,14 @@ further_parts_at next (suc m) l ts =
 unfoldable pub parts_at : (ℕ → Reader Expr) → Reader Parts
 parts_at next ts = part_at next ts >>= λ e. further_parts_at next (length e.1) (First e.0) e.1
 
--- a concatenation, from behind its brace (5.1.14)
+-- a concatenation, from after its brace (5.1.14)
 unfoldable pub concatenation_at : (ℕ → Reader Expr) → ℕ → Reader Expr
 concatenation_at next opening ts = do
   parts ← parts_at next ts
   closing ← terminal (symbol.Punctuator punctuator.RightBrace) parts.1
   Ok (Concatenation opening parts.0 closing.0, closing.1)
 
--- a replication, from behind its brace (5.1.14)
+-- a replication, from after its brace (5.1.14)
 unfoldable pub replication_at : (ℕ → Reader Expr) → ℕ → Reader Expr
 replication_at next opening ts = do
   count ← bound_at (NUMBER_LIMIT - 1) ts
@@ -197,12 +197,12 @@ replication_at next opening ts = do
   closing ← terminal (symbol.Punctuator punctuator.RightBrace) inner_closing.1
   Ok (Replication opening count.1 count.0 inner.0 parts.0 inner_closing.0 closing.0, closing.1)
 
--- a concatenation or a replication, from behind its brace (5.1.14)
+-- a concatenation or a replication, from after its brace (5.1.14)
 unfoldable pub braces_at : (ℕ → Reader Expr) → ℕ → Reader Expr
 braces_at next opening ts =
     if is_number_before (symbol.Punctuator punctuator.LeftBrace) ts then replication_at next opening ts else concatenation_at next opening ts
 
--- an operand, from behind its first symbol, by that symbol's kind and place (5.1, 5.2)
+-- an operand, from after its first symbol, by that symbol's kind and place (5.1, 5.2)
 unfoldable pub operand_by : (ℕ → Reader Expr) → SymbolKind → ℕ → Reader Expr
 operand_by next symbol.Name place ts = name_at next place ts
 operand_by next (symbol.Number value) place ts = number_at value place ts
@@ -224,7 +224,7 @@ abbrev pub on_operator : {A : Type 0} → Option BinaryOperator → (BinaryOpera
 on_operator None f otherwise = otherwise
 on_operator (Some o) f otherwise = f o
 
--- an operator and its right operand behind the left one, which nests at most so deep (5.1)
+-- an operator and its right operand after the left one, which nests at most so deep (5.1)
 unfoldable pub binary_at : (ℕ → Reader Expr) → (limit : ℕ) → BinaryOperator → Expr → Reader Expr
 binary_at next limit o left [] = refused []
 binary_at next limit o left (s ∷ ts) =
@@ -238,7 +238,7 @@ more_at next limit zero least left ts = Ok (left, ts)
 more_at next limit (suc m) least left ts =
     on_operator (binds least ts) (λ o. binary_at next limit o left ts >>= λ e. more_at next limit m least e.0 e.1) (Ok (left, ts))
 
--- ?: and its arms behind its condition, which nests at most so deep (5.1.13)
+-- ?: and its arms after its condition, which nests at most so deep (5.1.13)
 unfoldable pub conditional_at : (ℕ → Reader Expr) → (limit : ℕ) → Expr → Reader Expr
 conditional_at next limit condition ts =
     if nat_le (expr_depth condition) limit
@@ -255,7 +255,7 @@ unfoldable pub choice_at : (ℕ → Reader Expr) → (limit least : ℕ) → Exp
 choice_at next limit least condition ts =
     if is_choice least ts then conditional_at next limit condition ts else Ok (condition, ts)
 
--- an operand, the operators behind it, and ?: behind them (5.1.2)
+-- an operand, the operators after it, and ?: after them (5.1.2)
 unfoldable pub chain_at : (ℕ → Reader Expr) → (limit least : ℕ) → Reader Expr
 chain_at next limit least ts = do
   first ← operand_at next ts

@@ -40,7 +40,7 @@ unfoldable pub terminal : SymbolKind → Reader ℕ
 terminal kind [] = refused []
 terminal kind (s ∷ ts) = if same_kind kind s.kind then Ok (s.place, ts) else refused (s ∷ ts)
 
--- what is left behind the next symbol, which is of this kind
+-- what is left after the next symbol, which is of this kind
 unfoldable pub behind : SymbolKind → List Symbol → Result (List Symbol) Stop
 behind kind [] = refused []
 behind kind (s ∷ ts) = if same_kind kind s.kind then Ok ts else refused (s ∷ ts)

@@ -61,7 +61,7 @@ has_unknown digits = list_any is_any_digit digits
 abbrev pub unknown_kind : ℕ → SymbolKind
 unknown_kind radix = if radix == 10 then symbol.OtherBase else symbol.Base
 
--- what the grammar sees of digits that are all known: a value of more than 32 bits stands behind a size alone (profile)
+-- what the grammar sees of digits that are all known: a value of more than 32 bits stands after a size alone (profile)
 abbrev pub known_kind : ℕ → List ℕ → SymbolKind
 known_kind radix digits = if nat_lt (base_value radix digits) VALUE_LIMIT then symbol.ShortBase else symbol.Base
 
@@ -69,7 +69,7 @@ known_kind radix digits = if nat_lt (base_value radix digits) VALUE_LIMIT then s
 abbrev pub digits_kind : ℕ → List ℕ → SymbolKind
 digits_kind radix digits = if has_unknown digits then unknown_kind radix else known_kind radix digits
 
--- what the grammar sees of a base part: behind its apostrophe a letter names its base, or makes it signed, which is left
+-- what the grammar sees of a base part: after its apostrophe a letter names its base, or makes it signed, which is left
 -- out (3.5.1, profile)
 abbrev pub base_kind : List ℕ → SymbolKind
 base_kind (apostrophe ∷ letter ∷ digits) = option_map_or (λ radix. digits_kind radix digits) (radix_of letter) symbol.OtherBase

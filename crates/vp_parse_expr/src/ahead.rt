@@ -65,7 +65,7 @@ pub fn is_number_before(kind: SymbolKind, symbols: &[Symbol]) -> bool
     }
 }
 
-/// From a bracket on, a part is selected: a number and a colon stand behind it.
+/// From a bracket on, a part is selected: a number and a colon stand after it.
 pub fn is_part(symbols: &[Symbol]) -> bool
     ensures { result ≡ part_is_next symbols.now }
 {
@@ -128,7 +128,7 @@ fn is_sign(kind: SymbolKind) -> bool {
     )
 }
 
-/// With so many symbols left a colon is next, behind `+` or `-`.
+/// With so many symbols left a colon is next, after `+` or `-`.
 fn is_indexed_part(symbols: &[Symbol], left: usize) -> bool {
     let behind = symbols.len().saturating_sub(left);
     match symbols.get(behind.saturating_sub(1)..) {

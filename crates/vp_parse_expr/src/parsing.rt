@@ -38,7 +38,7 @@ pub struct Selected<'a> {
     pub rest: &'a [Symbol],
 }
 
-/// One more part behind the others: its place, how deep it nests, and what follows.
+/// One more part after the others: its place, how deep it nests, and what follows.
 fn add_node<'a>(
     expressions: &mut Vec<Expression>,
     node: Expression,
@@ -62,7 +62,7 @@ fn add_node<'a>(
 
 // ---- literals
 
-/// A literal with a size, from behind its size.
+/// A literal with a size, from after its size.
 #[tactic(auto, unfolding(crate::specs::Placing::sized_into))]
 fn sized<'a>(
     expressions: &mut Vec<Expression>,
@@ -95,7 +95,7 @@ fn sized<'a>(
     }
 }
 
-/// A literal with a size, or a number, from behind its first symbol. Left out are sizes of 0 and above 65,535, and
+/// A literal with a size, or a number, from after its first symbol. Left out are sizes of 0 and above 65,535, and
 /// numbers of 2^31 and more (3.5.1).
 #[tactic(auto, unfolding(crate::specs::Placing::number_into))]
 fn number<'a>(
@@ -125,7 +125,7 @@ fn number<'a>(
     add_node(expressions, Expression::Number { place, value }, 1, symbols)
 }
 
-/// A literal with a size, behind the parts that were there.
+/// A literal with a size, after the parts that were there.
 #[tactic(auto, unfolding(crate::specs::Placing::literal_into, crate::specs::Placing::literal_by_into))]
 fn literal_at<'a>(
     expressions: &mut Vec<Expression>,
@@ -150,7 +150,7 @@ fn literal_at<'a>(
     }
 }
 
-/// The literal with a size with which symbols begin, laid out behind the parts that were there. Left out are sizes of 0 and
+/// The literal with a size with which symbols begin, laid out after the parts that were there. Left out are sizes of 0 and
 /// above 65,535 (3.5.1).
 pub fn literal<'a>(
     expressions: &mut Vec<Expression>,
@@ -205,7 +205,7 @@ fn bit<'a>(
     })
 }
 
-/// What is selected of a named object, from behind its name: nothing, or what brackets say.
+/// What is selected of a named object, from after its name: nothing, or what brackets say.
 #[cycle(expression)]
 #[tactic(auto, unfolding(crate::specs::Placing::select_into, crate::specs::Placing::part_select_into))]
 fn select<'a>(
@@ -245,7 +245,7 @@ fn select<'a>(
 
 // ---- primaries
 
-/// A name and what is selected of it, from behind the name.
+/// A name and what is selected of it, from after the name.
 #[cycle(expression)]
 #[tactic(auto, unfolding(crate::specs::Placing::name_into))]
 fn named<'a>(
@@ -276,7 +276,7 @@ fn named<'a>(
     add_node(expressions, node, found.depth + 1, found.rest)
 }
 
-/// An expression in parentheses, from behind the first.
+/// An expression in parentheses, from after the first.
 #[cycle(expression)]
 #[tactic(auto, unfolding(crate::specs::Placing::group_into))]
 fn group<'a>(
@@ -309,7 +309,7 @@ fn group<'a>(
     })
 }
 
-/// An operator of one operand, from behind its sign.
+/// An operator of one operand, from after its sign.
 #[cycle(expression)]
 #[tactic(auto, unfolding(crate::specs::Placing::unary_into))]
 fn unary<'a>(
@@ -459,7 +459,7 @@ fn parts<'a>(
     further_parts(expressions, depth, brace, first)
 }
 
-/// The further expressions in braces, each behind a comma.
+/// The further expressions in braces, each after a comma.
 #[cycle(expression)]
 fn further_parts<'a>(
     expressions: &mut Vec<Expression>,
@@ -488,7 +488,7 @@ fn further_parts<'a>(
     Ok(list)
 }
 
-/// A concatenation, from behind its brace (5.1.14).
+/// A concatenation, from after its brace (5.1.14).
 #[cycle(expression)]
 #[tactic(auto, unfolding(crate::specs::Placing::concatenation_into))]
 fn concatenation<'a>(
@@ -520,7 +520,7 @@ fn concatenation<'a>(
     })
 }
 
-/// A replication, from behind its brace; a count of 2^31 and more is left out (5.1.14).
+/// A replication, from after its brace; a count of 2^31 and more is left out (5.1.14).
 #[cycle(expression)]
 #[tactic(auto, unfolding(crate::specs::Placing::replication_into))]
 fn replication<'a>(
@@ -555,7 +555,7 @@ fn replication<'a>(
     add_node(expressions, node, list.depth, rest)
 }
 
-/// A concatenation or a replication, from behind its brace.
+/// A concatenation or a replication, from after its brace.
 #[cycle(expression)]
 #[tactic(auto, unfolding(crate::specs::Placing::braces_into))]
 fn braces<'a>(
@@ -648,7 +648,7 @@ fn operand<'a>(
 
 // ---- operators of two operands, and `?:`
 
-/// An operator and its right operand, behind its left one, which nests at most so deep.
+/// An operator and its right operand, after its left one, which nests at most so deep.
 #[cycle(expression)]
 #[tactic(auto, unfolding(crate::specs::Placing::binary_into))]
 fn binary<'a>(
@@ -718,7 +718,7 @@ fn more<'a>(
     Ok(left)
 }
 
-/// `?:` and its arms, behind its condition, which nests at most so deep.
+/// `?:` and its arms, after its condition, which nests at most so deep.
 #[cycle(expression)]
 #[tactic(auto, unfolding(crate::specs::Placing::conditional_into))]
 fn conditional<'a>(
@@ -759,7 +759,7 @@ fn conditional<'a>(
     add_node(expressions, node, nesting, second.rest)
 }
 
-/// An operand, the operators behind it, and `?:` behind them.
+/// An operand, the operators after it, and `?:` after them.
 #[cycle(expression)]
 #[tactic(auto, unfolding(crate::specs::Placing::chain_into, crate::specs::Placing::choice_into))]
 fn chain<'a>(
@@ -846,7 +846,7 @@ pub fn expression<'a>(
     expression_at(expressions, depth, 0, symbols)
 }
 
-/// What is selected of a named object, from behind its name: nothing, or what brackets say. An index nests at most
+/// What is selected of a named object, from after its name: nothing, or what brackets say. An index nests at most
 /// so deep (5.2.1).
 pub fn selection<'a>(
     expressions: &mut Vec<Expression>,

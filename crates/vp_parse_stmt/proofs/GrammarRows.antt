@@ -59,18 +59,18 @@ nearest_if : read_kinds (word keyword.If ∷ opening ∷ name ∷ closing ∷ wo
 unfolding read_kinds
 nearest_if = refl
 
--- a number and then a literal without a size behind a nonblocking assignment's # (9.2.2)
+-- a number and then a literal without a size after a nonblocking assignment's # (9.2.2)
 held_back : read_kinds (name ∷ sign punctuator.LessOrEqual ∷ sign punctuator.Hash ∷ symbol.Number 0 ∷ symbol.ShortBase ∷ semicolon ∷ [])
     ≡ Ok (grammar.Nonblocking 0 Whole 1 (grammar.Later 2 (grammar.Plain 0 3)) (Based 4) 5, [])
 unfolding read_kinds
 held_back = refl
 
--- a number in parentheses behind a # (9.7.1)
+-- a number in parentheses after a # (9.7.1)
 grouped_delay : read_kinds (sign punctuator.Hash ∷ opening ∷ symbol.Number 5 ∷ closing ∷ semicolon ∷ []) ≡ Ok (grammar.Delayed 0 (grammar.Grouped 1 5 2 3) (grammar.Null 4), [])
 unfolding read_kinds
 grouped_delay = refl
 
--- a name behind a # (profile)
+-- a name after a # (profile)
 named_delay : read_kinds (sign punctuator.Hash ∷ name ∷ semicolon ∷ []) ≡ Err (Unexpected 2)
 unfolding read_kinds
 named_delay = refl
@@ -118,7 +118,7 @@ too_deep : read_kinds (word keyword.Forever ∷ word keyword.Forever ∷ word ke
 unfolding read_kinds
 too_deep = refl
 
--- the loop of a for behind its step and its body, and the whole behind the loop
+-- the loop of a for after its step and its body, and the whole after the loop
 loop_before_whole : (put_stmt (grammar.For 0 1 2 Whole 3 (at 4) 5 (at 6) 7 8 Whole 9 (at 10) 11 (grammar.Null 12)) no_parts).1.statements
     ≡ statement_of.Assign 2 selection_of.Whole 0 ∷ statement_of.Assign 8 selection_of.Whole 2 ∷ statement_of.Null ∷ statement_of.While 1 2 (Some 1) ∷ statement_of.For 0 3 ∷ []
 loop_before_whole = refl
@@ -139,7 +139,7 @@ two_items = grammar.More (grammar.Default 4 grammar.Unmarked (grammar.Null 5)) (
 choices_in_order : (put_stmt (grammar.Case grammar.Wild 0 1 (at 2) 3 two_items 11) no_parts).1.choices ≡ otherwise 0 ∷ by_label 1 1 ∷ by_label 2 1 ∷ []
 choices_in_order = refl
 
--- a case behind the statements of its items, with all its choices
+-- a case after the statements of its items, with all its choices
 case_behind_items : (put_stmt (grammar.Case grammar.Wild 0 1 (at 2) 3 two_items 11) no_parts).1.statements
     ≡ statement_of.Null ∷ statement_of.Null ∷ statement_of.Case true 0 (record { first = 0; end = 3 }) ∷ []
 case_behind_items = refl

@@ -19,7 +19,7 @@ Follows (For for_place opening target selection equals value first_semicolon con
 Follows (Awaited at_place event body) rest = Follows body rest
 Follows _ rest = Unit {0}
 
--- these symbols begin with an expression, that nests at most so deep; its parts lie behind others in the lists
+-- these symbols begin with an expression, that nests at most so deep; its parts lie after others in the lists
 pub record IsValueOf (limit : ℕ) (lists : Lists) (ts : List Symbol) (x : Made) (e : Expr) : Type 0 where
   pub spelled : ts ≡ expr_text e x.2
   pub is : IsExpr e
@@ -35,7 +35,7 @@ pub record BeginsStatement (limit depth : ℕ) (ts : List Symbol) (s : Stmt) (re
   pub fits : stmt_depth s ≤ depth
   pub follows : Follows s rest
 
--- these symbols begin with such a statement; its parts lie behind others in the lists
+-- these symbols begin with such a statement; its parts lie after others in the lists
 pub record IsStatementOf (limit depth : ℕ) (lists : Lists) (ts : List Symbol) (x : Made) (s : Stmt) : Type 0 where
   pub begins : BeginsStatement limit depth ts s x.2
   pub placed : (x.0, x.1) ≡ put_stmt s lists

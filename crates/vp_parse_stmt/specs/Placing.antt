@@ -62,7 +62,7 @@ grouped_delay_into ts = do
   rest ← behind (symbol.Punctuator punctuator.RightParenthesis) amount.1
   Ok (amount.0, rest)
 
--- a delay, from behind its # (9.7.1)
+-- a delay, from after its # (9.7.1)
 unfoldable pub delay_into : List Symbol → Result (ℕ × List Symbol) Stop
 delay_into ts = if is_next (symbol.Punctuator punctuator.LeftParenthesis) ts then grouped_delay_into ts else amount_into ts
 
@@ -79,21 +79,21 @@ hold_into ts = if is_next (symbol.Punctuator punctuator.Hash) ts then later_into
 
 -- ---- assignments
 
--- what a target is to have, from behind what is selected of it, by an expression that nests at most so deep (9.2.1)
+-- what a target is to have, from after what is selected of it, by an expression that nests at most so deep (9.2.1)
 unfoldable pub blocking_into : (limit target : ℕ) → selection.Selection → Placer
 blocking_into limit target selected lists ts = do
   rest ← behind (symbol.Punctuator punctuator.Equals) ts
   value ← value_into limit lists rest
   Ok (made_statement (statement_of.Assign target selected value.0) value.1 value.2)
 
--- a blocking assignment, from behind what is selected of its target (9.2.1)
+-- a blocking assignment, from after what is selected of its target (9.2.1)
 unfoldable pub assign_into : (limit target : ℕ) → selection.Selection → Placer
 assign_into limit target selected lists ts = do
   blocking ← blocking_into limit target selected lists ts
   rest ← behind (symbol.Punctuator punctuator.Semicolon) blocking.2
   Ok (blocking.0, blocking.1, rest)
 
--- a nonblocking assignment, from behind what is selected of its target, by an expression that nests at most so deep (9.2.2)
+-- a nonblocking assignment, from after what is selected of its target, by an expression that nests at most so deep (9.2.2)
 unfoldable pub nonblocking_into : (limit target : ℕ) → selection.Selection → Placer
 nonblocking_into limit target selected lists ts = do
   rest ← behind (symbol.Punctuator punctuator.LessOrEqual) ts
@@ -102,11 +102,11 @@ nonblocking_into limit target selected lists ts = do
   rest ← behind (symbol.Punctuator punctuator.Semicolon) value.2
   Ok (made_statement (statement_of.Nonblocking target selected value.0 hold.0) value.1 rest)
 
--- an assignment, from behind what is selected of its target (9.2)
+-- an assignment, from after what is selected of its target (9.2)
 unfoldable pub set_into : (limit target : ℕ) → selection.Selection → Placer
 set_into limit target selected lists ts = if is_arrow ts then nonblocking_into limit target selected lists ts else assign_into limit target selected lists ts
 
--- an assignment, from behind the name of its target, with expressions that nest at most so deep (9.2)
+-- an assignment, from after the name of its target, with expressions that nest at most so deep (9.2)
 unfoldable pub assignment_into : (limit target : ℕ) → Placer
 assignment_into limit target lists ts = do
   selected ← selection_into (limit - 1) lists.expressions ts
@@ -126,7 +126,7 @@ chain_into next (suc m) chain lists ts =
 unfoldable pub stmts_into : Placer → Placer
 stmts_into next lists ts = chain_into next (length ts) (length lists.statements) (record lists { statements = lists.statements ++ statement_of.Empty ∷ [] }) ts
 
--- a block, from behind its begin (9.8.1)
+-- a block, from after its begin (9.8.1)
 unfoldable pub block_into : Placer → Placer
 block_into next lists ts = do
   body ← stmts_into next lists ts
@@ -149,7 +149,7 @@ term_into ts =
     then edged_into edge_of.Posedge (symbol.Keyword keyword.Posedge) ts
     else (if is_next (symbol.Keyword keyword.Negedge) ts then edged_into edge_of.Negedge (symbol.Keyword keyword.Negedge) ts else (terminal symbol.Name ts >>= λ name. Ok (record { edge = edge_of.Any; name = name.0 }, name.1)))
 
--- what is left behind what stands between terms (9.7.4)
+-- what is left after what stands between terms (9.7.4)
 unfoldable pub separator_into : List Symbol → Result (List Symbol) Stop
 separator_into ts =
     if is_next (symbol.Punctuator punctuator.Comma) ts
@@ -167,7 +167,7 @@ joined_into terms ts = do
   term ← term_into rest
   Ok (terms ++ term.0 ∷ [], term.1)
 
--- the terms behind a first one; a number bounds how many (9.7.4)
+-- the terms after a first one; a number bounds how many (9.7.4)
 unfoldable pub further_terms_into : ℕ → List term.EventTerm → List Symbol → Result MadeTerms Stop
 further_terms_into zero terms ts = Ok (terms, ts)
 further_terms_into (suc m) terms ts =
@@ -183,25 +183,25 @@ terms_into terms ts = do
 abbrev pub MadeEvent : Type 0
 MadeEvent = Option span.Span × List term.EventTerm × List Symbol
 
--- terms behind others, and where they lie
+-- terms after others, and where they lie
 abbrev pub made_event : List term.EventTerm → List term.EventTerm → List Symbol → MadeEvent
 made_event terms after ts = (Some (record { first = length terms; end = length after }), after, ts)
 
--- terms, from behind the parenthesis before them (9.7.4)
+-- terms, from after the parenthesis before them (9.7.4)
 unfoldable pub terms_event_into : List term.EventTerm → List Symbol → Result MadeEvent Stop
 terms_event_into terms ts = do
   after ← terms_into terms ts
   rest ← behind (symbol.Punctuator punctuator.RightParenthesis) after.1
   Ok (made_event terms after.0 rest)
 
--- a star, from behind the parenthesis before it (9.7.5)
+-- a star, from after the parenthesis before it (9.7.5)
 unfoldable pub star_event_into : List term.EventTerm → List Symbol → Result MadeEvent Stop
 star_event_into terms ts = do
   rest ← behind (symbol.Punctuator punctuator.Asterisk) ts
   rest ← behind (symbol.Punctuator punctuator.RightParenthesis) rest
   Ok (None, terms, rest)
 
--- an event, from behind its first symbol, by that symbol's kind and place (9.7.2 to 9.7.5)
+-- an event, from after its first symbol, by that symbol's kind and place (9.7.2 to 9.7.5)
 unfoldable pub event_by_into : SymbolKind → ℕ → List term.EventTerm → List Symbol → Result MadeEvent Stop
 event_by_into symbol.Name place terms ts = Ok (made_event terms (terms ++ record { edge = edge_of.Any; name = place } ∷ []) ts)
 event_by_into (symbol.Punctuator punctuator.Asterisk) place terms ts = Ok (None, terms, ts)
@@ -216,14 +216,14 @@ event_into terms (s ∷ ts) = event_by_into s.kind s.place terms ts
 
 -- ---- statements in others
 
--- a statement behind an event, from behind its @ (9.7.2 to 9.7.5)
+-- a statement after an event, from after its @ (9.7.2 to 9.7.5)
 unfoldable pub awaited_into : Placer → Placer
 awaited_into next lists ts = do
   event ← event_into lists.terms ts
   body ← next (record lists { terms = event.1 }) event.2
   Ok (made_statement (awaited event.0 body.0) body.1 body.2)
 
--- a statement behind a delay, from behind its # (9.7.1)
+-- a statement after a delay, from after its # (9.7.1)
 unfoldable pub delayed_into : Placer → Placer
 delayed_into next lists ts = do
   delay ← delay_into ts
@@ -249,19 +249,19 @@ guarded_into limit next lists ts = do
   body ← next condition.1 condition.2
   Ok (condition.0, body.0, body.1, body.2)
 
--- a wait, from behind its keyword (9.7.6)
+-- a wait, from after its keyword (9.7.6)
 unfoldable pub wait_into : (limit : ℕ) → Placer → Placer
 wait_into limit next lists ts = do
   guarded ← guarded_into limit next lists ts
   Ok (made_statement (statement_of.Wait guarded.0 guarded.1) guarded.2 guarded.3)
 
--- a while, from behind its keyword (9.6)
+-- a while, from after its keyword (9.6)
 unfoldable pub while_into : (limit : ℕ) → Placer → Placer
 while_into limit next lists ts = do
   guarded ← guarded_into limit next lists ts
   Ok (made_statement (statement_of.While guarded.0 guarded.1 None) guarded.2 guarded.3)
 
--- a forever, from behind its keyword (9.6)
+-- a forever, from after its keyword (9.6)
 unfoldable pub forever_into : Placer → Placer
 forever_into next lists ts = do
   body ← next lists ts
@@ -279,7 +279,7 @@ unfoldable pub else_into : Placer → (condition first : ℕ) → Placer
 else_into next condition first lists ts =
     if is_else ts then second_into next condition first lists ts else Ok (made_statement (statement_of.If condition first None) lists ts)
 
--- an if, from behind its keyword (9.4)
+-- an if, from after its keyword (9.4)
 unfoldable pub if_into : (limit : ℕ) → Placer → Placer
 if_into limit next lists ts = do
   first ← guarded_into limit next lists ts
@@ -308,12 +308,12 @@ heading_into limit lists ts = do
   rest ← behind (symbol.Punctuator punctuator.RightParenthesis) step.2
   Ok (start.0, condition.0, step.0, step.1, rest)
 
--- a loop whose turns end with a step, and behind it the whole of a start and the loop (9.6)
+-- a loop whose turns end with a step, and after it the whole of a start and the loop (9.6)
 abbrev pub made_for : (start condition step body : ℕ) → Lists → List Symbol → Made
 made_for start condition step body lists ts =
     let w = with_statement (statement_of.While condition body (Some step)) lists in made_statement (statement_of.For start w.0) w.1 ts
 
--- a for, from behind its keyword (9.6)
+-- a for, from after its keyword (9.6)
 unfoldable pub for_into : (limit : ℕ) → Placer → Placer
 for_into limit next lists ts = do
   heading ← heading_into limit lists ts
@@ -322,18 +322,18 @@ for_into limit next lists ts = do
 
 -- ---- the end of a simulation
 
--- what is left behind an argument (17.4.1)
+-- what is left after an argument (17.4.1)
 unfoldable pub given_into : List Symbol → Result (List Symbol) Stop
 given_into ts = do
   rest ← behind (symbol.Punctuator punctuator.LeftParenthesis) ts
   number ← amount_into rest
   behind (symbol.Punctuator punctuator.RightParenthesis) number.1
 
--- what is left behind an argument, if it is next (17.4.1)
+-- what is left after an argument, if it is next (17.4.1)
 unfoldable pub argument_into : List Symbol → Result (List Symbol) Stop
 argument_into ts = if is_next (symbol.Punctuator punctuator.LeftParenthesis) ts then given_into ts else Ok ts
 
--- the end of a simulation, from behind its name (17.4.1)
+-- the end of a simulation, from after its name (17.4.1)
 unfoldable pub finish_into : Placer
 finish_into lists ts = do
   rest ← argument_into ts
@@ -353,7 +353,7 @@ further_label_into limit labels lists ts = do
   value ← value_into limit lists rest
   Ok (labels ++ value.0 ∷ [], value.1, value.2)
 
--- the labels behind others; a number bounds how many (9.5)
+-- the labels after others; a number bounds how many (9.5)
 unfoldable pub further_labels_into : (limit : ℕ) → ℕ → List ℕ → Lists → List Symbol → Result MadeLabels Stop
 further_labels_into limit zero labels lists ts = Ok (labels, lists, ts)
 further_labels_into limit (suc m) labels lists ts =
@@ -371,11 +371,11 @@ labels_into limit lists ts = do
 abbrev pub MadeItems : Type 0
 MadeItems = List choice.Choice × Lists × List Symbol
 
--- reads items of a case, behind choices and into lists
+-- reads items of a case, after choices and into lists
 abbrev pub ItemPlacer : Type 0
 ItemPlacer = List choice.Choice → Lists → List Symbol → Result MadeItems Stop
 
--- an item with labels, behind other choices (9.5)
+-- an item with labels, after other choices (9.5)
 unfoldable pub labels_item_into : (limit : ℕ) → Placer → ItemPlacer
 labels_item_into limit next choices lists ts = do
   labels ← labels_into limit lists ts
@@ -383,12 +383,12 @@ labels_item_into limit next choices lists ts = do
   body ← next labels.1 rest
   Ok (choices ++ choices_of labels.0 body.0, body.1, body.2)
 
--- what is left behind a colon, if it is next (9.5)
+-- what is left after a colon, if it is next (9.5)
 unfoldable pub colon_into : List Symbol → Result (List Symbol) Stop
 colon_into ts =
     if is_next (symbol.Punctuator punctuator.Colon) ts then behind (symbol.Punctuator punctuator.Colon) ts else Ok ts
 
--- an item for anything else, behind other choices (9.5)
+-- an item for anything else, after other choices (9.5)
 unfoldable pub default_item_into : Placer → ItemPlacer
 default_item_into next choices lists ts = do
   rest ← behind (symbol.Keyword keyword.Default) ts
@@ -396,12 +396,12 @@ default_item_into next choices lists ts = do
   body ← next lists rest
   Ok (choices ++ record { label = None; body = body.0 } ∷ [], body.1, body.2)
 
--- an item of a case, which may be a default or not, behind other choices (9.5)
+-- an item of a case, which may be a default or not, after other choices (9.5)
 unfoldable pub item_into : (limit : ℕ) → Placer → (may_default : Bool) → ItemPlacer
 item_into limit next may_default choices lists ts =
     if is_default ts then (if may_default then default_item_into next choices lists ts else refused ts) else labels_item_into limit next choices lists ts
 
--- the items of a case behind other choices; a number bounds how many (9.5)
+-- the items of a case after other choices; a number bounds how many (9.5)
 unfoldable pub further_items_into : (limit : ℕ) → Placer → ℕ → (may_default : Bool) → ItemPlacer
 further_items_into limit next zero may_default choices lists ts = Ok (choices, lists, ts)
 further_items_into limit next (suc m) may_default choices lists ts =
@@ -415,12 +415,12 @@ items_into limit next lists ts = do
   first ← item_into limit next true [] lists ts
   further_items_into limit next (length first.2) (may_still true ts) first.0 first.1 first.2
 
--- the choices of a case behind the others, and the case by where they lie (9.5)
+-- the choices of a case after the others, and the case by where they lie (9.5)
 abbrev pub made_case : (is_wild : Bool) → (selector : ℕ) → List choice.Choice → Lists → List Symbol → Made
 made_case is_wild selector choices lists ts =
     let c = with_choices choices lists in made_statement (statement_of.Case is_wild selector c.0) c.1 ts
 
--- a case, from behind its keyword (9.5)
+-- a case, from after its keyword (9.5)
 unfoldable pub case_into : (limit : ℕ) → Placer → (is_wild : Bool) → Placer
 case_into limit next is_wild lists ts = do
   selector ← condition_into limit lists ts
@@ -428,7 +428,7 @@ case_into limit next is_wild lists ts = do
   rest ← behind (symbol.Keyword keyword.Endcase) items.2
   Ok (made_case is_wild selector.0 items.0 items.1 rest)
 
--- a statement, from behind its first symbol, by that symbol's kind and place (A.6.4)
+-- a statement, from after its first symbol, by that symbol's kind and place (A.6.4)
 unfoldable pub stmt_by_into : ℕ → Placer → SymbolKind → ℕ → Placer
 stmt_by_into limit next symbol.Name place lists ts = assignment_into limit place lists ts
 stmt_by_into limit next (symbol.Keyword keyword.Begin) place lists ts = block_into next lists ts

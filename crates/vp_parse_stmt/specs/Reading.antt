@@ -35,7 +35,7 @@ pub record Heading : Type 0 where
   pub step : Blocking
   pub closing : ℕ
 
--- a label behind a comma, with the place of that (9.5)
+-- a label after a comma, with the place of that (9.5)
 pub record FurtherLabel : Type 0 where
   pub comma : ℕ
   pub value : Expr
@@ -46,7 +46,7 @@ pub record Condition : Type 0 where
   pub value : Expr
   pub closing : ℕ
 
--- an expression in parentheses, and the statement behind it (9.4 to 9.7)
+-- an expression in parentheses, and the statement after it (9.4 to 9.7)
 pub record Guarded : Type 0 where
   pub opening : ℕ
   pub value : Expr
@@ -87,7 +87,7 @@ grouped_delay_at ts = do
   closing ← terminal (symbol.Punctuator punctuator.RightParenthesis) amount.1
   Ok (Grouped opening.0 amount.0.0 amount.0.1 closing.0, closing.1)
 
--- a delay, from behind its # (9.7.1)
+-- a delay, from after its # (9.7.1)
 unfoldable pub delay_at : Reader Delay
 delay_at ts =
     if is_next (symbol.Punctuator punctuator.LeftParenthesis) ts
@@ -107,21 +107,21 @@ hold_at ts = if is_next (symbol.Punctuator punctuator.Hash) ts then later_at ts 
 
 -- ---- assignments
 
--- what a target is to have, from behind what is selected of it, by an expression that nests at most so deep (9.2.1)
+-- what a target is to have, from after what is selected of it, by an expression that nests at most so deep (9.2.1)
 unfoldable pub blocking_at : (limit target : ℕ) → Selection → Reader Blocking
 blocking_at limit target selection ts = do
   equals ← terminal (symbol.Punctuator punctuator.Equals) ts
   value ← expr_at limit 0 equals.1
   Ok (record { target = target; selection = selection; equals = equals.0; value = value.0 }, value.1)
 
--- a blocking assignment, from behind what is selected of its target (9.2.1)
+-- a blocking assignment, from after what is selected of its target (9.2.1)
 unfoldable pub assign_at : (limit target : ℕ) → Selection → Reader Stmt
 assign_at limit target selection ts = do
   blocking ← blocking_at limit target selection ts
   semicolon ← terminal (symbol.Punctuator punctuator.Semicolon) blocking.1
   Ok (Assign blocking.0.target blocking.0.selection blocking.0.equals blocking.0.value semicolon.0, semicolon.1)
 
--- a nonblocking assignment, from behind what is selected of its target, by an expression that nests at most so deep (9.2.2)
+-- a nonblocking assignment, from after what is selected of its target, by an expression that nests at most so deep (9.2.2)
 unfoldable pub nonblocking_at : (limit target : ℕ) → Selection → Reader Stmt
 nonblocking_at limit target selection ts = do
   arrow ← terminal (symbol.Punctuator punctuator.LessOrEqual) ts
@@ -130,15 +130,15 @@ nonblocking_at limit target selection ts = do
   semicolon ← terminal (symbol.Punctuator punctuator.Semicolon) value.1
   Ok (Nonblocking target selection arrow.0 hold.0 value.0 semicolon.0, semicolon.1)
 
--- a nonblocking assignment goes on behind what is selected of its target (9.2.2)
+-- a nonblocking assignment goes on after what is selected of its target (9.2.2)
 abbrev pub is_arrow : List Symbol → Bool
 is_arrow ts = is_next (symbol.Punctuator punctuator.LessOrEqual) ts
 
--- an assignment, from behind what is selected of its target (9.2)
+-- an assignment, from after what is selected of its target (9.2)
 unfoldable pub set_at : (limit target : ℕ) → Selection → Reader Stmt
 set_at limit target selection ts = if is_arrow ts then nonblocking_at limit target selection ts else assign_at limit target selection ts
 
--- an assignment, from behind the name of its target, with expressions that nest at most so deep (9.2)
+-- an assignment, from after the name of its target, with expressions that nest at most so deep (9.2)
 unfoldable pub assignment_at : (limit target : ℕ) → Reader Stmt
 assignment_at limit target ts = do
   selection ← selection_at (limit - 1) ts
@@ -146,7 +146,7 @@ assignment_at limit target ts = do
 
 -- ---- blocks
 
--- a block, from behind its begin (9.8.1)
+-- a block, from after its begin (9.8.1)
 unfoldable pub block_at : Reader Stmt → ℕ → Reader Stmt
 block_at next begin ts = do
   body ← stmts_at next (length ts) ts
@@ -190,7 +190,7 @@ joined_at ts = do
   term ← term_at separator.1
   Ok (record { separator = separator.0.0; place = separator.0.1; term = term.0 }, term.1)
 
--- the terms behind a first one; a number bounds how many (9.7.4)
+-- the terms after a first one; a number bounds how many (9.7.4)
 unfoldable pub further_terms_at : ℕ → Term → Reader TermList
 further_terms_at zero t ts = Ok (Single t, ts)
 further_terms_at (suc m) t ts =
@@ -204,21 +204,21 @@ terms_at ts = do
   first ← term_at ts
   further_terms_at (length first.1) first.0 first.1
 
--- terms, from behind the parenthesis before them (9.7.4)
+-- terms, from after the parenthesis before them (9.7.4)
 unfoldable pub terms_event_at : ℕ → Reader Event
 terms_event_at opening ts = do
   terms ← terms_at ts
   closing ← terminal (symbol.Punctuator punctuator.RightParenthesis) terms.1
   Ok (Terms opening terms.0 closing.0, closing.1)
 
--- a star, from behind the parenthesis before it (9.7.5)
+-- a star, from after the parenthesis before it (9.7.5)
 unfoldable pub star_event_at : ℕ → Reader Event
 star_event_at opening ts = do
   star ← terminal (symbol.Punctuator punctuator.Asterisk) ts
   closing ← terminal (symbol.Punctuator punctuator.RightParenthesis) star.1
   Ok (AnyGrouped opening star.0 closing.0, closing.1)
 
--- an event, from behind its first symbol, by that symbol's kind and place (9.7.2 to 9.7.5)
+-- an event, from after its first symbol, by that symbol's kind and place (9.7.2 to 9.7.5)
 unfoldable pub event_by : SymbolKind → ℕ → Reader Event
 event_by symbol.Name place ts = Ok (Change place, ts)
 event_by (symbol.Punctuator punctuator.Asterisk) place ts = Ok (Any place, ts)
@@ -233,14 +233,14 @@ event_at (s ∷ ts) = event_by s.kind s.place ts
 
 -- ---- statements in others
 
--- a statement behind an event, from behind its @ (9.7.2 to 9.7.5)
+-- a statement after an event, from after its @ (9.7.2 to 9.7.5)
 unfoldable pub awaited_at : Reader Stmt → ℕ → Reader Stmt
 awaited_at next place ts = do
   event ← event_at ts
   body ← next event.1
   Ok (Awaited place event.0 body.0, body.1)
 
--- a statement behind a delay, from behind its # (9.7.1)
+-- a statement after a delay, from after its # (9.7.1)
 unfoldable pub delayed_at : Reader Stmt → ℕ → Reader Stmt
 delayed_at next place ts = do
   delay ← delay_at ts
@@ -262,19 +262,19 @@ guarded_at limit next ts = do
   body ← next condition.1
   Ok (record { opening = condition.0.opening; value = condition.0.value; closing = condition.0.closing; body = body.0 }, body.1)
 
--- a wait, from behind its keyword (9.7.6)
+-- a wait, from after its keyword (9.7.6)
 unfoldable pub wait_at : (limit : ℕ) → Reader Stmt → ℕ → Reader Stmt
 wait_at limit next place ts = do
   guarded ← guarded_at limit next ts
   Ok (Wait place guarded.0.opening guarded.0.value guarded.0.closing guarded.0.body, guarded.1)
 
--- a while, from behind its keyword (9.6)
+-- a while, from after its keyword (9.6)
 unfoldable pub while_at : (limit : ℕ) → Reader Stmt → ℕ → Reader Stmt
 while_at limit next place ts = do
   guarded ← guarded_at limit next ts
   Ok (While place guarded.0.opening guarded.0.value guarded.0.closing guarded.0.body, guarded.1)
 
--- a forever, from behind its keyword (9.6)
+-- a forever, from after its keyword (9.6)
 unfoldable pub forever_at : Reader Stmt → ℕ → Reader Stmt
 forever_at next place ts = do
   body ← next ts
@@ -296,7 +296,7 @@ unfoldable pub else_at : Reader Stmt → ℕ → Guarded → Reader Stmt
 else_at next place first ts =
     if is_else ts then second_at next place first ts else Ok (When place first.opening first.value first.closing first.body, ts)
 
--- an if, from behind its keyword (9.4)
+-- an if, from after its keyword (9.4)
 unfoldable pub if_at : (limit : ℕ) → Reader Stmt → ℕ → Reader Stmt
 if_at limit next place ts = do
   first ← guarded_at limit next ts
@@ -337,7 +337,7 @@ abbrev pub for_of : ℕ → Heading → Stmt → Stmt
 for_of place h body =
     For place h.opening h.start.target h.start.selection h.start.equals h.start.value h.first_semicolon h.condition h.second_semicolon h.step.target h.step.selection h.step.equals h.step.value h.closing body
 
--- a for, from behind its keyword (9.6)
+-- a for, from after its keyword (9.6)
 unfoldable pub for_at : (limit : ℕ) → Reader Stmt → ℕ → Reader Stmt
 for_at limit next place ts = do
   heading ← heading_at limit ts
@@ -358,7 +358,7 @@ given_at ts = do
 unfoldable pub argument_at : Reader Argument
 argument_at ts = if is_next (symbol.Punctuator punctuator.LeftParenthesis) ts then given_at ts else Ok (None, ts)
 
--- the end of a simulation, from behind its name (17.4.1)
+-- the end of a simulation, from after its name (17.4.1)
 unfoldable pub finish_at : ℕ → Reader Stmt
 finish_at place ts = do
   argument ← argument_at ts
@@ -374,7 +374,7 @@ further_label_at limit ts = do
   value ← expr_at limit 0 comma.1
   Ok (record { comma = comma.0; value = value.0 }, value.1)
 
--- the labels behind a first one; a number bounds how many (9.5)
+-- the labels after a first one; a number bounds how many (9.5)
 unfoldable pub further_labels_at : (limit : ℕ) → ℕ → Expr → Reader LabelList
 further_labels_at limit zero e ts = Ok (Only e, ts)
 further_labels_at limit (suc m) e ts =
@@ -429,7 +429,7 @@ items_go_on (s ∷ ts) = not (same_kind (symbol.Keyword keyword.Endcase) s.kind)
 abbrev pub may_still : Bool → List Symbol → Bool
 may_still may_default ts = may_default && not (is_default ts)
 
--- the items behind a first one; a number bounds how many (9.5)
+-- the items after a first one; a number bounds how many (9.5)
 unfoldable pub further_items_at : (limit : ℕ) → Reader Stmt → ℕ → (may_default : Bool) → Item → Reader Items
 further_items_at limit next zero may_default i ts = Ok (Last i, ts)
 further_items_at limit next (suc m) may_default i ts =
@@ -443,7 +443,7 @@ items_at limit next ts = do
   first ← item_at limit next true ts
   further_items_at limit next (length first.1) (may_still true ts) first.0 first.1
 
--- a case, from behind its keyword (9.5)
+-- a case, from after its keyword (9.5)
 unfoldable pub case_at : (limit : ℕ) → Reader Stmt → Sort → ℕ → Reader Stmt
 case_at limit next sort place ts = do
   selector ← condition_at limit ts
@@ -451,7 +451,7 @@ case_at limit next sort place ts = do
   endcase ← terminal (symbol.Keyword keyword.Endcase) items.1
   Ok (Case sort place selector.0.opening selector.0.value selector.0.closing items.0 endcase.0, endcase.1)
 
--- a statement, from behind its first symbol, by that symbol's kind and place (A.6.4)
+-- a statement, from after its first symbol, by that symbol's kind and place (A.6.4)
 unfoldable pub stmt_by : ℕ → Reader Stmt → SymbolKind → ℕ → Reader Stmt
 stmt_by limit next symbol.Name place ts = assignment_at limit place ts
 stmt_by limit next (symbol.Keyword keyword.Begin) place ts = block_at next place ts

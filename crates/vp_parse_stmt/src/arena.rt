@@ -49,7 +49,7 @@ pub fn add_statement(
     Ok(place)
 }
 
-/// Choices of a case behind those of others, and where they lie.
+/// Choices of a case after those of others, and where they lie.
 pub fn lay_choices(choices: &mut Vec<Choice>, mut found: Vec<Choice>) -> Result<Span, AllocError>
     requires { vec_len choices.old + vec_len found < 2 ^ 32 }
     ensures span { IfOk result (λ span. span ≡ span_behind choices.old.items found.items) }

@@ -45,7 +45,7 @@ fn no_delay(stop: Stop, symbols: &[Symbol]) -> Stop
     }
 }
 
-/// A delay that is left out goes on behind a number with a symbol of this kind.
+/// A delay that is left out goes on after a number with a symbol of this kind.
 fn goes_on_otherwise(kind: SymbolKind) -> bool {
     matches!(
         kind,
@@ -131,7 +131,7 @@ fn grouped_delay(symbols: &[Symbol]) -> Result<(u32, &[Symbol]), Stop>
     }
 }
 
-/// How long a delay is, from behind its `#`, and what follows.
+/// How long a delay is, from after its `#`, and what follows.
 #[tactic(auto, unfolding(crate::specs::Placing::delay_into))]
 pub fn delay(symbols: &[Symbol]) -> Result<(u32, &[Symbol]), Stop>
     ensures read { Gives (λ found. (found.0, found.1.now)) result (delay_into symbols.now) }

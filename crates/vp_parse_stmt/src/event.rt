@@ -9,7 +9,7 @@ use vp_lex::{Keyword, Punctuator};
 use vp_parse_expr::{Stop, is_next, name, skip, unexpected};
 use vp_source::{Edge, EventTerm, Span, Symbol, SymbolKind};
 
-/// A term behind an edge, which is of this kind, and what follows.
+/// A term after an edge, which is of this kind, and what follows.
 #[tactic(auto, unfolding(crate::specs::Placing::edged_into))]
 fn edged(edge: Edge, kind: SymbolKind, symbols: &[Symbol]) -> Result<(EventTerm, &[Symbol]), Stop>
     ensures read { Gives (λ found. (found.0, found.1.now)) result
@@ -67,7 +67,7 @@ fn separator(symbols: &[Symbol]) -> Result<&[Symbol], Stop>
     }
 }
 
-/// One more term behind the others, from what stands before it on; and what follows.
+/// One more term after the others, from what stands before it on; and what follows.
 #[tactic(auto, unfolding(crate::specs::Placing::joined_into))]
 fn joined<'a>(terms: &mut Vec<EventTerm>, symbols: &'a [Symbol]) -> Result<&'a [Symbol], Stop>
     ensures read { Gives (λ rest. (terms.new.items, rest.now)) result
@@ -82,7 +82,7 @@ fn joined<'a>(terms: &mut Vec<EventTerm>, symbols: &'a [Symbol]) -> Result<&'a [
     Ok(rest)
 }
 
-/// The terms behind a first one, and what follows.
+/// The terms after a first one, and what follows.
 fn further_terms<'a>(
     terms: &mut Vec<EventTerm>,
     symbols: &'a [Symbol],
@@ -100,7 +100,7 @@ fn further_terms<'a>(
     Ok(rest)
 }
 
-/// The terms of an event behind others, and what follows.
+/// The terms of an event after others, and what follows.
 #[tactic(auto, unfolding(crate::specs::Placing::terms_into))]
 fn terms<'a>(terms: &mut Vec<EventTerm>, symbols: &'a [Symbol]) -> Result<&'a [Symbol], Stop>
     ensures read { Gives (λ rest. (terms.new.items, rest.now)) result
@@ -114,7 +114,7 @@ fn terms<'a>(terms: &mut Vec<EventTerm>, symbols: &'a [Symbol]) -> Result<&'a [S
     further_terms(terms, rest)
 }
 
-/// Where the terms of an event lie, from behind the parenthesis before them; and what follows.
+/// Where the terms of an event lie, from after the parenthesis before them; and what follows.
 #[tactic(auto, unfolding(crate::specs::Placing::terms_event_into))]
 fn terms_event<'a>(
     terms: &mut Vec<EventTerm>,
@@ -134,7 +134,7 @@ fn terms_event<'a>(
     Ok((Some(Span { first, end }), rest))
 }
 
-/// What follows a star, from behind the parenthesis before it.
+/// What follows a star, from after the parenthesis before it.
 #[tactic(auto, unfolding(crate::specs::Placing::star_event_into))]
 fn star_event<'a>(
     terms: &mut Vec<EventTerm>,
@@ -170,7 +170,7 @@ fn change<'a>(
     Ok((Some(Span { first, end }), symbols))
 }
 
-/// An event, and what follows: where its terms lie behind others, or none where any change counts.
+/// An event, and what follows: where its terms lie after others, or none where any change counts.
 #[tactic(auto, unfolding(crate::specs::Placing::event_into, crate::specs::Placing::event_by_into))]
 pub fn event<'a>(
     terms: &mut Vec<EventTerm>,

@@ -20,7 +20,7 @@ use vp_lex::{Keyword, Punctuator};
 use vp_parse_expr::{Stop, is_kind, is_next, name, selection, skip, unexpected};
 use vp_source::{Choice, Selection, Span, Statement, Symbol, SymbolKind};
 
-/// What a target is to have, from behind what is selected of it, as a blocking assignment.
+/// What a target is to have, from after what is selected of it, as a blocking assignment.
 #[tactic(auto, unfolding(crate::specs::Placing::blocking_into))]
 fn blocking<'a>(
     arena: &mut Arena,
@@ -46,7 +46,7 @@ fn blocking<'a>(
     Ok((add_statement(&mut arena.statements, assign)?, rest))
 }
 
-/// A blocking assignment, from behind what is selected of its target.
+/// A blocking assignment, from after what is selected of its target.
 #[tactic(auto, unfolding(crate::specs::Placing::assign_into))]
 fn assign<'a>(
     arena: &mut Arena,
@@ -67,7 +67,7 @@ fn assign<'a>(
     Ok((assign, rest))
 }
 
-/// A nonblocking assignment, from behind what is selected of its target.
+/// A nonblocking assignment, from after what is selected of its target.
 #[tactic(auto, unfolding(crate::specs::Placing::nonblocking_into))]
 fn nonblocking<'a>(
     arena: &mut Arena,
@@ -96,7 +96,7 @@ fn nonblocking<'a>(
     Ok((add_statement(&mut arena.statements, assign)?, rest))
 }
 
-/// An assignment, from behind the name of its target, with expressions that nest at most so deep.
+/// An assignment, from after the name of its target, with expressions that nest at most so deep.
 #[tactic(auto, unfolding(crate::specs::Placing::assignment_into, crate::specs::Placing::set_into))]
 fn assignment<'a>(
     arena: &mut Arena,
@@ -158,7 +158,7 @@ fn list<'a>(
     Ok((so_far, rest))
 }
 
-/// A block, from behind its `begin`.
+/// A block, from after its `begin`.
 #[cycle(statement)]
 #[tactic(auto, unfolding(crate::specs::Placing::block_into))]
 fn block<'a>(
@@ -179,7 +179,7 @@ fn block<'a>(
     Ok((body, rest))
 }
 
-/// A statement behind a delay, from behind its `#`.
+/// A statement after a delay, from after its `#`.
 #[cycle(statement)]
 #[tactic(auto, unfolding(crate::specs::Placing::delayed_into))]
 fn delayed<'a>(
@@ -211,7 +211,7 @@ fn awaited(terms: Option<Span>, body: u32) -> Statement
     }
 }
 
-/// A statement behind an event, from behind its `@`.
+/// A statement after an event, from after its `@`.
 #[cycle(statement)]
 #[tactic(auto, unfolding(crate::specs::Placing::awaited_into))]
 fn at_event<'a>(
@@ -255,7 +255,7 @@ fn condition<'a>(
     Ok((value, rest))
 }
 
-/// An expression in parentheses and the statement behind it: the places of both, and what follows.
+/// An expression in parentheses and the statement after it: the places of both, and what follows.
 #[cycle(statement)]
 #[tactic(auto, unfolding(crate::specs::Placing::guarded_into))]
 fn guarded<'a>(
@@ -276,7 +276,7 @@ fn guarded<'a>(
     Ok((condition, body, rest))
 }
 
-/// A wait, from behind its keyword.
+/// A wait, from after its keyword.
 #[cycle(statement)]
 #[tactic(auto, unfolding(crate::specs::Placing::wait_into))]
 fn wait<'a>(
@@ -297,7 +297,7 @@ fn wait<'a>(
     Ok((add_statement(&mut arena.statements, wait)?, rest))
 }
 
-/// A while, from behind its keyword.
+/// A while, from after its keyword.
 #[cycle(statement)]
 #[tactic(auto, unfolding(crate::specs::Placing::while_into))]
 fn while_true<'a>(
@@ -322,7 +322,7 @@ fn while_true<'a>(
     Ok((add_statement(&mut arena.statements, again)?, rest))
 }
 
-/// A forever, from behind its keyword.
+/// A forever, from after its keyword.
 #[cycle(statement)]
 #[tactic(auto, unfolding(crate::specs::Placing::forever_into))]
 fn forever<'a>(
@@ -418,7 +418,7 @@ fn heading<'a>(
     Ok((start, condition, step, rest))
 }
 
-/// A `for`, from behind its keyword.
+/// A `for`, from after its keyword.
 #[cycle(statement)]
 #[tactic(auto, unfolding(crate::specs::Placing::for_into))]
 fn for_loop<'a>(
@@ -474,7 +474,7 @@ fn second<'a>(
     Ok((add_statement(&mut arena.statements, choice)?, rest))
 }
 
-/// An `if` behind its first statement: it takes an `else` that is next.
+/// An `if` after its first statement: it takes an `else` that is next.
 #[cycle(statement)]
 #[tactic(auto, unfolding(crate::specs::Placing::else_into))]
 fn otherwise<'a>(
@@ -503,7 +503,7 @@ fn otherwise<'a>(
     Ok((add_statement(&mut arena.statements, choice)?, symbols))
 }
 
-/// An `if`, from behind its keyword.
+/// An `if`, from after its keyword.
 #[cycle(statement)]
 #[tactic(auto, unfolding(crate::specs::Placing::if_into))]
 fn conditional<'a>(
@@ -537,7 +537,7 @@ fn behind_argument(symbols: &[Symbol]) -> Result<&[Symbol], Stop>
     skip(SymbolKind::Punctuator(Punctuator::RightParenthesis), rest)
 }
 
-/// The end of a simulation, from behind its name.
+/// The end of a simulation, from after its name.
 #[tactic(auto, unfolding(crate::specs::Placing::finish_into))]
 fn finish<'a>(arena: &mut Arena, symbols: &'a [Symbol]) -> Result<(u32, &'a [Symbol]), Stop>
     requires { weight arena.old symbols.now < 2 ^ 32 }
@@ -555,7 +555,7 @@ fn finish<'a>(arena: &mut Arena, symbols: &'a [Symbol]) -> Result<(u32, &'a [Sym
     ))
 }
 
-/// An item of a case with labels: its choices behind others, and what follows.
+/// An item of a case with labels: its choices after others, and what follows.
 #[cycle(statement)]
 #[tactic(auto, unfolding(crate::specs::Placing::labels_item_into))]
 fn labels_item<'a>(
@@ -593,7 +593,7 @@ fn behind_colon(symbols: &[Symbol]) -> Result<&[Symbol], Stop>
     }
 }
 
-/// An item of a case for anything else: its choice behind others, and what follows.
+/// An item of a case for anything else: its choice after others, and what follows.
 #[cycle(statement)]
 #[tactic(auto, unfolding(crate::specs::Placing::default_item_into))]
 fn default_item<'a>(
@@ -625,7 +625,7 @@ fn is_default(symbols: &[Symbol]) -> bool
     is_next(SymbolKind::Keyword(Keyword::Default), symbols)
 }
 
-/// An item of a case, which may be a default or not: its choices behind others, and what follows.
+/// An item of a case, which may be a default or not: its choices after others, and what follows.
 #[cycle(statement)]
 #[tactic(auto, unfolding(crate::specs::Placing::item_into))]
 fn item<'a>(
@@ -663,14 +663,14 @@ fn items_go_on(symbols: &[Symbol]) -> bool
     }
 }
 
-/// A further item of a case may be a default, behind one with which symbols begin.
+/// A further item of a case may be a default, after one with which symbols begin.
 fn may_still(may_default: bool, symbols: &[Symbol]) -> bool
     ensures { result ≡ still may_default symbols.now }
 {
     may_default && !is_default(symbols)
 }
 
-/// The items of a case behind others, up to its `endcase`: their choices behind those of the others, and what follows.
+/// The items of a case after others, up to its `endcase`: their choices after those of the others, and what follows.
 #[cycle(statement)]
 fn further_items<'a>(
     arena: &mut Arena,
@@ -721,7 +721,7 @@ fn items<'a>(
     Ok((choices, rest))
 }
 
-/// A case, from behind its keyword.
+/// A case, from after its keyword.
 #[cycle(statement)]
 #[tactic(auto, unfolding(crate::specs::Placing::case_into))]
 fn case<'a>(
@@ -789,7 +789,7 @@ fn form<'a>(
     }
 }
 
-/// A statement, behind the parts of an arena.
+/// A statement, after the parts of an arena.
 #[cycle(statement)]
 fn statement_at<'a>(
     arena: &mut Arena,
@@ -810,7 +810,7 @@ fn statement_at<'a>(
     form(arena, limit, depth - 1, symbols)
 }
 
-/// The statement with which symbols begin, laid out behind the parts of an arena: its place, and what follows it. Its
+/// The statement with which symbols begin, laid out after the parts of an arena: its place, and what follows it. Its
 /// expressions nest at most `limit` deep, and it nests itself at most `depth` deep. Stops where no statement goes on, or
 /// nests deeper, or for want of memory.
 pub fn statement<'a>(

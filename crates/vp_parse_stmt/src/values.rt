@@ -15,7 +15,7 @@ use vp_lex::Punctuator;
 use vp_parse_expr::{Stop, expression, is_next, skip};
 use vp_source::{Choice, Symbol, SymbolKind};
 
-/// The expression with which symbols begin, which nests at most so deep, laid out behind the parts of an arena: its place,
+/// The expression with which symbols begin, which nests at most so deep, laid out after the parts of an arena: its place,
 /// and what follows it.
 #[tactic(auto, unfolding(crate::specs::Placing::value_into))]
 pub fn value<'a>(
@@ -38,7 +38,7 @@ pub fn value<'a>(
     Ok((found.place, found.rest))
 }
 
-/// A label of an item of a case behind others, from the comma before it on; and what follows.
+/// A label of an item of a case after others, from the comma before it on; and what follows.
 #[tactic(auto, unfolding(crate::specs::Placing::further_label_into))]
 fn further_label<'a>(
     arena: &mut Arena,
@@ -61,7 +61,7 @@ fn further_label<'a>(
     Ok(rest)
 }
 
-/// The labels of an item of a case behind a first one, and what follows.
+/// The labels of an item of a case after a first one, and what follows.
 fn further_labels<'a>(
     arena: &mut Arena,
     limit: u32,
@@ -104,7 +104,7 @@ pub fn labels<'a>(
     Ok((labels, rest))
 }
 
-/// A choice for each label, of the same statement, behind other choices.
+/// A choice for each label, of the same statement, after other choices.
 pub fn add_choices_of(
     choices: &mut Vec<Choice>,
     labels: &[u32],

@@ -203,12 +203,12 @@ duplicate_first :
 unfolding serde_json_on_literals is_utf8 chars
 duplicate_first = refl
 
--- an item that is no user, behind two who are named alike
+-- an item that is no user, after two who are named alike
 bad_first : told (codes "{\"users\":[{\"name\":\"a\",\"token\":\"T\"},{\"name\":\"a\",\"token\":\"T\"},1]}") ≡ Err BadPolicy
 unfolding serde_json_on_literals is_utf8 chars
 bad_first = refl
 
--- an operator who is none, behind two users who are named alike
+-- an operator who is none, after two users who are named alike
 bad_operator_first : told (codes "{\"users\":[{\"name\":\"a\",\"token\":\"T\"},{\"name\":\"a\",\"token\":\"T\"}],\"operator\":1}") ≡ Err BadPolicy
 unfolding serde_json_on_literals is_utf8 chars
 bad_operator_first = refl

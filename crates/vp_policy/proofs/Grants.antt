@@ -24,7 +24,7 @@ either_assoc a b c = λ i. record {
 abbrev pub rest_of : List Grant → ℕ → ℕ → RightSet
 rest_of gs i e = granted_by (map grant_shown (drop i gs)) e
 
--- the first of the grants from a place on, and those behind it
+-- the first of the grants from a place on, and those after it
 granted_at :
     (gs : List Grant) (i : ℕ) (d : Grant) (e : ℕ) → i < length gs
     → rest_of gs i e ≡ granted_by (map grant_shown (get_or gs i d ∷ drop (i + 1) gs)) e

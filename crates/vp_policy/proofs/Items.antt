@@ -8,7 +8,7 @@ use Rattle.serde_json.specs.View.{view, items_view}
 use Rattle.serde_json.specs.declared.value.Value.{Value}
 use Rattle.vp_policy.specs.File.{each_of}
 
--- the first of the items from a place on, and those behind it
+-- the first of the items from a place on, and those after it
 each_at :
     {X : Type 0} (f : Data → Option X) (vs : List Value) (i : ℕ) (d : Value) → i < length vs
     → each_of f (items_view (drop i vs)) ≡ option_and_then (λ x. option_map (λ xs. x ∷ xs) (each_of f (items_view (drop (i + 1) vs)))) (f (view (get_or vs i d)))
@@ -21,7 +21,7 @@ joined : {X : Type 0} (done : List X) (x : X) (rest : Option (List X)) → optio
 joined done x None = refl
 joined done x (Some xs) = ap Some (append_assoc done (x ∷ []) xs)
 
--- what is read of the first is read behind what was read before
+-- what is read of the first is read after what was read before
 pub each_more :
     {X : Type 0} (f : Data → Option X) (done : List X) (vs : List Value) (i : ℕ) (d : Value) (x : X) → i < length vs
     → f (view (get_or vs i d)) ≡ Some x

@@ -93,7 +93,7 @@ missing_of_values envelopes es =
     list_any-map (λ (u : User). is_for_missing envelopes (map grant_shown u.grants)) (λ (e : String Global × User). e.1) es
     ∙ sym (list_any-map (λ (m : Member). is_for_missing envelopes m.grants) member_of es)
 
--- the first of the users that are left decides, or else those behind him
+-- the first of the users that are left decides, or else those after him
 pub missing_next :
     (envelopes : ℕ) (users rest : List User) (u : User) (b : Bool) → users ≡ u ∷ rest → b ≡ is_for_missing envelopes (map grant_shown u.grants)
     → (b || missing_in envelopes rest) ≡ missing_in envelopes users

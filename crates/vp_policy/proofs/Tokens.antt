@@ -11,7 +11,7 @@ pub one_more : (same : Bool) (x y : ℕ) (a xs b ys : List ℕ) → a ≡ x ∷ 
 one_more same x y a xs b ys h k =
     one_more_by same x y xs ys ∙ ap (λ (t : List ℕ). same && bytes_eq t (y ∷ ys)) (sym h) ∙ ap (λ (t : List ℕ). same && bytes_eq a t) (sym k)
 
--- as much is left of both behind a byte of both
+-- as much is left of both after a byte of both
 pub even_next : (same e : Bool) (x y : ℕ) (a xs b ys : List ℕ) → a ≡ x ∷ xs → b ≡ y ∷ ys → (same ≡ true → length a ≡ length b) → (same && e) ≡ true → length xs ≡ length ys
 even_next true e x y a xs b ys h k even both =
     let more : length (x ∷ xs) ≡ length (y ∷ ys) = sym (ap length h) ∙ even refl ∙ ap length k in

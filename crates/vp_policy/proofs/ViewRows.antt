@@ -199,7 +199,7 @@ declared_in parent name = record {
   closed = [];
 }
 
--- the path of each stands behind that of the object in which it is declared
+-- the path of each stands after that of the object in which it is declared
 flat_nodes :
     map (λ node. node.path)
     (nodes_from [] (declared_in None (codes "top") ∷ declared_in (Some 0) (codes "u") ∷ declared_in (Some 0) (codes "v") ∷ declared_in (Some 2) (codes "a") ∷ []))

@@ -80,7 +80,7 @@ placed n (b ∷ marks) (x ∷ xs) (suc j) m h l =
 
 -- ---- paths
 
--- the path behind which one step more stands
+-- the path after which one step more stands
 seen_path-append : (tree : Tree) (u : Member) (above path : List Step) (s : Step) → seen_path tree u above (path ++ s ∷ []) ≡ seen_path tree u above path ++ seen_step tree u (above ++ path) s ∷ []
 seen_path-append tree u above [] s = ap (λ (p : List Step). seen_step tree u p s ∷ []) (sym (append-nil above))
 seen_path-append tree u above (t ∷ path) s =
@@ -156,7 +156,7 @@ module _ (design : Elaborated) (u : Member) (id : ℕ) (object : Object) (h : St
       ∙ ap (λ (r : RightSet). if is_value_seen h.node.kind h.node.width r then Some (constant_at design id h.node.width) else None) his_are
       ∙ ap (λ (x : Option Node). if is_value_seen h.node.kind h.node.width (rights design.tree u h.node.path) then Some (constant_among design.source h.node.width (option_and_then (node_item design.source) x)) else None) h.there
 
-  -- its node, behind those of the objects before it
+  -- its node, after those of the objects before it
   pub seen_is :
       (o : SeenObject) (numbers : List (Option ℕ)) → length numbers ≡ id → numbers ≡ numbers_from 0 (map is_some numbers)
       → IfSome (slice_get design.tree.nodes id) (HasScope design.tree.nodes (map is_some numbers))

@@ -204,7 +204,7 @@ listed_found : (tree : Tree) (u : Member) (found : Option ℕ) (o : ℕ) → Som
 listed_found tree u None o h = absurd cc
 listed_found tree u (Some p) o h = listed_by (is_listed_at tree u p) p o h
 
--- the walk of a name behind which others follow
+-- the walk of a name after which others follow
 parts_behind : (text : List ℕ) → (first : List ℕ) × (others : List (List ℕ)) × (parts 46 text ≡ first ∷ others)
 parts_behind [] = ([], [], refl)
 parts_behind (b ∷ bytes) = begun_part b (parts_behind bytes).0 (parts_behind bytes).1 (parts 46 bytes) (parts_behind bytes).2 (b == 46)
@@ -215,7 +215,7 @@ walk_here tree u here there scope text =
     let p = parts_behind text in
     ap (walk tree u here scope) p.2 ∙ sym (ap (walk tree u there scope) p.2)
 
--- a name that is listed, with others behind it
+-- a name that is listed, with others after it
 walk_next :
     (tree : Tree) (u : Member) (scope : Option ℕ) (names : List (List ℕ)) (text part further : List ℕ) (o : ℕ)
     → scope_names tree.nodes scope ≡ Some names → parts 46 text ≡ behind_part 46 part (Some further) → Some o ≡ listed_in tree u (find_in tree.nodes scope part)
@@ -250,7 +250,7 @@ next_by tree u scope (Some names) text part further o named split found =
     ∙ walk_next tree u scope names text part further o named split found
     ∙ sym (ap (λ (x : Option (List (List ℕ))). option_map_or (λ above. look_of tree u above (parts 46 text)) x look.Absent) named)
 
--- a name that is listed, with others behind it
+-- a name that is listed, with others after it
 pub look_next :
     (tree : Tree) (u : Member) (scope : Option ℕ) (text part further : List ℕ) (o : ℕ)
     → parts 46 text ≡ behind_part 46 part (Some further) → Some o ≡ listed_in tree u (find_in tree.nodes scope part)

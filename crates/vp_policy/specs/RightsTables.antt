@@ -27,7 +27,7 @@ pub record AreTablesOf (tree : Tree) (lists : List (List ℕ)) (u : Member) (tab
   pub rights : map set_of tables.rights ≡ rights_on tree u tree.nodes
   pub closed : tables.closed ≡ closed_among u lists
 
--- tables have those of each user, by his number, and behind them those of one who is not there, over the lists of the scopes
+-- tables have those of each user, by his number, and after them those of one who is not there, over the lists of the scopes
 pub record AreTables (tree : Tree) (members : List Member) (tables : RightsTables) : Type 0 where
   pub count : length tables.users.items ≡ length members + 1
   pub each : (n : ℕ) (his : UserTables) → slice_get tables.users.items n ≡ Some his

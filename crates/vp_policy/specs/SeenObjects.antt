@@ -25,7 +25,7 @@ own_step o = record {
   viewports = map viewport_shown o.viewports;
 }
 
--- the node of an object behind these nodes: its step stands behind the path to the object in which it is declared
+-- the node of an object after these nodes: its step stands after the path to the object in which it is declared
 abbrev pub node_behind : List SeenNode → SeenObject → SeenNode
 node_behind nodes o = record {
   path = path_to nodes o.parent ++ own_step o ∷ [];
@@ -37,7 +37,7 @@ node_behind nodes o = record {
   closed_list = o.closed;
 }
 
--- these nodes, and behind them those of objects, one after the other
+-- these nodes, and after them those of objects, one after the other
 abbrev pub nodes_from : List SeenNode → List SeenObject → List SeenNode
 nodes_from nodes [] = nodes
 nodes_from nodes (o ∷ objects) = nodes_from (nodes ++ node_behind nodes o ∷ []) objects

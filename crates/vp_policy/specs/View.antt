@@ -50,7 +50,7 @@ pub record View : Type 0 where
 abbrev pub seen_viewport : Viewport → SeenViewport
 seen_viewport v = record { object = object_of v; rights = v.rights }
 
--- the step that stands behind these on an object's path, as a user sees it (profile)
+-- the step that stands after these on an object's path, as a user sees it (profile)
 abbrev pub seen_step : Tree → Member → List Step → Step → SeenStep
 seen_step tree u above s = record {
   name = s.name;
@@ -59,7 +59,7 @@ seen_step tree u above s = record {
   viewports = map seen_viewport (filter (matches s) tree.viewports);
 }
 
--- the steps of a path that stand behind these, as a user sees them
+-- the steps of a path that stand after these, as a user sees them
 abbrev pub seen_path : Tree → Member → List Step → List Step → List SeenStep
 seen_path tree u above [] = []
 seen_path tree u above (s ∷ path) = seen_step tree u above s ∷ seen_path tree u (above ++ s ∷ []) path

@@ -71,7 +71,7 @@ impl Model for Policy {
         p.tables };
 }
 
-/// The tables of a user; those of nobody, which stand behind them, for a user who is not there.
+/// The tables of a user; those of nobody, which stand after them, for a user who is not there.
 fn tables_of_user(tables: &RightsTables, user: UserId) -> &UserTables
     requires { 0 < length tables.now.users.items }
     ensures { slice_get tables.now.users.items (min user.0 (length tables.now.users.items - 1))
@@ -88,7 +88,7 @@ fn list_at(lists: &[Sequence<u8>], number: usize) -> &[u8]
     lists[number].as_slice()
 }
 
-/// Two tokens are the same. Each byte is compared, also behind the first that differs: else the time that this takes would tell
+/// Two tokens are the same. Each byte is compared, also after the first that differs: else the time that this takes would tell
 /// how far a token was guessed.
 fn same_bytes(a: &[u8], b: &[u8]) -> bool
     ensures { result ≡ bytes_eq a.now b.now }

@@ -31,7 +31,7 @@ pub struct UserTables {
 /// The tables of a policy for a design.
 #[derive(Drop)]
 pub struct RightsTables {
-    /// Those of each user, and behind the users those of one who is not there.
+    /// Those of each user, and after the users those of one who is not there.
     pub users: Vec<UserTables>,
     /// What is declared in the scopes of the design.
     pub scopes: ScopeLists,
@@ -77,7 +77,7 @@ pub fn entry_of(rights: &[Rights], object: ObjectId) -> Option<Rights>
     rights.get(object.0 as usize).copied()
 }
 
-/// The rights on an object, where these are the rights on the first objects; none behind their end.
+/// The rights on an object, where these are the rights on the first objects; none past their end.
 pub fn rights_among(rights: &[Rights], object: ObjectId) -> Rights
     ensures { set_of result ≡ option_map_or set_of (slice_get rights.now object.0) nothing }
 {
@@ -109,7 +109,7 @@ fn next_rights(
     }
 }
 
-/// The rights on each object of a user to whom this is granted: one pass over the objects, each behind that in which it is
+/// The rights on each object of a user to whom this is granted: one pass over the objects, each after that in which it is
 /// declared.
 fn rights_of(
     alloc: Global,

@@ -1,4 +1,4 @@
--- What is open behind one more token.
+-- What is open after one more token.
 use Rattle.std.proofs.Common.{◌≡◌, ℕ, suc, ◌+◌, ◌-◌, ◌<◌, ◌≤◌, Bool, true, false, cond, eqb, Option, Some, None, List, [], ◌∷◌, ◌++◌, length, take, drop, get_or, map, filter, refl, sym, ap, subst, ◌∙◌, arith}
 use Rattle.std.proofs.Math.Seq.{drop-cons}
 use Rattle.std.specs.List.{find}
@@ -26,11 +26,11 @@ one_more : (b : Bool) (n : ℕ) → n + cond b 1 0 ≡ counted b false n
 one_more true n = refl
 one_more false n = omega arith
 
--- a count of those that pass, behind one more
+-- a count of those that pass, after one more
 count_push : (p : TokenKind → Bool) (kinds : List TokenKind) (kind : TokenKind) → count_by p (kinds ++ kind ∷ []) ≡ counted (p kind) false (count_by p kinds)
 count_push p kinds kind = fold_push (λ (n : ℕ) (x : TokenKind). n + cond (p x) 1 0) 0 kinds kind ∙ one_more (p kind) (count_by p kinds)
 
--- how many are open behind one more
+-- how many are open after one more
 open_push :
     (opens closes : TokenKind → Bool) (kinds : List TokenKind) (kind : TokenKind)
     → open_count opens closes (kinds ++ kind ∷ []) ≡ counted (opens kind) (closes kind) (open_count opens closes kinds)
@@ -56,7 +56,7 @@ same_around :
     → around a b c d e f g h ≡ around a' b' c' d' e' f' g' h'
 same_around a a' b b' c c' d d' e e' f f' g g' h h' i j k l m n o p = cc
 
--- what is open behind one more token that the grammar sees
+-- what is open after one more token that the grammar sees
 pub around_push : (kinds : List TokenKind) (kind : TokenKind) → around_of (kinds ++ kind ∷ []) ≡ around_behind (around_of kinds) kind
 around_push kinds kind =
     same_around _ _ _ _ _ _ _ _ _ _ _ _ _ _ _ _
@@ -94,7 +94,7 @@ counted_within true closes n limit le = omega arith
 counted_within false true n limit le = omega arith
 counted_within false false n limit le = omega arith
 
--- what stands before the token behind one that the grammar sees
+-- what stands before the token after one that the grammar sees
 pub seen_behind :
     (tokens : List Token) (place : ℕ) (t d : Token) (around next : Surroundings)
     → place < length tokens → t ≡ get_or tokens place d → t.directive ≡ false
@@ -140,7 +140,7 @@ else_same tokens place t d lt is directive =
     ap (λ (ts : List Token). answer (found ts)) split
     ∙ ap (λ (b : Bool). answer (cond (not b) (Some t) (found (drop (place + 1) tokens)))) directive
 
--- what stands around a line is what stands before the token behind its directive
+-- what stands around a line is what stands before the token after its directive
 pub stands_around :
     (tokens : List Token) (place : ℕ) (t d : Token) (before : Option ℕ) (behind : Before) (free : Bool) (inside : Option ℕ)
     → place < length tokens → t ≡ get_or tokens place d → begins_line before t ≡ true → behind.line ≡ pragma_line t

@@ -57,13 +57,13 @@ none_read : (ps : List Placed) (o : Option (Expression × List Placed)) → expr
 none_read ps None is none = refl
 none_read ps (Some x) is none = let d = expression_derived ps x.1 x.0 is in absurd (none d.0 x.1 d.1)
 
--- what follows an expression that is read, by the sign of the first token behind it
+-- what follows an expression that is read, by the sign of the first token after it
 follows_by : (pragma : Pragma) (text : List ℕ) (more : List Deed) (next : Type 0) (es : List PragmaExpression) (whole : Bool) (s : Sign) → (next → more ≡ deeds_by pragma text es whole) → FollowsBy s next es whole → cond (same_sign sign.Comma s) more (Bad ∷ []) ≡ deeds_by pragma text es whole
 follows_by pragma text more next es whole sign.Comma h f = h f
 follows_by pragma text more next [] whole s h f = ap (λ (b : Bool). cond b [] (Bad ∷ [])) (sym f)
 follows_by pragma text more next (e ∷ es) whole s h f = absurd f
 
--- what follows an expression that is read, where more is read behind a comma
+-- what follows an expression that is read, where more is read after a comma
 follows_read :
     (pragma : Pragma) (text : List ℕ) (more : List Placed → List Deed) (es : List PragmaExpression) (whole : Bool) (rest : List Placed)
     → ((qs : List Placed) → length qs < length rest → AreExpressions qs es whole → more qs ≡ deeds_by pragma text es whole)
@@ -94,17 +94,17 @@ record HasExpressions (ps : List Placed) : Type 0 where
   whole : Bool
   are : AreExpressions ps es whole
 
--- a line is bad behind an expression that no comma follows
+-- a line is bad after an expression that no comma follows
 bad_behind : (s : Sign) (next : Type 0) → same_sign sign.Comma s ≡ false → FollowsBy s next [] false
 bad_behind sign.Comma next h = absurd cc
 bad_behind s next h = refl
 
--- a line goes on behind a comma
+-- a line goes on after a comma
 goes_on_behind : (s : Sign) (next : Type 0) (es : List PragmaExpression) (whole : Bool) → same_sign sign.Comma s ≡ true → next → FollowsBy s next es whole
 goes_on_behind sign.Comma next es whole h x = x
 goes_on_behind s next es whole h x = absurd cc
 
--- behind an expression
+-- after an expression
 behind_begun : (ps : List Placed) (e : PragmaExpression) (rest : List Placed) → Begins ps e rest → ((qs : List Placed) → length qs < length rest → HasExpressions qs) → HasExpressions ps
 behind_begun ps e [] b ih = record { es = e ∷ []; whole = true; are = ([], b, refl) }
 behind_begun ps e (q ∷ qs) b ih = by_comma (same_sign sign.Comma (sign_of q.1.kind)) refl
@@ -121,7 +121,7 @@ some_none x h =
     let P : Option (Expression × List Placed) → Type 0 = λ o. elim o as (λ _. Type 0) [ Some y ↦ Unit {0} | None ↦ ⊥ ] in
     subst P h tt
 
--- behind what is read at the front of tokens
+-- after what is read at the front of tokens
 behind_read :
     (ps : List Placed) (o : Option (Expression × List Placed)) → expression_at ps ≡ o → ((qs : List Placed) → length qs < length ps → HasExpressions qs) → HasExpressions ps
 behind_read ps None is ih = record {

@@ -47,12 +47,12 @@ keyword_read (Alone (Listed o l c)) rest h none = rw h.1.0 refl
 abbrev paired : Option (Token × Token × List Placed) → Value
 paired first = option_map_or (λ p. value.Pairs p) (option_and_then pair_with first) value.Other
 
--- behind one keyword with a string that ends a list
+-- after one keyword with a string that ends a list
 one_alone : (first : Option (Token × Token)) (closing : Placed) (rest : List Placed) → Has sign.Closing closing → paired (named first (closing ∷ rest)) ≡ value.Other
 one_alone None closing rest h = refl
 one_alone (Some k) closing rest h = rw h refl
 
--- behind two keywords with strings that end a list
+-- after two keywords with strings that end a list
 two_alone :
     (first second : Option (Token × Token)) (comma closing : Placed) (next rest : List Placed) → Has sign.Comma comma → Has sign.Closing closing
     → keyword_text next ≡ named second (closing ∷ rest)
@@ -61,7 +61,7 @@ two_alone None second comma closing next rest h k is = refl
 two_alone (Some a) None comma closing next rest h k is = rw (h, is) refl
 two_alone (Some a) (Some b) comma closing next rest h k is = rw (h, is, k) refl
 
--- behind two keywords with strings, and more
+-- after two keywords with strings, and more
 three_alone :
     (first second : Option (Token × Token)) (comma more : Placed) (next rest : List Placed) → Has sign.Comma comma → Has sign.Comma more
     → keyword_text next ≡ named second (more ∷ rest)
@@ -166,7 +166,7 @@ record IsRead (ps rest : List Placed) : Type 0 where
   ends : EndsValue v rest
   spelled : ps ≡ value_text v rest
 
--- behind a number
+-- after a number
 number_derived : (p : Placed) (ps rest : List Placed) → Has sign.Number p → (if begins_with is_base ps then rest_of ps else ps) ≡ rest → IsRead (p ∷ ps) rest
 number_derived p [] rest h is = record {
   v = Number p;
@@ -246,7 +246,7 @@ alone_derived ps rest x (Some v) no_word is read =
     let plain = word_no_other r.v rest (ap (begins_with is_word) (sym r.spelled) ∙ no_word) r.is in
     (Alone r.v, record { spelled = r.spelled; is = (plain, r.is); ends = r.ends })
 
--- behind a word
+-- after a word
 word_derived : (w : Placed) (ps rest : List Placed) (x : Expression) → Has sign.Word w → (if begins_with is_equals ps then option_map (as_assigned w) (value_at (rest_of ps)) else Some (as_alone w ps)) ≡ Some (x, rest) → (e : PragmaExpression) × Begins (w ∷ ps) e rest
 word_derived w [] rest x h is =
     let same : [] ≡ rest = rests (as_alone w []) (x, rest) is in

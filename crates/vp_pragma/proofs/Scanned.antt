@@ -17,23 +17,23 @@ step : (d : Due) (depth : ℕ) (p : Placed) (ps : List Placed) (s : Sign) → Ha
 unfolding scan
 step d depth p ps s h = ap (λ (t : Sign). moved depth ps (λ (e : Due) (n : ℕ). scan e n ps) (next d t)) h
 
--- what follows a list that lies within so many others, behind its end
+-- what follows a list that lies within so many others, past its end
 abbrev pub closes : ℕ → List Placed → Option (List Placed)
 closes zero rest = Some rest
 closes (suc depth) rest = scan due.Behind depth rest
 
--- what is due behind a value
+-- what is due after a value
 abbrev due_behind : PragmaValue → Due
 due_behind (Number number) = due.BehindNumber
 due_behind _ = due.Behind
 
--- what is due behind an expression
+-- what is due after an expression
 abbrev due_after : PragmaExpression → Due
 due_after (Keyword word) = due.BehindWord
 due_after (Assigned word equals v) = due_behind v
 due_after (Alone v) = due_behind v
 
--- a list may end there, or go on behind a comma
+-- a list may end there, or go on after a comma
 record GoesOn (d : Due) : Type 0 where
   closing : next d sign.Closing ≡ Some Closes
   comma : next d sign.Comma ≡ Some (To due.Expression)

@@ -15,7 +15,7 @@ use Rattle.vp_pragma.specs.declared.fault.PragmaError.TheVariants as error
 use Rattle.vp_pragma.specs.Reading.{after_left, progress_of}
 use Rattle.vp_pragma.proofs.Refusals.{explains_through}
 
--- deeds behind others
+-- deeds after others
 after_append :
     (text : List ℕ) (tokens : List Token) (r : Result Progress PragmaError) (xs ys : List (Placed × Deed))
     → after_deeds text tokens r (xs ++ ys) ≡ after_deeds text tokens (after_deeds text tokens r xs) ys
@@ -27,11 +27,11 @@ after_append text tokens (Ok r) (x ∷ xs) ys = after_append text tokens (after_
 abbrev pub told : ℕ → Token → List Deed → List (Placed × Deed)
 told place t deeds = map (λ (deed : Deed). ((place, t), deed)) deeds
 
--- the deeds of the tokens behind it
+-- the deeds of the tokens after it
 abbrev others : List ℕ → List Token → ℕ → Token → List (Placed × Deed)
 others text tokens place t = deeds_behind text (pragma_line t) (place + 1) (drop (place + 1) tokens)
 
--- the tokens from a place on are the one that stands there and those behind it
+-- the tokens from a place on are the one that stands there and those after it
 first_left :
     (text : List ℕ) (tokens : List Token) (r : Reading) (before : Option ℕ) (place : ℕ) (t d : Token) (starts : Bool)
     → place < length tokens → t ≡ get_or tokens place d → begins_line before t ≡ starts

@@ -9,7 +9,7 @@ abbrev pub author_of : List Envelope → ℕ → List ℕ
 author_of envelopes zero = []
 author_of envelopes (suc n) = option_map_or (λ e. e.author) (slice_get envelopes n) []
 
--- a place lies behind an envelope's begin and before its end
+-- a place lies after an envelope's begin and before its end
 abbrev pub holds : ℕ → Envelope → Bool
 holds place envelope = nat_lt envelope.begin place && nat_lt place envelope.end
 
@@ -36,7 +36,7 @@ pub record Viewport : Type 0 where
   pub rights : RightSet
   pub line : ℕ
 
--- the object that a viewport names: an item, behind its module and a dot where that is named (profile)
+-- the object that a viewport names: an item, after its module and a dot where that is named (profile)
 abbrev pub object_of : Viewport → List ℕ
 object_of v = option_map_or (λ m. m ++ (codes "." ++ v.item)) v.in_module v.item
 

@@ -39,7 +39,7 @@ keyword_text ps =
     option_and_then (λ word. option_and_then (λ behind. option_map (λ text. (word.0, text.0, text.1)) (token_if is_string behind)) (behind_sign is_equals word.1))
     (token_if is_word ps)
 
--- the last keyword with a string of a list of two, behind the first one
+-- the last keyword with a string of a list of two, after the first one
 abbrev pub pair_with : Token × Token × List Placed → Option Pair
 pair_with first =
     option_and_then (λ behind. option_and_then (λ second. option_map (λ _. record { first = first.0; text = first.1; second = second.0; other = second.1 }) (behind_sign is_close second.2))
@@ -49,7 +49,7 @@ pair_with first =
 abbrev pub pair_found : List Placed → Option Pair
 pair_found ps = option_and_then pair_with (keyword_text ps)
 
--- the value of a list, from behind its parenthesis
+-- the value of a list, from after its parenthesis
 abbrev pub pair_of : List Placed → Value
 pair_of ps = option_map_or (λ p. Pairs p) (pair_found ps) Other
 
@@ -77,7 +77,7 @@ expression_at (p ∷ ps) =
     then option_map (λ v. (Assigned p.1 v.0, v.1)) (value_at (rest_of ps))
     else Some (Alone p.0 p.1, ps))
 
--- what follows an expression does: nothing where it is the last, and else what is told of the tokens behind a comma
+-- what follows an expression does: nothing where it is the last, and else what is told of the tokens after a comma
 abbrev pub next_deeds : (List Placed → List Deed) → List Placed → List Deed
 next_deeds more [] = []
 next_deeds more (p ∷ ps) = if is_comma p.1.kind then more ps else Bad ∷ []
@@ -96,20 +96,20 @@ deeds_from pragma text (suc n) ps = first_deeds pragma text (deeds_from pragma t
 abbrev pub all_deeds : Pragma → List ℕ → List Placed → List Deed
 all_deeds pragma text ps = if length ps == 0 then [] else deeds_from pragma text (length ps) ps
 
--- what the pragma of a name does, by the tokens behind the name (profile)
+-- what the pragma of a name does, by the tokens after the name (profile)
 abbrev pub named_deeds : List ℕ → List ℕ → List Placed → List Deed
 named_deeds text name ps =
     if bytes_eq name (codes "protect") then all_deeds Protect text ps
     else (if bytes_eq name (codes "reset") then all_deeds Reset text ps
     else (if bytes_eq name (codes "resetall") then Forgets ∷ [] else []))
 
--- what a pragma does, by the tokens behind its directive
+-- what a pragma does, by the tokens after its directive
 abbrev pub line_deeds : List ℕ → List Placed → List Deed
 line_deeds text [] = Bad ∷ []
 line_deeds text (name ∷ ps) =
     if is_word name.1.kind then named_deeds text (text_of text name.1) ps else Bad ∷ []
 
--- what a directive does, by the tokens behind it: nothing, if it is no pragma (clause 19.10)
+-- what a directive does, by the tokens after it: nothing, if it is no pragma (clause 19.10)
 abbrev pub directive_deeds : List ℕ → Token → List Placed → List Deed
 directive_deeds text t ps = if is_pragma text t then line_deeds text ps else []
 

@@ -26,18 +26,18 @@ next_value sign.Base = Some (To due.Behind)
 next_value sign.Opening = Some Opens
 next_value _ = None
 
--- what comes next behind an expression
+-- what comes next after an expression
 abbrev pub next_behind : Sign → Option Move
 next_behind sign.Comma = Some (To due.Expression)
 next_behind sign.Closing = Some Closes
 next_behind _ = None
 
--- what comes next behind a word
+-- what comes next after a word
 abbrev pub next_behind_word : Sign → Option Move
 next_behind_word sign.Equals = Some (To due.Value)
 next_behind_word s = next_behind s
 
--- what comes next behind a number
+-- what comes next after a number
 abbrev pub next_behind_number : Sign → Option Move
 next_behind_number sign.Base = Some (To due.Behind)
 next_behind_number s = next_behind s
@@ -50,7 +50,7 @@ next due.BehindWord s = next_behind_word s
 next due.BehindNumber s = next_behind_number s
 next due.Behind s = next_behind s
 
--- what follows, in a list within so many others, behind a move: the list that is left may be the outermost
+-- what follows, in a list within so many others, after a move: the list that is left may be the outermost
 abbrev pub moved : ℕ → List Placed → (Due → ℕ → Option (List Placed)) → Option Move → Option (List Placed)
 moved depth ps more None = None
 moved depth ps more (Some (To d)) = more d depth

@@ -136,7 +136,7 @@ pub record Begins (ps : List Placed) (e : PragmaExpression) (rest : List Placed)
   pub is : IsExpression e
   pub ends : EndsExpression e rest
 
--- what follows an expression, by the first sign: more behind a comma; else something that makes the line bad there
+-- what follows an expression, by the first sign: more after a comma; else something that makes the line bad there
 abbrev pub FollowsBy : Sign → Type 0 → List PragmaExpression → (whole : Bool) → Type 0
 FollowsBy sign.Comma more es whole = more
 FollowsBy _ more [] whole = whole ≡ false

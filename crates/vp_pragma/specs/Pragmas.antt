@@ -91,7 +91,7 @@ abbrev pub before_deeds : Option Deed → List Deed → List Deed
 before_deeds None deeds = deeds
 before_deeds (Some deed) deeds = deed ∷ deeds
 
--- what expressions do, one after the other; where they are not the whole of their line, it is bad behind them
+-- what expressions do, one after the other; where they are not the whole of their line, it is bad after them
 abbrev pub deeds_by : Pragma → List ℕ → List PragmaExpression → (whole : Bool) → List Deed
 deeds_by pragma text [] whole = if whole then [] else Bad ∷ []
 deeds_by pragma text (e ∷ es) whole = before_deeds (deed_of pragma text (expression_said e)) (deeds_by pragma text es whole)
@@ -112,7 +112,7 @@ pub data PragmaLine : Type 0 where
   ResetAll : PragmaLine
   Expressions : Pragma → List Placed → PragmaLine
 
--- the pragma of a name, by the tokens behind the name (profile)
+-- the pragma of a name, by the tokens after the name (profile)
 abbrev pub named_line : (name : List ℕ) → List Placed → PragmaLine
 named_line name ps =
     if bytes_eq name (codes "protect") then Expressions Protect ps
@@ -128,7 +128,7 @@ line_behind text (name ∷ ps) = if is_word name.1.kind then named_line (text_of
 abbrev pub is_pragma : List ℕ → Token → Bool
 is_pragma text t = bytes_eq (text_of text t) (codes "`pragma")
 
--- what stands on the line of a directive, by the tokens behind it: a directive that is no pragma has no effect here
+-- what stands on the line of a directive, by the tokens after it: a directive that is no pragma has no effect here
 abbrev pub directive_line : List ℕ → Token → List Placed → PragmaLine
 directive_line text t ps = if is_pragma text t then line_behind text ps else NoEffect
 
@@ -154,7 +154,7 @@ abbrev pub begins_line : Option ℕ → Token → Bool
 begins_line None t = t.directive
 begins_line (Some before) t = t.directive && not (t.line == before)
 
--- the tokens of a line behind its directive, with their places: the longest run of those on the line, in the order of the text
+-- the tokens of a line after its directive, with their places: the longest run of those on the line, in the order of the text
 abbrev pub on_line : ℕ → Token → List Token → List Placed
 on_line place d ts = enumerate_from (place + 1) (take_while (is_on d.line) ts)
 

@@ -92,7 +92,7 @@ abbrev pub is_else : TokenKind → Bool
 is_else (token.Keyword keyword.Else) = true
 is_else _ = false
 
--- how many are open behind these kinds, where a closing without an opening counts nothing (profile)
+-- how many are open after these kinds, where a closing without an opening counts nothing (profile)
 abbrev pub open_count : (TokenKind → Bool) → (TokenKind → Bool) → List TokenKind → ℕ
 open_count opens closes kinds = fold (λ n kind. if opens kind then n + 1 else (if closes kind then n - 1 else n)) 0 kinds
 
@@ -100,7 +100,7 @@ open_count opens closes kinds = fold (λ n kind. if opens kind then n + 1 else (
 abbrev pub is_at_boundary : List TokenKind → Bool
 is_at_boundary kinds = fold (λ before kind. may_end kind) true kinds
 
--- no block, case, parenthesis, bracket or brace is open behind these kinds, each counted by itself, and a statement, an item or a
+-- no block, case, parenthesis, bracket or brace is open after these kinds, each counted by itself, and a statement, an item or a
 -- module may have ended (profile)
 abbrev pub is_free_behind : List TokenKind → Bool
 is_free_behind kinds =
@@ -119,11 +119,11 @@ is_before_else tokens place = option_map_or is_else (kind_from place tokens) fal
 abbrev pub is_free : List Token → ℕ → Bool
 is_free tokens place = is_free_behind (kinds_before place tokens) && not (is_before_else tokens place)
 
--- behind these kinds a module is open
+-- after these kinds a module is open
 abbrev pub is_in_module : List TokenKind → Bool
 is_in_module kinds = fold (λ inside kind. if begins_module kind then true else (if ends_module kind then false else inside)) false kinds
 
--- behind these kinds the how-many-th module is open; none outside of all modules
+-- after these kinds the how-many-th module is open; none outside of all modules
 abbrev pub module_behind : List TokenKind → Option ℕ
 module_behind kinds = if is_in_module kinds then Some (count_by begins_module kinds) else None
 
@@ -133,7 +133,7 @@ module_at tokens place = module_behind (kinds_before place tokens)
 
 -- ---- as they are kept while a text is read
 
--- what is open behind these kinds
+-- what is open after these kinds
 abbrev pub around_of : List TokenKind → Surroundings
 around_of kinds = record {
   blocks = open_count opens_block closes_block kinds;
@@ -146,11 +146,11 @@ around_of kinds = record {
   at_boundary = is_at_boundary kinds;
 }
 
--- the count behind one more token that opens, closes, or does neither
+-- the count after one more token that opens, closes, or does neither
 abbrev pub counted : Bool → Bool → ℕ → ℕ
 counted opens closes n = if opens then n + 1 else (if closes then n - 1 else n)
 
--- what is open behind one more token
+-- what is open after one more token
 abbrev pub around_behind : Surroundings → TokenKind → Surroundings
 around_behind s kind = record {
   blocks = counted (opens_block kind) (closes_block kind) s.blocks;

@@ -18,7 +18,7 @@ pub struct Envelope {
 impl Envelope {
     ghost use Rattle.vp_pragma.specs.Envelopes.{holds};
 
-    /// A place lies behind its `begin` and before its `end`.
+    /// A place lies after its `begin` and before its `end`.
     pub fn holds(&self, place: u32) -> bool
         ensures { result ≡ holds place self.now }
     {

@@ -102,7 +102,7 @@ pub fn split(rest: Rest<'_>) -> Option<(Token, Rest<'_>)>
     }
 }
 
-/// What follows a number: behind a base part, if one is first.
+/// What follows a number: after a base part, if one is first.
 fn behind_base(rest: Rest<'_>) -> Rest<'_>
     requires { HasPlaces rest }
     ensures parts { placed result ≡ (if begins_with is_base (placed rest.entry)
@@ -189,7 +189,7 @@ fn behind_close(rest: Rest<'_>) -> Option<Rest<'_>>
     }
 }
 
-/// The two keywords with strings of a list, from behind its parenthesis.
+/// The two keywords with strings of a list, from after its parenthesis.
 fn pair_found(rest: Rest<'_>) -> Option<Pair>
     requires { HasPlaces rest }
     ensures { result ≡ pair_found (placed rest.entry) }
@@ -205,7 +205,7 @@ fn pair_found(rest: Rest<'_>) -> Option<Pair>
     })
 }
 
-/// The value of a list, from behind its parenthesis.
+/// The value of a list, from after its parenthesis.
 fn pair_of(rest: Rest<'_>) -> Value
     requires { HasPlaces rest }
     ensures { result ≡ pair_of (placed rest.entry) }

@@ -53,7 +53,7 @@ fn next_value(sign: Sign) -> Option<Move>
     }
 }
 
-/// What comes next behind an expression.
+/// What comes next after an expression.
 fn next_behind(sign: Sign) -> Option<Move>
     ensures { result ≡ next_behind sign }
 {
@@ -77,7 +77,7 @@ fn next(due: Due, sign: Sign) -> Option<Move>
     }
 }
 
-/// What follows a list, from behind its parenthesis; none where it is no list or does not end.
+/// What follows a list, from after its parenthesis; none where it is no list or does not end.
 pub fn list_end(rest: Rest<'_>) -> Option<Rest<'_>>
     requires { HasPlaces rest }
     ensures parts { option_map placed result ≡ scan due.Expression 0 (placed rest.entry) }

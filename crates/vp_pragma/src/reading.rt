@@ -305,7 +305,7 @@ fn apply_all(
     })
 }
 
-/// Reads the pragma of a name, behind the name.
+/// Reads the pragma of a name, after the name.
 fn read_named(
     alloc: Global,
     reading: &mut Reading,
@@ -402,7 +402,7 @@ fn else_from(tokens: &[Token], place: usize, before: Before) -> bool
     }
 }
 
-/// What stands before the token behind the one at a place.
+/// What stands before the token after the one at a place.
 fn step(tokens: &[Token], place: usize, before: Before) -> Before
     requires place { place < length tokens.now }
     requires few { length tokens.now ≤ TEXT_LIMIT }

@@ -5,7 +5,7 @@ ghost use Rattle.vp_pragma.specs.Surroundings.{is_before_else, is_else, may_end}
 
 use vp_lex::{Keyword, Punctuator, Token, TokenKind};
 
-/// What is open behind the tokens that the grammar has seen so far.
+/// What is open after the tokens that the grammar has seen so far.
 #[derive(Clone, Copy)]
 pub struct Surroundings {
     /// `begin` blocks that are open.
@@ -104,7 +104,7 @@ impl Surroundings {
         }
     }
 
-    /// What is open behind one more token.
+    /// What is open after one more token.
     pub fn behind(self, kind: TokenKind) -> Surroundings
         requires { CountsUpTo TEXT_LIMIT self }
         ensures { result ≡ around_behind self kind }

@@ -82,14 +82,14 @@ fn begins_name(byte: u8) -> bool
     byte.is_ascii_alphabetic() || byte == b'_'
 }
 
-/// A byte may stand in a name behind its first.
+/// A byte may stand in a name after its first.
 fn goes_on_name(byte: u8) -> bool
     ensures { result ≡ goes_on_name byte }
 {
     byte.is_ascii_alphanumeric() || byte == b'_' || byte == b'$'
 }
 
-/// Each of these bytes may stand in a name behind its first.
+/// Each of these bytes may stand in a name after its first.
 fn all_go_on(bytes: &[u8]) -> bool
     ensures { result ≡ list_all goes_on_name bytes.now }
 {

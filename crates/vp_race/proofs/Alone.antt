@@ -23,7 +23,7 @@ no_such true d = refl
 no_such false true = refl
 no_such false false = refl
 
--- there is no step behind the last of the eligible events
+-- there is no step after the last of the eligible events
 pub beyond_refuses : (s : State) (k : ℕ) → length (eligible s) ≤ k → reached (step s k) ≡ None
 beyond_refuses s k h =
     ap (λ o. reached (if s.finished then Refuses Finished else if is_done s.queue then Refuses Idle else happened (tables_of s.design) (with_activation s) k (option_and_then (slice_get (activated s.queue).active) o)))

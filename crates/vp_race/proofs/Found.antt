@@ -90,11 +90,11 @@ pub seed_more : (segment : Run) (first : State) (limit : ℕ) (already : List To
 seed_more segment first limit already [] seed = refl
 seed_more segment first limit already (s ∷ seeds) seed = seed_more segment first limit (already ++ found_by segment first already (tried segment.start limit s)) seeds seed
 
--- what is found is by the state behind the run's order
+-- what is found is by the state after the run's order
 pub found_by_end : (segment : Run) (first : State) (limit seeds : ℕ) → behind segment.start segment.order ≡ Some first → found segment limit seeds ≡ found_from segment first limit [] (below seeds)
 found_by_end segment first limit seeds h = ap (λ o. found_beside segment o limit seeds) h
 
--- what is found behind an order is by the state behind it
+-- what is found after an order is by the state after it
 pub found_by_order : (segment : Run) (first end : State) (already : List Told) (second : List ℕ) (o : Option (List ℕ)) → o ≡ Some second → behind segment.start second ≡ Some end → found_by segment first already o ≡ found_behind segment (objects_of already) first second (Some end)
 found_by_order segment first end already second o h there =
     ap (λ q. found_by segment first already q) h ∙ ap (λ q. found_behind segment (objects_of already) first second q) there
@@ -137,7 +137,7 @@ none_differ known s (n ∷ ns) =
     (and_false (differs s s n) (not (is_among known n)) (same_differs s n))
     ∙ none_differ known s ns
 
--- the state behind choices, in which nothing is left to do
+-- the state after choices, in which nothing is left to do
 record EndOf (o : Option State) (choices : List ℕ) : Type 0 where
   end : State
   leads : followed o choices ≡ Some end

@@ -46,7 +46,7 @@ next_by false before number run runs first h rest is =
     let more : number - before ≡ suc (number - suc before) = omega (arith, large, first) in
     rest ∙ ap (λ k. slice_get (run ∷ runs) k) (sym more)
 
--- the first segment behind a number is found by its place
+-- the first segment after a number is found by its place
 pub numbered_next : (before number : ℕ) (runs : List Run) → AreNumbered (suc before) runs → find (λ (run : Run). nat_lt number run.number) runs ≡ slice_get runs (number - before)
 numbered_next before number [] h = sym (slice_get_past [] (number - before) (omega arith))
 numbered_next before number (run ∷ runs) h = next_by (nat_lt number run.number) before number run runs h.0 h.1 (numbered_next (suc before) number runs h.1) refl

@@ -16,7 +16,7 @@ use Rattle.vp_race.proofs.Apart.{signal_as}
 use Rattle.vp_race.proofs.Designs.{behind_design, one_end}
 use Rattle.vp_sim.specs.States.{State}
 
--- the refusal behind two orders that lead to states
+-- the refusal after two orders that lead to states
 refusal_at : (segment : Run) (choices : List ℕ) (object : ℕ) (first end : State) → behind segment.start segment.order ≡ Some first → behind segment.start choices ≡ Some end → check_refusal segment choices object ≡ refusal_behind (Some first) (Some end) object
 refusal_at segment choices object first end h k =
     ap (λ o. refusal_behind o (behind segment.start choices) object) h ∙ ap (λ o. refusal_behind (Some first) o object) k
@@ -27,7 +27,7 @@ not_complete segment choices object first end h k left =
     refusal_at segment choices object first end h k
     ∙ ap (λ (b : Bool). if not b then Some NotComplete else if differs first end object then None else Some SameValue) left
 
--- whether the values differ decides, behind an order
+-- whether the values differ decides, after an order
 decided : (segment : Run) (choices : List ℕ) (object : ℕ) (first end : State) → behind segment.start segment.order ≡ Some first → behind segment.start choices ≡ Some end → is_over end ≡ true → check_refusal segment choices object ≡ (if differs first end object then None else Some SameValue)
 decided segment choices object first end h k over =
     refusal_at segment choices object first end h k
@@ -68,7 +68,7 @@ given : {X : Type 0} (b : Bool) (x y : X) → (if b then Some x else None) ≡ S
 given true x y h = cc
 given false x y h = cc
 
--- a net or reg that has these values behind two orders
+-- a net or reg that has these values after two orders
 differ_by : (first end : State) (object : ℕ) (values : List Bit × List Bit) → apart first end object ≡ Some values → ((is_signal first object ≡ true) × (same_bits (value_of first object) (value_of end object) ≡ false)) × ((value_of first object, value_of end object) ≡ values)
 differ_by first end object values h = (
   both_of (is_signal first object) (same_bits (value_of first object) (value_of end object)) (some_apart (differs first end object) _ values h),
@@ -85,7 +85,7 @@ as_order start choices end has leads =
 value_at : (start : State) (choices : List ℕ) (end : State) (object : ℕ) → behind start choices ≡ Some end → value_of end object ≡ value_behind start choices object
 value_at start choices end object leads = sym (ap (λ (o : Option State). option_map_or (λ s. value_of s object) o no_value) leads)
 
--- two orders of a segment behind which a net or reg has these values are a race of it
+-- two orders of a segment after which a net or reg has these values are a race of it
 pub apart_race :
     (b : Beside) (object : ObjectId) (first end : State) (values : List Bit × List Bit)
     → HasEnd b.segment.start b.segment.order → HasEnd b.segment.start b.second

@@ -8,7 +8,7 @@ use Rattle.vp_race.specs.Recording.{Begun, Stands, with_choice}
 use Rattle.vp_race.proofs.Alone.{chose_more}
 use Rattle.vp_race.proofs.Trying.{followed_more}
 
--- behind a step what the run chose leads to where it stands
+-- after a step what the run chose leads to where it stands
 pub stands_more :
     (begun : Option Begun) (s next : State) (k : ℕ) (several : Bool) (change : Option Change)
     → Stands begun s → step s k ≡ Goes next change → several ≡ nat_lt 1 (length (eligible s)) → Stands (option_map (λ b. with_choice b k several) begun) next

@@ -86,7 +86,7 @@ is_signal s object = option_map_or (λ (n : Node). is_variable n.kind) (slice_ge
 abbrev pub differs : (first second : State) → (object : ℕ) → Bool
 differs first second object = is_signal first object && not (same_bits (value_of first object) (value_of second object))
 
--- a race of a time slot: two orders from its start, behind which a net or a reg has different values (clause 11.5)
+-- a race of a time slot: two orders from its start, after which a net or a reg has different values (clause 11.5)
 pub record IsRace (start : State) (first second : List ℕ) (object : ℕ) : Type 0 where
   pub first_end : State
   pub second_end : State

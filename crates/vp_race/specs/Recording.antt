@@ -32,7 +32,7 @@ opened_at s = record { start = s; order = [] }
 abbrev pub first_segments : State → Segments
 first_segments s = record { opened = opened_at s; count = 0; kept = []; last_job = 0 }
 
--- behind an advance and a put a segment begins anew
+-- after an advance and a put a segment begins anew
 abbrev pub with_anew : Segments → State → Segments
 with_anew r s = record r { opened = opened_at s }
 
@@ -48,7 +48,7 @@ last_kept runs = keep_last kept_limit runs
 abbrev pub closed_run : Segments → (choice : ℕ) → Run
 closed_run r choice = record { number = suc r.count; start = r.opened.start; order = r.opened.order ++ choice ∷ [] }
 
--- behind a step by a choice, to a state: where nothing is left to do the segment closes, and else it goes on
+-- after a step by a choice, to a state: where nothing is left to do the segment closes, and else it goes on
 abbrev pub with_step : Segments → (choice : ℕ) → State → Segments
 with_step r choice s =
     if is_over s
@@ -63,7 +63,7 @@ kept_of r number = find (λ (run : Run). run.number == number) r.kept
 abbrev pub next_job : Segments → Option Run
 next_job r = find (λ (run : Run). nat_lt r.last_job run.number) r.kept
 
--- the segments behind a job, which hands out a segment
+-- the segments after a job, which hands out a segment
 abbrev pub with_job : Segments → Run → Segments
 with_job r run = record r { last_job = run.number }
 

@@ -1,4 +1,4 @@
--- The search for races of a time slot: orders by numbers that a seed begins, and the objects whose values differ behind them (profile).
+-- The search for races of a time slot: orders by numbers that a seed begins, and the objects whose values differ after them (profile).
 use Rattle.std.specs.Prelude.{◌≡◌, ℕ, ◌+◌, ◌-◌, ◌*◌, ◌/◌, ◌%◌, ◌^◌, ◌==◌, ◌<◌, ◌&&◌, zero, suc, Bool, false, not, if◌then◌else◌, List, [], ◌∷◌, ◌++◌, filter, length, map, min, Option, Some, None, option_map, Result, IfErr, IfOk, OnOk, slice_index_or}
 use Rattle.std.specs.List.{list_any}
 use Rattle.vp_race.specs.declared.fault.RaceError.TheVariants.{NoMemory}
@@ -10,7 +10,7 @@ use Rattle.vp_race.specs.declared.fault.RaceError.{RaceError}
 use Rattle.vp_race.specs.Orders.{behind, differs, is_over, reached, sources_of}
 use Rattle.vp_race.specs.Segments.{Run, Told, check_refusal}
 
--- the number behind one, in the sequence that a seed begins
+-- the number after one, in the sequence that a seed begins
 abbrev pub next_number : ℕ → ℕ
 next_number number = (number * 6364136223846793005 + 1442695040888963407) % 2 ^ 64
 
@@ -19,7 +19,7 @@ abbrev pub choice : (seed : ℕ) → (number : ℕ) → (count : ℕ) → ℕ
 choice seed number count = if seed == 0 then min (count - 1) (2 ^ 32 - 1) else (number / 2 ^ 33) % count
 
 -- the choices of a seed from a state on that was reached, whose last number is this, by at most so many steps; none where a step is
--- refused, and where something is left to do behind them
+-- refused, and where something is left to do after them
 abbrev pub tried_from : (limit : ℕ) → (seed : ℕ) → (number : ℕ) → Option State → Option (List ℕ)
 tried_from limit seed number None = None
 tried_from zero seed number (Some s) = if is_over s then Some [] else None
@@ -56,12 +56,12 @@ pub record IsChecked (segment : Run) (choices : List ℕ) (object : ℕ) (r : Re
   pub accepted : OnOk r (check_refusal segment choices object ≡ None)
   pub refused : IfErr r (MayExplain NoMemory (check_refusal segment choices object))
 
--- what is found behind an order, where the run's order leads to the first state, beside what is known
+-- what is found after an order, where the run's order leads to the first state, beside what is known
 abbrev pub found_behind : Run → (known : List ℕ) → (first : State) → (second : List ℕ) → Option State → List Told
 found_behind segment known first second None = []
 found_behind segment known first second (Some end) = map (finding_of segment second) (differing known first end)
 
--- what is found behind the order of a seed, if it has one
+-- what is found after the order of a seed, if it has one
 abbrev pub found_by : Run → (first : State) → (already : List Told) → Option (List ℕ) → List Told
 found_by segment first already None = []
 found_by segment first already (Some second) = found_behind segment (objects_of already) first second (behind segment.start second)
@@ -72,7 +72,7 @@ found_from segment first limit already [] = already
 found_from segment first limit already (seed ∷ seeds) =
     found_from segment first limit (already ++ found_by segment first already (tried segment.start limit seed)) seeds
 
--- what is found in a segment by the seeds below a number, beside the state behind the run's order
+-- what is found in a segment by the seeds below a number, beside the state after the run's order
 abbrev pub found_beside : Run → Option State → (limit : ℕ) → (seeds : ℕ) → List Told
 found_beside segment None limit seeds = []
 found_beside segment (Some first) limit seeds = found_from segment first limit [] (below seeds)

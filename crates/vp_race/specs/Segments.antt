@@ -30,7 +30,7 @@ pub record Told : Type 0 where
 abbrev pub IsRaceOf : Told → Type 0
 IsRaceOf f = IsRace f.segment.start f.segment.order f.second f.object.0
 
--- the value of an object behind an order
+-- the value of an object after an order
 abbrev pub value_behind : State → (order : List ℕ) → (object : ℕ) → List Bit
 value_behind start order object = option_map_or (λ s. value_of s object) (behind start order) no_value
 
@@ -39,7 +39,7 @@ abbrev pub apart : (first second : State) → (object : ℕ) → Option (List Bi
 apart first second object =
     if differs first second object then Some (value_of first object, value_of second object) else None
 
--- why choices are no order, if they are none: one is no step's, then that something is left to do behind the last (profile)
+-- why choices are no order, if they are none: one is no step's, then that something is left to do after the last (profile)
 abbrev pub order_refusal : Option State → Option RaceError
 order_refusal None = Some NotAnOrder
 order_refusal (Some end) = if is_over end then None else Some NotComplete
@@ -67,7 +67,7 @@ pub record AreOrders (b : Beside) (first_sources second_sources : List ObjectId)
   pub of_first : first_sources ≡ sources_of b.segment.start b.segment.order
   pub of_second : second_sources ≡ sources_of b.segment.start b.second
 
--- an object has these values behind both orders, and they are a race
+-- an object has these values after both orders, and they are a race
 pub record AreApart (b : Beside) (object : ObjectId) (values : List Bit × List Bit) : Type 0 where
   pub race : IsRaceOf (record { segment = b.segment; object = object; second = b.second })
   pub first_value : values.0 ≡ value_behind b.segment.start b.segment.order object.0

@@ -32,7 +32,7 @@ fn values_apart(first: &Sim, second: &Sim, object: ObjectId) -> Option<(Bits, Bi
     Some((value, other))
 }
 
-/// The finding of an object, if it is a net or reg that has different values in the simulations behind two orders; or want of memory
+/// The finding of an object, if it is a net or reg that has different values in the simulations after two orders; or want of memory
 /// (1207).
 pub fn finding_at(
     orders: &OrderPair,
@@ -60,7 +60,7 @@ pub fn finding_at(
 }
 
 /// A segment with an order beside the run's, where these choices are one, by two simulations that stand at the segment's start: the first takes the run's
-/// order, and the second the other. Refused where a choice is no step's (1201), where something is left to do behind the last (1202), or
+/// order, and the second the other. Refused where a choice is no step's (1201), where something is left to do after the last (1202), or
 /// for want of memory (1207).
 #[tactic(auto, using(crate::proofs::Refused::memory_refused, crate::proofs::Refused::choices_refused))]
 fn pair_of(
@@ -141,8 +141,8 @@ fn check_beside(
     check_by(alloc, segment, first, &mut second, choices, object)
 }
 
-/// The finding of an object, where these choices are an order of the segment's time slot behind which it has another value than behind the
-/// run's. Refused where a choice is no step's (1201), where something is left to do behind the last (1202), where the object is no net or reg or has
+/// The finding of an object, where these choices are an order of the segment's time slot after which it has another value than after the
+/// run's. Refused where a choice is no step's (1201), where something is left to do after the last (1202), where the object is no net or reg or has
 /// the same value (1203), or for want of memory (1207).
 pub fn check(
     alloc: Global,

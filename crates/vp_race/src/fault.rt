@@ -10,10 +10,10 @@ pub enum RaceError {
     /// The choices are no order of the time slot (1201).
     #[error("not an order")]
     NotAnOrder,
-    /// Something is left to do in the time slot behind the choices (1202).
+    /// Something is left to do in the time slot after the choices (1202).
     #[error("not complete")]
     NotComplete,
-    /// The object has the same value behind both orders (1203).
+    /// The object has the same value after both orders (1203).
     #[error("same value")]
     SameValue,
     /// The time slot is no longer kept (1204).

@@ -8,13 +8,13 @@ use std::marker::Model;
 use vp_bits::Bits;
 use vp_elab::ObjectId;
 
-/// A race that was found: a segment, an order beside the run's, and a net or reg that has different values behind the two. A contract sees these three,
+/// A race that was found: a segment, an order beside the run's, and a net or reg that has different values after the two. A contract sees these three,
 /// which are a race.
 #[derive(Drop)]
 pub struct Finding {
     pub(crate) orders: OrderPair,
     pub(crate) object: ObjectId,
-    /// The object's values behind the run's order and behind the other.
+    /// The object's values after the run's order and after the other.
     pub(crate) values: (Bits, Bits),
 }
 
@@ -55,7 +55,7 @@ impl Finding {
         self.orders.second()
     }
 
-    /// Its values behind the run's order and behind the other.
+    /// Its values after the run's order and after the other.
     pub fn values(&self) -> (Bits, Bits)
         ensures first { result.0 ≡ value_behind self.now.segment.start self.now.segment.order
             self.now.object.0 }

@@ -71,7 +71,7 @@ impl Findings {
         Ok(())
     }
 
-    /// Finds an object, if it is not found and is a net or reg that has different values in the simulations behind two orders; or want of
+    /// Finds an object, if it is not found and is a net or reg that has different values in the simulations after two orders; or want of
     /// memory (1207).
     fn find_at(
         &mut self,
@@ -99,7 +99,7 @@ impl Findings {
         Ok(())
     }
 
-    /// Finds each net and reg that is not found and has different values in the simulations behind two orders; or want of memory (1207).
+    /// Finds each net and reg that is not found and has different values in the simulations after two orders; or want of memory (1207).
     pub fn find_behind(
         &mut self,
         orders: &OrderPair,

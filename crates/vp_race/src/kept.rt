@@ -80,7 +80,7 @@ impl KeptSegments {
         self.ring.get((number - before - 1) as usize)
     }
 
-    /// The first kept segment behind that of a number.
+    /// The first kept segment after that of a number.
     pub fn next(&self, number: u64) -> Option<&Segment>
         ensures { option_copied result
             ≡ find (λ (run : Run). nat_lt number run.number) self.now.kept }

@@ -1,4 +1,4 @@
-//! Races of a time slot: two orders of its events behind which a net or a reg has different values (IEEE Std 1364-2005, 11.4.2 and 11.5).
+//! Races of a time slot: two orders of its events after which a net or a reg has different values (IEEE Std 1364-2005, 11.4.2 and 11.5).
 //!
 //! The run takes one order of a slot's events. A [`Segment`] is what it did there; [`search`] tries other orders, and [`check`] tests one. What they
 //! answer are [`Finding`]s, each of which is a race of its segment by its type.

@@ -14,7 +14,7 @@ pub struct OrderPair {
     pub segment: Arc<Segment>,
     /// The run's order, with its sources, shared by the findings of a search.
     pub first: Arc<Order>,
-    /// The order beside it, shared by the findings behind it.
+    /// The order beside it, shared by the findings after it.
     pub second: Arc<Order>,
 }
 

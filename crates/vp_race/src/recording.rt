@@ -81,7 +81,7 @@ impl Recording {
     }
 
     /// Takes the k-th of the events that a step can take, and tells what it changed. It belongs to the open segment, which closes where nothing is left
-    /// to do in the time slot behind it. Refused where `$finish` was executed (804), where nothing is left to do at the current time (801), where
+    /// to do in the time slot after it. Refused where `$finish` was executed (804), where nothing is left to do at the current time (801), where
     /// there are not so many events (802), where something would happen at 2^62 or later (805), or for want of memory (806). A refusal leaves
     /// all as it was.
     pub fn step(&mut self, k: u32) -> Result<Option<Change>, SimError>

@@ -16,7 +16,7 @@ use std::alloc::Global;
 use std::sync::Arc;
 use vp_sim::Sim;
 
-/// Tries the order of a seed by a simulation, and finds what differs behind it from another that stands behind the run's order; or want of memory
+/// Tries the order of a seed by a simulation, and finds what differs after it from another that stands after the run's order; or want of memory
 /// (1207).
 fn try_seed(
     alloc: Global,
@@ -58,7 +58,7 @@ fn try_seed(
     findings.find_behind(&orders, first, simulation)
 }
 
-/// The same as `search`, by a simulation behind the run's order, which is given, and by one of the same design.
+/// The same as `search`, by a simulation after the run's order, which is given, and by one of the same design.
 fn search_by<G: Gate>(
     alloc: Global,
     segment: &Arc<Segment>,
@@ -132,7 +132,7 @@ fn search_beside<G: Gate>(
 }
 
 /// The races of a segment that the orders of so many seeds show, each of at most so many steps: each net and reg once, by seed and then by number. The gate
-/// is asked once before, and once behind each order that was tried; where it answers no, what was found till then is the answer. A segment in
+/// is asked once before, and once after each order that was tried; where it answers no, what was found till then is the answer. A segment in
 /// which the run never had a choice has one order, and none is tried. The only refusal is want of memory (1207).
 pub fn search<G: Gate>(
     alloc: Global,

@@ -9,7 +9,7 @@ use std::marker::Model;
 use std::sync::Arc;
 use vp_sim::KeptSim;
 
-/// A segment of a run: what it did in a time slot, from the slot's beginning or from a put on, to the step behind which nothing was left to do. A
+/// A segment of a run: what it did in a time slot, from the slot's beginning or from a put on, to the step after which nothing was left to do. A
 /// contract sees its number, the state with which it began, and the order that the run took; the order is one from that state.
 #[derive(Drop)]
 pub struct Segment {

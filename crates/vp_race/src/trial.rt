@@ -9,7 +9,7 @@ use crate::follow::{Order, is_over};
 use std::alloc::Global;
 use vp_sim::{Sim, SimError};
 
-/// The number behind one, in the sequence that a seed begins (docs/FORMATS.md, "Races").
+/// The number after one, in the sequence that a seed begins (docs/FORMATS.md, "Races").
 fn next_number(number: u64) -> u64
     ensures { result ≡ next_number number }
 {
@@ -56,7 +56,7 @@ fn take_into(simulation: &mut Sim, order: &mut Order, choice: u32) -> Result<boo
 }
 
 /// Whether a simulation ends its time slot by at most so many steps, chosen by a seed; the order is appended to one that is empty. Else a step was refused, or
-/// something is left to do behind the last; or there was want of memory (1207).
+/// something is left to do after the last; or there was want of memory (1207).
 pub fn try_into(
     simulation: &mut Sim,
     order: &mut Order,

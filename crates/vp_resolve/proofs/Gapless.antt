@@ -36,6 +36,6 @@ hold_all span xs from (m ∷ ms) h =
     ∙ sym (drop_split xs s.first s.end h.1)
     ∙ ap (λ (n : ℕ). drop n xs) h.0
 
--- the expressions of the modules, one behind the other, are those of the text
+-- the expressions of the modules, one after the other, are those of the text
 pub whole_expressions : (source : Source) → AreWhole source → flat_map (expressions_in source) source.modules ≡ source.expressions
 whole_expressions source whole = hold_all (λ (m : Module). m.expressions) source.expressions 0 source.modules whole.expressions

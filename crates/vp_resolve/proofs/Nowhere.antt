@@ -41,7 +41,7 @@ pub place_none : (so : Bool) (place : ℕ) → place_if so place ≡ None → so
 place_none true place h = absurd cc
 place_none false place h = refl
 
--- no refusal has no place, and no other refusal behind it
+-- no refusal has no place, and no other refusal after it
 pub refused_none : (source : Source) (refusal : ℕ → ExprError) (place : Option ℕ) (other : Option ExprError) → refused_at source refusal place other ≡ None → (place ≡ None) × (other ≡ None)
 refused_none source refusal None other h = (refl, h)
 refused_none source refusal (Some place) other h = absurd cc
@@ -61,7 +61,7 @@ pub all_from : {X : Type 0} (p : X → Bool) (xs : List X) → ((k : ℕ) (x : X
 all_from p [] each = refl
 all_from p (x ∷ xs) each = and_from (p x) (list_all p xs) (each 0 x refl) (all_from p xs (λ k y at. each (suc k) y at))
 
--- of two lists, one behind the other
+-- of two lists, one after the other
 pub all_both : {X : Type 0} (p : X → Bool) (xs ys : List X) → list_all p xs ≡ true → list_all p ys ≡ true → list_all p (xs ++ ys) ≡ true
 all_both p [] ys h k = k
 all_both p (x ∷ xs) ys h k =

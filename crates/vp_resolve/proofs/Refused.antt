@@ -10,11 +10,11 @@ use Rattle.vp_resolve.specs.Checks.{first_bad, first_signed, first_wide, refused
 abbrev refused_bad : Elaborated → Option ℕ → Option ExprError
 refused_bad d place = refused_at d.source (λ line. BadSelect line) place None
 
--- what is refused for a comparison, or behind that
+-- what is refused for a comparison, or after that
 abbrev refused_signed : Elaborated → Option ℕ → Option ExprError
 refused_signed d place = refused_at d.source (λ line. SignedCompare line) place (refused_bad d (first_bad d))
 
--- what is refused for a width, or behind that
+-- what is refused for a width, or after that
 abbrev refused_wide : Elaborated → Option ℕ → Option ExprError
 refused_wide d place = refused_at d.source (λ line. TooWide line) place (refused_signed d (first_signed d))
 

@@ -228,11 +228,11 @@ module _ (d : Elaborated) (wide : list_all node_fits d.tree.nodes ≡ true) wher
 
   -- ---- the expressions of a module
 
-  -- sizes, and behind them that of one more operand
+  -- sizes, and after them that of one more operand
   abbrev with_operand : List ℕ → Operand → List ℕ
   with_operand sizes o = sizes ++ operand_size sizes o ∷ []
 
-  -- the sizes of expressions behind others, as they are counted
+  -- the sizes of expressions after others, as they are counted
   abbrev sizes_behind : (scope : Option ℕ) → List ℕ → List Expression → List ℕ
   sizes_behind scope sizes [] = []
   sizes_behind scope sizes (e ∷ es) =
@@ -267,7 +267,7 @@ module _ (d : Elaborated) (wide : list_all node_fits d.tree.nodes ≡ true) wher
 
   -- ---- the expressions of all modules
 
-  -- the sizes of the expressions of modules behind others, as they are counted
+  -- the sizes of the expressions of modules after others, as they are counted
   abbrev sizes_all : List ℕ → List Module → List ℕ
   sizes_all sizes [] = []
   sizes_all sizes (m ∷ ms) =
@@ -281,7 +281,7 @@ module _ (d : Elaborated) (wide : list_all node_fits d.tree.nodes ≡ true) wher
       ∙ ap (λ (l : List ℕ). l ++ sizes_all (with_sizes d sizes m) ms) (fold_behind (scope_of d m) sizes (expressions_in d.source m))
       ∙ append_assoc sizes own (sizes_all (with_sizes d sizes m) ms)
 
-  -- what stands behind the sizes of a module
+  -- what stands after the sizes of a module
   drop_behind : (scope : Option ℕ) (sizes : List ℕ) (es : List Expression) (more : List ℕ) → drop (length es) (sizes_behind scope sizes es ++ more) ≡ more
   drop_behind scope sizes [] more = refl
   drop_behind scope sizes (e ∷ es) more = drop_behind scope (with_size d scope sizes e) es more

@@ -65,11 +65,11 @@ counted_size design scope sizes (expression.Name name s) = counted (node_size de
 counted_size design scope sizes (expression.Literal place size digits) = counted (max 1 size)
 counted_size design scope sizes e = counted (operand_size sizes (operand_of design scope e))
 
--- sizes, and behind them that of one more expression
+-- sizes, and after them that of one more expression
 abbrev pub with_size : Elaborated → (scope : Option ℕ) → List ℕ → Expression → List ℕ
 with_size design scope sizes e = sizes ++ counted_size design scope sizes e ∷ []
 
--- sizes, and behind them those of the expressions of a module
+-- sizes, and after them those of the expressions of a module
 abbrev pub with_sizes : Elaborated → List ℕ → declared.Module → List ℕ
 with_sizes design sizes m = fold (with_size design (scope_of design m)) sizes (expressions_in design.source m)
 

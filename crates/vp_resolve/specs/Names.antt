@@ -21,7 +21,7 @@ object_named design scope place =
 abbrev pub node_named : Elaborated → (scope : Option ℕ) → (place : ℕ) → Option Node
 node_named design scope place = option_and_then (slice_get design.tree.nodes) (object_named design scope place)
 
--- how far an object stands behind the object of its module: in each instance of the module as far (clause 12.1.2)
+-- how far an object stands after the object of its module: in each instance of the module as far (clause 12.1.2)
 abbrev pub slot_in : (scope : Option ℕ) → (object : ℕ) → Slot
 slot_in scope object = record { 0 = object - unwrap_or scope 0 }
 

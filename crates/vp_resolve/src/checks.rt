@@ -72,7 +72,7 @@ fn counted_size(
     })
 }
 
-/// The sizes of the expressions of a module, as they are counted, behind those before them. Takes memory.
+/// The sizes of the expressions of a module, as they are counted, after those before them. Takes memory.
 fn add_counted(
     design: &Design,
     scope: Option<ObjectId>,
@@ -187,7 +187,7 @@ fn first_wide_target(statements: &[Statement]) -> Option<u32>
     first
 }
 
-/// The size at a place, in bits; 1 behind the end.
+/// The size at a place, in bits; 1 past the end.
 fn size_among(sizes: &[u8], place: usize) -> u8
     ensures { result ≡ slice_index_or sizes.now place 1 }
 {
@@ -234,7 +234,7 @@ fn first_wide_declared(source: &Source) -> Option<u32>
     first
 }
 
-/// The sizes behind so many.
+/// The sizes after so many.
 fn sizes_behind(sizes: &[u8], count: usize) -> &[u8]
     ensures { result.now ≡ drop count sizes.now }
 {

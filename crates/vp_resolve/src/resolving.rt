@@ -33,7 +33,7 @@ pub fn object_named(design: &Design, scope: Option<ObjectId>, place: u32) -> Opt
     design.find(Some(scope), design.source().word(place))
 }
 
-/// How far an object stands behind the object of its module.
+/// How far an object stands after the object of its module.
 pub fn slot_in(scope: Option<ObjectId>, object: ObjectId) -> Slot
     ensures { result ≡ slot_in (option_map (λ o. o.0) scope) object.0 }
 {
@@ -216,7 +216,7 @@ pub fn operand_of(design: &Design, scope: Option<ObjectId>, expression: Expressi
     }
 }
 
-/// The expressions of a module as operands, behind others. Takes memory.
+/// The expressions of a module as operands, after others. Takes memory.
 fn add_operands(
     design: &Design,
     scope: Option<ObjectId>,

@@ -102,7 +102,7 @@ module _ (text bytes : List ℕ) (design : Elaborated) (policy : PolicyState) (r
       pub audited : (explain : Bool) (audited : Audited) → IsAuditBehind explain (opening_of design policy) user unread still_unread audited → IsAudited explain text bytes name unread still_unread audited
       audited explain given is = record { opening = opening_of design policy; user = user; opens = opens_for; behind = is }
 
-      -- behind its beginning
+      -- after its beginning
       pub ended : (f : ServeFault) → EndsOpenedBy (opening_of design policy) unread still_unread f → EndsAuditBy text bytes name unread still_unread f
       ended f (inl (lacks, still)) = untold f (lacking name f lacks) still
       ended f (inr ends) = inr (opening_of design policy, user, opens_for, ends)
@@ -126,7 +126,7 @@ module _ (opening : Opening) (unread still_unread : Option (List ℕ)) where
     stops e stopped = subst (λ (s : Script). IsStopped e s unread still_unread None None) opens stopped
 
   module _ (behind : Script) (runs : RunsTo opening unread still_unread behind) where
-    -- behind a run its log is audited
+    -- after a run its log is audited
     pub audit_behind :
         (began : behind.world.opening ≡ opening) (explain : Bool) (user : ℕ) (audited : Audited) → audited ≡ audited_of explain behind.world.opening user behind.world.log
         → IsAuditBehind explain opening user unread still_unread audited

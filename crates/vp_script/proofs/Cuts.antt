@@ -75,7 +75,7 @@ front_is bytes pre rest is =
     ∙ ap (λ n. take n (pre ++ rest)) size
     ∙ take-append_seam pre rest
 
--- behind another line the rest is left
+-- after another line the rest is left
 pub left_behind_line : (bytes rest line : List ℕ) (behind : Option (List ℕ)) → Left bytes (Some rest) → parts 10 rest ≡ behind_part 10 line behind → MatchOption behind (rest ≡ line) (λ r. rest ≡ line ++ 10 ∷ r) → bytes_eq line (codes "%%") ≡ false → Left bytes behind
 left_behind_line bytes rest line None left is whole e =
     let front : List ℕ = take (length bytes - length rest) bytes in

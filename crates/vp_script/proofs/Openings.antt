@@ -70,7 +70,7 @@ module _ (starved : Bool) where
   close_keeps Open c d (reply, served) = serves_keeps starved c d request.Close reply served
   close_keeps Closed c d same = ap (λ (s : Script). s.world.opening) same
 
--- behind a script over an input the world is still one that began so
+-- after a script over an input the world is still one that began so
 pub answered_keeps :
     {unread still_unread held holds : Option (List ℕ)} (starved : Bool) (script behind : Script) (lines : ℕ) → IsAnswered starved script behind unread still_unread held holds lines
     → behind.world.opening ≡ script.world.opening

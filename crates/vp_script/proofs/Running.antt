@@ -100,7 +100,7 @@ turn_no_more w (f ∷ fs) q h =
     let e : record { world = with_event_if w (event.Book f); found = fs } ≡ q = cc in
     subst (λ (r : Running). room r.world ≤ room w) e (no_more_if w (event.Book f) (is_none (refused_by w (event.Book f))))
 
--- where something happens in a world without races to be booked, there is less room behind it
+-- where something happens in a world without races to be booked, there is less room after it
 pub happened_less : (n : ℕ) (w : Logged) (q : Running) → Happen (suc n) (record { world = w; found = [] }) q → room q.world < room w
 happened_less zero w q (p, same, last) =
     turn_less w q (subst (λ (r : Running). turned r ≡ Some q) same last)
@@ -108,7 +108,7 @@ happened_less (suc n) w q (p, before, last) =
     let less = happened_less n w p before in
     omega (arith, less, turn_no_more p.world p.found q last)
 
--- what happens one behind another, and what happens behind that
+-- what happens one after another, and what happens after that
 pub happen_then : (n m : ℕ) (r p q : Running) → Happen n r p → Happen m p q → Happen (m + n) r q
 happen_then n zero r p q h same =
     let none : n ≡ 0 + n = omega arith in

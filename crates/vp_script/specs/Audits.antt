@@ -1,4 +1,4 @@
--- An audit behind a script: what one user was told is what comes of what he can know (profile).
+-- An audit after a script: what one user was told is what comes of what he can know (profile).
 use Rattle.std.specs.Prelude.{◌≡◌, ◌⊎◌, ℕ, Bool, true, if◌then◌else◌, List, length, Option, Some, None}
 use Rattle.vp_policy.specs.declared.fault.PolicyError.TheVariants as policy_error
 use Rattle.vp_policy.specs.Users.{user_of}
@@ -31,13 +31,13 @@ audited_of explain opening user log = record {
   explanation = explanation_if explain opening user log;
 }
 
--- a script, from how its world opens to what it is behind an input: the input is read to its end, and what is told goes nowhere
+-- a script, from how its world opens to what it is after an input: the input is read to its end, and what is told goes nowhere
 pub record RunsTo (opening : Opening) (unread still_unread : Option (List ℕ)) (behind : Script) : Type 0 where
   pub starved : Bool
   pub lines : ℕ
   pub answered : IsAnswered starved (opened opening) behind unread still_unread None None lines
 
--- an audit of the user of a number, of the log behind a script over an input
+-- an audit of the user of a number, of the log after a script over an input
 pub record IsAuditBehind (explain : Bool) (opening : Opening) (user : ℕ) (unread still_unread : Option (List ℕ)) (audited : Audited) : Type 0 where
   pub behind : Script
   pub runs : RunsTo opening unread still_unread behind
@@ -48,7 +48,7 @@ pub record OpensFor (text policy name : List ℕ) (opening : Opening) (user : �
   pub opens : IsOpened text policy (opened opening)
   pub named : user_of opening.policy.members name ≡ Some user
 
--- an audit of the user of a name, of the log behind the script of a text and a policy file over an input
+-- an audit of the user of a name, of the log after the script of a text and a policy file over an input
 pub record IsAudited (explain : Bool) (text policy name : List ℕ) (unread still_unread : Option (List ℕ)) (audited : Audited) : Type 0 where
   pub opening : Opening
   pub user : ℕ

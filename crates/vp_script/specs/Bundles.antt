@@ -13,7 +13,7 @@ joined (line ∷ next ∷ lines) = line ++ 10 ∷ joined (next ∷ lines)
 abbrev pub prefixed : List ℕ → Option (List ℕ × List ℕ) → Option (List ℕ × List ℕ)
 prefixed front cut = option_map (λ c. (front ++ c.0, c.1)) cut
 
--- lines cut at the first that is `%%`: what stands before it, and what stands behind it; nothing where there is none
+-- lines cut at the first that is `%%`: what stands before it, and what stands after it; nothing where there is none
 abbrev pub cut_lines : List (List ℕ) → Option (List ℕ × List ℕ)
 cut_lines [] = None
 cut_lines (line ∷ lines) =

@@ -1,4 +1,4 @@
--- A script: the lines of one session with a world, in which the simulation runs behind each request (profile).
+-- A script: the lines of one session with a world, in which the simulation runs after each request (profile).
 use Rattle.std.specs.Prelude.{◌≡◌, ◌⊎◌, ◌<◌, ◌≤◌, IsUtf8, length, ℕ, zero, suc, Bool, true, if◌then◌else◌, List, [], ◌∷◌, Option, Some, None, is_none, Ok}
 use Rattle.std.specs.Option.{option_map_or}
 use Rattle.std.specs.Result.{result_err}
@@ -121,7 +121,7 @@ event_of None r = None
 event_of (Some id) request.Close = Some (event.Close id)
 event_of (Some id) r = Some (event.Ask id r)
 
--- the session of a script behind a reply
+-- the session of a script after a reply
 abbrev pub session_behind : Option SessionId → Reply → Option SessionId
 session_behind session (reply.Opened id) = Some id
 session_behind session answer = session
@@ -165,7 +165,7 @@ pub record IsOpened (text policy : List ℕ) (script : Script) : Type 0 where
   pub fresh : script ≡ opened (opening_of design (policy_for design.tree file))
 
 -- a script over an input has read it to the end, so many lines, and each was told what the script answers it; and it is this script
--- behind that
+-- after that
 pub record IsAnswered (starved : Bool) (script behind : Script) (unread still_unread held holds : Option (List ℕ)) (lines : ℕ) : Type 0 where
   pub end : Point Script
   pub whole : IsWhole (Serves starved) unread still_unread held holds script end lines
@@ -189,7 +189,7 @@ pub record IsStopped (e : WireError) (script : Script) (unread still_unread held
   pub behind : Script
   pub closes : Closes (Serves starved) end.stage end.caller behind
 
--- a policy file is refused by a fault, behind a text that has this design: it is too long, or it is none; or memory is lacking
+-- a policy file is refused by a fault, after a text that has this design: it is too long, or it is none; or memory is lacking
 abbrev pub IsPolicyRefusedBy : Elaborated → List ℕ → ServeFault → Type 0
 IsPolicyRefusedBy design policy fault.TooLong = text_limit < length policy
 IsPolicyRefusedBy design policy (fault.Policy e) =
@@ -228,7 +228,7 @@ pub record Parts : Type 0 where
   pub policy : List ℕ
   pub input : List ℕ
 
--- a bundle is not too long, and has these parts: what stands before its first line `%%`, between this and the next, and behind that
+-- a bundle is not too long, and has these parts: what stands before its first line `%%`, between this and the next, and after that
 pub record HasParts (bundle : List ℕ) (parts : Parts) : Type 0 where
   pub fits : length bundle ≤ bundle_limit
   pub rest : List ℕ

@@ -131,7 +131,7 @@ fn keeper_for(alloc: Global, checked: &Arc<Checked>, policy: &Policy) -> Result<
     keeper_of(alloc, Arc::try_clone(checked)?, own_policy)
 }
 
-/// Runs a fresh script of a design and a policy over a reader, and audits a user behind it; or the fault of the reader, or want of
+/// Runs a fresh script of a design and a policy over a reader, and audits a user after it; or the fault of the reader, or want of
 /// memory, before anything was read or at the end of the input.
 fn script_audit<R: Read>(
     alloc: Global,

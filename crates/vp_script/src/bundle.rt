@@ -18,7 +18,7 @@ fn is_mark(line: &[u8]) -> bool
     matches!(line, [b'%', b'%'])
 }
 
-/// What stands before the first line `%%`, and what stands behind it.
+/// What stands before the first line `%%`, and what stands after it.
 pub(crate) fn cut(bytes: &[u8]) -> Option<(&[u8], &[u8])>
     ensures { option_map (λ c. (c.0.now, c.1.now)) result ≡ cut_of bytes.now }
 {

@@ -258,7 +258,7 @@ impl Keeper {
 impl Caller for Keeper {
     ghost calls = { Keeps };
 
-    /// Answers a request, and then lets the simulation run. Where there is no memory for its next event it goes on behind the
+    /// Answers a request, and then lets the simulation run. Where there is no memory for its next event it goes on after the
     /// next request.
     fn call(&mut self, request: Request) -> Reply {
         let event = event_of(self.session, request);

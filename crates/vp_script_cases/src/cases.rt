@@ -5,13 +5,13 @@ use vp_audit::Audit;
 use vp_script::{Audited, ServeFault, audit_script, bundle_refused, run_bundle};
 use vp_wire::Counted;
 
-/// The count and the text of a line that stands for so many copies of the text, behind its mark.
+/// The count and the text of a line that stands for so many copies of the text, after its mark.
 fn copies(line: &str) -> Option<(usize, &str)> {
     let (count, text) = line.split_once(' ')?;
     Some((count.parse().ok()?, text))
 }
 
-/// Adds a line to a bundle, or the copies that it stands for: with a newline behind them, or with none.
+/// Adds a line to a bundle, or the copies that it stands for: with a newline after them, or with none.
 fn add_to(bundle: &mut String, alloc: Global, line: &str) -> Result<(), AllocError> {
     if let Some((count, text)) = line.strip_prefix("%+ ").and_then(copies) {
         return bundle.push_str(&text.repeat(alloc, count)?);
@@ -160,7 +160,7 @@ impl Case {
         }
     }
 
-    /// What the bundle prints, and behind it the lines for each user who is audited.
+    /// What the bundle prints, and after it the lines for each user who is audited.
     pub fn printed(&self, alloc: Global) -> Result<String, AllocError> {
         let mut printed = self.run(alloc)?;
         for audits in &self.audits {

@@ -1,9 +1,9 @@
 //! Runs the cases of the files that its words name: bundles, each with what it must print. A case is a line `## ` with its
-//! name, the bundle, a line `==`, and the lines that the bundle must print; behind a line `=/=` the bundle's last line lacks its
+//! name, the bundle, a line `==`, and the lines that the bundle must print; after a line `=/=` the bundle's last line lacks its
 //! newline. A line `%* COUNT TEXT` of a bundle stands for so many copies of the text, and a newline; of a line `%+ COUNT TEXT` the
 //! next line goes on. For each line `%@ USER`, which is no line of the bundle, the user is audited by its script, and a line more is
-//! printed, which begins with his name; for each line `%? USER` what he was told is explained as well, by lines behind that. For a line `%!` the diagnostic of the bundle's fault is
-//! printed behind the line of the fault. Then it runs designs and policies of files on the script of standard input, checks them, tells
+//! printed, which begins with his name; for each line `%? USER` what he was told is explained as well, by lines after that. For a line `%!` the diagnostic of the bundle's fault is
+//! printed after the line of the fault. Then it runs designs and policies of files on the script of standard input, checks them, tells
 //! what users see of them, and audits users.
 #![tactic(auto)]
 

@@ -85,7 +85,7 @@ fn serve_world<L: Opens + Send + Sync, R: Threads + Wait + Clock + Sync, G: Gate
 }
 
 /// Serves a world in which nothing has happened to whoever connects to a listener: one thread for each connection, one that lets the
-/// simulation run, and workers that search for races. It ends behind as many connections as the settings say, and gives what is left of
+/// simulation run, and workers that search for races. It ends after as many connections as the settings say, and gives what is left of
 /// the world, with its log. Refused where the simulation's thread or a worker's can't be started (1606), or where the hub can't be
 /// closed (1401 to 1403).
 pub fn serve<R, G>(

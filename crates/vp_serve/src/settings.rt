@@ -8,7 +8,7 @@ use std::time::Duration;
 pub struct Settings {
     /// So many threads search for races.
     pub workers: u32,
-    /// It ends behind so many connections; where it is 0, it does not end.
+    /// It ends after so many connections; where it is 0, it does not end.
     pub sessions: u32,
     /// How long a client may take until its session is open, or it has changed a grant as the operator.
     pub opening_time: Duration,

@@ -40,7 +40,7 @@ sees at the opening and of what of the log goes to him. Printed is `same N`, N t
 sessions' events in the log, and the status is 0; or `differs N`, N the number of the first of them that \
 was answered otherwise, and the status is 1. A user who is not in the policy is fault 1604.
 
-With --explain, standard error shows what the user was told and what came to him, in order: each line begins with the number of what of one entry of the log goes to him, and behind a value stands the number of that with which it came. docs/FORMATS.md has the rest.";
+With --explain, standard error shows what the user was told and what came to him, in order: each line begins with the number of what of one entry of the log goes to him, and after a value stands the number of that with which it came. docs/FORMATS.md has the rest.";
 
 const SERVE_HELP: &str =
     "It listens on 127.0.0.1 and prints `listening N`, N the port. Each connection is a session of its own: lines in, lines out, as \

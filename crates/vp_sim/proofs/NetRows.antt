@@ -88,7 +88,7 @@ abbrev behind : List ℕ → Outcome
 behind ks =
     steps chain (Goes (running (x ∷ x ∷ z ∷ z ∷ x ∷ x ∷ []) (Nothing ∷ Nothing ∷ []) (Evaluation 0 ∷ Evaluation 1 ∷ [])) None) ks
 
--- a value from outside for a, behind an outcome
+-- a value from outside for a, after an outcome
 abbrev a_is : List Bit → Outcome → Outcome
 a_is value (Goes s change) = put_by chain s 1 value
 a_is value (Refuses e) = Refuses e
@@ -121,7 +121,7 @@ a_wakes = refl
 follow : values_in (steps chain (a_is (One ∷ []) (behind (0 ∷ 0 ∷ 0 ∷ 0 ∷ 0 ∷ 0 ∷ []))) (0 ∷ 0 ∷ 0 ∷ 0 ∷ [])) ≡ x ∷ (One ∷ []) ∷ (Zero ∷ []) ∷ (One ∷ []) ∷ x ∷ x ∷ []
 follow = refl
 
--- y1 is evaluated before a changes, and again behind that: of its two updates the older is eligible
+-- y1 is evaluated before a changes, and again after that: of its two updates the older is eligible
 abbrev twice : Outcome
 twice = steps chain (a_is (One ∷ []) (behind (0 ∷ []))) (2 ∷ [])
 

@@ -70,7 +70,7 @@ abbrev told : Outcome → Result (Option Change) SimError
 told (Goes s change) = Ok change
 told (Refuses e) = Err e
 
--- what is behind an outcome
+-- what is after an outcome
 abbrev behind : {X : Type 0} → (State → X) → Outcome → Option X
 behind f (Goes s change) = Some (f s)
 behind f (Refuses e) = None
@@ -84,7 +84,7 @@ waits_behind o = behind (λ s. s.waiting) o
 abbrev change : (object : ℕ) → List Bit → Change
 change object value = record { object = record { 0 = object }; value = value }
 
--- the event of the procedure, process 2, which is active alone, does this; nothing comes behind it
+-- the event of the procedure, process 2, which is active alone, does this; nothing comes after it
 abbrev does : Effect → Outcome
 does e = performed tables (at_five both_wait (with_active no_events (Evaluation 2 ∷ []))) 0 2 (again true 7 (goes_on None e)) e
 
@@ -113,14 +113,14 @@ keeps_its_place = refl
 initial_ends : again false 7 (goes_on None effect.Nothing) ≡ None
 initial_ends = refl
 
--- a test goes on with the statement that it chose, and where it chose none with what comes behind it
+-- a test goes on with the statement that it chose, and where it chose none with what comes after it
 proceeds : behind (λ s. s.remaining) (does (effect.Proceeds (Some 3))) ≡ Some (None ∷ None ∷ Some 3 ∷ [])
 proceeds = refl
 
 chooses_none : goes_on (Some 4) (effect.Proceeds None) ≡ Some 4
 chooses_none = refl
 
--- an assignment goes on with what comes behind it
+-- an assignment goes on with what comes after it
 goes_on_behind : goes_on (Some 4) (effect.Assigns 1 (Some 0) one) ≡ Some 4
 goes_on_behind = refl
 
@@ -255,7 +255,7 @@ advance_at_the_end = refl
 step_at_the_end : told (from none_wait no_events (0 ∷ [])) ≡ Err Idle
 step_at_the_end = refl
 
--- behind $finish nothing goes on
+-- after $finish nothing goes on
 finishes : behind (λ s. s.finished) (does effect.Finishes) ≡ Some true
 finishes = refl
 

@@ -58,7 +58,7 @@ abbrev pub woken : Tables → State → Option Change → List ℕ
 woken tables s None = []
 woken tables s (Some change) = woken_by tables (value_in s.values change.object.0) change s.waiting
 
--- a state behind a change, if there is one: the object has its value, and the processes that it wakes wait no more and are evaluated
+-- a state after a change, if there is one: the object has its value, and the processes that it wakes wait no more and are evaluated
 -- (clause 11.3)
 abbrev pub with_change : Tables → State → Option Change → State
 with_change tables s change = record s {
@@ -71,7 +71,7 @@ with_change tables s change = record s {
 abbrev pub without_event : State → (k : ℕ) → State
 without_event s k = record s { queue = taken s.queue k }
 
--- a state behind the activation that a step begins with (clause 11.4)
+-- a state after the activation that a step begins with (clause 11.4)
 abbrev pub with_activation : State → State
 with_activation s = record s { queue = activated s.queue }
 
@@ -87,8 +87,8 @@ again true body None = Some body
 again true body (Some place) = Some place
 again false body rest = rest
 
--- the statement with which a procedure goes on behind its event: behind a control the one that it controls, behind a test the one that it
--- chose, else the one that comes behind the event (clauses 9.4 to 9.8)
+-- the statement with which a procedure goes on after its event: after a control the one that it controls, after a test the one that it
+-- chose, else the one that comes after the event (clauses 9.4 to 9.8)
 abbrev pub goes_on : (behind : Option ℕ) → Effect → Option ℕ
 goes_on behind effect.Nothing = behind
 goes_on behind (effect.Assigns object place value) = behind
@@ -105,12 +105,12 @@ is_over (effect.Pauses amount next) rest = true
 is_over (effect.Awaits place next) rest = true
 is_over e rest = is_none rest
 
--- the queue behind the k-th of the eligible events, if that is over
+-- the queue after the k-th of the eligible events, if that is over
 abbrev pub taken_if : Bool → Queue → (k : ℕ) → Queue
 taken_if true q k = taken q k
 taken_if false q k = q
 
--- a state behind the event of a process, the k-th, of which this remains
+-- a state after the event of a process, the k-th, of which this remains
 abbrev pub with_remaining : State → (k : ℕ) → (process : ℕ) → (rest : Option ℕ) → Effect → State
 with_remaining s k process rest e = record s {
   remaining = slice_set s.remaining process rest;
@@ -137,7 +137,7 @@ deferred s delay update =
     then record s { queue = with_nonblocking s.queue (s.queue.nonblocking ++ update ∷ []) }
     else delayed s delay (later.Nonblocking update)
 
--- a state behind what the event of a procedure does
+-- a state after what the event of a procedure does
 abbrev pub with_effect : Tables → State → (process : ℕ) → Effect → State
 with_effect tables s process effect.Nothing = s
 with_effect tables s process (effect.Assigns object place value) = with_change tables s (set_change s.values object place value)
@@ -172,7 +172,7 @@ delay_of effect.Finishes = 0
 abbrev pub is_late : (time : ℕ) → (delay : ℕ) → Bool
 is_late time delay = nat_le 1 delay && nat_le TIME_LIMIT (time + delay)
 
--- the statement with which a procedure goes on behind the event at a place, which does this
+-- the statement with which a procedure goes on after the event at a place, which does this
 abbrev pub rest_of : Tables → Source → (repeats : Bool) → (body : ℕ) → (event : ℕ) → Effect → Option ℕ
 rest_of tables source repeats body event e = again repeats body (goes_on (behind_at source tables.actions event) e)
 
@@ -183,7 +183,7 @@ performed tables s k process rest e =
     then Refuses TimeLimit
     else Goes (with_effect tables (with_remaining s k process rest e) process e) (change_by s.values e)
 
--- the same, behind the activation with which a step begins
+-- the same, after the activation with which a step begins
 abbrev pub performs : State → (k : ℕ) → (process : ℕ) → (rest : Option ℕ) → Effect → Outcome
 performs s k process rest e = performed (tables_of s.design) (with_activation s) k process rest e
 
@@ -304,7 +304,7 @@ slot_done s = is_done s.queue
 abbrev pub next_time : State → Option ℕ
 next_time s = first_time s.queue.future
 
--- the places of the eligible events among the active ones, behind the activation that a step begins with
+-- the places of the eligible events among the active ones, after the activation that a step begins with
 abbrev pub eligible : State → List ℕ
 eligible s = ready s.queue
 
@@ -331,7 +331,7 @@ refusal_in (Refuses e) = Some e
 
 -- ---- a state as it is kept
 
--- what comes behind each statement is the design's, there is a value for each object of the design, and what each process waits for
+-- what comes after each statement is the design's, there is a value for each object of the design, and what each process waits for
 pub record FitsDesign (design : Elaborated) (flow : List (Option ℕ)) (values : List (List Bit)) (count : ℕ) (waiting : List Waiting) : Type 0 where
   pub flows : flow ≡ flow_of design.source (tables_of design).actions
   pub objects : length values ≡ length design.tree.nodes

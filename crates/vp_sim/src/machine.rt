@@ -27,7 +27,7 @@ pub struct Machine {
     pub(crate) time: u64,
     pub(crate) finished: bool,
     pub(crate) values: Values,
-    /// What comes behind each statement of the design.
+    /// What comes after each statement of the design.
     pub(crate) flow: Arc<Flow>,
     /// Of each process the statement with which it goes on, if one remains of it.
     pub(crate) remaining: TrackedList<Option<u32>>,

@@ -94,7 +94,7 @@ impl Machine {
         effect_of(self.checked(), &self.values, instance, event)
     }
 
-    /// The statement with which a procedure goes on behind the event at a place: the one that the event chose, if it chose one.
+    /// The statement with which a procedure goes on after the event at a place: the one that the event chose, if it chose one.
     fn rest(&self, repeats: bool, body: u32, event: u32, chosen: Option<u32>) -> Option<u32>
         ensures { result ≡ again repeats body (option_or chosen (behind_at
             self.now.state.design.source (tables_of self.now.state.design).actions event)) }
@@ -109,7 +109,7 @@ impl Machine {
         is_late(self.time, delay_of(effect))
     }
 
-    /// A procedure goes on with a statement behind its event, the k-th of the eligible ones, which is over where it goes on with none.
+    /// A procedure goes on with a statement after its event, the k-th of the eligible ones, which is over where it goes on with none.
     fn proceed(&mut self, k: usize, process: usize, rest: Option<u32>)
         ensures state { self.new.state ≡ record (with_activation self.old.state) {
           remaining = slice_set self.old.state.remaining process rest;

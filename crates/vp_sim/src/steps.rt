@@ -37,7 +37,7 @@ fn first_queue(alloc: Global, processes: usize) -> Result<Strata, StrataError>
     Ok(queue)
 }
 
-/// What comes behind each statement of a design.
+/// What comes after each statement of a design.
 fn flow_for(alloc: Global, checked: &Checked) -> Result<Arc<Flow>, AllocError>
     ensures { IfOk result (λ flow. arc_value flow
         ≡ flow_of checked.now.source (tables_of checked.now).actions) }

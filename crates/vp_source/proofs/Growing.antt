@@ -1,4 +1,4 @@
--- A derivation is laid out behind what is there: each list keeps what it had, and modules follow each other without a gap.
+-- A derivation is laid out after what is there: each list keeps what it had, and modules follow each other without a gap.
 use Rattle.std.proofs.Common.{◌≡◌, ℕ, ◌≤◌, List, [], ◌∷◌, length, map, Option, Some, None, option_map, refl, sym, subst}
 use Rattle.vp_lex.specs.declared.token.Token.{Token}
 use Rattle.vp_lex.specs.declared.token.Punctuator.TheVariants as punctuator
@@ -71,7 +71,7 @@ with_item_grows i lists = record { items = pushed lists.items i; connections = s
 pub parts_grow : (lists : Lists) (parts : layout.Lists) → Grows lists.parts parts → AllGrow lists (record lists { parts = parts })
 parts_grow lists parts h = record { items = same lists.items; connections = same lists.connections; parts = h }
 
--- one more item behind a value
+-- one more item after a value
 valued_grows : (i : ℕ → source.Item) (e : Expr) (lists : Lists) → (let v = put_value e lists.parts in AllGrow lists (with_item (i v.0) (record lists { parts = v.1 })))
 valued_grows i e lists =
     let v = put_value e lists.parts in
@@ -133,7 +133,7 @@ pub modules_grow : (ms : List Module) (lists : Lists) → AllGrow lists (put_mod
 modules_grow [] lists = all_kept lists
 modules_grow (m ∷ ms) lists = further_on (module_grows m lists) (modules_grow ms (put_module m lists).1)
 
--- a list of which each module holds the part behind that of the module before it, and which becomes no shorter
+-- a list of which each module holds the part after that of the module before it, and which becomes no shorter
 module _ (span : module_of.Module → Span) (size : Lists → ℕ)
     (starts : (m : Module) (lists : Lists) → (span (put_module m lists).0).first ≡ size lists)
     (ends : (m : Module) (lists : Lists) → (span (put_module m lists).0).end ≡ size (put_module m lists).1)

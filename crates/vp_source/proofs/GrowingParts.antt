@@ -1,4 +1,4 @@
--- Laying out the parts of a derivation keeps what the lists had, and adds its own behind.
+-- Laying out the parts of a derivation keeps what the lists had, and adds its own after.
 use Rattle.std.proofs.Common.{◌≡◌, ◌∙◌, ℕ, ◌+◌, ◌≤◌, List, [], ◌∷◌, ◌++◌, length, refl, sym, ap, append_assoc, append-nil, arith}
 use Rattle.std.proofs.lemmas.List.{length-append, length_push}
 use Rattle.vp_source.specs.declared.expression.Expression as node
@@ -137,7 +137,7 @@ terms_grow lists terms h = record {
   choices = same lists.choices;
 }
 
--- terms behind others are those of the derivation
+-- terms after others are those of the derivation
 pub terms_are : (l : grammar.TermList) (terms : List EventTerm) → put_terms l terms ≡ terms ++ put_terms l []
 terms_are (grammar.Single t) terms = refl
 terms_are (grammar.Further t separator place l) terms =
@@ -166,7 +166,7 @@ choices_grow choices lists = record {
   choices = record { more = choices; is = refl };
 }
 
--- a statement behind an expression, and one of both
+-- a statement after an expression, and one of both
 guarded_grows : (e : Expr) (s : grammar.Stmt) (lists : Lists) (n : Statement) → (let c = put_value e lists in Grows c.1 (put_stmt s c.1).1) → Grows lists (with_statement n (put_stmt s (put_value e lists).1).1).1
 guarded_grows e s lists n h = onward (value_grows e lists) (onward h (statement_grows n (put_stmt s (put_value e lists).1).1))
 

@@ -23,19 +23,19 @@ use Rattle.vp_source.specs.Standing.{ConnectionStands, DeclaratorStands, Express
 use Rattle.vp_source.proofs.Growing.{AllGrow, all_kept, connected_grows, connection_grows, connections_grow, declarator_grows, further_grow, further_on, header_grows, item_grows, items_grow, modules_grow, parts_grow, with_item_grows}
 use Rattle.vp_source.proofs.GrowingParts.{Extends, Grows, expr_last, longer, onward, stmt_grows, value_grows}
 
--- what stands behind so many
+-- what stands after so many
 stands_behind : {X : Type 0} (xs : List X) (y : X) (ys : List X) → slice_get (xs ++ y ∷ ys) (length xs) ≡ Some y
 stands_behind xs y ys =
     slice_get-get_or (xs ++ y ∷ ys) (length xs) y (let n = length-append xs (y ∷ ys) in omega arith)
     ∙ ap (λ x. Some x) (get_or-append_seam xs y ys y)
 
--- an element stands behind a list, in each list that has both at its head
+-- an element stands after a list, in each list that has both at its head
 stands_in : {X : Type 0} (xs : List X) (y : X) (all : List X) → Extends (xs ++ y ∷ []) all → slice_get all (length xs) ≡ Some y
 stands_in xs y all h =
     ap (λ l. slice_get l (length xs)) (h.is ∙ append_assoc xs (y ∷ []) h.more)
     ∙ stands_behind xs y h.more
 
--- the module of a number lies behind some lists, and others behind it
+-- the module of a number lies after some lists, and others after it
 record AtModule (told : Module) (m : module_of.Module) (all : Lists) : Type 0 where
   before : Lists
   is : m ≡ (put_module told before).0
@@ -154,7 +154,7 @@ module _ (text : Source) (number : ℕ) (told : Module) (m : module_of.Module) (
         expressions_to = omega arith;
       }
 
-  -- a procedure that is laid out behind its statement
+  -- a procedure that is laid out after its statement
   procedure_stands : (construct : ℕ → source.Item) (body : Stmt) (before : Lists) → AllGrow header before → AllGrow (put_procedure construct body before) after → ProcedureStands text m construct body
   procedure_stands construct body before low more =
       let b = put_stmt body before.parts in
@@ -192,7 +192,7 @@ module _ (text : Source) (number : ℕ) (told : Module) (m : module_of.Module) (
         to = omega arith;
       }
 
-  -- a value that is laid out, and an item for it behind other items
+  -- a value that is laid out, and an item for it after other items
   value_stands : (construct : ℕ → source.Item) (value : Expr) (before last : Lists) → AllGrow header before → AllGrow (record before { parts = (put_value value before.parts).1 }) last → AllGrow (with_item (construct (put_value value before.parts).0) last) after → ValueStands text m construct value
   value_stands construct value before last low on more =
       let v = put_value value before.parts in
@@ -215,7 +215,7 @@ module _ (text : Source) (number : ℕ) (told : Module) (m : module_of.Module) (
   has_connection c before more =
       stands_in before.connections c text.connections (further_on more at.more).connections
 
-  -- a connection that is laid out stands behind those before it
+  -- a connection that is laid out stands after those before it
   connection_stands : (behind : Symbol) (c : Connection) (before : Lists) → AllGrow header before → AllGrow (put_connection behind c before) after → ConnectionStands text m (length before.connections) c
   connection_stands behind (Ordered None) before low more =
       record { one = _; is = has_connection _ before more; port = refl; stands = tt }
@@ -245,7 +245,7 @@ module _ (text : Source) (number : ℕ) (told : Module) (m : module_of.Module) (
       subst (λ (n : ℕ). ConnectionStands text m n x) begin
       (subst (λ (y : Connection). ConnectionStands text m (length before.connections) y) same (connection_stands behind c before low more))
 
-  -- each of a connection and further ones stands behind those before it
+  -- each of a connection and further ones stands after those before it
   connected_stand : (closing : ℕ) (c : Connection) (fs : List (Further Connection)) (before : Lists) → AllGrow header before → AllGrow (put_connected closing c fs before) after → (position : ℕ) (x : Connection) → slice_get (connections_of (Connected c fs)) position ≡ Some x → ConnectionStands text m (length before.connections + position) x
   connected_stand closing c [] before low more zero x h =
       first_stands (symbol_at (symbol.Punctuator punctuator.RightParenthesis) closing) c x before low more cc
@@ -259,13 +259,13 @@ module _ (text : Source) (number : ℕ) (told : Module) (m : module_of.Module) (
       subst (λ (n : ℕ). ConnectionStands text m n x) there
       (connected_stand closing f.part fs next (further_on low (connection_grows (comma_at f.comma) c before)) more position x h)
 
-  -- each of connections stands behind those before it
+  -- each of connections stands after those before it
   connections_stand : (closing : ℕ) (cs : Connections) (before : Lists) → AllGrow header before → AllGrow (put_connections closing cs before) after → (position : ℕ) (x : Connection) → slice_get (connections_of cs) position ≡ Some x → ConnectionStands text m (length before.connections + position) x
   connections_stand closing Unconnected before low more position x h = absurd cc
   connections_stand closing (Connected first further) before low more position x h =
       connected_stand closing first further before low more position x h
 
-  -- an instance that is laid out behind its connections
+  -- an instance that is laid out after its connections
   instance_stands : (name definition closing : ℕ) (cs : Connections) (before : Lists) → AllGrow header before → (let last = put_connections closing cs before in AllGrow (with_item (item.Instance name definition (length before.connections) (length last.connections)) last) after) → InstanceStands text m name definition cs
   instance_stands name definition closing cs before low more =
       let last = put_connections closing cs before in

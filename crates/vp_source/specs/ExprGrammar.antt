@@ -113,7 +113,7 @@ abbrev pub is_sized : Expr → Bool
 is_sized (Sized place size kind digits) = true
 is_sized _ = false
 
--- a base part of this kind may stand behind a size (profile)
+-- a base part of this kind may stand after a size (profile)
 abbrev pub is_sized_base : SymbolKind → Bool
 is_sized_base symbol.ShortBase = true
 is_sized_base symbol.Base = true

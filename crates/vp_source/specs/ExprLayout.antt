@@ -1,4 +1,4 @@
--- How a derivation lies in a flat list: each part behind its own parts, and nothing else.
+-- How a derivation lies in a flat list: each part after its own parts, and nothing else.
 use Rattle.std.specs.Prelude.{ℕ, List, [], ◌∷◌, ◌++◌, length}
 use Rattle.vp_source.specs.declared.expression.Expression as node
 use Rattle.vp_source.specs.declared.expression.Expression.TheVariants as node_of
@@ -16,7 +16,7 @@ abbrev pub put_range : Range → range.Range
 put_range r = record { msb = r.msb; lsb = r.lsb }
 
 abbrev mutual
-  -- the parts of an expression behind others, and the place of the whole
+  -- the parts of an expression after others, and the place of the whole
   pub put_expr : Expr → List node.Expression → ℕ × List node.Expression
   put_expr (Name place s) nodes = let x = put_selection s nodes in with_node (node_of.Name place x.0) x.1
   put_expr (Sized place size kind digits) nodes = with_node (node_of.Literal place size digits) nodes
@@ -32,13 +32,13 @@ abbrev mutual
   put_expr (Replication opening count_place count inner_opening l inner_closing closing) nodes =
       let x = put_parts inner_opening l nodes in with_node (node_of.Replication opening count x.0) x.1
 
-  -- the index of a selection behind others, and the selection
+  -- the index of a selection after others, and the selection
   pub put_selection : Selection → List node.Expression → selection.Selection × List node.Expression
   put_selection Whole nodes = (selection_of.Whole, nodes)
   put_selection (Bit opening e closing) nodes = let x = put_expr e nodes in (selection_of.Bit x.0, x.1)
   put_selection (Part r) nodes = (selection_of.Part (put_range r), nodes)
 
-  -- a concatenation behind others, from the first of its expressions on, by the place of its brace
+  -- a concatenation after others, from the first of its expressions on, by the place of its brace
   pub put_parts : (opening : ℕ) → Parts → List node.Expression → ℕ × List node.Expression
   put_parts opening (First e) nodes = let x = put_expr e nodes in with_node (node_of.Concatenation opening x.0) x.1
   put_parts opening (More l comma e) nodes =

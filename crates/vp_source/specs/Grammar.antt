@@ -238,7 +238,7 @@ pub record PortList : Type 0 where
   pub first : Port
   pub further : List (Further Port)
 
--- what stands behind a module's name: nothing, or parentheses with ports or without (12.3.1)
+-- what stands after a module's name: nothing, or parentheses with ports or without (12.3.1)
 pub data Header : Type 0 where
   NoHeader : Header
   Ports : (opening : ℕ) → Option PortList → (closing : ℕ) → Header
@@ -265,7 +265,7 @@ abbrev pub ports_text : Option PortList → List Symbol → List Symbol
 ports_text None rest = rest
 ports_text (Some ports) rest = port_text ports.first (further_text port_text ports.further rest)
 
--- the symbols behind a module's name, and then these (12.3.1)
+-- the symbols after a module's name, and then these (12.3.1)
 abbrev pub header_text : Header → List Symbol → List Symbol
 header_text NoHeader rest = rest
 header_text (Ports opening ports closing) rest =

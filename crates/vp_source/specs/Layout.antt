@@ -1,4 +1,4 @@
--- How a derivation lies in the flat lists of a source: each part behind its own parts, and nothing else.
+-- How a derivation lies in the flat lists of a source: each part after its own parts, and nothing else.
 use Rattle.std.specs.Prelude.{◌≡◌, ℕ, List, [], ◌∷◌, ◌++◌, length, Option, Some, None, option_map}
 use Rattle.vp_lex.specs.declared.token.Token.{Token}
 use Rattle.vp_lex.specs.declared.token.Punctuator.TheVariants as punctuator
@@ -67,7 +67,7 @@ put_connection_by place port (Some e) lists =
     let v = put_value e lists.parts in
     with_connection (record { place = place; port = port; value = Some v.0 }) (record lists { parts = v.1 })
 
--- a connection, behind which this symbol stands: its value begins at the value's first symbol, or where it has none at that behind it
+-- a connection, after which this symbol stands: its value begins at the value's first symbol, or where it has none at that after it
 abbrev pub put_connection : Symbol → Connection → Lists → Lists
 put_connection behind (Ordered value) lists = put_connection_by (first_place (value_text value (behind ∷ []))) None value lists
 put_connection behind (Named period port opening value closing) lists =
@@ -110,7 +110,7 @@ abbrev pub put_further : Declaration → List (Further Declarator) → Lists →
 put_further declaration [] lists = lists
 put_further declaration (f ∷ fs) lists = put_further declaration fs (put_declarator declaration f.part lists)
 
--- an item that has a statement, behind that statement (9.9)
+-- an item that has a statement, after that statement (9.9)
 abbrev pub put_procedure : (ℕ → item.Item) → Stmt → Lists → Lists
 put_procedure construct body lists =
     let b = put_stmt body lists.parts in with_item (construct b.0) (record lists { parts = b.1 })
@@ -139,7 +139,7 @@ put_direction (Input place wire) = direction_of.Input
 put_direction (Output place wire) = direction_of.Output
 put_direction (OutputReg place reg) = direction_of.OutputReg
 
--- the direction and range of a port, behind one of these (12.3.3)
+-- the direction and range of a port, after one of these (12.3.3)
 abbrev pub port_type : PortType → Port → PortType
 port_type before (Declared direction range name) = record { direction = put_direction direction; range = option_map put_declared range }
 port_type before (Bare name) = before
@@ -153,7 +153,7 @@ port_name (Bare name) = name
 abbrev pub put_port : PortType → ℕ → Lists → Lists
 put_port type name lists = with_item (item_of.Port name type.direction type.range) lists
 
--- further ports, behind one of this direction and range
+-- further ports, after one of this direction and range
 abbrev pub put_ports : PortType → List (Further Port) → Lists → Lists
 put_ports before [] lists = lists
 put_ports before (f ∷ fs) lists =

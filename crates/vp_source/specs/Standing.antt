@@ -14,7 +14,7 @@ use Rattle.vp_source.specs.Grammar.{AreFurther, Connection, Ordered, Named, Conn
 
 -- ---- statements
 
--- the derivation of a statement stands at a place of a source, in a module: its parts are laid out behind others, its statements and
+-- the derivation of a statement stands at a place of a source, in a module: its parts are laid out after others, its statements and
 -- expressions in the spans of the module, and the whole has this place
 pub record StatementStandsAt (text : Source) (m : module_of.Module) (place : ℕ) (s : Stmt) : Type 0 where
   pub number : ℕ
@@ -42,7 +42,7 @@ pub record ProcedureStands (text : Source) (m : module_of.Module) (construct : �
 
 -- ---- expressions
 
--- the derivation of an expression stands at a place of a source, in a module: its parts are laid out behind others, all of them in the
+-- the derivation of an expression stands at a place of a source, in a module: its parts are laid out after others, all of them in the
 -- span of the module, and the whole has this place (clause 5)
 pub record ExpressionStandsAt (text : Source) (m : module_of.Module) (place : ℕ) (e : Expr) : Type 0 where
   pub number : ℕ

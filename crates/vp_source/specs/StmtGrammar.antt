@@ -14,7 +14,7 @@ pub data Delay : Type 0 where
   Plain : (number place : ℕ) → Delay
   Grouped : (opening number place closing : ℕ) → Delay
 
--- when a nonblocking assignment takes its value: at once, or behind a delay (9.2.2)
+-- when a nonblocking assignment takes its value: at once, or after a delay (9.2.2)
 pub data Hold : Type 0 where
   Now : Hold
   Later : (hash : ℕ) → Delay → Hold
@@ -24,7 +24,7 @@ pub data Edge : Type 0 where
   Posedge : Edge
   Negedge : Edge
 
--- a term of an event: a name, of which any change counts, or one behind an edge (9.7.2)
+-- a term of an event: a name, of which any change counts, or one after an edge (9.7.2)
 pub data Term : Type 0 where
   Level : (name : ℕ) → Term
   Edged : Edge → (edge_place name : ℕ) → Term
@@ -57,7 +57,7 @@ pub data LabelList : Type 0 where
   Only : Expr → LabelList
   Also : Expr → (comma : ℕ) → LabelList → LabelList
 
--- the colon behind a default, if it has one (9.5)
+-- the colon after a default, if it has one (9.5)
 pub data Colon : Type 0 where
   Unmarked : Colon
   Marked : (colon : ℕ) → Colon
@@ -69,7 +69,7 @@ pub data Argument : Type 0 where
 
 mutual
   -- a statement: a blocking assignment to a name, or to a bit or a part of it (9.2.1); a sequential block (9.8.1); none (A.6.4);
-  -- a nonblocking assignment (9.2.2); a statement behind a delay (9.7.1), or behind an event (9.7.2 to 9.7.5);
+  -- a nonblocking assignment (9.2.2); a statement after a delay (9.7.1), or after an event (9.7.2 to 9.7.5);
   -- a wait (9.7.6); a choice without an else, or with one (9.4); a loop (9.6); a case (9.5); the end of a simulation (17.4.1)
   pub data Stmt : Type 0 where
     Assign : (target : ℕ) → Selection → (equals : ℕ) → Expr → (semicolon : ℕ) → Stmt
@@ -177,7 +177,7 @@ abbrev pub labels_text : LabelList → List Symbol → List Symbol
 labels_text (Only e) rest = expr_text e rest
 labels_text (Also e comma l) rest = expr_text e (symbol_at (symbol.Punctuator punctuator.Comma) comma ∷ labels_text l rest)
 
--- the colon behind a default, if it has one, and then these (9.5)
+-- the colon after a default, if it has one, and then these (9.5)
 abbrev pub colon_text : Colon → List Symbol → List Symbol
 colon_text Unmarked rest = rest
 colon_text (Marked colon) rest = symbol_at (symbol.Punctuator punctuator.Colon) colon ∷ rest
@@ -240,7 +240,7 @@ abbrev mutual
   stmts_text Empty rest = rest
   stmts_text (Then s l) rest = stmt_text s (stmts_text l rest)
 
--- no if stands open at a statement's end, to which an else behind it would belong (9.4)
+-- no if stands open at a statement's end, to which an else after it would belong (9.4)
 abbrev pub IsClosed : Stmt → Type 0
 IsClosed (When if_place opening value closing first) = ⊥
 IsClosed (Choose if_place opening value closing first else_place second) = IsClosed second

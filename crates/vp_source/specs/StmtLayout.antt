@@ -1,4 +1,4 @@
--- How a derivation lies in the flat lists of a source: each part behind its own parts, and nothing else.
+-- How a derivation lies in the flat lists of a source: each part after its own parts, and nothing else.
 use Rattle.vp_source.specs.declared.statement.Span as span
 use Rattle.vp_source.specs.declared.statement.EventTerm as term
 use Rattle.vp_source.specs.declared.statement.Choice as choice
@@ -30,7 +30,7 @@ no_parts = record { statements = []; expressions = []; terms = []; choices = [] 
 abbrev pub with_statement : statement.Statement → Lists → ℕ × Lists
 with_statement s lists = (length lists.statements, record lists { statements = lists.statements ++ s ∷ [] })
 
--- ---- the parts of a derivation behind others, and the place of the whole
+-- ---- the parts of a derivation after others, and the place of the whole
 
 -- an expression
 abbrev pub put_value : Expr → Lists → ℕ × Lists
@@ -40,7 +40,7 @@ put_value e lists = let x = put_expr e lists.expressions in (x.0, record lists {
 abbrev pub put_target : Selection → Lists → selection.Selection × Lists
 put_target s lists = let x = put_selection s lists.expressions in (x.0, record lists { expressions = x.1 })
 
--- a blocking assignment behind its index and its value
+-- a blocking assignment after its index and its value
 abbrev pub put_blocking : ℕ → Selection → Expr → Lists → ℕ × Lists
 put_blocking target selection value lists =
     let s = put_target selection lists in let v = put_value value s.1 in with_statement (statement_of.Assign target s.0 v.0) v.1
@@ -60,12 +60,12 @@ abbrev pub put_term : Term → term.EventTerm
 put_term (Level name) = record { edge = edge_of.Any; name = name }
 put_term (Edged edge edge_place name) = record { edge = put_edge edge; name = name }
 
--- the terms of an event behind others
+-- the terms of an event after others
 abbrev pub put_terms : TermList → List term.EventTerm → List term.EventTerm
 put_terms (Single t) terms = terms ++ put_term t ∷ []
 put_terms (Further t separator place l) terms = put_terms l (terms ++ put_term t ∷ [])
 
--- terms behind others, and where they lie
+-- terms after others, and where they lie
 abbrev pub spanned : List term.EventTerm → Lists → Option span.Span × Lists
 spanned terms lists = (Some (record { first = length lists.terms; end = length terms }), record lists { terms = terms })
 
@@ -76,7 +76,7 @@ put_event (AnyGrouped opening star closing) lists = (None, lists)
 put_event (Change name) lists = spanned (lists.terms ++ put_term (Level name) ∷ []) lists
 put_event (Terms opening l closing) lists = spanned (put_terms l lists.terms) lists
 
--- a statement behind an event
+-- a statement after an event
 abbrev pub awaited : Option span.Span → ℕ → statement.Statement
 awaited None body = statement_of.AnyEvent body
 awaited (Some terms) body = statement_of.Event terms body
@@ -86,7 +86,7 @@ abbrev pub is_wild : Sort → Bool
 is_wild Exact = false
 is_wild Wild = true
 
--- labels behind others, and the places of all
+-- labels after others, and the places of all
 abbrev pub put_labels : LabelList → List ℕ → Lists → List ℕ × Lists
 put_labels (Only e) labels lists = let v = put_value e lists in (labels ++ v.0 ∷ [], v.1)
 put_labels (Also e comma l) labels lists = let v = put_value e lists in put_labels l (labels ++ v.0 ∷ []) v.1
@@ -96,16 +96,16 @@ abbrev pub choices_of : (labels : List ℕ) → (body : ℕ) → List choice.Cho
 choices_of [] body = []
 choices_of (label ∷ labels) body = record { label = Some label; body = body } ∷ choices_of labels body
 
--- where choices lie behind others
+-- where choices lie after others
 abbrev pub span_behind : List choice.Choice → List choice.Choice → span.Span
 span_behind others choices = record { first = length others; end = length (others ++ choices) }
 
--- choices behind the others, and where they lie
+-- choices after the others, and where they lie
 abbrev pub with_choices : List choice.Choice → Lists → span.Span × Lists
 with_choices choices lists = (span_behind lists.choices choices, record lists { choices = lists.choices ++ choices })
 
 abbrev mutual
-  -- a statement behind its expressions and the statements in it; a block is the chain of its statements, from an empty one on
+  -- a statement after its expressions and the statements in it; a block is the chain of its statements, from an empty one on
   pub put_stmt : Stmt → Lists → ℕ × Lists
   put_stmt (Assign target selection equals value semicolon) lists = put_blocking target selection value lists
   put_stmt (Block begin body end) lists = let b = with_statement statement_of.Empty lists in put_stmts body b.0 b.1
@@ -135,17 +135,17 @@ abbrev mutual
       with_statement (statement_of.Case (is_wild sort) v.0 c.0) c.1
   put_stmt (Finish finish argument semicolon) lists = with_statement statement_of.Finish lists
 
-  -- the choices of an item of a case, one for each label, or one for anything else; and its parts behind others
+  -- the choices of an item of a case, one for each label, or one for anything else; and its parts after others
   pub put_item : Item → Lists → List choice.Choice × Lists
   put_item (Labels l colon s) lists = let w = put_labels l [] lists in let b = put_stmt s w.1 in (choices_of w.0 b.0, b.1)
   put_item (Default default_place colon s) lists = let b = put_stmt s lists in (record { label = None; body = b.0 } ∷ [], b.1)
 
-  -- the choices of the items of a case, in the order of the text; and their parts behind others
+  -- the choices of the items of a case, in the order of the text; and their parts after others
   pub put_items : Items → Lists → List choice.Choice × Lists
   put_items (Last i) lists = put_item i lists
   put_items (More i l) lists = let x = put_item i lists in let y = put_items l x.1 in (x.0 ++ y.0, y.1)
 
-  -- the statements of a block, behind those of the chain at a place
+  -- the statements of a block, after those of the chain at a place
   pub put_stmts : Stmts → ℕ → Lists → ℕ × Lists
   put_stmts Empty chain lists = (chain, lists)
   put_stmts (Then s l) chain lists =

@@ -8,7 +8,7 @@ abbrev pub AreGapless : (from : ℕ) → List Span → (to : ℕ) → Type 0
 AreGapless from [] to = from ≡ to
 AreGapless from (s ∷ spans) to = (s.first ≡ from) × (s.first ≤ s.end) × AreGapless s.end spans to
 
--- the modules of a text hold all of its expressions, statements, terms and choices, each module those behind the module before it;
+-- the modules of a text hold all of its expressions, statements, terms and choices, each module those after the module before it;
 -- so what is made of them module by module has their places
 pub record AreWhole (source : Source) : Type 0 where
   pub expressions : AreGapless 0 (map (λ m. m.expressions) source.modules) (length source.expressions)

@@ -28,7 +28,7 @@ pub enum Direction {
 /// A connection of a port of an instance (clauses 12.3.5 and 12.3.6).
 #[derive(Clone, Copy)]
 pub struct Connection {
-    /// The token at which its expression begins; where it has none, the token behind it.
+    /// The token at which its expression begins; where it has none, the token after it.
     pub place: u32,
     /// The token of the port's name; none where the connection is by position.
     pub port: Option<u32>,
@@ -98,7 +98,7 @@ pub struct Module {
 }
 
 /// What a text says: its modules, in order, with the lists that they name, its tokens and itself.
-/// A part stands behind its own parts.
+/// A part stands after its own parts.
 #[derive(Drop)]
 pub struct Source {
     pub text: Text,
@@ -115,14 +115,14 @@ pub struct Source {
 impl Source {
     ghost use Rattle.vp_source.specs.Places.{line_at, token_at, word_at};
 
-    /// The token at a place; none behind the end.
+    /// The token at a place; none past the end.
     pub fn token(&self, place: u32) -> Option<Token>
         ensures { result ≡ token_at self.now place }
     {
         self.tokens.as_slice().get(place as usize).copied()
     }
 
-    /// The text of the token at a place; empty behind the end.
+    /// The text of the token at a place; empty past the end.
     pub fn word(&self, place: u32) -> &str
         ensures { result.now ≡ word_at self.now place }
     {
@@ -132,7 +132,7 @@ impl Source {
         }
     }
 
-    /// The line of the token at a place, from 1; 0 behind the end.
+    /// The line of the token at a place, from 1; 0 past the end.
     pub fn line(&self, place: u32) -> u32
         ensures { result ≡ line_at self.now place }
     {

@@ -15,7 +15,7 @@ pub struct EventTerm {
     pub name: u32,
 }
 
-/// Parts of a list that lie behind one another: the place of the first, and the one behind the last.
+/// Parts of a list that lie after one another: the place of the first, and the one after the last.
 #[derive(Clone, Copy, PartialEq, Eq)]
 pub struct Span {
     pub first: u32,
@@ -47,24 +47,24 @@ pub enum Statement {
     },
     /// A statement that does nothing (A.6.4).
     Null,
-    /// A nonblocking assignment to what is selected of a name, by its token, perhaps behind a delay (9.2.2).
+    /// A nonblocking assignment to what is selected of a name, by its token, perhaps after a delay (9.2.2).
     Nonblocking {
         target: u32,
         selection: Selection,
         value: u32,
         delay: Option<u32>,
     },
-    /// A statement behind a delay (9.7.1).
+    /// A statement after a delay (9.7.1).
     Delay {
         amount: u32,
         body: u32,
     },
-    /// A statement behind an event of terms (9.7.2 to 9.7.4).
+    /// A statement after an event of terms (9.7.2 to 9.7.4).
     Event {
         terms: Span,
         body: u32,
     },
-    /// A statement behind any change of what it reads (9.7.5).
+    /// A statement after any change of what it reads (9.7.5).
     AnyEvent {
         body: u32,
     },

@@ -9,7 +9,7 @@ pub enum SymbolKind {
     Name,
     /// A decimal number, at most `NUMBER_LIMIT`.
     Number(u32),
-    /// An unsigned base part with x, z or ?, or with a value of more than 32 bits: it stands behind a size alone.
+    /// An unsigned base part with x, z or ?, or with a value of more than 32 bits: it stands after a size alone.
     Base,
     String,
     Keyword(Keyword),
@@ -18,7 +18,7 @@ pub enum SymbolKind {
     SystemName,
     /// A signed base part, or a decimal one with x, z or ?.
     OtherBase,
-    /// An unsigned base part of known digits with a value of at most 32 bits: it stands behind a size, or alone.
+    /// An unsigned base part of known digits with a value of at most 32 bits: it stands after a size, or alone.
     ShortBase,
     /// The system name `$finish`.
     Finish,

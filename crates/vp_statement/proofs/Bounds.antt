@@ -1,4 +1,4 @@
--- The places of statements that are laid out: each behind the lists that were there, and the last of its own.
+-- The places of statements that are laid out: each after the lists that were there, and the last of its own.
 use Rattle.std.proofs.Common.{◌≡◌, ℕ, ◌+◌, ◌≤◌, length, arith}
 use Rattle.std.proofs.lemmas.List.{length_push}
 use Rattle.vp_source.specs.declared.statement.Statement.TheVariants as statement
@@ -48,7 +48,7 @@ chain_from (Then s l) chain lists h =
     chain_from l (length x.1.statements) (with_statement n x.1).1 (omega arith) in
     omega arith
 
--- a statement has its place behind the statements that were there
+-- a statement has its place after the statements that were there
 pub stmt_from : (s : Stmt) (lists : Lists) → length lists.statements ≤ (put_stmt s lists).0
 stmt_from (Assign target s equals value semicolon) lists = omega arith
 stmt_from (Block begin body end) lists =

@@ -34,7 +34,7 @@ runs_there d m number place whole one low high = record {
   awaits = made_at (λ (m : Module). m.statements) (λ m. awaited_by d (scope_of d m) (operands_of d) (reads_of d.source (operands_of d))) d.source.statements statement.Empty [] m d.source.modules number place whole.statements one low high;
 }
 
--- a part of a list that lies behind others
+-- a part of a list that lies after others
 pub cut_behind : {X : Type 0} (first own behind all : List X) → all ≡ (first ++ own) ++ behind → range_of all (length first) (length (first ++ own)) ≡ own
 cut_behind first own behind all h =
     let a = length first in
@@ -49,7 +49,7 @@ cut_behind first own behind all h =
     ∙ take-append_seam own behind
 
 module _ (d : Elaborated) (m : Module) (number : ℕ) (whole : AreWhole d.source) (one : slice_get d.source.modules number ≡ Some m) where
-  -- lists lie behind the first statement and expression of the module
+  -- lists lie after the first statement and expression of the module
   pub record Behind (lists : Lists) : Type 0 where
     pub statements : m.statements.first ≤ length lists.statements
     pub expressions : m.expressions.first ≤ length lists.expressions
@@ -130,7 +130,7 @@ module _ (d : Elaborated) (m : Module) (number : ℕ) (whole : AreWhole d.source
       let are = terms_are l lists.terms in
       (_, refl, ap (λ (t : List EventTerm). range_of d.source.terms (length lists.terms) (length t)) are ∙ cut_behind lists.terms own w.terms.more d.source.terms (w.terms.is ∙ ap (λ (t : List EventTerm). t ++ w.terms.more) are))
 
-  -- labels that are laid out behind others
+  -- labels that are laid out after others
   pub record Labelled (l : LabelList) (labels : List ℕ) (lists : Lists) : Type 0 where
     pub own : List ℕ
     pub are : (put_labels l labels lists).0 ≡ labels ++ own
@@ -149,7 +149,7 @@ module _ (d : Elaborated) (m : Module) (number : ℕ) (whole : AreWhole d.source
         stand = (v.0, rest.own, refl, value_stands e lists b (earlier (labels_grow l (labels ++ v.0 ∷ []) v.1) w), rest.stand);
       }
 
-  -- a statement behind an expression, and one of both
+  -- a statement after an expression, and one of both
   guarded : (made : ℕ → ℕ → Statement) (e : expression.Expr) (s : Stmt) (lists : Lists) → Behind lists → (let c = put_value e lists in let x = put_stmt s c.1 in Within (with_statement (made c.0 x.0) x.1).1 → (Behind c.1 → Within x.1 → IsActionOf d m x.0 s) → (c : ℕ) × (b : ℕ) × Runs d m (length x.1.statements) (made c b) × StandsAt d m c e × IsActionOf d m b s)
   guarded made e s lists b w body =
       let c = put_value e lists in
@@ -273,7 +273,7 @@ module _ (d : Elaborated) (m : Module) (number : ℕ) (whole : AreWhole d.source
         (x.0, y.0, refl, item_runs i lists b (earlier (items_grow l x.1) w), items_run l x.1 (later (item_grows i lists) b) w)
 
 module _ (d : Elaborated) (m : Module) (place : ℕ) (s : Stmt) (whole : AreWhole d.source) (h : StatementStandsAt d.source m place s) where
-  -- what is laid out before a statement that stands in a design lies behind the first parts of its module
+  -- what is laid out before a statement that stands in a design lies after the first parts of its module
   pub starts : Behind d m h.number whole h.one h.before
   starts = record { statements = h.statements_from; expressions = h.expressions_from }
 

@@ -70,7 +70,7 @@ stands = record {
 condition : StandsAt design m 0 (expression.Number 6 1)
 condition = record { number = 0; one = refl; before = []; behind = []; laid = refl; there = refl; from = omega arith; to = omega arith }
 
--- and there run the delay and the loop, each with its part, one behind the other
+-- and there run the delay and the loop, each with its part, one after the other
 runs : IsActionOf design m 6 block
 unfolding tables_of
 runs = (

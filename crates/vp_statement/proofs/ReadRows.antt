@@ -84,7 +84,7 @@ reg name width lowest = record {
   definition = None;
 }
 
--- the regs stand in this order behind the module
+-- the regs stand in this order after the module
 abbrev design : Elaborated
 design = record {
   source = record {
@@ -171,7 +171,7 @@ target_not_read : stmt_reads design (scope_of design m) star ≡ slot 3 ∷ slot
 unfolding is_utf8 chars encode
 target_not_read h = absurd cc
 
--- the statement of an item is read once, behind the first of its labels
+-- the statement of an item is read once, after the first of its labels
 reads_of_a_case : stmt_reads design (scope_of design m) labelled ≡ slot 1 ∷ slot 3 ∷ slot 1 ∷ slot 2 ∷ []
 unfolding is_utf8 chars encode
 reads_of_a_case = refl

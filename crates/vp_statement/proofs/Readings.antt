@@ -33,7 +33,7 @@ use Rattle.vp_statement.proofs.Bounds.{stmt_from, stmt_last}
 use Rattle.vp_statement.proofs.Derivations as laid
 use Rattle.vp_statement.proofs.Derivations.{cut_behind, derived}
 
--- lists of slots, one behind the other
+-- lists of slots, one after the other
 both : {a b c e : List Slot} → a ≡ b → c ≡ e → a ++ c ≡ b ++ e
 both {b = b} {c = c} h k = ap (λ (l : List Slot). l ++ c) h ∙ ap (λ (l : List Slot). b ++ l) k
 
@@ -66,7 +66,7 @@ body_once : (read : List (List Slot)) (before : Option ℕ) (place : ℕ) → Is
 body_once read None place h = refl
 body_once read (Some before) place h = ap (λ (x : Bool). cond x [] (part_reads read place)) (is_other before place h)
 
--- a body reads nothing more behind itself
+-- a body reads nothing more after itself
 body_again : (read : List (List Slot)) (place : ℕ) → body_reads read (Some place) place ≡ []
 body_again read place = ap (λ (x : Bool). cond x [] (part_reads read place)) (eq-eqb place place refl)
 
@@ -152,12 +152,12 @@ module _ (d : Elaborated) (m : Module) (number : ℕ) (whole : AreWhole d.source
 
   -- ---- statements
 
-  -- a statement behind an event reads what its body does
+  -- a statement after an event reads what its body does
   awaited_read : (terms : Option Span) (place : ℕ) (before : List (List Slot)) → reads_from d.source os before (awaited terms place) ≡ part_reads before place
   awaited_read None place before = refl
   awaited_read (Some span) place before = refl
 
-  -- a statement behind an expression, and one of both
+  -- a statement after an expression, and one of both
   guarded_read : (made_as : ℕ → ℕ → Statement) (e : expression.Expr) (s : Stmt) (lists : Lists) → ((before : List (List Slot)) (c x : ℕ) → reads_from d.source os before (made_as c x) ≡ (slots_at os c ++ part_reads before x) ++ []) → Behind lists
       → (let c = put_value e lists in let x = put_stmt s c.1 in Within (with_statement (made_as c.0 x.0) x.1).1 → (Behind c.1 → Within x.1 → part_reads read x.0 ≡ stmt_reads d scope s) → part_reads read (length x.1.statements) ≡ expr_reads d scope e ++ stmt_reads d scope s)
   guarded_read made_as e s lists same b w body =
@@ -283,7 +283,7 @@ module _ (d : Elaborated) (m : Module) (number : ℕ) (whole : AreWhole d.source
         (ap (choice_reads os before None) are ∙ items_read items v.1 before None tt (λ p h. get_or-take (length c.1.statements) read p [] h) b1 w2)
     stmt_read (Finish finish argument semicolon) lists b w = made statement.Finish lists w
 
-    -- a block that is laid out, behind what the chain reads that it goes on with
+    -- a block that is laid out, after what the chain reads that it goes on with
     block_read : (l : Stmts) (chain : ℕ) (lists : Lists) → chain < length lists.statements → Behind lists → Within (put_stmts l chain lists).1 → part_reads read (put_stmts l chain lists).0 ≡ block_reads d scope l ++ part_reads read chain
     block_read Empty chain lists h b w = refl
     block_read (Then s l) chain lists h b w =
@@ -320,7 +320,7 @@ module _ (d : Elaborated) (m : Module) (number : ℕ) (whole : AreWhole d.source
         ∙ same x.0 (before_next s lists)
         ∙ stmt_read s lists b w)
 
-    -- items that are laid out, behind a choice or none
+    -- items that are laid out, after a choice or none
     items_read : (l : Items) (lists : Lists) (before : List (List Slot)) (previous : Option ℕ) → IsBefore previous (length lists.statements) → AreBelow before (length (put_items l lists).1.statements) → Behind lists → Within (put_items l lists).1
         → choice_reads os before previous (put_items l lists).0 ≡ items_reads d scope l
     items_read (Last i) lists before previous h same b w =
@@ -341,7 +341,7 @@ module _ (d : Elaborated) (m : Module) (number : ℕ) (whole : AreWhole d.source
   abbrev awaits : List (List change.Awaited)
   awaits = awaits_of d os
 
-  -- a statement behind an event whose terms are those of the derivation
+  -- a statement after an event whose terms are those of the derivation
   event_awaited : (event : Event) (terms : Option Span) (place : ℕ) (body : List Slot) → AreTerms d terms event → part_reads read place ≡ body → awaited_by d scope os read (awaited terms place) ≡ event_awaits d scope event body
   event_awaited (Any star) terms place body h k =
       ap (λ (t : Option Span). awaited_by d scope os read (awaited t place)) h ∙ ap (map any_change) k

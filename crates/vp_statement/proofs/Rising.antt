@@ -9,7 +9,7 @@ pub missing : (o : Option ℕ) → is_some o ≡ false → o ≡ None
 missing None e = refl
 missing (Some x) e = cc
 
--- what comes behind a part of which nothing else is said is what comes behind the whole
+-- what comes after a part of which nothing else is said is what comes after the whole
 pub rises :
     (parts : List (Option Part)) (n i place : ℕ) (part : Part)
     → i < n → get_or parts place None ≡ Some part → part.next ≡ None

@@ -85,7 +85,7 @@ abbrev mutual
       × StandsAt design m c value × AreItems design m (choices_at design.source span) items
   IsActionOf design m place (Finish finish argument semicolon) = Runs design m place statement.Finish
 
-  -- the statements of a block run one behind the other, behind those that the first place has; the last place has all (clause 9.8.1)
+  -- the statements of a block run one after the other, after those that the first place has; the last place has all (clause 9.8.1)
   pub IsChain : Elaborated → declared.Module → (first last : ℕ) → Stmts → Type 0
   IsChain design m first last Empty = last ≡ first
   IsChain design m first last (Then s l) =

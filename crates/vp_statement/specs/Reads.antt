@@ -29,7 +29,7 @@ target_reads design scope (expression.Part r) = []
 abbrev pub assignment_reads : Elaborated → (scope : Option ℕ) → expression.Selection → Expr → List Slot
 assignment_reads design scope s e = target_reads design scope s ++ expr_reads design scope e
 
--- what labels read, and behind the first of them what the statement reads to which they lead (clauses 9.5 and 9.7.5)
+-- what labels read, and after the first of them what the statement reads to which they lead (clauses 9.5 and 9.7.5)
 abbrev pub label_reads : Elaborated → (scope : Option ℕ) → LabelList → (body : List Slot) → List Slot
 label_reads design scope (Only e) body = expr_reads design scope e ++ body
 label_reads design scope (Also e comma l) body = (expr_reads design scope e ++ body) ++ label_reads design scope l []
@@ -81,7 +81,7 @@ abbrev pub terms_of : TermList → List EventTerm
 terms_of (Single t) = put_term t ∷ []
 terms_of (Further t separator place l) = put_term t ∷ terms_of l
 
--- the changes for which an event waits: any of what the statement behind it reads (clause 9.7.5), or those of its terms (clauses 9.7.2
+-- the changes for which an event waits: any of what the statement after it reads (clause 9.7.5), or those of its terms (clauses 9.7.2
 -- to 9.7.4)
 abbrev pub event_awaits : Elaborated → (scope : Option ℕ) → Event → (body : List Slot) → List change.Awaited
 event_awaits design scope (Any star) body = map any_change body

@@ -1,4 +1,4 @@
--- Where a procedure goes on: where the first event of a statement stands, and what comes behind a statement (clauses 9.4 to 9.8.1).
+-- Where a procedure goes on: where the first event of a statement stands, and what comes after a statement (clauses 9.4 to 9.8.1).
 use Rattle.std.specs.Prelude.{ℕ, zero, suc, ◌==◌, Bool, true, false, if◌then◌else◌, List, [], ◌∷◌, length, map, slice_index_or, Option, Some, None}
 use Rattle.std.specs.List.{find, flat_map}
 use Rattle.std.specs.Option.{option_or}
@@ -9,7 +9,7 @@ use Rattle.vp_expr.specs.declared.tables.Action.{Action}
 use Rattle.vp_expr.specs.declared.tables.Action.TheVariants.{Nothing, Then, Delay, Event, Wait, If, While, For, Case, Forever}
 use Rattle.vp_statement.specs.declared.flow.Part.{Part}
 
--- the statement at a place; nothing behind the end
+-- the statement at a place; nothing past the end
 abbrev pub action_at : List Action → ℕ → Action
 action_at actions place = slice_index_or actions place Nothing
 
@@ -42,13 +42,13 @@ first_event actions (suc n) place = event_in (first_event actions n) place (firs
 abbrev pub next_event : List Action → (place : ℕ) → ℕ
 next_event actions place = first_event actions (length actions) place
 
--- ---- what comes behind a statement
+-- ---- what comes after a statement
 
--- a part of the statement at a place, and what comes behind the part, where that is not what comes behind the whole
+-- a part of the statement at a place, and what comes after the part, where that is not what comes after the whole
 abbrev pub part_of : (whole : ℕ) → (place : ℕ) → (next : Option ℕ) → Part
 part_of whole place next = record { whole = whole; place = place; next = next }
 
--- a part that may be missing, with what comes behind it
+-- a part that may be missing, with what comes after it
 abbrev pub part_if : (whole : ℕ) → (place : Option ℕ) → (next : Option ℕ) → List Part
 part_if whole None next = []
 part_if whole (Some place) next = part_of whole place next ∷ []
@@ -58,9 +58,9 @@ abbrev pub step_or : (whole : ℕ) → Option ℕ → ℕ
 step_or whole None = whole
 step_or whole (Some step) = step
 
--- the parts of the statement at a place. Behind the statements of a block comes its last one (clause 9.8.1), behind the start of a for
--- its turns, behind the body of a loop its step or the loop, and behind the step the loop (clause 9.6); behind any other part comes
--- what comes behind the whole (clauses 9.4, 9.5 and 9.7)
+-- the parts of the statement at a place. After the statements of a block comes its last one (clause 9.8.1), after the start of a for
+-- its turns, after the body of a loop its step or the loop, and after the step the loop (clause 9.6); after any other part comes
+-- what comes after the whole (clauses 9.4, 9.5 and 9.7)
 abbrev pub parts_of : Source → (place : ℕ) → Action → List Part
 parts_of source place (Then list last) = part_of place list (Some last) ∷ part_of place last None ∷ []
 parts_of source place (Delay amount body) = part_of place body None ∷ []
@@ -86,21 +86,21 @@ stands_at place part = part.place == place
 abbrev pub parts_by_place : Source → List Action → List (Option Part)
 parts_by_place source actions = map (λ place. find (stands_at place) (all_parts source actions)) (below (length actions))
 
--- what comes behind a part, by what comes behind the whole; nothing comes behind what is no part
+-- what comes after a part, by what comes after the whole; nothing comes after what is no part
 abbrev pub behind_part : (ℕ → Option ℕ) → Option Part → Option ℕ
 behind_part go None = None
 behind_part go (Some part) = option_or part.next (go part.whole)
 
--- the place of the statement that comes behind the one at a place, if one does, which lies nested at most so deep
+-- the place of the statement that comes after the one at a place, if one does, which lies nested at most so deep
 abbrev pub behind : List (Option Part) → ℕ → (place : ℕ) → Option ℕ
 behind parts zero place = None
 behind parts (suc n) place = behind_part (behind parts n) (slice_index_or parts place None)
 
--- of each statement the place of the one that comes behind it, if one does
+-- of each statement the place of the one that comes after it, if one does
 unfoldable pub flow_of : Source → List Action → List (Option ℕ)
 flow_of source actions =
     let parts = parts_by_place source actions in map (behind parts (length parts)) (below (length actions))
 
--- the place of the statement that comes behind the one at a place, if one does
+-- the place of the statement that comes after the one at a place, if one does
 abbrev pub behind_at : Source → List Action → (place : ℕ) → Option ℕ
 behind_at source actions place = slice_index_or (flow_of source actions) place None

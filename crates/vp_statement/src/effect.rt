@@ -47,7 +47,7 @@ pub enum Effect {
         place: u32,
         next: u32,
     },
-    /// A test: the procedure goes on with a statement, or else behind the test (9.4 to 9.6).
+    /// A test: the procedure goes on with a statement, or else after the test (9.4 to 9.6).
     Proceeds {
         next: Option<u32>,
     },
@@ -69,7 +69,7 @@ fn holds(checked: &Checked, values: &Values, instance: ObjectId, condition: Expr
     eval(checked, values, instance, condition).truth() == Bit::One
 }
 
-/// The choices that lie in a span of a source's list; none where it reaches behind the end.
+/// The choices that lie in a span of a source's list; none where it reaches past the end.
 pub fn choices_in(source: &Source, span: Span) -> &[Choice]
     ensures { result.now ≡ choices_in source.now span }
 {

@@ -10,7 +10,7 @@ use std::marker::Model;
 use vp_expr::Action;
 use vp_source::{Choice, Source};
 
-/// A part of a statement, both by their places, and the statement that comes behind the part, where that is not what comes behind the
+/// A part of a statement, both by their places, and the statement that comes after the part, where that is not what comes after the
 /// whole.
 #[derive(Clone, Copy)]
 pub struct Part {
@@ -19,7 +19,7 @@ pub struct Part {
     pub next: Option<u32>,
 }
 
-/// Of each statement of a design the place of the one that comes behind it, if one does (9.4 to 9.8.1). A contract sees these.
+/// Of each statement of a design the place of the one that comes after it, if one does (9.4 to 9.8.1). A contract sees these.
 #[derive(Drop)]
 pub struct Flow {
     behind: Vec<Option<u32>>,
@@ -130,7 +130,7 @@ fn parts_by_place(
     Ok(parts)
 }
 
-/// The statement that comes behind the one at a place, by the parts that statements are.
+/// The statement that comes after the one at a place, by the parts that statements are.
 fn behind(parts: &[Option<Part>], place: u32) -> Option<u32>
     ensures { result ≡ behind parts.now (length parts.now) place }
 {
@@ -148,7 +148,7 @@ fn behind(parts: &[Option<Part>], place: u32) -> Option<u32>
 }
 
 impl Flow {
-    /// What comes behind each statement of a design. Takes memory.
+    /// What comes after each statement of a design. Takes memory.
     pub fn new(alloc: Global, source: &Source, actions: &[Action]) -> Result<Flow, AllocError>
         ensures { IfOk result (λ flow. flow ≡ flow_of source.now actions.now) }
     {
@@ -164,7 +164,7 @@ impl Flow {
         Ok(Flow { behind: behinds })
     }
 
-    /// The statement that comes behind the one at a place; none at the end of a procedure, and for a place that is not there.
+    /// The statement that comes after the one at a place; none at the end of a procedure, and for a place that is not there.
     pub fn behind(&self, place: u32) -> Option<u32>
         ensures { result ≡ slice_index_or self.now place None }
     {

@@ -1,4 +1,4 @@
-//! What the next event of a procedure is, what it does, and where the procedure goes on behind it (IEEE Std 1364-2005, clause 9).
+//! What the next event of a procedure is, what it does, and where the procedure goes on after it (IEEE Std 1364-2005, clause 9).
 #![tactic(auto)]
 
 mod effect;

@@ -3,7 +3,7 @@ ghost use Rattle.vp_statement.specs.Walking.{action_at, first_part, is_nothing, 
 
 use vp_expr::Action;
 
-/// The statement at a place; nothing behind the end.
+/// The statement at a place; nothing past the end.
 pub fn action_at(actions: &[Action], place: u32) -> Action
     ensures { result ≡ action_at actions.now place }
 {

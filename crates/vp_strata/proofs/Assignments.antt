@@ -30,7 +30,7 @@ map_here : (t : Bool) (f : ℕ → ℕ) (n m : ℕ) (xs ys : List ℕ) → m ≡
 map_here true f n m xs ys here rest = ap (λ (i : ℕ). i ∷ xs) here ∙ ap (λ (zs : List ℕ). f n ∷ zs) rest
 map_here false f n m xs ys here rest = rest
 
--- events behind such updates are eligible as they are without them
+-- events after such updates are eligible as they are without them
 behind_updates : (us : List NonblockingUpdate) (older es : List Event) → All (λ e. is_nonblocking e ≡ false) es → eligible_behind (map Nonblocking us ++ older) es ≡ map (λ n. length us + n) (eligible_behind older es)
 behind_updates us older [] other = refl
 behind_updates us older (e ∷ es) other =

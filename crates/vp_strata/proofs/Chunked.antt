@@ -42,7 +42,7 @@ remaining_set taken [] number c within = absurd (omega arith)
 remaining_set taken (b ∷ bs) zero c within = refl
 remaining_set taken (b ∷ bs) (suc number) c within = refl
 
--- one more behind a place
+-- one more after a place
 drop-insert : (first : ℕ) (c : List Timed) (place : ℕ) (e : Timed) → first + place ≤ length c → drop first (insert c (first + place) e) ≡ insert (drop first c) place e
 drop-insert zero c place e within = ap (λ (n : ℕ). insert c n e) (omega arith)
 drop-insert (suc first) [] place e within = absurd (omega arith)
@@ -83,7 +83,7 @@ map_insert f xs i x =
     ∙ ap (λ ys. ys ++ f x ∷ map f (drop i xs)) (sym (take-map f i xs))
     ∙ ap (λ ys. take i (map f xs) ++ f x ∷ ys) (sym (drop-map f i xs))
 
--- what stands behind an exchange of a chunk for two
+-- what stands after an exchange of a chunk for two
 pub map_split : {X Y : Type 0} (f : X → Y) (xs : List X) (number : ℕ) (front back : X) → map f (set (insert xs (number + 1) back) number front) ≡ set (insert (map f xs) (number + 1) (f back)) number (f front)
 map_split f xs number front back =
     map-set f (insert xs (number + 1) back) number front ∙ ap (λ ys. set ys number (f front)) (map_insert f xs (number + 1) back)
@@ -149,7 +149,7 @@ pub unfinished_push : (taken : ℕ) (cs : List (List Timed)) (e : Timed) → Are
 unfinished_push taken [] e h = (omega (arith, h), All-nil (λ (d : List Timed). 0 < length d))
 unfinished_push taken (c ∷ cs) e h = (h.0, All-push (λ (d : List Timed). 0 < length d) cs (e ∷ []) h.1 (omega arith))
 
--- behind the last chunk's events all have passed
+-- after the last chunk's events all have passed
 pub position_last : (ls : List (List Timed)) (number place : ℕ) → suc number ≡ length ls → place ≡ length (get_or ls number []) → position ls number place ≡ length (joined ls)
 position_last [] number place last all = absurd (omega arith)
 position_last (c ∷ []) zero place last all = omega (arith, all, ap length (append-nil c))
@@ -228,7 +228,7 @@ shared_more f bs made more i p new h within is same by =
     ∙ ap (λ c. take i (map f bs) ++ c ∷ []) (sym at)
     ∙ sym (take_more (map f bs) i [] (omega (arith, length-map bs f)))
 
--- one more behind the events of the last chunk
+-- one more after the events of the last chunk
 pub more_last : (taken : ℕ) (cs : List (List Timed)) (number place : ℕ) (e : Timed) → AreUnfinished taken cs → suc number ≡ length cs → place ≡ length (get_or cs number [])
     → joined (remaining taken (set cs number (insert (get_or cs number []) place e))) ≡ joined (remaining taken cs) ++ e ∷ []
 more_last taken cs number place e h last all =

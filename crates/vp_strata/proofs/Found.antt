@@ -22,7 +22,7 @@ By time e = is_by time e ≡ true
 abbrev pub Later : ℕ → Timed → Type 0
 Later time e = is_by time e ≡ false
 
--- ---- the order of a chunk, and of those behind
+-- ---- the order of a chunk, and of those after
 
 behind : (c es : List Timed) → AreOrdered (c ++ es) → AreOrdered es
 behind c es h =
@@ -49,7 +49,7 @@ all_by time c ordered ends k d low high =
     let order = ordered k (length c - 1) d (omega arith) (omega arith) in
     le-leb (get_or c k d).time time (omega (arith, last, order))
 
--- a place behind events that come no later is not the end of a chunk that ends later
+-- a place after events that come no later is not the end of a chunk that ends later
 pub before_end : (time : ℕ) (c : List Timed) (place : ℕ) → AllWithin (By time) c 0 place → place ≤ length c → 0 < length c → ends_by time c ≡ false → place < length c
 before_end time [] place by within some later = absurd (omega arith)
 before_end time (x ∷ c) place by within some later =
@@ -164,7 +164,7 @@ further time c es place all parted = (
       subst (Later time) (sym (get_or-append_right c es (length c) k d refl (omega (arith, low)))) (parted.1 (k - length c) d (omega (arith, low)) (omega (arith, low, high, length-append c es))),
 )
 
--- a place in a chunk behind those that end by a time
+-- a place in a chunk after those that end by a time
 pub found : (time : ℕ) (ls : List (List Timed)) (number place : ℕ) → AreOrdered (joined ls) → ((k : ℕ) → k < number → ends_by time (get_or ls k []) ≡ true) → number < length ls
     → IsPartitionPoint (By time) (Later time) (get_or ls number []) place → place < length (get_or ls number []) → IsPartitionPoint (By time) (Later time) (joined ls) (position ls number place)
 found time [] number place ordered ends within parted fits = absurd (omega arith)
@@ -179,7 +179,7 @@ found time (c ∷ cs) (suc number) place ordered ends within parted fits =
     let same : length c + position cs number place ≡ position (c ∷ cs) (suc number) place = omega (arith, length-append c (joined (take number cs))) in
     subst P same (further time c (joined cs) (position cs number place) all rest)
 
--- behind all chunks
+-- after all chunks
 pub found_none : (time : ℕ) (ls : List (List Timed)) (number : ℕ) → AreOrdered (joined ls) → ((k : ℕ) → k < number → ends_by time (get_or ls k []) ≡ true) → number ≡ length ls
     → IsPartitionPoint (By time) (Later time) (joined ls) (position ls number 0)
 found_none time [] zero ordered ends all = (λ k d low high. absurd (omega arith), λ k d low high. absurd (omega arith))
@@ -217,7 +217,7 @@ found_in f bs time taken number place ls p view h ordered parted within is here 
     let inside = before_end time (get_or ls number []) place there.0 (omega (arith, ap length chunk, fits)) some later in
     (found time ls number place ordered ends (omega (arith, many, within)) there inside, inside)
 
--- the place behind all chunks
+-- the place after all chunks
 pub found_behind : {P : Type 0} (f : P → List Timed) (bs : List P) (time taken number : ℕ) (ls : List (List Timed)) → remaining taken (map f bs) ≡ ls → AreUnfinished taken (map f bs) → AreOrdered (joined ls)
     → IsPartitionPoint (λ q. ends_by time (f q) ≡ true) (λ q. ends_by time (f q) ≡ false) bs number → number ≡ length bs
     → IsPartitionPoint (By time) (Later time) (joined ls) (position ls number 0)
@@ -236,7 +236,7 @@ position_end (c ∷ cs) (suc number) all =
     let rest = position_end cs number (omega arith) in
     omega (arith, rest, length-append c (joined (take number cs)), length-append c (joined cs))
 
--- behind all chunks are all events
+-- after all chunks are all events
 pub position_all : (ls : List (List Timed)) (number place : ℕ) → number ≡ length ls → place ≡ 0 → position ls number place ≡ length (joined ls)
 position_all ls number place all none = ap (position ls number) none ∙ position_end ls number all
 

@@ -14,7 +14,7 @@ put_and_future : (q : Queue) (future : List Timed) (e : Delayed) → put_in (wit
 put_and_future q future (later.Evaluation process) = refl
 put_and_future q future (later.Nonblocking update) = refl
 
--- the queue behind the first of its future events, so many
+-- the queue after the first of its future events, so many
 abbrev pub behind : Queue → ℕ → Queue
 behind q count =
     with_future (fold put_in q (map (λ (e : Timed). e.event) (take count q.future))) (drop count q.future)
@@ -29,7 +29,7 @@ one_more q count e within here =
     ∙ ap (fold put_in q) (map_push (λ (e : Timed). e.event) (take count q.future) e)
     ∙ fold_push put_in q (map (λ (e : Timed). e.event) (take count q.future)) e.event))
 
--- the first of what is left behind so many stands behind those
+-- the first of what is left after so many stands after those
 first_left : (es : List Timed) (count : ℕ) (e : Timed) → slice_get (drop count es) 0 ≡ Some e → (count < length es) × (get_or es count e ≡ e)
 first_left [] zero e h = absurd cc
 first_left [] (suc count) e h = absurd cc
@@ -59,6 +59,6 @@ arrived_at q count (Some time) is kept left none =
     ap (λ es. with_future (fold put_in q (map (λ (e : Timed). e.event) es)) (drop count q.future)) kept
     ∙ ap (with_future (fold put_in q (map (λ (e : Timed). e.event) (filter (is_at time) q.future)))) left
 
--- behind all events of the first time, the time is that
+-- after all events of the first time, the time is that
 pub arrived : (q : Queue) (count : ℕ) → IfSome (first_time q.future) (λ time. take count q.future ≡ filter (is_at time) q.future) → IfSome (first_time q.future) (λ time. drop count q.future ≡ filter (λ e. not (is_at time e)) q.future) → IfNone (first_time q.future) (count ≡ 0) → behind q count ≡ advanced q
 arrived q count kept left none = arrived_at q count (first_time q.future) refl kept left none

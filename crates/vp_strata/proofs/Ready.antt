@@ -1,4 +1,4 @@
--- The queue behind the activation that a step would make.
+-- The queue after the activation that a step would make.
 use Rattle.std.proofs.Common.{◌≡◌, ◌∙◌, ℕ, ◌<◌, List, [], ◌∷◌, None, ap, arith, length, min, refl}
 use Rattle.std.specs.Prelude.{option_and_then, option_map, slice_get}
 use Rattle.vp_active.specs.declared.event.Event.{Event}
@@ -17,7 +17,7 @@ by_nonblocking q (e ∷ es) inactive none idle = absurd (omega arith)
 by_nonblocking q [] (p ∷ ps) none idle = absurd (omega arith)
 by_nonblocking q [] [] none idle = refl
 
--- ---- behind the inactive events
+-- ---- after the inactive events
 
 pub inactive_ready : (q : Queue) → length q.active ≡ 0 → 0 < length q.inactive → length (ready q) ≡ length q.inactive
 inactive_ready q none some =
@@ -29,7 +29,7 @@ inactive_peeked q k none some =
     ap (λ (r : Queue). option_and_then (slice_get r.active) (slice_get (eligible_places r.active) k)) (by_inactive q q.active q.inactive none some)
     ∙ evaluation_at q.inactive k
 
--- ---- behind the updates of nonblocking assignments
+-- ---- after the updates of nonblocking assignments
 
 pub nonblocking_ready : (q : Queue) → length q.active ≡ 0 → length q.inactive ≡ 0 → length (ready q) ≡ min (length q.nonblocking) 1
 nonblocking_ready q none idle =

@@ -64,7 +64,7 @@ nothing_activated = refl
 
 -- ---- future events
 
--- at time 5, an event stands behind another of time 5 and before one of time 7
+-- at time 5, an event stands after another of time 5 and before one of time 7
 in_order : scheduled (goes_on 5 1) (sets 5 7 ∷ goes_on 7 0 ∷ []) ≡ sets 5 7 ∷ goes_on 5 1 ∷ goes_on 7 0 ∷ []
 in_order = refl
 

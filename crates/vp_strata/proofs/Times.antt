@@ -58,14 +58,14 @@ at_first xs time i ordered first before behind within =
 
 -- ---- one more event
 
--- one more stands behind those that come no later
+-- one more stands after those that come no later
 pub scheduled_at : (xs : List Timed) (i : ℕ) (y : Timed) → AllWithin (λ e. is_by y.time e ≡ true) xs 0 i → AllWithin (λ e. is_by y.time e ≡ false) xs i (length xs) → i ≤ length xs → insert xs i y ≡ scheduled y xs
 scheduled_at xs i y before behind within =
     let parted = parts (is_by y.time) xs i before behind within in
     ap (λ (es : List Timed). es ++ y ∷ drop i xs) parted.0
     ∙ ap (λ (es : List Timed). filter (is_by y.time) xs ++ y ∷ es) parted.1
 
--- the events stay in order behind one more that stands behind those that come no later
+-- the events stay in order after one more that stands after those that come no later
 pub ordered_with : (xs : List Timed) (i : ℕ) (y : Timed) → AreOrdered xs → i ≤ length xs → AllWithin (λ e. is_by y.time e ≡ true) xs 0 i → AllWithin (λ e. is_by y.time e ≡ false) xs i (length xs) → AreOrdered (insert xs i y)
 ordered_with xs i y ordered within before behind a b d ab long =
     let size = length-insert xs i y within in

@@ -7,7 +7,7 @@ use Rattle.vp_strata.specs.declared.event.Timed.{Timed}
 use Rattle.vp_list.specs.Chunks.{joined}
 use Rattle.vp_strata.specs.Chunks.{position}
 
--- a place that stands behind fewer events than there are is in a chunk
+-- a place that stands after fewer events than there are is in a chunk
 pub number_within : (ls : List (List Timed)) (number place index : ℕ) → position ls number place ≡ index → index < length (joined ls) → number < length ls
 number_within ls number place index at less =
     elim (cases_lt number (length ls)) [
@@ -19,7 +19,7 @@ number_within ls number place index at less =
 pub event_at : (ls : List (List Timed)) (number place : ℕ) (d : Timed) → number < length ls → place < length (get_or ls number []) → get_or (joined ls) (position ls number place) d ≡ get_or (get_or ls number []) place d
 event_at ls number place d within fits = get_or-flat_map (λ c. c) ls number place [] d within fits
 
--- the same, at a place behind so many, by the events of its chunk
+-- the same, at a place after so many, by the events of its chunk
 pub event_behind : (ls : List (List Timed)) (es : List Timed) (number place index : ℕ) (e d : Timed) → position ls number place ≡ index → index < length (joined ls) → (number < length ls → place < length (get_or ls number [])) → es ≡ get_or ls number [] → e ≡ get_or es place e
     → get_or (joined ls) index d ≡ e
 event_behind ls es number place index e d at less fits is here =

@@ -54,7 +54,7 @@ activated_from q (e ∷ es) inactive = q
 activated_from q [] (p ∷ ps) = inactive_activated q
 activated_from q [] [] = nonblocking_activated q
 
--- the queue behind the activation that a step would make
+-- the queue after the activation that a step would make
 abbrev pub activated : Queue → Queue
 activated q = activated_from q q.active q.inactive
 
@@ -69,11 +69,11 @@ is_done q = is_done_from q.active q.inactive q.nonblocking
 
 -- ---- eligible events
 
--- the places of the events that are eligible, behind the activation (clause 11.4.2: any of them may be next)
+-- the places of the events that are eligible, after the activation (clause 11.4.2: any of them may be next)
 abbrev pub ready : Queue → List ℕ
 ready q = eligible_places (activated q).active
 
--- the k-th of the eligible events, behind the activation, if there is one
+-- the k-th of the eligible events, after the activation, if there is one
 abbrev pub peeked : Queue → ℕ → Option Event
 peeked q k = option_and_then (slice_get (activated q).active) (slice_get (ready q) k)
 
@@ -92,7 +92,7 @@ taken q k = without q (slice_get (eligible_places q.active) k)
 abbrev pub is_by : ℕ → Timed → Bool
 is_by time e = nat_le e.time time
 
--- the future events, and one more: behind those that come no later (clause 11.3)
+-- the future events, and one more: after those that come no later (clause 11.3)
 abbrev pub scheduled : Timed → List Timed → List Timed
 scheduled e future = filter (is_by e.time) future ++ e ∷ filter (λ f. not (is_by e.time f)) future
 

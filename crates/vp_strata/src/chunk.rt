@@ -11,7 +11,7 @@ use std::marker::Model;
 /// At most so many events stand in a chunk.
 const MOST: usize = 64;
 
-/// Future events, one behind another, at most 64. A contract sees them.
+/// Future events, one after another, at most 64. A contract sees them.
 #[derive(Drop)]
 pub struct FutureChunk {
     alloc: Global,

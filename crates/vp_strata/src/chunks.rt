@@ -38,7 +38,7 @@ impl Model for FutureChunks {
     ghost invariant = { λ c. AreUnfinished c.taken (map arc_value c.chunks.items) };
 }
 
-/// The place of the first event that remains in a chunk: behind those that are over in the first.
+/// The place of the first event that remains in a chunk: after those that are over in the first.
 fn first_place(taken: usize, number: usize) -> usize
     ensures { result ≡ first_place taken number }
 {
@@ -204,7 +204,7 @@ impl FutureChunks {
         Ok(())
     }
 
-    /// One more event behind all; where there is no memory nothing changes.
+    /// One more event after all; where there is no memory nothing changes.
     pub fn push(&mut self, event: Timed) -> Result<(), AllocError>
         ensures pushed { OnOk result (joined self.new ≡ joined self.old ++ event ∷ []) }
         ensures kept { OnErr result (self.new ≡ self.old) }
@@ -229,7 +229,7 @@ impl FutureChunks {
         self.chunks[number].from(first_place(self.taken, number))
     }
 
-    /// Where the event stands that comes behind one of a chunk: behind the last of a chunk comes the first of the next.
+    /// Where the event stands that comes after one of a chunk: after the last of a chunk comes the first of the next.
     fn behind(&self, number: usize, place: usize) -> (usize, usize)
         requires number { number < length self.now }
         requires within { place < length (slice_index_or self.now number []) }

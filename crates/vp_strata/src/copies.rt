@@ -15,7 +15,7 @@ pub fn copied<T: Copy>(alloc: Global, items: &VecDeque<T>) -> Result<Vec<T>, All
     Ok(copy)
 }
 
-/// Items that stand behind those of a queue, which has room for them.
+/// Items that stand after those of a queue, which has room for them.
 pub fn append<T: Copy>(queue: &mut VecDeque<T>, items: &[T])
     requires { deque_len queue.old + length items.now ≤ deque_capacity queue.old }
     ensures items { queue.new.items ≡ queue.old.items ++ items.now }

@@ -217,7 +217,7 @@ impl Strata {
         Ok(())
     }
 
-    /// One more process is inactive: it goes on behind the active events (9.7.1). An `Err` is want of memory (701), and changes no event.
+    /// One more process is inactive: it goes on after the active events (9.7.1). An `Err` is want of memory (701), and changes no event.
     pub fn push_inactive(&mut self, process: usize) -> Result<(), StrataError>
         ensures queue { OnOk result (self.new.queue
             ≡ with_inactive self.old.queue (self.old.queue.inactive ++ process ∷ [])) }
@@ -283,7 +283,7 @@ impl Strata {
         self.assignments.is_empty() && self.active.is_empty()
     }
 
-    /// How many events are eligible behind the activation that a step would make: the choices of the step.
+    /// How many events are eligible after the activation that a step would make: the choices of the step.
     pub fn choices(&self) -> usize
         ensures { result ≡ length (ready self.now.queue) }
     {
@@ -296,7 +296,7 @@ impl Strata {
         self.nonblocking.len().min(1)
     }
 
-    /// The k-th of the eligible events, counted from 0, behind the activation that a step would make; none where there are not so many.
+    /// The k-th of the eligible events, counted from 0, after the activation that a step would make; none where there are not so many.
     #[inline(always)]
     pub fn peek(&self, k: usize) -> Option<Event>
         ensures { result ≡ peeked self.now.queue k }

@@ -50,7 +50,7 @@ module _ (nodes : List SeenNode) (names : List (List ℕ)) where
       let next : n + 1 ≡ suc n = omega arith in
       ap (λ k. position_from has_names (n + 1) (drop k nodes)) next ∙ here_by n there.0 false there.1 tells
 
-  -- behind the last there is none
+  -- after the last there is none
   pub named_nowhere : (n : ℕ) → length nodes ≤ n → None ≡ position_from has_names n (drop n nodes)
   named_nowhere n past = sym (ap (position_from has_names n) (drop_of_length-le nodes past))
 

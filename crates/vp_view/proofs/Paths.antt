@@ -11,7 +11,7 @@ use Rattle.vp_policy.specs.View.{SeenNode}
 
 -- ---- nodes
 
--- the nodes of objects behind others
+-- the nodes of objects after others
 nodes_from-append : (nodes : List SeenNode) (os more : List SeenObject) → nodes_from nodes (os ++ more) ≡ nodes_from (nodes_from nodes os) more
 nodes_from-append nodes [] more = refl
 nodes_from-append nodes (o ∷ os) more = nodes_from-append (nodes ++ node_behind nodes o ∷ []) os more
@@ -24,7 +24,7 @@ length-nodes_from nodes (o ∷ os) =
     let longer = length-append nodes (node_behind nodes o ∷ []) in
     omega arith
 
--- the nodes of the objects behind these
+-- the nodes of the objects after these
 more_from : List SeenNode → List SeenObject → List SeenNode
 more_from nodes [] = []
 more_from nodes (o ∷ os) = node_behind nodes o ∷ more_from (nodes ++ node_behind nodes o ∷ []) os
@@ -50,7 +50,7 @@ take_seam : {X : Type 0} (xs ys : List X) → take (length xs) (xs ++ ys) ≡ xs
 take_seam [] ys = refl
 take_seam (x ∷ xs) ys = ap (λ zs. x ∷ zs) (take_seam xs ys)
 
--- the node of an object stands behind those before it
+-- the node of an object stands after those before it
 node_there : (os : List SeenObject) (n : ℕ) (o : SeenObject) → slice_get os n ≡ Some o → slice_get (nodes_from [] os) n ≡ Some (node_behind (take n (nodes_from [] os)) o)
 node_there os n o at =
     let front : List SeenNode = nodes_from [] (take n os) in

@@ -34,7 +34,7 @@ module _ (v : View) (scope : Option ℕ) (text part : List ℕ) where
       ap (λ ns. from_seen (find_listed_seen v (ns ++ part ∷ [])) (unlisted_seen v (closed_seen v scope)) (λ o. walk_seen v (Found o) (Some o) others)) (scope_is v scope)
       ∙ ap (λ x. from_seen x (unlisted_seen v (closed_seen v scope)) (λ o. walk_seen v (Found o) (Some o) others)) (sym is)
 
-  -- a name that is listed, with others behind it
+  -- a name that is listed, with others after it
   pub walk_next : (further : List ℕ) (o : ℕ) → parts 46 text ≡ behind_part 46 part (Some further) → Some o ≡ find_listed_seen v named
       → walk_seen v Absent (Some o) (parts 46 further) ≡ walk_seen v Absent scope (parts 46 text)
   walk_next further o split found =

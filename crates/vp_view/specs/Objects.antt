@@ -14,7 +14,7 @@ abbrev pub before : ℕ → Option ℕ → Option ℕ
 before n None = None
 before n (Some p) = if nat_lt p n then Some p else None
 
--- at most so many steps lead to a scope: each has a smaller number than the one behind it
+-- at most so many steps lead to a scope: each has a smaller number than the one after it
 abbrev pub most_steps : (scope : Option ℕ) → ℕ
 most_steps None = 0
 most_steps (Some o) = o + 1

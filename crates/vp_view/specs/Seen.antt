@@ -54,7 +54,7 @@ words_at v r s = record {
   object = first_object s.viewports;
 }
 
--- why a right on the object with this path is denied: by the first step behind which it is lacking; none if it is the user's
+-- why a right on the object with this path is denied: by the first step after which it is lacking; none if it is the user's
 abbrev pub denial_seen : View → Right → List SeenStep → Option DenialWords
 denial_seen v r [] = None
 denial_seen v r (s ∷ path) = if has r s.rights then denial_seen v r path else Some (words_at v r s)

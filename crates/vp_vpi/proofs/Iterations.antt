@@ -5,7 +5,7 @@ use Rattle.std.proofs.lemmas.List.{length-map, length-take-le, map-append}
 use Rattle.vp_elab.specs.declared.object.ObjectId.{ObjectId}
 use Rattle.vp_vpi.specs.Calls.{items_from}
 
--- the object behind others has the handle behind theirs
+-- the object after others has the handle after theirs
 items_more : (name : ℕ → List ℕ) (handle : ℕ) (os : List ℕ) (o n : ℕ) → n ≡ handle + length os → items_from name handle (os ++ o ∷ []) ≡ items_from name handle os ++ record { handle = n; name = name o } ∷ []
 items_more name handle [] o n e = ap (λ h. (record { handle = h; name = name o } ∷ [])) (let k : handle ≡ n = omega (arith, e) in k)
 items_more name handle (x ∷ os) o n e =

@@ -1,4 +1,4 @@
--- Races in a list, one behind another.
+-- Races in a list, one after another.
 use Rattle.std.proofs.Common.{◌≡◌, ◌∙◌, ◌≤◌, ◌<◌, ◌-◌, ◌++◌, ℕ, zero, suc, Bool, true, false, if◌then◌else◌, List, [], ◌∷◌, Some, drop, filter, length, map, refl, sym, ap, arith, ◌⊎◌, inl, inr}
 use Rattle.std.specs.Prelude.{max, nat_le, option_map, take}
 use Rattle.std.proofs.lemmas.Bool.{leb-true, leb-false}
@@ -12,7 +12,7 @@ use Rattle.vp_vpi.specs.Calls.{line_of, lines_from, race_told, shown_at}
 use Rattle.vp_vpi.specs.declared.races.SeenRace.{SeenRace}
 use Rattle.vp_vpi.specs.Races.{is_shown, race_seen, races_seen}
 
--- the races that are told from a number on, of those behind so many
+-- the races that are told from a number on, of those after so many
 abbrev pub told_from : (from number : ℕ) → List SeenRace → List RaceLine
 told_from from number [] = []
 told_from from number (s ∷ ss) = (if nat_le from (suc number) then line_of (suc number) s ∷ [] else []) ++ told_from from (suc number) ss

@@ -88,7 +88,7 @@ pub record Polled : Type 0 where
 abbrev pub polled : Seat → Polled
 polled s = record { notices = map registry.polled_notice s.registry.waiting; lost = s.registry.lost }
 
--- a session behind a poll: none waits any more, and none counts as lost (profile)
+-- a session after a poll: none waits any more, and none counts as lost (profile)
 abbrev pub drained : Seat → Seat
 drained s = record s { registry = registry.drained s.registry }
 

@@ -16,7 +16,7 @@ pub enum VpiError {
     WrongKind,
     /// A put whose value does not have the object's width (1103).
     BadValue,
-    /// A put behind `$finish` (1104).
+    /// A put after `$finish` (1104).
     Finished,
     /// 65,536 handles at once, or no number that was not used before (1105).
     TooManyHandles,

@@ -85,7 +85,7 @@ impl Model for Iteration {
 }
 
 impl Iteration {
-    /// An iteration over these objects: it tells these numbers of envelopes, and the handles behind the last one. Takes memory.
+    /// An iteration over these objects: it tells these numbers of envelopes, and the handles after the last one. Takes memory.
     pub(crate) fn new<E: Observe>(
         alloc: Global,
         eyes: &E,
@@ -163,7 +163,7 @@ pub fn of_kind<E: Observe>(
     Ok(Sequence::from_vec(ids))
 }
 
-/// The objects with their names, and with the handles behind the last one. Takes memory.
+/// The objects with their names, and with the handles after the last one. Takes memory.
 fn items_behind<E: Observe>(
     alloc: Global,
     eyes: &E,

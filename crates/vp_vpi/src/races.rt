@@ -12,7 +12,7 @@ pub struct SeenRace {
     pub name: Text,
     /// The time of its segment, in time units.
     pub time: u64,
-    /// Its values behind the run's order and behind the other.
+    /// Its values after the run's order and after the other.
     pub values: (Bits, Bits),
     /// Of the steps of the run's order those that he may list: the full name of each one's process, or `port ` and the full name of
     /// the port of a connection.
@@ -30,7 +30,7 @@ pub struct RaceLine {
     pub number: u64,
     /// The time of its segment, in time units.
     pub time: u64,
-    /// Its values behind the run's order and behind the other.
+    /// Its values after the run's order and after the other.
     pub values: (Bits, Bits),
 }
 

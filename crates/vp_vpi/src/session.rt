@@ -53,7 +53,7 @@ impl Model for Session {
     ghost invariant = { λ s. s.open_handles ≡ count_by is_some s.handles.items };
 }
 
-/// The object at a place of a list of handles; none where it was freed, and behind the end.
+/// The object at a place of a list of handles; none where it was freed, and past the end.
 fn object_at(handles: &[Option<ObjectId>], place: usize) -> Option<ObjectId>
     ensures { result ≡ option_flatten (slice_get handles.now place) }
 {

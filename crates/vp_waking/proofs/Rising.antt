@@ -9,7 +9,7 @@ use Rattle.std.proofs.lemmas.List.Elements.{All-cons, All-head, All-tail, All-we
 use Rattle.std.proofs.lemmas.List.Kept.{AllPairs-cons}
 use Rattle.vp_waking.specs.Listening.{has, with_number}
 
--- the numbers behind the first rise, and are above it
+-- the numbers after the first rise, and are above it
 pub rise_tail : (n : ℕ) (ns : List ℕ) → AllPairs (λ x y. x < y) (n ∷ ns) → AllPairs (λ x y. x < y) ns
 rise_tail n ns h i j d l w = h (suc i) (suc j) d (omega arith) (omega arith)
 

@@ -210,7 +210,7 @@ queue_more tables old change waiting now q r new ns alone i within is en e =
     ∙ evaluations_more q (filter p (take i ns)) one
     ∙ ap (with_evaluations q) (sym (filter_more p ns i 0 within))
 
--- behind the last listener all are woken
+-- after the last listener all are woken
 pub all_woken : {X : Type 0} (f : List ℕ → X) (tables : Tables) (lists : List (List ℕ)) (old : List Bit) (change : Change) (waiting : List Waiting) (i : ℕ) (x : X) → length (listeners_of lists change.object.0) ≤ i → AreListeners tables change.object.0 (listeners_of lists change.object.0) → AreHeard tables lists waiting → x ≡ f (filter (wakes_at tables old change waiting) (take i (listeners_of lists change.object.0))) → x ≡ f (woken_by tables old change waiting)
 all_woken f tables lists old change waiting i x end fit heard e =
     e ∙ ap (λ (l : List ℕ). f (filter (wakes_at tables old change waiting) l)) (take_all i (listeners_of lists change.object.0) end)

@@ -27,7 +27,7 @@ set_change_of object (Some old) place value = change_of object (Some old) (set_i
 abbrev pub set_change : List (List Bit) → (object : ℕ) → Option ℕ → (value : List Bit) → Option Change
 set_change values object place value = set_change_of object (slice_get values object) place value
 
--- the values behind a change
+-- the values after a change
 abbrev pub values_behind : List (List Bit) → Option Change → List (List Bit)
 values_behind values None = values
 values_behind values (Some change) = slice_set values change.object.0 change.value

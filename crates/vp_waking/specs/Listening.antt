@@ -14,7 +14,7 @@ use Rattle.vp_waking.specs.Waking.{Term, awaited_by, operand_terms, wait_of}
 abbrev pub has : List ℕ → ℕ → Bool
 has numbers number = list_any (λ n. n == number) numbers
 
--- the listeners of an object; an object behind the end has none
+-- the listeners of an object; an object past the end has none
 abbrev pub listeners_of : List (List ℕ) → (object : ℕ) → List ℕ
 listeners_of lists object = slice_index_or lists object []
 

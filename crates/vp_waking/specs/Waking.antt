@@ -108,7 +108,7 @@ terms_of tables Operands process = operand_terms tables process
 abbrev pub awaited_by : Tables → Waiting → (process : ℕ) → List Term
 awaited_by tables waiting process = option_map_or (terms_of tables waiting) (slice_get tables.processes process) []
 
--- what a process waits for; nothing behind the end
+-- what a process waits for; nothing past the end
 abbrev pub wait_of : List Waiting → (process : ℕ) → Waiting
 wait_of waiting process = slice_index_or waiting process Nothing
 
@@ -142,7 +142,7 @@ roused_one waiting process = slice_set waiting process Nothing
 abbrev pub roused : List Waiting → (processes : List ℕ) → List Waiting
 roused waiting processes = fold roused_one waiting processes
 
--- the queue behind these processes were woken: they are evaluated (clause 11.3)
+-- the queue after these processes were woken: they are evaluated (clause 11.3)
 abbrev pub with_evaluations : Queue → (processes : List ℕ) → Queue
 with_evaluations q processes = with_active q (q.active ++ map Evaluation processes)
 

@@ -48,7 +48,7 @@ impl Model for Listeners {
         l.known.items };
 }
 
-/// Puts empty lists behind others, until there is one for an object.
+/// Puts empty lists after others, until there is one for an object.
 fn grow(alloc: Global, lists: &mut Vec<Vec<usize>>, object: usize) -> Result<(), AllocError>
     ensures same { (k : ℕ) → listeners_of (map (λ v. v.items) lists.new.items) k
         ≡ listeners_of (map (λ v. v.items) lists.old.items) k }

@@ -25,7 +25,7 @@ impl Same for Waiting {
     }
 }
 
-/// What a process waits for; nothing behind the end.
+/// What a process waits for; nothing past the end.
 pub fn wait_of(waiting: &[Waiting], process: usize) -> Waiting
     ensures { result ≡ wait_of waiting.now process }
 {

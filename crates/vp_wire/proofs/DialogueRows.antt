@@ -27,7 +27,7 @@ before_open = refl
 opened_once : turn_of_request Open (request.Open (codes "ann") (codes "t1")) ≡ Tells (codes "bad request")
 opened_once = refl
 
--- a grant may be changed before an `open`, as behind it
+-- a grant may be changed before an `open`, as after it
 abbrev grants : request.the_data
 grants = request.Grant (record { token = codes "op"; user = codes "ann"; envelope = 1; access = nothing })
 
@@ -37,14 +37,14 @@ grant_before_open = refl
 granted_before_open : stage_behind Before grants reply.Done ≡ Before
 granted_before_open = refl
 
--- behind a close the caller is asked, and says that no session is open
+-- after a close the caller is asked, and says that no session is open
 behind_close : turn_of_request Closed request.Time ≡ Calls request.Time
 behind_close = refl
 
 refused_open : stage_behind Before (request.Open (codes "ann") (codes "t2")) (reply.Error refusal.BadToken) ≡ Before
 refused_open = refl
 
--- both answers to an `open` are written alike, and behind either the session is open
+-- both answers to an `open` are written alike, and after either the session is open
 opened_open : stage_behind Before (request.Open (codes "ann") (codes "t1")) (reply.Opened (record { user = record { 0 = 0 }; opens = 1 })) ≡ Open
 opened_open = refl
 

@@ -65,7 +65,7 @@ more_by byte front bytes lines last false is more cut = by_parts byte front byte
         let own = more (p ∷ lines) last (ps_is ∙ ap (λ (qs : List (List ℕ)). p ∷ qs) split.1) in
         ap (begun byte) own ∙ ap (λ (l : List ℕ). l ∷ (lines ++ parts 10 (last ++ bytes))) split.0
 
--- bytes behind others go on their last part
+-- bytes after others go on their last part
 pub parts_more : (front bytes : List ℕ) (lines : List (List ℕ)) (last : List ℕ) → parts 10 front ≡ lines ++ last ∷ [] → parts 10 (front ++ bytes) ≡ lines ++ parts 10 (last ++ bytes)
 parts_more [] bytes [] last cut = ap (λ (l : List ℕ). parts 10 (l ++ bytes)) (one_part last [] [] cut).0
 parts_more [] bytes (line ∷ []) last cut = cc

@@ -39,7 +39,7 @@ gathered d line bytes piece p cut whole gathers =
       count = p.count;
     }
 
--- the parts of what was read behind one line more
+-- the parts of what was read after one line more
 line_more : (input begun bytes piece rest : List ℕ) (lines : List (List ℕ)) → parts 10 input ≡ lines ++ parts 10 (begun ++ bytes) → parts 10 begun ≡ begun ∷ [] → parts 10 bytes ≡ behind_part 10 piece (Some rest) → parts 10 input ≡ (lines ++ (begun ++ piece) ∷ []) ++ parts 10 rest
 line_more input begun bytes piece rest lines cut none parted =
     cut ∙ ap (λ (ps : List (List ℕ)). lines ++ ps) (joined_part begun bytes piece (Some rest) none parted)
@@ -51,7 +51,7 @@ written_ok result x reply_line held holds is w = subst (λ (r : Result _ _). Wri
 written_err : {T E : Type 0} (result : Result T E) (e : E) (reply_line : List ℕ) (held holds : Option (List ℕ)) → result ≡ Err e → Writes result reply_line held holds → (front : List ℕ) × IsFront front reply_line × Appends held holds front
 written_err result e reply_line held holds is w = subst (λ (r : Result _ _). Writes r reply_line held holds) is w
 
--- what is left behind a newline is shorter
+-- what is left after a newline is shorter
 pub rest_shorter : (bytes piece rest : List ℕ) → bytes ≡ piece ++ 10 ∷ rest → length rest + 1 ≤ length bytes
 rest_shorter bytes piece rest whole = rw whole (rw length-append (omega arith))
 
@@ -113,7 +113,7 @@ pub none_ok : {T E : Type 0} (P : T → Type 0) (result : Result T E) → IsErr 
 none_ok P (Ok x) none = cc
 none_ok P (Err e) is = tt
 
--- behind an error one failure more is counted
+-- after an error one failure more is counted
 pub failures_err : {T E : Type 0} (n : ℕ) (result : Result T E) → IsErr result → failures_behind n result ≡ one_more n
 failures_err n (Ok x) none = cc
 failures_err n (Err e) is = refl

@@ -17,7 +17,7 @@ use Rattle.vp_wire.specs.Lines.{Meaning, NotJson, NotRequest, Asks, line_of, mea
 
 -- ---- lines
 
--- the lines of what stands between newlines: nothing behind the last newline is no line
+-- the lines of what stands between newlines: nothing after the last newline is no line
 abbrev pub without_empty_end : List (List ℕ) → List (List ℕ)
 without_empty_end [] = []
 without_empty_end ([] ∷ []) = []
@@ -87,7 +87,7 @@ turn_of stage line =
 abbrev pub error_line : List ℕ → List ℕ
 error_line text = compact_text (only (codes "error") (string text)) ++ 10 ∷ []
 
--- how far the session is behind a request and its reply: an `open` that was answered ok, in either form, opens it, a `close` that
+-- how far the session is after a request and its reply: an `open` that was answered ok, in either form, opens it, a `close` that
 -- was done closes it
 abbrev pub stage_behind : Stage → Request → Reply → Stage
 stage_behind stage (request.Open user token) (reply.Opened session) = Open

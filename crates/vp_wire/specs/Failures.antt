@@ -7,18 +7,18 @@ use Rattle.vp_wire.specs.declared.fault.WireError.TheVariants.{ReadFault, WriteF
 abbrev pub one_more : ℕ → ℕ
 one_more n = (n + 1) % 2 ^ 64
 
--- the count of failures behind a call that had this result
+-- the count of failures after a call that had this result
 abbrev pub failures_behind : {T E : Type 0} → ℕ → Result T E → ℕ
 failures_behind n (Ok x) = n
 failures_behind n (Err e) = one_more n
 
--- a reader's count of failures behind a dialogue: one more exactly where the reader's fault is told
+-- a reader's count of failures after a dialogue: one more exactly where the reader's fault is told
 abbrev pub reader_failures : {T : Type 0} → ℕ → Result T WireError → ℕ
 reader_failures n (Ok x) = n
 reader_failures n (Err ReadFault) = one_more n
 reader_failures n (Err e) = n
 
--- a writer's count of failures behind a dialogue: one more exactly where the writer's fault is told
+-- a writer's count of failures after a dialogue: one more exactly where the writer's fault is told
 abbrev pub writer_failures : {T : Type 0} → ℕ → Result T WireError → ℕ
 writer_failures n (Ok x) = n
 writer_failures n (Err WriteFault) = one_more n

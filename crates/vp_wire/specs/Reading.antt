@@ -104,7 +104,7 @@ Finishes {C} calls d before e now mid holds result =
     (first : C) → (unread still_unread held : Option (List ℕ)) → Progress calls unread still_unread held mid first d before None → IsAtEnd still_unread
     → MatchResult result (λ x. IsWhole calls unread still_unread held holds first (point_of e now) e.lines) (λ x. Stops fault.WriteFault calls unread still_unread held holds first (point_of e now))
 
--- where a dialogue is behind one more read: it goes on, or its input has ended
+-- where a dialogue is after one more read: it goes on, or its input has ended
 abbrev pub Goes : {C : Type 0} → Bool → (C → Request → Reply → C → Type 0) → (unread still_unread held holds : Option (List ℕ)) → C → Dialogue → C → Type 0
 Goes false calls unread still_unread held holds caller d now = Progress calls unread still_unread held holds caller d now None
 Goes true calls unread still_unread held holds caller d now = IsWhole calls unread still_unread held holds caller (point_of d now) d.lines

@@ -48,7 +48,7 @@ pub enum Stage {
 }
 
 impl Stage {
-    /// The request, where the caller is asked for it: an `open` before the session is open, and every other behind that; a change of
+    /// The request, where the caller is asked for it: an `open` before the session is open, and every other after that; a change of
     /// a grant anywhere.
     pub(crate) fn admitted(self, request: Request) -> Result<Request, LineError>
         ensures { turn_of_request self request ≡ turn_by result }
@@ -63,7 +63,7 @@ impl Stage {
         }
     }
 
-    /// The stage behind a request, which opens the session or closes it or does neither, and its reply.
+    /// The stage after a request, which opens the session or closes it or does neither, and its reply.
     fn behind(self, opens: bool, closes: bool, reply: &Reply) -> Stage
         ensures { (r : Request) → opens ≡ is_opening r → closes ≡ is_closing r
             → result ≡ stage_behind self r reply.now }
@@ -97,7 +97,7 @@ fn is_closing(request: &Request) -> bool
     matches!(request, Request::Close)
 }
 
-/// The stage behind a request that the caller is asked, and the line of the reply.
+/// The stage after a request that the caller is asked, and the line of the reply.
 fn ask<C: Caller>(
     alloc: Global,
     stage: Stage,

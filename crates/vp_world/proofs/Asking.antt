@@ -1,4 +1,4 @@
--- A world behind a request of the session in a place.
+-- A world after a request of the session in a place.
 use Rattle.std.proofs.Common.{◌≡◌, ℕ, ◌<◌, Bool, true, false, List, length, map, Option, Some, None, refl, sym, ap, subst, ◌∙◌}
 use Rattle.std.specs.Prelude.{slice_get, slice_index_or, slice_set, if◌then◌else◌, option_map, IfSome, IsSome}
 use Rattle.std.proofs.lemmas.List.{length-map, map-set, set-get_or}
@@ -180,7 +180,7 @@ module _
         ∙ ap (λ there. with_state old (state_asked old.state place there r)) (sym found)
         ∙ ap (λ v. with_state v (asked_at v.state (Some place) r)) is
 
--- the world behind a step
+-- the world after a step
 pub step_shown :
     (old new : Recorded) (book : List Told) (first policy : PolicyState) (limits : Limits) (sessions told : List OpenSession) (opens : List ℕ) (goal : Option ℕ)
     (k : ℕ) (change : Option Change) (w : Standing)

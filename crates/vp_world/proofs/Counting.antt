@@ -1,4 +1,4 @@
--- How many segments closed behind a log: at most as many as it has entries.
+-- How many segments closed after a log: at most as many as it has entries.
 use Rattle.std.proofs.Common.{ℕ, ◌+◌, ◌≤◌, Bool, true, false, List, [], ◌∷◌, length, Option, Some, None, arith}
 use Rattle.std.specs.Prelude.{fold, if◌then◌else◌, slice_get, slice_set}
 use Rattle.std.specs.Option.{option_map_or}
@@ -88,6 +88,6 @@ events_close : (opening : Opening) (s : State) (log : List Entry) → (let next 
 events_close opening s [] = omega arith
 events_close opening s (e ∷ log) = omega (arith, events_close opening (after opening s e.event) log, event_closes opening s e.event)
 
--- behind a log at most as many segments closed as it has entries
+-- after a log at most as many segments closed as it has entries
 pub count_within : (opening : Opening) (log : List Entry) → (state_behind opening log).segments.count ≤ length log
 count_within opening log = omega (arith, events_close opening (start opening) log)

@@ -54,13 +54,13 @@ goes_of old k next same of =
     (record { opened = refl; kept = All-drop P (length runs - kept_limit) runs (All-push P old.segments.kept (closed_run old.segments k) kept opened) })
     (record { opened = opened; kept = kept })
 
--- behind a step
+-- after a step
 pub stepped_of : (old new : Recorded) (k : ℕ) (change : Option Change) → sim.step old.simulation k ≡ sim.Goes new.simulation change → new.segments ≡ with_step old.segments k new.simulation → AreOfDesign old → AreOfDesign new
 stepped_of old new k change goes is of =
     of_same new (with_step old.segments k new.simulation) is
     (goes_of old k new.simulation (behind_step old.simulation new.simulation k change goes) of)
 
--- behind a put, if there is one
+-- after a put, if there is one
 pub put_leaves : (old new : Recorded) (p : Option (ℕ × List Bit)) (change : Option Change) → outcome_of_put old.simulation p ≡ sim.Goes new.simulation change → new.segments ≡ segments_of_put old.segments p new.simulation → AreOfDesign old → AreOfDesign new
 put_leaves old new None change goes is of =
     let same : old.simulation ≡ new.simulation = cc in
@@ -71,11 +71,11 @@ put_leaves old new (Some p) change goes is of =
 
 -- ---- a policy that fits
 
--- fits behind a step
+-- fits after a step
 pub fits_stepped : (policy : PolicyState) (old new : Recorded) (k : ℕ) (change : Option Change) → sim.step old.simulation k ≡ sim.Goes new.simulation change → Fits policy old.simulation.design.tree → Fits policy new.simulation.design.tree
 fits_stepped policy old new k change goes fits = fits ∙ ap (λ (d : Elaborated). d.tree) (sym (behind_step old.simulation new.simulation k change goes))
 
--- and behind a put, if there is one
+-- and after a put, if there is one
 pub fits_put : (policy : PolicyState) (old new : Recorded) (p : Option (ℕ × List Bit)) (change : Option Change) → outcome_of_put old.simulation p ≡ sim.Goes new.simulation change → Fits policy old.simulation.design.tree → Fits policy new.simulation.design.tree
 fits_put policy old new None change goes fits =
     let same : old.simulation ≡ new.simulation = cc in

@@ -192,7 +192,7 @@ retired_marked_by : (watched : List Bool) (gone : ℕ → Bool) (seat : Seat) (h
 retired_marked_by watched gone seat true marked = are_marked_filter watched (λ c. not (gone c.object.0)) seat.registry.callbacks marked
 retired_marked_by watched gone seat false marked = marked
 
--- open sessions behind a change of what a user is granted
+-- open sessions after a change of what a user is granted
 pub retired_marked : (watched : List Bool) (policy : PolicyState) (user : ℕ) (sessions : List OpenSession) → all_marked watched sessions ≡ true → all_marked watched (map (retired_open policy user) sessions) ≡ true
 retired_marked watched policy user [] marked = refl
 retired_marked watched policy user (s ∷ sessions) marked =

@@ -1,4 +1,4 @@
--- Callbacks behind a request.
+-- Callbacks after a request.
 use Rattle.std.proofs.Common.{◌≡◌, ℕ, Bool, true, false, List, Result, Ok, Err}
 use Rattle.std.specs.Prelude.{not, if◌then◌else◌}
 use Rattle.vp_notify.specs.Registry.{has_number, is_numbered}
@@ -17,12 +17,12 @@ use Rattle.vp_world.proofs.Marks.{are_marked_filter}
 abbrev Keeps : List Bool → Seat → Type 0
 Keeps watched seat = are_marked watched seat.registry.callbacks ≡ true
 
--- they are behind an answer, if they are behind what it gives
+-- they are after an answer, if they are after what it gives
 by_answer : {A : Type 0} (watched : List Bool) (seat : Seat) (given : A → Response) (due : Result A VpiError) → Keeps watched seat → ((x : A) → Keeps watched (given x).seat) → Keeps watched (response_by seat given due).seat
 by_answer watched seat given (Ok x) marked gives = gives x
 by_answer watched seat given (Err e) marked gives = marked
 
--- and behind a request to remove one
+-- and after a request to remove one
 unwatched : (watched : List Bool) (seat : Seat) (callback : ℕ) (there : Bool) (done : Response) (refused : Response) → Keeps watched done.seat → Keeps watched refused.seat → (let r : Response = if there then done else refused in Keeps watched r.seat)
 unwatched watched seat callback true done refused h k = h
 unwatched watched seat callback false done refused h k = k

@@ -17,7 +17,7 @@ pub told_shown : (change : Option Change) (time : ℕ) (sessions : List OpenSess
 told_shown change time [] = refl
 told_shown change time (s ∷ sessions) = ap (λ more. session_shown (told_open change time s) ∷ more) (told_shown change time sessions)
 
--- sessions behind a change of what a user is granted, as they are shown
+-- sessions after a change of what a user is granted, as they are shown
 pub retired_shown : (policy : PolicyState) (user : ℕ) (sessions : List OpenSession) → map session_shown (map (retired_open policy user) sessions) ≡ map (retired_for policy user) (map session_shown sessions)
 retired_shown policy user [] = refl
 retired_shown policy user (s ∷ sessions) = ap (λ more. session_shown (retired_open policy user s) ∷ more) (retired_shown policy user sessions)

@@ -64,7 +64,7 @@ not_refused true refusal h = absurd (cc)
 not_refused false None h = refl
 not_refused false (Some e) h = absurd (cc)
 
--- ---- behind one entry more
+-- ---- after one entry more
 
 -- a race stays reached
 stays : (opening : Opening) (log : List Entry) (e : Entry) (f : Told) → IsReached opening log f → IsReached opening (log ++ e ∷ []) f
@@ -82,7 +82,7 @@ stays opening log e f r = record {
 all_stay : (opening : Opening) (log : List Entry) (e : Entry) (book : List Told) → All (IsReached opening log) book → All (IsReached opening (log ++ e ∷ [])) book
 all_stay opening log e book all = All-weaker (IsReached opening log) (IsReached opening (log ++ e ∷ [])) (stays opening log e) book all
 
--- the races behind an event
+-- the races after an event
 behind_event :
     (opening : Opening) (log : List Entry) (e : Entry) (happens : Event) → IsWellFormed opening.design happens
     → refusal_of opening (is_log_full opening log) (state_behind opening log) happens ≡ None → All (IsReached opening log) (state_behind opening log).book
@@ -120,14 +120,14 @@ behind_event opening log e (event.Book f) formed none all =
     } in
     All-push (IsReached opening (log ++ e ∷ [])) s.book f (all_stay opening log e s.book all) new
 
--- the races behind one entry more of a legal log
+-- the races after one entry more of a legal log
 behind_entry :
     (opening : Opening) (log : List Entry) (e : Entry) → IsWellFormed opening.design e.event → refusal_behind opening log e.event ≡ None
     → All (IsReached opening log) (state_behind opening log).book → All (IsReached opening (log ++ e ∷ [])) (state_behind opening (log ++ e ∷ [])).book
 behind_entry opening log e formed none all =
     subst (λ (s : State). All (IsReached opening (log ++ e ∷ [])) s.book) (sym (state_more opening log e)) (behind_event opening log e e.event formed none all)
 
--- those behind the rest of a legal log
+-- those after the rest of a legal log
 behind_rest :
     (opening : Opening) (before log : List Entry) → IsLegal opening before log → All (IsReached opening before) (state_behind opening before).book
     → All (IsReached opening (before ++ log)) (state_behind opening (before ++ log)).book

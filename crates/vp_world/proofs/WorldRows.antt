@@ -140,15 +140,15 @@ runs = event.Ask first (request.Run 0)
 abbrev steps : ℕ → Event
 steps k = event.Step k
 
--- the state behind these events
+-- the state after these events
 abbrev behind : List Event → State
 behind events = fold (after opening) (start opening) events
 
--- what an event is answered behind others
+-- what an event is answered after others
 abbrev answered : List Event → Event → Reply
 answered events e = answer opening (behind events) e
 
--- why an event is refused behind others, whose log is not full
+-- why an event is refused after others, whose log is not full
 abbrev refused : List Event → Event → Option error.the_data
 refused events e = refusal_of opening false (behind events) e
 
@@ -241,7 +241,7 @@ granted_name = refl
 absent_behind_a_grant : answered (opens ∷ grants_to (codes "ann") 1 reading ∷ []) (asks (codes "top.zz")) ≡ reply.Error refusal.NoSuchName
 absent_behind_a_grant = refl
 
--- behind an empty one both are denied by the grant
+-- after an empty one both are denied by the grant
 abbrev hidden_by_grant : Reply
 hidden_by_grant = reply.Denied (record { by = by.Grant; envelope = 1; right = right.List; author = codes "acme"; object = None })
 
@@ -287,7 +287,7 @@ watching =
     event.Open (codes "bob") (codes "t2") ∷ event.Open (codes "bob") (codes "t2") ∷ asks (codes "top.a")
     ∷ event.Ask second (request.Handle (codes "top.a") None) ∷ event.Ask second (request.Watch 1) ∷ []
 
--- what an event is answered behind a put of the first session
+-- what an event is answered after a put of the first session
 abbrev answered_behind_a_put : Event → Reply
 answered_behind_a_put e =
     answer shared (after shared (fold (after shared) (start shared) watching) (event.Ask first (request.Put 1 (Digits (codes "1"))))) e
@@ -318,7 +318,7 @@ callback_gone = refl
 
 -- ---- logs
 
--- a full log is told before the goal, and behind a session that is not open
+-- a full log is told before the goal, and after a session that is not open
 log_full_first : refusal_of opening true (behind (opens ∷ [])) (steps 0) ≡ Some error.LogFull
 log_full_first = refl
 

@@ -18,7 +18,7 @@ abbrev pub eyes_in : Recorded → BookState → (policy : PolicyState) → (user
 eyes_in r book policy user = observer_with r.simulation (member_at policy.members user) book.races
 
 -- an answer gives what comes of a request: its reply, told and kept, the goal that it sets, and what its put does to the simulation and
--- changes, which only a request that is done does; and this is the session behind it
+-- changes, which only a request that is done does; and this is the session after it
 pub record Gives (given : Response) (old new : Recorded) (session : Seat) (a : AnswerWithChange) : Type 0 where
   pub gives_reply : a.reply ≡ given.reply
   pub gives_entry : a.entry_reply ≡ given.reply

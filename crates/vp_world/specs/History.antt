@@ -102,7 +102,7 @@ book_refusal opening s f =
 abbrev pub refusal_of_booking : Bool → Option RaceError → Option WorldError
 refusal_of_booking full refusal = if full then Some error.LogFull else option_map error.Race refusal
 
--- the first refusal of an event that holds, in a state, behind a log that is full or not; none where the event is accepted.
+-- the first refusal of an event that holds, in a state, after a log that is full or not; none where the event is accepted.
 -- Want of memory is no part of it (profile)
 abbrev pub refusal_of : Opening → Bool → State → Event → Option WorldError
 refusal_of opening full s (event.Open name token) = refusal_of_open opening full s (login_of s.policy.members name token)
@@ -160,7 +160,7 @@ abbrev pub outcome_of_put : sim.State → Option (ℕ × List Bit) → sim.Outco
 outcome_of_put run None = sim.Goes run None
 outcome_of_put run (Some p) = sim.put run p.0 p.1
 
--- the segments behind a put, to a state: the open one begins anew; without a put they stay (profile)
+-- the segments after a put, to a state: the open one begins anew; without a put they stay (profile)
 abbrev pub segments_of_put : Segments → Option (ℕ × List Bit) → sim.State → Segments
 segments_of_put segments None run = segments
 segments_of_put segments (Some p) run = with_anew segments run
@@ -200,15 +200,15 @@ abbrev pub raised : Option ℕ → Option ℕ → Option ℕ
 raised goal None = goal
 raised goal (Some until) = Some (later goal until)
 
--- an open session behind a change at a time, which is due to its callbacks (clause 27.33)
+-- an open session after a change at a time, which is due to its callbacks (clause 27.33)
 abbrev pub with_notice : Option Change → (time : ℕ) → SessionState → SessionState
 with_notice change time s = record s { seat = with_due change time s.seat }
 
--- the open sessions behind a change at a time: each of them is told, whoever made it (profile)
+-- the open sessions after a change at a time: each of them is told, whoever made it (profile)
 abbrev pub noticed : Option Change → (time : ℕ) → List SessionState → List SessionState
 noticed change time sessions = map (with_notice change time) sessions
 
--- the state behind what the simulation does, of whose change the open sessions are told; the segments behind it are a matter of what it did. A refusal
+-- the state after what the simulation does, of whose change the open sessions are told; the segments after it are a matter of what it did. A refusal
 -- changes nothing
 abbrev pub stepped : State → (segments : sim.State → Segments) → sim.Outcome → State
 stepped s segments (sim.Goes run change) = record s {
@@ -218,19 +218,19 @@ stepped s segments (sim.Goes run change) = record s {
 }
 stepped s segments (sim.Refuses e) = s
 
--- the state behind what comes of a request of the session in a place: the session is as the request leaves it, and then the put is made
+-- the state after what comes of a request of the session in a place: the session is as the request leaves it, and then the put is made
 abbrev pub with_response : State → ℕ → SessionState → Response → State
 with_response s place session given =
     stepped
     (record s { sessions = slice_set s.sessions place (record session { seat = given.seat }); goal = raised s.goal given.goal })
     (segments_of_put s.segments given.put) (outcome_of_put s.run given.put)
 
--- the state behind a request of the session in a place
+-- the state after a request of the session in a place
 abbrev pub state_asked : State → ℕ → Option SessionState → Request → State
 state_asked s place None r = s
 state_asked s place (Some session) r = with_response s place session (response_of s session.seat r)
 
--- the state behind a request of a session, which is open in a place
+-- the state after a request of a session, which is open in a place
 abbrev pub asked_at : State → Option ℕ → Request → State
 asked_at s None r = s
 asked_at s (Some place) r = state_asked s place (slice_get s.sessions place) r
@@ -240,30 +240,30 @@ abbrev pub closed_at : State → Option ℕ → State
 closed_at s None = s
 closed_at s (Some place) = record s { sessions = remove s.sessions place }
 
--- an open session behind a change of what the user of a number is granted: if it is his, what he may not watch any more is taken out of
+-- an open session after a change of what the user of a number is granted: if it is his, what he may not watch any more is taken out of
 -- it (profile)
 abbrev pub retired_for : PolicyState → (user : ℕ) → SessionState → SessionState
 retired_for policy user s = record s {
   seat = (if s.seat.user == user then retired (is_watch_denied policy.tree (member_at policy.members user)) s.seat else s.seat);
 }
 
--- the state in which another policy is in force, behind a change of what the user of a number is granted
+-- the state in which another policy is in force, after a change of what the user of a number is granted
 abbrev pub under_policy : State → (user : ℕ) → PolicyState → State
 under_policy s user policy = record s { policy = policy; sessions = map (retired_for policy user) s.sessions }
 
--- the state behind a change of the grant of the user of a number: the changed policy is in force (profile)
+-- the state after a change of the grant of the user of a number: the changed policy is in force (profile)
 abbrev pub granted_to : State → GrantChange → (user : ℕ) → State
 granted_to s change user = under_policy s user (regranted s.policy user change.envelope change.access)
 
--- the state behind a job: the oldest kept segment that was not handed out is handed out
+-- the state after a job: the oldest kept segment that was not handed out is handed out
 abbrev pub with_job_taken : State → State
 with_job_taken s = record s { segments = option_map_or (with_job s.segments) (next_job s.segments) s.segments }
 
--- the state behind a booking
+-- the state after a booking
 abbrev pub with_booked : State → Told → State
 with_booked s finding = record s { book = s.book ++ finding ∷ [] }
 
--- the state behind an event that is accepted
+-- the state after an event that is accepted
 abbrev pub after : Opening → State → Event → State
 after opening s (event.Open name token) = option_map_or (opened_by s) (login_of s.policy.members name token) s
 after opening s (event.Ask id request) = asked_at s (index_of s.sessions id) request
@@ -284,7 +284,7 @@ state_behind opening log = fold (λ s e. after opening s e.event) (start opening
 abbrev pub is_log_full : Opening → List Entry → Bool
 is_log_full opening log = nat_le opening.limits.log (length log)
 
--- the refusal of an event behind a log; none where it is accepted
+-- the refusal of an event after a log; none where it is accepted
 abbrev pub refusal_behind : Opening → List Entry → Event → Option WorldError
 refusal_behind opening log e = refusal_of opening (is_log_full opening log) (state_behind opening log) e
 
@@ -294,14 +294,14 @@ entry_of opening s e =
     let next : State = after opening s e in
     record { event = e; reply = answer opening s e; change = changed s e; time = next.run.time; finished = next.run.finished }
 
--- a log is legal behind another: each entry is that of a well-formed event that is accepted behind those before it
+-- a log is legal after another: each entry is that of a well-formed event that is accepted after those before it
 abbrev pub IsLegal : Opening → List Entry → List Entry → Type 0
 IsLegal opening before [] = Unit {0}
 IsLegal opening before (e ∷ log) =
     IsWellFormed opening.design e.event × (refusal_behind opening before e.event ≡ None)
     × (e ≡ entry_of opening (state_behind opening before) e.event) × IsLegal opening (before ++ e ∷ []) log
 
--- a race that is booked in a log: a race of its segment, which was kept behind the first entries of the log
+-- a race that is booked in a log: a race of its segment, which was kept after the first entries of the log
 pub record IsReached (opening : Opening) (log : List Entry) (f : Told) : Type 0 where
   pub race : IsRaceOf f
   pub before : List Entry
@@ -344,7 +344,7 @@ pub record Applies {T : Type 0} (w : Logged) (e : Event) (result : Result T Worl
 abbrev pub with_state : Standing → State → Standing
 with_state w s = record w { state = s }
 
--- the refusal of an event, behind a log that is full or not
+-- the refusal of an event, after a log that is full or not
 abbrev pub refusal_in : Standing → Bool → Event → Option WorldError
 refusal_in w full e = refusal_of w.opening full w.state e
 
@@ -356,10 +356,10 @@ asked_in w place r = asked w.state (slice_get w.state.sessions place) r
 abbrev pub changed_in : Standing → ℕ → Request → Option Change
 changed_in w place r = changed_by w.state (slice_get w.state.sessions place) r
 
--- the refusal of a step, behind a log that is full or not, by its outcome
+-- the refusal of a step, after a log that is full or not, by its outcome
 abbrev pub due_step : Standing → Bool → sim.Outcome → Option WorldError
 due_step w full outcome = refusal_of_step full (is_beyond w.state.goal w.state.run.time) outcome
 
--- the refusal of an advance, behind a log that is full or not, by its outcome
+-- the refusal of an advance, after a log that is full or not, by its outcome
 abbrev pub due_advance : Standing → Bool → sim.Outcome → Option WorldError
 due_advance w full outcome = refusal_of_step full (is_next_beyond w.state.goal (sim.next_time w.state.run)) outcome

@@ -53,7 +53,7 @@ pub fn tell(sessions: &mut [OpenSession], change: &Change, time: u64)
     }
 }
 
-/// What a user may not watch by a policy, behind a change of his grants, is taken out of those of these sessions that are his. Takes no
+/// What a user may not watch by a policy, after a change of his grants, is taken out of those of these sessions that are his. Takes no
 /// memory.
 pub fn retire(sessions: &mut [OpenSession], policy: &Policy, user: UserId)
     ensures { sessions.new ≡ map (retired_open policy.now user.0) sessions.old }

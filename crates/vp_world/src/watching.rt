@@ -54,7 +54,7 @@ fn is_watch(request: &Request) -> bool
     }
 }
 
-/// Behind a request of a session the objects of its callbacks may be watched, if they might before.
+/// After a request of a session the objects of its callbacks may be watched, if they might before.
 pub fn mark_asked(watched: &mut Vec<bool>, session: &Session, request: &Request)
     ensures marked { (eyes : Observer) → (seat : Seat)
         → session.now ≡ (respond eyes seat request.now).seat

@@ -12,7 +12,7 @@ use Rattle.vp_active.specs.Events.{eligible_behind, eligible_places, is_nonblock
 
 -- ---- lists
 
--- an item behind others
+-- an item after others
 pub get_behind : {X : Type 0} (xs ys : List X) (n i : ℕ) → n ≡ length xs + i → slice_get (xs ++ ys) n ≡ slice_get ys i
 get_behind [] ys n i h = ap (slice_get ys) (omega arith)
 get_behind (x ∷ xs) ys zero i h = absurd (omega arith)
@@ -30,7 +30,7 @@ none p (x ∷ xs) h = none_at p x xs (p x) (none p xs) refl (sym (sum_by-cons (�
 
 -- ---- evaluations, and updates of nonblocking assignments
 
--- behind an update of a nonblocking assignment none is eligible
+-- after an update of a nonblocking assignment none is eligible
 behind_one : (older : List Event) (us : List NonblockingUpdate) → list_any is_nonblocking older ≡ true → eligible_behind older (map Nonblocking us) ≡ []
 behind_one older [] h = refl
 behind_one older (u ∷ us) h =

@@ -156,7 +156,7 @@ module _ (design : Elaborated) (u : Member) (known : List Bool) (long : length k
 
   -- ---- values
 
-  -- the values behind a change are known, where those before it were
+  -- the values after a change are known, where those before it were
   pub values_kept : (all : List (List Bit)) (values : List (Option (List Bit))) → length all ≡ length design.tree.nodes → AreValues design all u known values
       → (c : Option Change) → IsWithin all c → AreValues design (values_behind all c) u known (values_after values (change_seen design.tree u known c))
   values_kept all values many are None within = are
@@ -254,7 +254,7 @@ due_callbacks r (Some c) time = in_turn (map (registry.notice_of c time) (filter
   in_turn [] q = refl
   in_turn (t ∷ ts) q = in_turn ts (registry.with_notice q t) ∙ one (nat_lt (length q.waiting) 4096) q t
 
--- so they are on objects that may be watched behind it
+-- so they are on objects that may be watched after it
 pub watched_due : (v : View) (c : Option Change) (time : ℕ) (s : Seat) → AreWatched v s.registry.callbacks → AreWatched v (with_due c time s).registry.callbacks
 watched_due v c time s h = subst (AreWatched v) (sym (due_callbacks s.registry c time)) h
 
@@ -291,7 +291,7 @@ watched_object eyes r found o e =
     subst (λ (q : ℕ). eyes.denied right.Watch q ≡ None) (test_of (is_watchable (eyes.kind b)) b a vpi.WrongKind kind ∙ full_of (registry.is_full r) a o vpi.TooManyCallbacks last)
     (allowed_of eyes right.Watch found b allowed_is)
 
--- the callbacks of a session behind a request are on objects that may be watched
+-- the callbacks of a session after a request are on objects that may be watched
 abbrev KeepsWatched : (v : View) → Seat → Response → Type 0
 KeepsWatched v seat given = AreWatched v given.seat.registry.callbacks
 

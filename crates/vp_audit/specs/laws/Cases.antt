@@ -1,4 +1,4 @@
--- A user's part behind each event.
+-- A user's part after each event.
 use Rattle.std.proofs.Common.{◌≡◌, ℕ, zero, suc, ◌+◌, ◌<◌, Bool, false, true, List, [], ◌∷◌, ◌++◌, length, Option, Some, None, refl, ap, sym, subst, ◌∙◌, arith, append-nil}
 use Rattle.std.specs.Prelude.{◌==◌, cond, filter, if◌then◌else◌, map, option_and_then, option_map, slice_get, slice_index, slice_set}
 use Rattle.std.specs.List.{All, position, position_from, remove}
@@ -200,7 +200,7 @@ own_not u id own e = ap (λ (b : Bool). if b then Some own else None) e
 
 -- ---- events
 
--- what of an event goes to a user comes to in his part: the part behind it, and the reply
+-- what of an event goes to a user comes to in his part: the part after it, and the reply
 pub record ComesTo (design : Elaborated) (u : ℕ) (s t : State) (known : List Bool) (p : Part) (own : Option Own) (change : Option Change) (answered : Reply) (races : List SeenRace) : Type 0 where
   pub part : IsPartOf design u t known (part_behind p design.tree (member_at s.policy.members u) known (option_map_or (opens_behind p) own p.opens)
       (option_map_or (sessions_behind p) own p.sessions) change t.run races)

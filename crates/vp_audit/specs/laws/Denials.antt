@@ -146,7 +146,7 @@ words_same design u known r above s l =
 abbrev pub AreInEnvelopes : Tree → List Step → Type 0
 AreInEnvelopes tree path = All (λ s. s.envelope ≤ length tree.authors) path
 
--- a denial of a path, in words, behind steps at which the right is opened
+-- a denial of a path, in words, after steps at which the right is opened
 pub denial_behind : (design : Elaborated) (u : Member) (known : List Bool) (r : Right) (above path : List Step) → has r (rights design.tree u above) ≡ true
     → AreInEnvelopes design.tree path
     → denial_seen (known_view design u known) r (seen_path design.tree u above path) ≡ option_map (words_of design.tree) (denial design.tree u r path)

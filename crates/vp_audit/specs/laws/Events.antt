@@ -1,4 +1,4 @@
--- A user's part of a world behind an event is that before it with what of the event goes to him.
+-- A user's part of a world after an event is that before it with what of the event goes to him.
 use Rattle.std.proofs.Common.{◌≡◌, ℕ, suc, Bool, false, true, List, [], ◌∷◌, length, Option, Some, None, refl, ap, sym, subst, ◌∙◌, arith}
 use Rattle.std.specs.Prelude.{◌==◌, filter, if◌then◌else◌, map, slice_index, slice_index_or, unwrap_or}
 use Rattle.std.specs.List.{All}
@@ -99,11 +99,11 @@ filter_form f q h (x ∷ xs) = by_test (q x) (h x) (filter_form f q h xs) where
 pub same_number : (a b : ℕ) → (a == b) ≡ true → a ≡ b
 same_number a b e = grind (arith, e)
 
--- ---- behind a change
+-- ---- after a change
 
 module _ (design : Elaborated) (u : ℕ) (m : Member) (known : List Bool) (all : List (List Bit)) (many : length all ≡ length design.tree.nodes) (values : List (Option (List Bit)))
     (is_known : IsKnown design all m known values) where
-  -- the sessions behind a change are those to which what goes to their user of it is due
+  -- the sessions after a change are those to which what goes to their user of it is due
   pub sessions_due : (change : Option Change) → IsWithin all change → (time : ℕ) (mine world : List SessionState) → AllWatched (known_view design m known) mine
       → AreSessions u known mine world → AreSessions u known (map (session_notified (change_seen design.tree m known change) time) mine) (noticed change time world)
   sessions_due change within time mine world watched are =
@@ -125,7 +125,7 @@ module _ (design : Elaborated) (u : ℕ) (m : Member) (known : List Bool) (all :
       (λ (t : SessionState). AreWatched (known_view design m known) (session_notified (change_seen design.tree m known change) time t).seat.registry.callbacks)
       (λ t h. watched_due (known_view design m known) (change_seen design.tree m known change) time t.seat h) mine watched)
 
-  -- and what is known is so of the values behind it
+  -- and what is known is so of the values after it
   pub known_kept : (change : Option Change) → IsWithin all change
       → IsKnown design (values_behind all change) m known (values_after values (change_seen design.tree m known change))
   known_kept change within = record {
@@ -137,9 +137,9 @@ module _ (design : Elaborated) (u : ℕ) (m : Member) (known : List Bool) (all :
         values_kept design m known is_known.long (λ r k. denied_seen_at design m known is_known.long is_known.envelopes r k) all values many is_known.are_values change within;
   }
 
--- ---- behind what the simulation does
+-- ---- after what the simulation does
 
--- a number behind another, and a flag
+-- a number after another, and a flag
 pub number_behind : (a b : ℕ) → unwrap_or (other_number a b) a ≡ b
 number_behind a b = by_test (a == b) refl where
   by_test : (c : Bool) → (a == b) ≡ c → unwrap_or (if a == b then None else Some b) a ≡ b
@@ -153,7 +153,7 @@ flag_behind true false = refl
 flag_behind false true = refl
 flag_behind false false = refl
 
--- the part behind sessions, a change, and what an event did to the simulation and the book
+-- the part after sessions, a change, and what an event did to the simulation and the book
 abbrev pub part_behind : Part → Tree → Member → List Bool → (opens : ℕ) → (mine : List SessionState) → Option Change → sim.State → (races : List SeenRace) → Part
 part_behind p tree m known opens mine change run races = record {
   view = p.view;

@@ -1,4 +1,4 @@
--- A user's part behind a change of a grant.
+-- A user's part after a change of a grant.
 use Rattle.std.proofs.Common.{◌≡◌, ℕ, zero, suc, ◌+◌, ◌-◌, ◌<◌, ◌≤◌, Bool, false, true, List, [], ◌∷◌, ◌++◌, length, Option, Some, None, refl, ap, sym, subst, ◌∙◌, arith, length-append, inl, inr}
 use Rattle.std.specs.Prelude.{◌==◌, ◌&&◌, ◌||◌, filter, if◌then◌else◌, is_none, is_some, map, not, nat_lt, option_map, slice_get, slice_index_or, slice_set}
 use Rattle.std.specs.List.{All}
@@ -140,7 +140,7 @@ place_marked known k l = go known known refl k l where
   go (true ∷ ks) (x ∷ xs) e (suc k) l = go ks xs (omega (arith, e)) k (omega arith)
   go (false ∷ ks) (x ∷ xs) e k l = go ks xs (omega (arith, e)) k l
 
--- behind the last number it is behind all places
+-- after the last number it is after all places
 pub place_past : (known : List Bool) (k : ℕ) → length (marked known known) ≤ k → place_of known k ≡ length known + (k - length (marked known known))
 place_past known k l = go known known refl k l where
   go : (ks : List Bool) (xs : List Bool) → length ks ≡ length xs → (k : ℕ) → length (marked ks xs) ≤ k → place_of ks k ≡ length ks + (k - length (marked ks xs))
@@ -333,9 +333,9 @@ retired_watched v s =
     (filter (λ (c : Callback). not (is_some (denied_seen v right.Watch c.object.0))) s.registry.callbacks)
     (all_passing (λ (c : Callback). Unit {0}) (λ c. not (is_some (denied_seen v right.Watch c.object.0))) s.registry.callbacks (λ k d l. tt))
 
--- ---- the part behind a change of a grant
+-- ---- the part after a change of a grant
 
--- what is behind a change of the grant of another
+-- what is after a change of the grant of another
 pub granted_other : (design : Elaborated) (u : ℕ) (s : State) (known : List Bool) (p : Part) → IsPartOf design u s known p → (change : GrantChange) (v : ℕ) → (v == u) ≡ false
     → IsPartOf design u (granted_to s change v) known (part_behind p design.tree (member_at s.policy.members u) known p.opens p.sessions None s.run p.races)
 granted_other design u s known p is change v other =
@@ -368,7 +368,7 @@ granted_other design u s known p is change v other =
       races = is.races ∙ ap (λ (m : Member). races_seen design.tree m s.book) same;
     }
 
--- what is behind a change of his own grant
+-- what is after a change of his own grant
 pub granted_own : (design : Elaborated) (u : ℕ) (s : State) (known : List Bool) (p : Part) → IsPartOf design u s known p → (change : GrantChange) → u < length s.policy.members
     → let t : State = granted_to s change u in
     let now : List Bool = known_also t.run.design.tree (member_at t.policy.members u) known t.run.design.tree.nodes in

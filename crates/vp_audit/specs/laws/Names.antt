@@ -44,7 +44,7 @@ rest_all P x xs h k d l = h (suc k) d (omega arith)
 map_all : {X : Type 0} (P Q : X → Type 0) → ((x : X) → P x → Q x) → (xs : List X) → All P xs → All Q xs
 map_all P Q f xs h k d l = f (slice_index_or xs k d) (h k d l)
 
--- two lists, one behind the other
+-- two lists, one after the other
 pub differ_append : {X : Type 0} (xs ys : List X) → Differ xs → Differ ys → All (λ x. All (λ y. y ≡ x → ⊥) ys) xs → Differ (xs ++ ys)
 differ_append [] ys dx dy cross = dy
 differ_append (x ∷ xs) ys (a, dx) dy cross =
@@ -58,12 +58,12 @@ IsBelow above name key = (rest : List (List ℕ)) × (key ≡ above ++ name ∷ 
 abbrev IsUnder : List (List ℕ) → List (List ℕ) → Type 0
 IsUnder above key = (name : List ℕ) × IsBelow above name key
 
--- the name behind the same names
+-- the name after the same names
 same_head : (above : List (List ℕ)) (a b : List ℕ) (r s : List (List ℕ)) → above ++ a ∷ r ≡ above ++ b ∷ s → a ≡ b
 same_head [] a b r s e = let is : a ∷ r ≡ b ∷ s = e in cc
 same_head (x ∷ above) a b r s e = let is : x ∷ (above ++ a ∷ r) ≡ x ∷ (above ++ b ∷ s) = e in same_head above a b r s cc
 
--- all that is behind them
+-- all that is after them
 same_tail : (above : List (List ℕ)) (r s : List (List ℕ)) → above ++ r ≡ above ++ s → r ≡ s
 same_tail [] r s e = e
 same_tail (x ∷ above) r s e = let is : x ∷ (above ++ r) ≡ x ∷ (above ++ s) = e in same_tail above r s cc

@@ -133,7 +133,7 @@ event_comes opening design u s known p is (event.Book finding) n = booked_case d
 
 -- ---- items
 
--- the part behind what goes to a user of an event that is no change of his grants
+-- the part after what goes to a user of an event that is no change of his grants
 entry_part : (design : Elaborated) (u : ℕ) (s : State) (known : List Bool) (p : Part) → IsPartOf design u s known p → (t : State) (own : Option Own) (change : Option Change) (race : Option SeenRace)
     → part_after_entry p own (record {
       own = own;
@@ -183,7 +183,7 @@ entry_part design u s known p is t own change race =
 abbrev pub item_at : Opening → ℕ → State → List Bool → Event → Item
 item_at opening u s known e = item_of u s (after opening s e) known (known_behind u s (after opening s e) known e) (entry_of opening s e)
 
--- what comes of it: his part of the state behind it, and the reply to it, if it is his own
+-- what comes of it: his part of the state after it, and the reply to it, if it is his own
 pub record Follows (opening : Opening) (design : Elaborated) (u : ℕ) (s : State) (known : List Bool) (p : Part) (e : Event) : Type 0 where
   pub part : IsPartOf design u (after opening s e) (known_behind u s (after opening s e) known e) (part_after p (item_at opening u s known e))
   pub replied : own_reply u (entry_of opening s e) ≡ option_map (reply_of p) (item_at opening u s known e).own

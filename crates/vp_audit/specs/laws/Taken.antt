@@ -43,7 +43,7 @@ use Rattle.vp_audit.specs.laws.Within.{moved_to_within, respond_within, seat_due
 abbrev pub AreWithin : Part → Type 0
 AreWithin p = list_all (is_session_within (length p.view.nodes)) p.sessions ≡ true
 
--- behind an event of his own
+-- after an event of his own
 own_within : (p : Part) (own : Own) → AreWithin p → list_all (is_session_within (length p.view.nodes)) (sessions_behind p own) ≡ true
 own_within p (Opens id) h = all_join (is_session_within (length p.view.nodes)) p.sessions _ h refl
 own_within p (Asks id r) h = by_place (index_of p.sessions id) where
@@ -65,7 +65,7 @@ own_within p (Closes id) h = by_place (index_of p.sessions id) where
   by_place None = h
   by_place (Some k) = all_removed (is_session_within (length p.view.nodes)) p.sessions k h
 
--- behind what of an entry goes to him, if that is no change of his grants
+-- after what of an entry goes to him, if that is no change of his grants
 entry_within : (p : Part) (own : Option Own) (i : Item) → AreWithin p → AreWithin (part_after_entry p own i)
 entry_within p own i h =
     all_mapped (is_session_within n) (is_session_within n) (session_notified i.change (unwrap_or i.time p.time)) (λ t e. seat_due n i.change (unwrap_or i.time p.time) t.seat e)
@@ -84,7 +84,7 @@ record Renumbers (p : Part) (g : Granted) : Type 0 where
   rise : rises g.moved ≡ true
   among : list_all (λ n. nat_lt n (length g.view.nodes)) g.moved ≡ true
 
--- behind such a change
+-- after such a change
 granted_within : (p : Part) (g : Granted) → Renumbers p g → AreWithin p → AreWithin (part_granted p g)
 granted_within p g is h =
     all_mapped (is_session_within (length p.view.nodes)) (is_session_within count) (granted_session g)
@@ -95,7 +95,7 @@ granted_within p g is h =
     count : ℕ
     count = length g.view.nodes
 
--- behind what of an entry goes to him
+-- after what of an entry goes to him
 after_within : (p : Part) (i : Item) → ((g : Granted) → i.granted ≡ Some g → Renumbers p g) → AreWithin p → AreWithin (part_after p i)
 after_within p i grants h = by_granted i.granted refl where
   by_granted : (x : Option Granted) → i.granted ≡ x → AreWithin (option_map_or (part_granted p) x (part_after_entry p i.own i))

@@ -31,7 +31,7 @@ const ROWS: [(&str, &str); 5] = [
     ),
 ];
 
-/// A reader of bytes that fails behind so many calls.
+/// A reader of bytes that fails after so many calls.
 #[derive(Drop)]
 struct BrokenReader<'a> {
     rest: &'a [u8],
@@ -49,7 +49,7 @@ impl Read for BrokenReader<'_> {
     }
 }
 
-/// A writer that keeps what is written, and fails behind so many calls of `write`, or at each `flush`.
+/// A writer that keeps what is written, and fails after so many calls of `write`, or at each `flush`.
 #[derive(Drop)]
 struct BrokenWriter {
     written: Vec<u8>,
@@ -156,7 +156,7 @@ fn hold<R: Read + Drop>(alloc: Global, reader: R, writer: BrokenWriter) -> Held 
     }
 }
 
-/// A writer that fails behind so many calls of `write`.
+/// A writer that fails after so many calls of `write`.
 fn writer_of(alloc: Global, calls: u32) -> BrokenWriter {
     BrokenWriter {
         written: Vec::new(alloc),
@@ -165,7 +165,7 @@ fn writer_of(alloc: Global, calls: u32) -> BrokenWriter {
     }
 }
 
-/// A reader of the script that fails behind so many calls.
+/// A reader of the script that fails after so many calls.
 fn reader_of(calls: u32) -> BrokenReader<'static> {
     BrokenReader {
         rest: SCRIPT,

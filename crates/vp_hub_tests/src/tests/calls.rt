@@ -107,7 +107,7 @@ pub fn rest<R: Clock>(rt: &R) {
     thread::sleep(rt, Duration::from_micros(100));
 }
 
-/// The number of a refusal, and that of the world's behind it, else 0.
+/// The number of a refusal, and that of the world's after it, else 0.
 pub fn codes_of(error: HubError) -> (u32, u32) {
     match error {
         HubError::World(reason) => (error.code(), reason.code()),

@@ -42,7 +42,7 @@ fn has_two_entries<L: Opens>(desk: &Desk<L>) -> bool {
         && matches!(asked.happening, Happening::Ask { .. })
 }
 
-/// What a session's two calls, and the search for a job behind them, are refused by.
+/// What a session's two calls, and the search for a job after them, are refused by.
 fn calls<L: Opens>(alloc: Global, desk: &mut Desk<L>) -> Option<[(u32, u32); 3]> {
     let pass = open(alloc, desk)?;
     let (pass, first) = call(desk, pass);
@@ -51,7 +51,7 @@ fn calls<L: Opens>(alloc: Global, desk: &mut Desk<L>) -> Option<[(u32, u32); 3]>
     Some([first, second, refusal_of(desk.event(Event::TakeJob))])
 }
 
-/// The same, with the refusal of an opening before them, and whether the log has the two entries behind them.
+/// The same, with the refusal of an opening before them, and whether the log has the two entries after them.
 fn refusals_at<L: Opens>(
     alloc: Global,
     desk: &mut Desk<L>,

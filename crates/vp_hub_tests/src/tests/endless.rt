@@ -62,7 +62,7 @@ fn beside<L: Opens + Send + Sync, R: Threads + Wait + Sync>(
     (pass, run, call)
 }
 
-/// What is left of a hub of a world behind that, and another call.
+/// What is left of a hub of a world after that, and another call.
 fn end_anew_of<L: Opens + Send + Sync, R: Threads + Wait + Sync>(
     rt: &R,
     alloc: Global,
@@ -121,7 +121,7 @@ fn count_between(log: &[Entry]) -> usize {
     count
 }
 
-/// The same of a new hub, if its log is full then, and for that the run, the session and a call behind them were refused.
+/// The same of a new hub, if its log is full then, and for that the run, the session and a call after them were refused.
 fn between<R: Threads + Wait + Sync>(rt: &R, alloc: Global) -> Option<usize> {
     let ended = end_anew(rt, alloc)?;
     let full = (1403, 1304);

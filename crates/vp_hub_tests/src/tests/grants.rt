@@ -68,7 +68,7 @@ fn grant<L: Opens, R: Wait>(
     }
 }
 
-/// Grants Bob 100 times to find alone, or all, by turns, and rests behind each: what was done.
+/// Grants Bob 100 times to find alone, or all, by turns, and rests after each: what was done.
 fn grants<L: Opens, R: Wait + Clock>(
     rt: &R,
     hub: &Hub<L>,
@@ -145,7 +145,7 @@ fn beside<L: Opens + Send + Sync, R: Threads + Wait + Clock + Sync>(
     Some((conversation?, grants?))
 }
 
-/// What is left of a hub of a world behind them.
+/// What is left of a hub of a world after them.
 fn end_anew_of<L: Opens + Send + Sync, R: Threads + Wait + Clock + Sync>(
     rt: &R,
     alloc: Global,

@@ -110,7 +110,7 @@ fn of_ann<L: Opens + Send + Sync, R: Threads + Wait + Clock + Sync>(
     beside(rt, stage, first, second)
 }
 
-/// What is left of a hub behind them.
+/// What is left of a hub after them.
 fn end<L: Opens>(
     hub: Hub<L>,
     alloc: Global,
@@ -203,7 +203,7 @@ fn are_those_given(log: &[Entry], session: SessionId, values: &[Bits]) -> bool {
     count == values.len()
 }
 
-/// The design changed `c` behind the first put in a log.
+/// The design changed `c` after the first put in a log.
 fn is_changed_by_design(log: &[Entry]) -> bool {
     let mut is_put = false;
     for entry in log {

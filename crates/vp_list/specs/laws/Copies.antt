@@ -19,7 +19,7 @@ next_same xs ys n before here =
     ∙ sym (take-add (64 * n) 64 ys)
     ∙ ap (λ k. take k ys) (sym next)
 
--- behind the last chunk all are
+-- after the last chunk all are
 pub all_same : {X : Type 0} (xs ys : List X) (n : ℕ) → length xs ≡ length ys → div_ceil (length xs) 64 ≤ n → take (64 * n) xs ≡ take (64 * n) ys → xs ≡ ys
 all_same xs ys n long all same =
     let times = div_ceil_times (length xs) 64 (omega arith) in

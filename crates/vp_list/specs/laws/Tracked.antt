@@ -46,7 +46,7 @@ get_take (suc n) [] k h = refl
 get_take (suc n) (x ∷ xs) zero h = refl
 get_take (suc n) (x ∷ xs) (suc k) h = get_take n xs k (omega arith)
 
--- those behind a place
+-- those after a place
 pub get_drop : {X : Type 0} (n : ℕ) (xs : List X) (k : ℕ) → slice_get (drop n xs) k ≡ slice_get xs (n + k)
 get_drop zero xs k = ap (slice_get xs) (omega arith)
 get_drop (suc n) [] k = sym (slice_get_past [] (suc n + k) (omega arith))
@@ -69,7 +69,7 @@ get_before xs ys p k l h =
     let front = length-take-le p xs (omega arith) in
     get_front (take p xs) (ys ++ drop (p + length ys) xs) k (omega (arith, front)) ∙ get_take p xs k h
 
--- and behind them
+-- and after them
 pub get_behind : {X : Type 0} (xs ys : List X) (p k : ℕ) → p + length ys ≤ length xs → p + length ys ≤ k
     → slice_get (with_items xs p ys) k ≡ slice_get xs k
 get_behind xs ys p k l h =
@@ -218,7 +218,7 @@ marked_more changed more marks new number written h grow there set n is =
           grow n (h n was)
     ]
 
--- the last of those chunks is forgotten: the others still are all that are behind
+-- the last of those chunks is forgotten: the others still are all that are after
 pub copied_less : {X : Type 0} (copy items taken : List X) (changed rest : List ℕ) (marks new : List Written) (number : ℕ) → AreCopied copy items changed marks
     → changed ≡ rest ++ number ∷ []
     → IsRenewed copy taken items number (slice_get marks number)

@@ -177,7 +177,7 @@ module _ (d : ℕ) (next : ℕ → Reader Expr) (complete : Complete d next) whe
       let h = complete 0 e rest is (omega arith) fits stops in
       rw h (rw (sized_not_bare e rest sized) refl)
 
-  -- the reading of parts comes behind these, to go on there
+  -- the reading of parts comes after these, to go on there
   record PartsOpened (l : Parts) (rest : List Symbol) : Type 0 where
     turns : ℕ
     enough : length rest ≤ turns
@@ -248,7 +248,7 @@ module _ (d : ℕ) (next : ℕ → Reader Expr) (complete : Complete d next) whe
 
 -- ---- operators of two operands, and ?:
 
--- the reading comes behind the expression, to go on there
+-- the reading comes after the expression, to go on there
 record Opened (next : ℕ → Reader Expr) (limit least : ℕ) (e : Expr) (rest : List Symbol) : Type 0 where
   turns : ℕ
   enough : length rest ≤ turns
@@ -296,7 +296,7 @@ module _ (d : ℕ) (next : ℕ → Reader Expr) (complete : Complete d next) whe
   unfolding choice_at
   choice_stops least e rest stops = rw stops refl
 
-  -- behind an expression whose operators have been read
+  -- after an expression whose operators have been read
   opened_choice : (least : ℕ) (e : Expr) (rest : List Symbol) → Opened next d least e rest → binds least rest ≡ None → chain_at next d least (expr_text e rest) ≡ choice_at next d least e rest
   unfolding chain_at
   opened_choice least e rest o ends = o.comes (λ z. choice_at next d least z.0 z.1) ∙ rw (more_stops least o.turns e rest ends) refl

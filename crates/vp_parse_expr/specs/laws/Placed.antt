@@ -30,7 +30,7 @@ pub bind_seen : {X Y A B : Type 0} (h : Y → X) (k : A → B) (r : Result X Sto
 bind_seen {X} h k r (Ok y) f g e p = ap (λ (r : Result X Stop). r >>= f) e ∙ p y
 bind_seen {X} h k r (Err s) f g e p = ap (λ (r : Result X Stop). r >>= f) e
 
--- steps one behind the other, grouped from the left or from the right
+-- steps one after the other, grouped from the left or from the right
 bind_twice : {A B C : Type 0} (r : Result A Stop) (f : A → Result B Stop) (g : B → Result C Stop) → ((r >>= f) >>= g) ≡ (r >>= λ x. f x >>= g)
 bind_twice (Ok x) f g = refl
 bind_twice (Err s) f g = refl

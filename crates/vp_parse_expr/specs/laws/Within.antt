@@ -50,7 +50,7 @@ Within-terminal {B} n kind (s ∷ ts) f le k =
 
 -- ---- ranges
 
--- at most so many symbols are left behind a number
+-- at most so many symbols are left after a number
 abbrev WithinBound : ℕ → Result (ℕ × ℕ × List Symbol) Stop → Type 0
 WithinBound n (Ok x) = length x.2 ≤ n
 WithinBound n (Err s) = left_of s ≤ n
@@ -106,7 +106,7 @@ unfolding literal_at
 literal_within n [] le = le
 literal_within n (s ∷ ts) le = literal_by_within s.kind s.place n ts le
 
--- a reader behind a symbol leaves no more symbols than there are with that
+-- a reader after a symbol leaves no more symbols than there are with that
 abbrev pub IsBehind : {A : Type 0} → Reader A → Type 0
 IsBehind r = (n : ℕ) (ts : List Symbol) → suc (length ts) ≤ n → Within n (r ts)
 
@@ -262,6 +262,6 @@ shorter_by : (limit : ℕ) (ts : List Symbol) (r : Result (Expr × List Symbol) 
 shorter_by limit ts (Ok x) h = omega (arith, ap length h.text, expr_longer x.0 x.1)
 shorter_by limit ts (Err s) h = tt
 
--- what is left behind an expression is shorter
+-- what is left after an expression is shorter
 pub expr_shorter : (limit : ℕ) (ts : List Symbol) → Holds (λ x. length x.1 < length ts) (expr_at limit 0 ts)
 expr_shorter limit ts = shorter_by limit ts (expr_at limit 0 ts) (whole_takes limit ts)

@@ -259,7 +259,7 @@ abbrev first_term : TermList → Term
 first_term (Single t) = t
 first_term (Further t separator place l) = t
 
--- the symbols behind the first of terms, and then these
+-- the symbols after the first of terms, and then these
 abbrev further_text : TermList → List Symbol → List Symbol
 further_text (Single t) rest = rest
 further_text (Further t separator place l) rest = symbol_at (separator_kind separator) place ∷ term_text (first_term l) (further_text l rest)
@@ -345,7 +345,7 @@ abbrev first_label : LabelList → Expr
 first_label (Only e) = e
 first_label (Also e comma l) = e
 
--- the symbols behind the first of labels, and then these
+-- the symbols after the first of labels, and then these
 abbrev further_labels_text : LabelList → List Symbol → List Symbol
 further_labels_text (Only e) rest = rest
 further_labels_text (Also e comma l) rest = symbol_at (symbol.Punctuator punctuator.Comma) comma ∷ expr_text (first_label l) (further_labels_text l rest)
@@ -436,7 +436,7 @@ abbrev first_item : Items → Item
 first_item (Last i) = i
 first_item (More i l) = i
 
--- the symbols behind the first of items, and then these
+-- the symbols after the first of items, and then these
 abbrev further_items_text : Items → List Symbol → List Symbol
 further_items_text (Last i) rest = rest
 further_items_text (More i l) rest = items_text l rest
@@ -469,7 +469,7 @@ items_first_counted : (l : Items) → item_defaults (first_item l) ≤ items_def
 items_first_counted (Last i) = omega arith
 items_first_counted (More i l) = omega arith
 
--- what may come behind an item
+-- what may come after an item
 still_counted : (i : Item) (may_default : Bool) (n : ℕ) → n ≤ allowed may_default → n ≤ item_defaults i + allowed (may_default && not (is_default_item i))
 still_counted (Labels l colon s) true n le = omega arith
 still_counted (Labels l colon s) false n le = omega arith

@@ -5,7 +5,7 @@ use Rattle.vp_source.specs.StmtGrammar.{Stmt, Delayed, When, Choose, Wait, While
 use Rattle.vp_parse_stmt.specs.Meaning.{Follows}
 use Rattle.vp_parse_stmt.specs.Reading.{is_else}
 
--- behind what an else follows no if stands open
+-- after what an else follows no if stands open
 pub follows_closed : (s : Stmt) (ts : List Symbol) → Follows s ts → is_else ts ≡ true → IsClosed s
 follows_closed (When if_place opening value closing first) ts h e = absurd cc
 follows_closed (Choose if_place opening value closing first else_place second) ts h e = follows_closed second ts h e

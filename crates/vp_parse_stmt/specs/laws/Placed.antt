@@ -21,7 +21,7 @@ use Rattle.vp_source.specs.StmtLayout.{Lists}
 use Rattle.vp_parse_stmt.specs.Reading.{Blocking, Condition, Guarded, goes_on, stmts_at, amount_by, amount_at, grouped_delay_at, delay_at, later_at, hold_at, blocking_at, assign_at, nonblocking_at, is_arrow, set_at, assignment_at, block_at, delayed_at, condition_at, guarded_at, wait_at, while_at, forever_at, is_else, second_at, else_at, if_at, stmt_by, form_at, stmt_at, Heading, named_blocking_at, heading_at, for_at, Joined, edged_at, term_at, is_separator, separator_by, separator_at, joined_at, further_terms_at, terms_at, terms_event_at, star_event_at, event_by, event_at, awaited_at, FurtherLabel, further_label_at, further_labels_at, labels_at, labels_item_at, colon_at, default_item_at, is_default, item_at, items_go_on, may_still, further_items_at, items_at, case_at, given_at, argument_at, finish_at}
 use Rattle.vp_parse_stmt.specs.Placing.{Made, Placer, MadeGuarded, value_into, amount_by_into, amount_into, grouped_delay_into, delay_into, later_into, hold_into, blocking_into, assign_into, nonblocking_into, set_into, assignment_into, delayed_into, chain_into, stmts_into, block_into, condition_into, guarded_into, wait_into, while_into, forever_into, second_into, else_into, if_into, stmt_by_into, form_into, stmt_into, MadeHeading, named_blocking_into, heading_into, for_into, MadeTerms, MadeEvent, edged_into, term_into, separator_into, joined_into, further_terms_into, terms_into, terms_event_into, star_event_into, event_by_into, event_into, awaited_into, MadeLabels, MadeItems, ItemPlacer, further_label_into, further_labels_into, labels_into, labels_item_into, colon_into, default_item_into, item_into, further_items_into, items_into, case_into, given_into, argument_into, finish_into}
 
--- the place of what is read, put behind the lists, with these and what is left
+-- the place of what is read, put after the lists, with these and what is left
 abbrev pub made : {A B : Type 0} → (A → Lists → B × Lists) → Lists → A × List Symbol → B × Lists × List Symbol
 made put lists x = ((put x.0 lists).0, (put x.0 lists).1, x.1)
 
@@ -94,7 +94,7 @@ hold_seen ts = if_seen held (is_next (symbol.Punctuator punctuator.Hash) ts) _ _
 
 -- ---- assignments
 
--- a target and what it is to have, put behind the lists
+-- a target and what it is to have, put after the lists
 abbrev put_set : Blocking → Lists → ℕ × Lists
 put_set b lists = put_blocking b.target b.selection b.value lists
 
@@ -145,7 +145,7 @@ named_blocking_seen limit lists ts =
     (λ t. bind_seen (made_selection lists.expressions) (made put_set lists) (selection_into (limit - 1) lists.expressions t.1) (selection_at (limit - 1) t.1) _ _ (selection_seen (limit - 1) lists.expressions t.1)
     (λ b. blocking_seen limit t.0 b.0 lists b.1))
 
--- the places of a start, a condition and a step, put behind the lists, with these and what is left
+-- the places of a start, a condition and a step, put after the lists, with these and what is left
 abbrev made_heading : Lists → Heading × List Symbol → MadeHeading
 made_heading lists x =
     let a = put_set x.0.start lists in let c = put_value x.0.condition a.1 in let b = put_set x.0.step c.1 in (a.0, c.0, b.0, b.1, x.1)
@@ -192,7 +192,7 @@ term_seen ts =
     if_seen made_term (is_next (edge_kind Posedge) ts) _ _ _ _ (edged_seen Posedge ts)
     (if_seen made_term (is_next (edge_kind Negedge) ts) _ _ _ _ (edged_seen Negedge ts) (level_seen ts))
 
--- what is left behind what stands between terms
+-- what is left after what stands between terms
 abbrev left_apart : (Separator × ℕ) × List Symbol → List Symbol
 left_apart x = x.1
 
@@ -205,7 +205,7 @@ separator_seen : (ts : List Symbol) → separator_into ts ≡ seen left_apart (s
 unfolding separator_into separator_at
 separator_seen ts = if_seen left_apart (is_next (separator_kind Comma) ts) _ _ _ _ (separator_by_seen Comma ts) (separator_by_seen Or ts)
 
--- one more term behind others, and what is left
+-- one more term after others, and what is left
 abbrev made_joined : List term.EventTerm → Joined × List Symbol → MadeTerms
 made_joined terms x = (terms ++ put_term x.0.term ∷ [], x.1)
 
@@ -215,7 +215,7 @@ joined_seen terms ts =
     bind_seen left_apart (made_joined terms) (separator_into ts) (separator_at ts) _ _ (separator_seen ts)
     (λ s. bind_seen made_term (made_joined terms) (term_into s.1) (term_at s.1) _ _ (term_seen s.1) (λ t. refl))
 
--- terms behind others, and what is left
+-- terms after others, and what is left
 abbrev made_terms : List term.EventTerm → TermList × List Symbol → MadeTerms
 made_terms terms x = (put_terms x.0 terms, x.1)
 
@@ -278,7 +278,7 @@ event_terms (Terms opening l closing) lists = refl
 
 -- ---- the end of a simulation
 
--- what is left behind an argument
+-- what is left after an argument
 abbrev left_argument : Argument × List Symbol → List Symbol
 left_argument x = x.1
 
@@ -307,7 +307,7 @@ finish_seen place lists ts =
 
 -- ---- conditions
 
--- the expression of a condition, put behind the lists
+-- the expression of a condition, put after the lists
 abbrev put_condition : Condition → Lists → ℕ × Lists
 put_condition c lists = put_value c.value lists
 
@@ -323,11 +323,11 @@ condition_seen limit lists ts =
 
 -- ---- labels
 
--- labels behind others, and what is left
+-- labels after others, and what is left
 abbrev made_labels : List ℕ → Lists → LabelList × List Symbol → MadeLabels
 made_labels labels lists x = ((put_labels x.0 labels lists).0, (put_labels x.0 labels lists).1, x.1)
 
--- one more label behind others, and what is left
+-- one more label after others, and what is left
 abbrev made_label : List ℕ → Lists → FurtherLabel × List Symbol → MadeLabels
 made_label labels lists x = (labels ++ (put_value x.0.value lists).0 ∷ [], (put_value x.0.value lists).1, x.1)
 
@@ -358,7 +358,7 @@ labels_seen limit lists ts =
     bind_seen (made put_value lists) (made_labels [] lists) (value_into limit lists ts) (expr_at limit 0 ts) _ _ (value_seen limit lists ts)
     (λ e. further_labels_seen limit (length e.1) e.0 [] lists e.1)
 
--- what is left behind a colon
+-- what is left after a colon
 abbrev left_colon : Colon × List Symbol → List Symbol
 left_colon x = x.1
 
@@ -372,7 +372,7 @@ colon_seen ts = if_seen left_colon (is_next (symbol.Punctuator punctuator.Colon)
 
 -- ---- items
 
--- what is read of a case, with its choices behind others and its parts behind the lists, and what is left
+-- what is read of a case, with its choices after others and its parts after the lists, and what is left
 abbrev made_items : {A : Type 0} → (A → Lists → List choice.Choice × Lists) → List choice.Choice → Lists → A × List Symbol → MadeItems
 made_items put choices lists x = (choices ++ (put x.0 lists).0, (put x.0 lists).1, x.1)
 
@@ -381,7 +381,7 @@ abbrev PlacesItems : {A : Type 0} → (A → Lists → List choice.Choice × Lis
 PlacesItems put placer reader =
     (choices : List choice.Choice) (lists : Lists) (ts : List Symbol) → placer choices lists ts ≡ seen (made_items put choices lists) (reader ts)
 
--- items behind an item, whose choices lie behind its own
+-- items after an item, whose choices lie after its own
 items_behind : (i : Item) (choices : List choice.Choice) (lists : Lists) (r : Result (Items × List Symbol) Stop)
     → (let x = put_item i lists in seen (made_items put_items (choices ++ x.0) x.1) r) ≡ seen (made_items put_items choices lists) (r >>= λ l. Ok (More i l.0, l.1))
 items_behind i choices lists (Ok l) =
@@ -389,7 +389,7 @@ items_behind i choices lists (Ok l) =
     ap (λ (all : List choice.Choice). (let m : Result MadeItems Stop = Ok (all, y.1, l.1) in m)) (append_assoc choices x.0 y.0)
 items_behind i choices lists (Err s) = refl
 
--- the places of an expression and of a statement, put behind the lists, with these and what is left
+-- the places of an expression and of a statement, put after the lists, with these and what is left
 abbrev made_guarded : Lists → Guarded × List Symbol → MadeGuarded
 made_guarded lists x =
     let c = put_value x.0.value lists in let b = put_stmt x.0.body c.1 in (c.0, b.0, b.1, x.1)

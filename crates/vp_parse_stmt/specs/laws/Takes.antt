@@ -345,7 +345,7 @@ condition_takes limit ts =
 
 -- ---- labels
 
--- what is read is a label of these symbols behind a comma, that nests at most so deep
+-- what is read is a label of these symbols after a comma, that nests at most so deep
 record IsFurtherLabel (limit : ℕ) (ts : List Symbol) (x : FurtherLabel × List Symbol) : Type 0 where
   text : ts ≡ symbol_at (symbol.Punctuator punctuator.Comma) x.0.comma ∷ expr_text x.0.value x.1
   is : IsExpr x.0.value

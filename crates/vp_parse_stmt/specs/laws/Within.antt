@@ -15,7 +15,7 @@ use Rattle.vp_parse_expr.specs.laws.Within.{Within, IsWithin, Within-bind, Withi
 use Rattle.vp_source.specs.StmtGrammar.{Hold, Stmt, Edge, Posedge, Negedge, edge_kind, Term, Separator, Or, Comma, separator_kind, Sort, Exact, Wild, Item}
 use Rattle.vp_parse_stmt.specs.Reading.{Guarded, goes_on, stmts_at, amount_by, amount_at, grouped_delay_at, delay_at, later_at, hold_at, blocking_at, assign_at, nonblocking_at, is_arrow, set_at, assignment_at, block_at, delayed_at, condition_at, guarded_at, wait_at, while_at, forever_at, is_else, second_at, else_at, if_at, stmt_by, form_at, stmt_at, named_blocking_at, heading_at, for_at, edged_at, term_at, is_separator, separator_by, separator_at, joined_at, further_terms_at, terms_at, terms_event_at, star_event_at, event_by, event_at, awaited_at, further_label_at, further_labels_at, labels_at, labels_item_at, colon_at, default_item_at, is_default, item_at, items_go_on, may_still, further_items_at, items_at, case_at, given_at, argument_at, finish_at}
 
--- what is read behind a symbol which is not left
+-- what is read after a symbol which is not left
 Within-behind : {A B : Type 0} (m : ℕ) (r : Result (A × List Symbol) Stop) (f : A × List Symbol → Result (B × List Symbol) Stop) → Within m r → ((x : A × List Symbol) → length x.1 ≤ m → Within (suc m) (f x)) → Within (suc m) (r >>= f)
 Within-behind m (Ok x) f h k = k x h
 Within-behind m (Err s) f h k = omega arith
@@ -87,7 +87,7 @@ assign_within limit target selection n ts le =
     (λ b le. Within-bind n (terminal (symbol.Punctuator punctuator.Semicolon) b.1) _ (terminal_within (symbol.Punctuator punctuator.Semicolon) n b.1 le)
     (λ s le. le))
 
--- the delay of a nonblocking assignment, behind a symbol which is not left
+-- the delay of a nonblocking assignment, after a symbol which is not left
 Within-hold : {B : Type 0} (n : ℕ) (ts : List Symbol) (f : Hold × List Symbol → Result (B × List Symbol) Stop) → suc (length ts) ≤ n → ((x : Hold × List Symbol) → suc (length x.1) ≤ n → Within n (f x)) → Within n (hold_at ts >>= f)
 Within-hold zero ts f le k = absurd (omega arith)
 Within-hold (suc m) ts f le k = Within-behind m (hold_at ts) f (hold_within m ts (omega arith)) (λ x le. k x (omega arith))

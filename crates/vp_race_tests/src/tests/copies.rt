@@ -60,7 +60,7 @@ fn three_of(copy: &SharedList<u32>) -> Option<(u32, u32, u32)> {
     Some((copy.get(64)?, copy.get(320)?, copy.get(832)?))
 }
 
-/// Writes one place of each chunk of a list, and keeps a copy behind each.
+/// Writes one place of each chunk of a list, and keeps a copy after each.
 fn write_each(list: &mut TrackedList<u32>) -> Option<()> {
     for number in 0..15 {
         list.set(64 * number, 7);
@@ -69,7 +69,7 @@ fn write_each(list: &mut TrackedList<u32>) -> Option<()> {
     Some(())
 }
 
-/// Three places of a copy of the numbers, and of one behind more chunks that were written than can be exchanged at once.
+/// Three places of a copy of the numbers, and of one after more chunks that were written than can be exchanged at once.
 fn first_and_last(alloc: Global) -> Option<[(u32, u32, u32); 2]> {
     let mut list = many_numbers(alloc)?;
     let first = list.keep().ok()?;

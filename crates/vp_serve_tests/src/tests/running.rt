@@ -136,7 +136,7 @@ fn users_share_a_simulation(rt: HostRuntime) {
     assert!(rt; told.is_ok());
 }
 
-/// Hundred connections one behind another, each with a session.
+/// Hundred connections one after another, each with a session.
 fn come_and_go<R: Net<Stream = TcpStream> + Clock>(rt: &R, alloc: Global, port: u16) -> bool {
     for _ in 0..100u32 {
         if !talk(rt, alloc, port, &[(OPEN, OK)]) {

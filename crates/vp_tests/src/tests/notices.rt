@@ -66,7 +66,7 @@ fn notices_are_lost(rt: HostRuntime) {
     assert_eq!(rt; told_of_many(rt.alloc()), Ok((4_096, 4, 0, 0)));
 }
 
-/// The number that a callback is given behind a removal, and what a second removal of the same number answers.
+/// The number that a callback is given after a removal, and what a second removal of the same number answers.
 fn given(alloc: Global) -> Result<(u32, Option<u32>), NotifyError> {
     let mut registry = three(alloc)?;
     registry.remove(3)?;

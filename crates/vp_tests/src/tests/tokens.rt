@@ -45,7 +45,7 @@ fn a_million_bytes_of_one(rt: HostRuntime) {
     }
 }
 
-/// A million bytes of all that are printable, in turn, behind these.
+/// A million bytes of all that are printable, in turn, after these.
 fn printable(alloc: Global, begin: &[u8]) -> Option<Result<usize, (u32, u32)>> {
     let mut bytes = begin.to_vec(alloc).ok()?;
     for i in 0..1_000_000u32 {
@@ -57,7 +57,7 @@ fn printable(alloc: Global, begin: &[u8]) -> Option<Result<usize, (u32, u32)>> {
 
 #[test]
 fn a_million_bytes_of_all(rt: HostRuntime) {
-    // Behind a space and `!` stands a string up to the next quotation mark, then `#`, and then a dollar sign that begins no name.
+    // After a space and `!` stands a string up to the next quotation mark, then `#`, and then a dollar sign that begins no name.
     assert_eq!(rt; printable(rt.alloc(), b""), Some(Err((201, 1))));
     // No asterisk stands before a solidus, so a block comment does not end.
     assert_eq!(rt; printable(rt.alloc(), b"\n/*"), Some(Err((202, 2))));

@@ -4,7 +4,7 @@ use Rattle.vp_expr.specs.Awaits.{awaited_by, awaits_in, laid_behind, reads_in}
 use Rattle.vp_resolve.specs.Names.{scope_of}
 use Rattle.vp_expr.proofs.awaited.add_awaits.Given as goal
 
--- the changes so far, and behind them those of the statements of the module that are left
+-- the changes so far, and after them those of the statements of the module that are left
 abbrev pub invariant-loop-statement : goal.invariant-loop-statement
 invariant-loop-statement l =
     let read = reads_in l.design.source l.operands l.statements in

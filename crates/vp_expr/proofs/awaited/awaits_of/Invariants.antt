@@ -3,7 +3,7 @@ use Rattle.std.specs.List.{flat_map, fold}
 use Rattle.vp_expr.specs.Awaits.{awaits_in, awaits_of, laid_behind, laid_of, reads_of}
 use Rattle.vp_expr.proofs.awaited.awaits_of.Given as goal
 
--- the changes so far, and behind them those of the modules that are left
+-- the changes so far, and after them those of the modules that are left
 abbrev pub invariant-loop-number : goal.invariant-loop-number
 invariant-loop-number l =
     fold laid_behind (l.awaits.awaited.items, l.awaits.ends.items)

@@ -5,7 +5,7 @@ use Rattle.vp_expr.specs.Origins.{by_first, names_port}
 use Rattle.vp_expr.proofs.FirstIndexes.{position_next}
 use Rattle.vp_expr.proofs.process.named_ports.Goals as goal
 
--- a connection, for a place behind the end
+-- a connection, for a place past the end
 abbrev blank : Connection
 blank = record { place = 0; port = None; value = None }
 

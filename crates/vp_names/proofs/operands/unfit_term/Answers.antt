@@ -7,7 +7,7 @@ use Rattle.vp_names.specs.Refusals.{unfit}
 use Rattle.vp_names.proofs.Earliest.{earliest_step}
 use Rattle.vp_names.proofs.operands.unfit_term.Goals as goal
 
--- a term, for a place behind the end
+-- a term, for a place past the end
 abbrev no_term : EventTerm
 no_term = record { edge = edge.Any; name = 0 }
 

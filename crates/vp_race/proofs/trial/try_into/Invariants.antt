@@ -4,7 +4,7 @@ use Rattle.vp_race.specs.Orders.{behind, sources_of}
 use Rattle.vp_race.specs.Search.{tried, tried_from}
 use Rattle.vp_race.proofs.trial.try_into.Given as goal
 
--- what is left to try from here gives what is tried from the start, behind the choices so far
+-- what is left to try from here gives what is tried from the start, after the choices so far
 abbrev pub invariant-loop-turn : goal.invariant-loop-turn
 invariant-loop-turn l = record {
   tried : tried l.fn.simulation l.limit l.seed ≡ option_map (λ ks. l.order.choices.items ++ ks) (tried_from (l.limit - l._turn) l.seed l.number (Some l.simulation));

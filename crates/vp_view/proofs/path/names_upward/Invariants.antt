@@ -4,7 +4,7 @@ use Rattle.vp_view.specs.Objects.{most_steps, names_to}
 use Rattle.vp_view.specs.Seen.{names_seen}
 use Rattle.vp_view.proofs.path.names_upward.Given as goal
 
--- the names so far, and behind them those that are left
+-- the names so far, and after them those that are left
 abbrev pub invariant-loop-object : goal.invariant-loop-object
 invariant-loop-object l =
     map (λ name. name.now) l.names.items ++ reverse (names_to l.view.nodes l.scope) ≡ reverse (names_seen l.view l.number)

@@ -28,7 +28,7 @@ module _ (c : goal.After-drop-listed-2) where
   abbrev known : List Bool
   known = c.self.inside.known.items
 
-  -- what is known behind it
+  -- what is known after it
   abbrev then : List Bool
   then = c.in_ok-known.known.items
 

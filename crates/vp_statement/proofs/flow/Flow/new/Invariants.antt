@@ -3,6 +3,6 @@ use Rattle.vp_elab.specs.Tree.{below}
 use Rattle.vp_statement.specs.Walking.{behind}
 use Rattle.vp_statement.proofs.flow.Flow.new.Given as goal
 
--- what comes behind the statements before this one
+-- what comes after the statements before this one
 abbrev pub invariant-loop-place : goal.invariant-loop-place
 invariant-loop-place l = l.behinds.items ≡ map (behind l.parts.items (length l.parts.items)) (below l.place)

@@ -4,7 +4,7 @@ use Rattle.vp_list.specs.Chunks.{joined}
 use Rattle.vp_strata.specs.Chunks.{position}
 use Rattle.vp_strata.proofs.chunks.FutureChunks.is_same.Given as goal
 
--- so many events are the same, and both places are behind these
+-- so many events are the same, and both places are after these
 abbrev pub invariant-loop-index : goal.invariant-loop-index
 invariant-loop-index l = record {
   first : position l.fn.self l.first.0 l.first.1 ≡ l._index;

@@ -10,7 +10,7 @@ use Rattle.vp_strata.proofs.Chunked.{chunk_at, joined_push, more_last, unfinishe
 use Rattle.vp_strata.proofs.chunks.FutureChunks.push.Goals.{in-Some+else-not-is_full, in_default}
 use Rattle.vp_strata.proofs.chunks.FutureChunks.push.Goals as goal
 
--- the last chunk's number, and the place behind its events
+-- the last chunk's number, and the place after its events
 last : (c : goal.After-insert_in) → (suc (c.len-number.result - 1) ≡ length (map arc_value c.self.inside.chunks.items)) × (c.len-place.result ≡ length (get_or (map arc_value c.self.inside.chunks.items) (c.len-number.result - 1) []))
 last c =
     let items = c.self.inside.chunks.items in
