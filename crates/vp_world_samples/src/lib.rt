@@ -1,9 +1,8 @@
 //! Policies for designs, and worlds in which nothing has happened, for tests and measurements.
 #![tactic(auto)]
 
-ghost use Rattle.std.specs.Prelude.{◌≡◌, ◌≤◌, [], length, IfSome};
+ghost use Rattle.std.specs.Prelude.{◌≡◌, [], IfSome};
 ghost use Rattle.std.specs.Arc.{arc_value};
-ghost use Rattle.vp_lex.specs.declared.token.TheConstants.{TEXT_LIMIT};
 ghost use Rattle.vp_policy.specs.PolicyState.{Fits};
 
 use std::alloc::Global;
@@ -38,7 +37,6 @@ pub fn world_of_design(
 
 /// A world of a text and a policy in which nothing has happened; none where one of them is refused, or for want of memory.
 pub fn world_of(alloc: Global, text: &str, policy: &[u8], limits: Limits) -> Option<World>
-    requires { length text.now ≤ TEXT_LIMIT }
     ensures limits { IfSome result (λ world. world.opening.limits ≡ limits) }
     ensures empty { IfSome result (λ world. world.log ≡ []) }
 {

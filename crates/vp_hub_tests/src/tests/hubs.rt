@@ -1,6 +1,5 @@
 //! Texts, policies, and worlds of them in which nothing has happened.
-ghost use Rattle.std.specs.Prelude.{◌≡◌, ◌≤◌, ◌+◌, [], length, IfSome};
-ghost use Rattle.vp_lex.specs.declared.token.TheConstants.{TEXT_LIMIT};
+ghost use Rattle.std.specs.Prelude.{◌≡◌, ◌+◌, [], IfSome};
 
 use std::alloc::Global;
 use std::sync::ledger::Blank;
@@ -67,7 +66,6 @@ fn limits_of(entries: u32) -> Limits
 
 /// A world of a text and a policy in which nothing has happened, and whose log holds so many entries.
 pub fn world_of(alloc: Global, text: &str, policy: &[u8], entries: u32) -> Option<World>
-    requires { length text.now ≤ TEXT_LIMIT }
     ensures empty { IfSome result (λ world. world.log ≡ []) }
     ensures limit { IfSome result (λ world. world.opening.limits.log ≡ entries) }
 {

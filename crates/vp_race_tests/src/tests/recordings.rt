@@ -1,6 +1,4 @@
 //! Simulations whose time slots are recorded as segments.
-ghost use Rattle.std.specs.Prelude.{◌≤◌, length};
-ghost use Rattle.vp_lex.specs.declared.token.TheConstants.{TEXT_LIMIT};
 
 use std::alloc::Global;
 use std::sync::Arc;
@@ -13,9 +11,7 @@ pub const SWAPPED: &str = "module top;\n  reg a, b, c;\n\
       always @(posedge c) a = b;\n  always @(posedge c) b = a;\nendmodule\n";
 
 /// A new recorded simulation of a text.
-pub fn recording(alloc: Global, text: &str) -> Option<Recording>
-    requires { length text.now ≤ TEXT_LIMIT }
-{
+pub fn recording(alloc: Global, text: &str) -> Option<Recording> {
     Recording::new(alloc, shared_of(alloc, text)?).ok()
 }
 

@@ -1,6 +1,5 @@
 //! Steps, advances and puts of a simulation, their refusals, and copies of it.
-ghost use Rattle.std.specs.Prelude.{◌≡◌, ◌≤◌, length, IfSome, OnSome};
-ghost use Rattle.vp_lex.specs.declared.token.TheConstants.{TEXT_LIMIT};
+ghost use Rattle.std.specs.Prelude.{◌≡◌, IfSome, OnSome};
 
 use std::alloc::Global;
 use vp_bits::Bits;
@@ -21,9 +20,7 @@ const FINISHES: &str = "module top; reg a; initial $finish; endmodule";
 const NOTHING: u32 = u32::MAX;
 
 /// A simulation of a text.
-fn simulation(alloc: Global, text: &str) -> Option<Sim>
-    requires { length text.now ≤ TEXT_LIMIT }
-{
+fn simulation(alloc: Global, text: &str) -> Option<Sim> {
     Sim::new(alloc, shared_of(alloc, text)?).ok()
 }
 
@@ -68,9 +65,7 @@ fn turns_of(simulation: &mut Sim) -> [u32; 8] {
 }
 
 /// The same of a new simulation of a text.
-fn turns(alloc: Global, text: &str) -> Option<[u32; 8]>
-    requires { length text.now ≤ TEXT_LIMIT }
-{
+fn turns(alloc: Global, text: &str) -> Option<[u32; 8]> {
     let mut simulation = simulation(alloc, text)?;
     let turns = turns_of(&mut simulation);
     drop(simulation);

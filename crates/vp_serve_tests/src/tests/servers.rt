@@ -1,6 +1,5 @@
 //! Servers of worlds of texts.
-ghost use Rattle.std.specs.Prelude.{◌≤◌, ◌<◌, ◌^◌, length};
-ghost use Rattle.vp_lex.specs.declared.token.TheConstants.{TEXT_LIMIT};
+ghost use Rattle.std.specs.Prelude.{◌<◌, ◌^◌};
 
 use std::alloc::Global;
 use std::net::{Ipv4Addr, Net, TcpListener, TcpStream};
@@ -63,7 +62,6 @@ fn served<R, G>(rt: &R, alloc: Global, text: &str, server: Server, gate: &G) -> 
 where
     R: Net<Listener = TcpListener, Stream = TcpStream> + Threads + Wait + Clock + Sync,
     G: Gate + Sync,
-    requires text { length text.now ≤ TEXT_LIMIT }
     requires room { server.limits.log < 2 ^ 32 }
 {
     let Server {
@@ -101,14 +99,12 @@ where
     R: Net<Listener = TcpListener, Stream = TcpStream> + Threads + Wait + Clock + Sync,
     G: Gate + Sync,
     C: FnOnce() -> T,
-    requires text { length text.now ≤ TEXT_LIMIT }
     requires room { server.limits.log < 2 ^ 32 }
     requires clients { C.pre clients }
 {
     join(
         rt,
         move || -> Result<usize, u32>
-            requires text { length text.now ≤ TEXT_LIMIT }
             requires room { server.limits.log < 2 ^ 32 }
         { served(rt, alloc, text, server, gate) },
         clients,

@@ -1,6 +1,4 @@
 //! Ann's worlds, and what sessions ask there.
-ghost use Rattle.std.specs.Prelude.{◌≤◌, length};
-ghost use Rattle.vp_lex.specs.declared.token.TheConstants.{TEXT_LIMIT};
 ghost use Rattle.vp_answer.specs.Requests.{IsAsked};
 
 use std::alloc::Global;
@@ -20,9 +18,7 @@ const POLICY: &[u8] =
     b"{\"users\":[{\"name\":\"ann\",\"token\":\"t1\",\"open\":\"watch+put\",\"run\":true}]}";
 
 /// A world of a text and that policy in which nothing has happened.
-pub fn ann_world(alloc: Global, text: &str) -> Option<World>
-    requires { length text.now ≤ TEXT_LIMIT }
-{
+pub fn ann_world(alloc: Global, text: &str) -> Option<World> {
     world_of(alloc, text, POLICY, Limits::GREATEST)
 }
 
