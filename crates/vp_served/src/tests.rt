@@ -5,17 +5,17 @@ use crate::words::{Command, Misuse};
 use std::alloc::Global;
 use vp_serve::Settings;
 
-/// The words of a command line, as strings.
-fn words(alloc: Global, line: &[&str]) -> Vec<String> {
+/// The words of a command line.
+fn words(alloc: Global, line: &str) -> Vec<String> {
     let mut words = Vec::new(alloc);
-    for word in line {
+    for word in line.split_whitespace() {
         let _pushed = words.push(String::from_str(alloc, word).unwrap_or(String::new(alloc)));
     }
     words
 }
 
 /// What a command line asks, in a word.
-fn asked(alloc: Global, line: &[&str]) -> &'static str {
+fn asked(alloc: Global, line: &str) -> &'static str {
     match command(alloc, &words(alloc, line)) {
         Ok(Command::Bundle) => "bundle",
         Ok(Command::Run { design, policy }) if design == "d.v" && policy == "p.json" => "run",
@@ -72,92 +72,47 @@ fn asked(alloc: Global, line: &[&str]) -> &'static str {
 
 #[test]
 fn command_lines(rt: HostRuntime) {
-    let rows: [(&[&str], &str); 31] = [
-        (&["vp_served"], "bundle"),
-        (&["vp_served", "run", "d.v", "p.json"], "run"),
-        (&["vp_served", "check", "d.v"], "check"),
-        (&["vp_served", "check", "d.v", "p.json"], "check both"),
-        (&["vp_served", "view", "d.v", "p.json", "ann"], "view"),
-        (&["vp_served", "audit", "d.v", "p.json", "ann"], "audit"),
+    let rows: [(&str, &str); 31] = [
+        ("vp_served", "bundle"),
+        ("vp_served run d.v p.json", "run"),
+        ("vp_served check d.v", "check"),
+        ("vp_served check d.v p.json", "check both"),
+        ("vp_served view d.v p.json ann", "view"),
+        ("vp_served audit d.v p.json ann", "audit"),
         (
-            &["vp_served", "audit", "d.v", "p.json", "ann", "--explain"],
+            "vp_served audit d.v p.json ann --explain",
             "audit explained",
         ),
+        ("vp_served view d.v p.json ann --explain", "misuse"),
+        ("vp_served --help", "show"),
+        ("vp_served run --help", "show"),
+        ("vp_served check --help", "show"),
+        ("vp_served view --help", "show"),
+        ("vp_served audit --help", "show"),
+        ("vp_served --version", "show"),
+        ("vp_served run d.v", "misuse"),
+        ("vp_served run d.v p.json q", "misuse"),
+        ("vp_served check", "misuse"),
+        ("vp_served check d.v p.json q", "misuse"),
+        ("vp_served view d.v p.json", "misuse"),
+        ("vp_served audit d.v p.json", "misuse"),
+        ("vp_served audit d.v p.json ann q", "misuse"),
+        ("vp_served serve d.v p.json --port 7", "serve"),
         (
-            &["vp_served", "view", "d.v", "p.json", "ann", "--explain"],
-            "misuse",
-        ),
-        (&["vp_served", "--help"], "show"),
-        (&["vp_served", "run", "--help"], "show"),
-        (&["vp_served", "check", "--help"], "show"),
-        (&["vp_served", "view", "--help"], "show"),
-        (&["vp_served", "audit", "--help"], "show"),
-        (&["vp_served", "--version"], "show"),
-        (&["vp_served", "run", "d.v"], "misuse"),
-        (&["vp_served", "run", "d.v", "p.json", "q"], "misuse"),
-        (&["vp_served", "check"], "misuse"),
-        (&["vp_served", "check", "d.v", "p.json", "q"], "misuse"),
-        (&["vp_served", "view", "d.v", "p.json"], "misuse"),
-        (&["vp_served", "audit", "d.v", "p.json"], "misuse"),
-        (
-            &["vp_served", "audit", "d.v", "p.json", "ann", "q"],
-            "misuse",
-        ),
-        (
-            &["vp_served", "serve", "d.v", "p.json", "--port", "7"],
-            "serve",
-        ),
-        (
-            &[
-                "vp_served",
-                "serve",
-                "d.v",
-                "p.json",
-                "--port=65535",
-                "--workers",
-                "16",
-                "--sessions",
-                "4294967295",
-            ],
+            "vp_served serve d.v p.json --port=65535 --workers 16 --sessions 4294967295",
             "serve most",
         ),
-        (&["vp_served", "serve", "--help"], "show"),
-        (&["vp_served", "serve", "d.v", "p.json"], "misuse"),
+        ("vp_served serve --help", "show"),
+        ("vp_served serve d.v p.json", "misuse"),
+        ("vp_served serve d.v p.json --port 0", "misuse"),
+        ("vp_served serve d.v p.json --port 65536", "misuse"),
+        ("vp_served serve d.v p.json --port x", "misuse"),
+        ("vp_served serve d.v p.json --port=7 --workers=17", "misuse"),
         (
-            &["vp_served", "serve", "d.v", "p.json", "--port", "0"],
+            "vp_served serve d.v p.json --port=7 --sessions=4294967296",
             "misuse",
         ),
-        (
-            &["vp_served", "serve", "d.v", "p.json", "--port", "65536"],
-            "misuse",
-        ),
-        (
-            &["vp_served", "serve", "d.v", "p.json", "--port", "x"],
-            "misuse",
-        ),
-        (
-            &[
-                "vp_served",
-                "serve",
-                "d.v",
-                "p.json",
-                "--port=7",
-                "--workers=17",
-            ],
-            "misuse",
-        ),
-        (
-            &[
-                "vp_served",
-                "serve",
-                "d.v",
-                "p.json",
-                "--port=7",
-                "--sessions=4294967296",
-            ],
-            "misuse",
-        ),
-        (&["vp_served", "walk"], "misuse"),
+        ("vp_served walk", "misuse"),
     ];
     for (line, want) in rows {
         assert_eq!(rt; asked(rt.alloc(), line), want);
