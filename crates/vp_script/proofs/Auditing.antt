@@ -40,13 +40,13 @@ pub record IsRead (text bytes : List ℕ) (design : Elaborated) (policy : Policy
   pub is_file : file_of (length design.tree.authors) bytes ≡ Ok (file_in policy)
   pub for_it : Fits policy design.tree
 
--- the same of a design that is made, shared and then lent to the reading of the policy file
+-- the same of a design that is shared, and lent to the reading of the policy file
 pub read_of :
-    (text bytes : List ℕ) (made shared lent : Elaborated) (policy : PolicyState) → IsDesignOf text made → shared ≡ made → lent ≡ shared
+    (text bytes : List ℕ) (shared lent : Elaborated) (policy : PolicyState) → IsDesignOf text shared → lent ≡ shared
     → length bytes ≤ text_limit → file_of (length lent.tree.authors) bytes ≡ Ok (file_in policy) → Fits policy lent.tree
     → IsRead text bytes shared policy
-read_of text bytes made shared lent policy of is_made is_lent fits is_file for_it = record {
-  of = subst (IsDesignOf text) (sym is_made) of;
+read_of text bytes shared lent policy of is_lent fits is_file for_it = record {
+  of = of;
   fits = fits;
   is_file = subst (λ (d : Elaborated). file_of (length d.tree.authors) bytes ≡ Ok (file_in policy)) is_lent is_file;
   for_it = for_it ∙ ap (λ (d : Elaborated). d.tree) is_lent;

@@ -171,7 +171,7 @@ pub fn audit_script<R: Read>(
     ensures refused { IfErr result (λ fault. EndsAuditBy design.now policy.now user.now
         (R.remaining reader.old.inner) (R.remaining reader.new.inner) fault) }
 {
-    let checked = Arc::new(alloc, checked(alloc, design)?)?;
+    let checked = checked(alloc, design)?;
     let policy = policy_of(alloc, policy, checked.design())?;
     let user = policy.user(user).ok_or(ServeFault::NoSuchUser)?;
     script_audit(alloc, &checked, &policy, user, explain, reader)

@@ -4,9 +4,9 @@ ghost use Rattle.vp_script.specs.Refused.{words_of};
 
 use crate::bundle::cut;
 use crate::fault::ServeFault;
+use crate::script::checked;
 use crate::sources::text_of;
 use std::alloc::{AllocError, Global};
-use vp_design::read_design;
 use vp_diagnostic::{design_diagnostic, file_diagnostic, plain_diagnostic, policy_diagnostic};
 use vp_list::Text;
 use vp_policy::PolicyError;
@@ -130,7 +130,7 @@ impl Sources<'_, '_> {
     fn policy_diagnostic(self, alloc: Global, error: &PolicyError) -> Result<Text, AllocError>
         ensures { IfOk result (IsPolicyDiagnostic self.entry.policy_name.now error.now) }
     {
-        match read_design(alloc, self.design) {
+        match checked(alloc, self.design) {
             Ok(checked) => {
                 policy_diagnostic(
                     alloc,

@@ -31,12 +31,12 @@ pub struct Ran {
     pub starved: bool,
 }
 
-/// The checked design of a text; or its first fault.
-pub(crate) fn checked(alloc: Global, text: &str) -> Result<Checked, ServeFault>
-    ensures design { IfOk result (λ checked. IsDesignOf text.now checked) }
+/// The checked design of a text, to be shared; or its first fault, or want of memory (1607).
+pub(crate) fn checked(alloc: Global, text: &str) -> Result<Arc<Checked>, ServeFault>
+    ensures design { IfOk result (λ checked. IsDesignOf text.now (arc_value checked)) }
     ensures refused { IfErr result (λ fault. IsRefusedBy text.now fault) }
 {
-    Ok(read_design(alloc, text)?)
+    Ok(Arc::new(alloc, read_design(alloc, text)?)?)
 }
 
 /// The policy of a file, for a design.
@@ -84,7 +84,7 @@ pub fn fresh_world(alloc: Global, design: &str, policy: &[u8]) -> Result<World, 
         (λ world. IsOpened design.now policy.now (begun world)) }
     ensures refused { IfErr result (λ fault. IsUnopened design.now policy.now fault) }
 {
-    let checked = Arc::new(alloc, checked(alloc, design)?)?;
+    let checked = checked(alloc, design)?;
     let policy = policy_of(alloc, policy, checked.design())?;
     world_of(alloc, checked, policy)
 }
@@ -141,7 +141,9 @@ pub fn run_script<R: Read, W: Write>(
         → d ≡ e }
 {
     let mut keeper = opened(alloc, design, policy)?;
-    match answered(alloc, &mut keeper, reader, writer) {
+    let ran = answered(alloc, &mut keeper, reader, writer);
+    drop(keeper);
+    match ran {
         Ok(ran) => Ok(ran),
         Err(error) => Err(ServeFault::Lines(error)),
     }

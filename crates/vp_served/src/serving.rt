@@ -65,9 +65,24 @@ fn print_line<R: AllocGlobal + Print>(rt: &R, word: &str, number: u64) -> Result
     }
 }
 
+/// Listens on a port of 127.0.0.1, and prints `listening` and the port; or tells that it can't be listened on (1605).
+fn listen<R>(rt: &R, port: u16) -> Result<TcpListener, Unserved>
+where
+    R: AllocGlobal + Print + Net<Listener = TcpListener, Stream = TcpStream>,
+{
+    let Ok(listener) = TcpListener::bind(rt, (Ipv4Addr::LOCALHOST, port)) else {
+        let fault = ServeFault::ListenFailed;
+        return Err(Unserved::Refused(Refused::new(rt.alloc(), fault)));
+    };
+    print_line(rt, "listening", u64::from(port))?;
+    Ok(listener)
+}
+
 /// The number of entries of the log of a server that has ended.
 fn entry_count(closed: Closed) -> u64 {
-    closed.log().len() as u64
+    let entries = closed.log().len() as u64;
+    drop(closed);
+    entries
 }
 
 /// Serves a world in which nothing has happened, with the greatest limits, to whoever connects to a listener, and gives the number of the log's
@@ -105,13 +120,15 @@ where
         + Clock
         + Sync,
 {
-    let alloc = rt.alloc();
     let world = world_of_files(rt, design, policy)?;
-    let Ok(listener) = TcpListener::bind(rt, (Ipv4Addr::LOCALHOST, port)) else {
-        drop(world);
-        return Err(Unserved::Refused(Refused::new(alloc, ServeFault::ListenFailed)));
-    };
-    print_line(rt, "listening", u64::from(port))?;
-    let entries = serve_world(rt, world, settings, &listener)?;
-    print_line(rt, "closed", entries)
+    match listen(rt, port) {
+        Ok(listener) => {
+            let entries = serve_world(rt, world, settings, &listener)?;
+            print_line(rt, "closed", entries)
+        }
+        Err(unserved) => {
+            drop(world);
+            Err(unserved)
+        }
+    }
 }

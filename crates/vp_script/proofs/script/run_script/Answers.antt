@@ -7,5 +7,5 @@ returns-in_err-keeper-clause-one_design g c = design_once c.args.design.now
 pub returns-in-Ok-clause-one_design : goal.returns-in-Ok-clause-one_design
 returns-in-Ok-clause-one_design g c = design_once c.args.design.now
 
-pub returns-clause-one_design : goal.returns-clause-one_design
-returns-clause-one_design g c = design_once c.args.design.now
+pub returns-in-Err-clause-one_design : goal.returns-in-Err-clause-one_design
+returns-in-Err-clause-one_design g c = design_once c.args.design.now
