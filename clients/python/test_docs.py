@@ -1,10 +1,9 @@
-"""Tests that the documents show what the program prints: README's tour, the tables and views of docs/POLICY.md, and a fault of docs/FORMATS.md; and that
-docs/PROVED.md names each public call. python3 -m unittest, in this folder, over the program of test_loddrume.
+"""Tests that the documents show what the program prints: README's tour, and the tables and views of docs/POLICY.md; and that docs/PROVED.md names
+each public call. python3 -m unittest, in this folder, over the program of test_loddrume.
 """
 
 import contextlib
 import json
-import os
 import re
 import socket
 import subprocess
@@ -167,19 +166,6 @@ class Policy(unittest.TestCase):
                 *_, listed, race = program(Path(folder), "run", "top.v", "policy.json", lines=lines).splitlines()
                 self.assertEqual(listed, races.strip("`"), user)
                 self.assertEqual(json.loads(race)["steps"], [json.loads(order.strip("`")) for order in orders], user)
-
-
-class Formats(unittest.TestCase):
-    """docs/FORMATS.md: a fault of the reader."""
-
-    def test_a_reader_that_fails(self) -> None:
-        folder = os.open(EXAMPLE, os.O_RDONLY)
-        try:
-            told = subprocess.run([PROGRAM, "run", "soc.v", "policy.json"], cwd=EXAMPLE, stdin=folder, capture_output=True, encoding="utf-8", check=False)
-        finally:
-            os.close(folder)
-        self.assertEqual((told.stdout, told.returncode), ("fault 1504 line 0\n", 1))
-        self.assertEqual(told.stderr, "fault 1504: reading or writing lines failed\n")
 
 
 class Lists(unittest.TestCase):

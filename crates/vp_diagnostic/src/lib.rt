@@ -18,4 +18,4 @@ mod words;
 
 pub use design::design_diagnostic;
 pub use plain::{file_diagnostic, plain_diagnostic};
-pub use policy::policy_diagnostic;
+pub use policy::{keyless_diagnostic, policy_diagnostic};

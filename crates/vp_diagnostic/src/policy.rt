@@ -2,6 +2,8 @@
 ghost use Rattle.std.specs.Prelude.{◌≡◌, ◌++◌, IfOk};
 ghost use Rattle.vp_diagnostic.specs.Rendering.{head_without_line};
 ghost use Rattle.vp_diagnostic.specs.Policies.{IsPolicyDiagnostic};
+ghost use Rattle.vp_diagnostic.specs.Words.{policy_words};
+ghost use Rattle.vp_policy.specs.Faults.{code_of};
 
 use crate::keys::place_text;
 use crate::rendering::lineless;
@@ -55,4 +57,16 @@ pub fn policy_diagnostic(
         policy_words(fault),
         note.as_str(),
     )
+}
+
+/// The diagnostic of a fault of a policy, whose file has this name, without its key, for which nothing is read again: its head.
+pub fn keyless_diagnostic(
+    alloc: Global,
+    name: &str,
+    fault: &PolicyError,
+) -> Result<Text, AllocError>
+    ensures { IfOk result (λ text. text
+        ≡ head_without_line name.now (code_of fault.now) (policy_words fault.now)) }
+{
+    lineless(alloc, name, fault.code(), policy_words(fault))
 }

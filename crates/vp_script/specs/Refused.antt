@@ -6,13 +6,22 @@ use Rattle.vp_diagnostic.specs.Rendering.{file_text, plain_text}
 use Rattle.vp_script.specs.Faults.{code_of}
 use Rattle.vp_script.specs.declared.fault.ServeFault.{ServeFault}
 use Rattle.vp_script.specs.declared.fault.ServeFault.TheVariants as fault
+use Rattle.vp_wire.specs.declared.fault.WireError.{WireError}
+use Rattle.vp_wire.specs.declared.fault.WireError.TheVariants.{ReadFault, TurnLimit, WriteFault}
+
+-- the words of a fault of the reading or writing of lines
+abbrev pub words_of_lines : WireError → List ℕ
+words_of_lines ReadFault = codes "standard input can't be read"
+words_of_lines WriteFault = codes "standard output can't be written"
+words_of_lines TurnLimit = codes "standard input was read 16,777,216 times"
+words_of_lines e = codes "bad lines"
 
 -- the words of a fault that is none of a design's or a policy's text
 abbrev pub words_of : ServeFault → List ℕ
 words_of (fault.Design e) = codes "bad design"
 words_of (fault.Policy e) = codes "bad policy"
 words_of (fault.World e) = codes "no memory for a world"
-words_of (fault.Lines e) = codes "reading or writing lines failed"
+words_of (fault.Lines e) = words_of_lines e
 words_of fault.BadBundle = codes "a bundle is a design in UTF-8, a line %%, a policy, a line %%, and a script"
 words_of fault.ReadFailed = codes "it can't be read as text in UTF-8"
 words_of fault.TooLong = codes "a design and a policy have at most 1,048,576 bytes, a bundle 16,777,216"

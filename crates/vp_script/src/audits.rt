@@ -131,6 +131,29 @@ fn keeper_for(alloc: Global, checked: &Arc<Checked>, policy: &Policy) -> Result<
     keeper_of(alloc, Arc::try_clone(checked)?, own_policy)
 }
 
+/// Runs a fresh script, which the caller keeps, over a reader, and audits a user after it; or the fault of the reader, or want of memory at
+/// the end of the input.
+fn run_and_audit<R: Read>(
+    alloc: Global,
+    checked: &Checked,
+    policy: &Policy,
+    user: UserId,
+    explain: bool,
+    keeper: &mut Keeper,
+    reader: &mut Counted<R>,
+) -> Result<Audited, ServeFault>
+    requires right { IsRight (opening_of checked.now policy.now) }
+    requires fresh { script_of keeper.old ≡ opened (opening_of checked.now policy.now) }
+    ensures audit { IfOk result (λ audited. IsAuditBehind explain
+        (opening_of checked.now policy.now) user.0
+        (R.remaining reader.old.inner) (R.remaining reader.new.inner) audited) }
+    ensures refused { IfErr result (λ fault. EndsRunBy (opening_of checked.now policy.now)
+        (R.remaining reader.old.inner) (R.remaining reader.new.inner) fault) }
+{
+    run_to_end(alloc, keeper, reader)?;
+    log_audited(alloc, checked, policy, keeper, user, explain)
+}
+
 /// Runs a fresh script of a design and a policy over a reader, and audits a user after it; or the fault of the reader, or want of
 /// memory, before anything was read or at the end of the input.
 fn script_audit<R: Read>(
@@ -150,8 +173,10 @@ fn script_audit<R: Read>(
         (R.remaining reader.old.inner) (R.remaining reader.new.inner) fault) }
 {
     let mut keeper = keeper_for(alloc, checked, policy)?;
-    run_to_end(alloc, &mut keeper, reader)?;
-    log_audited(alloc, checked, policy, &keeper, user, explain)
+    let audited = run_and_audit(alloc, checked, policy, user, explain, &mut keeper, reader);
+    // Dropped by a call, so that how a keeper is dropped is no part of this function's proof.
+    drop(keeper);
+    audited
 }
 
 /// Runs the lines of a reader as `run_script` does, but tells no reply, and then audits the user of a name: what he was told is the same

@@ -1,15 +1,20 @@
 // What a run is refused for, in words.
 ghost use Rattle.std.specs.Prelude.{◌≡◌, [], MatchResult};
-ghost use Rattle.vp_script.specs.Refused.{words_of};
+ghost use Rattle.vp_script.specs.Refused.{words_of, words_of_lines};
 
 use crate::bundle::cut;
 use crate::fault::ServeFault;
 use crate::script::checked;
 use crate::sources::text_of;
 use std::alloc::{AllocError, Global};
-use vp_diagnostic::{design_diagnostic, file_diagnostic, plain_diagnostic, policy_diagnostic};
+use std::sync::Arc;
+use vp_diagnostic::{
+    design_diagnostic, file_diagnostic, keyless_diagnostic, plain_diagnostic, policy_diagnostic,
+};
+use vp_expr::Checked;
 use vp_list::Text;
 use vp_policy::PolicyError;
+use vp_wire::WireError;
 
 /// The name under which the parts of a bundle are told.
 pub const STANDARD_INPUT: &str = "standard input";
@@ -64,6 +69,19 @@ fn or_empty(alloc: Global, text: Result<Text, AllocError>) -> Text
     }
 }
 
+/// The words of a fault of the reading or writing of lines.
+fn words_of_lines(error: WireError) -> &'static str
+    ensures { result.now ≡ words_of_lines error }
+{
+    match error {
+        WireError::ReadFault => "standard input can't be read",
+        WireError::WriteFault => "standard output can't be written",
+        WireError::TurnLimit => "standard input was read 16,777,216 times",
+        WireError::LineTooLong | WireError::BadJson | WireError::BadRequest | WireError::NoMemory =>
+            "bad lines",
+    }
+}
+
 /// The words of a fault that is none of a design's or a policy's text.
 fn words_of(fault: &ServeFault) -> &'static str
     ensures { result.now ≡ words_of fault.now }
@@ -72,7 +90,7 @@ fn words_of(fault: &ServeFault) -> &'static str
         ServeFault::Design(_) => "bad design",
         ServeFault::Policy(_) => "bad policy",
         ServeFault::World(_) => "no memory for a world",
-        ServeFault::Lines(_) => "reading or writing lines failed",
+        ServeFault::Lines(error) => words_of_lines(*error),
         ServeFault::BadBundle =>
             "a bundle is a design in UTF-8, a line %%, a policy, a line %%, and a script",
         ServeFault::ReadFailed => "it can't be read as text in UTF-8",
@@ -126,12 +144,27 @@ impl Sources<'_, '_> {
         }
     }
 
-    /// The diagnostic of a fault of the policy; the design has been read before, so that it is refused for want of memory alone.
+    /// The design, read again to find the key at which the policy is at fault; none for want of memory, which is at no key.
+    fn design_for(self, alloc: Global, error: &PolicyError) -> Option<Arc<Checked>> {
+        match error {
+            PolicyError::NoMemory => None,
+            _ => checked(alloc, self.design).ok(),
+        }
+    }
+
+    /// The diagnostic of a fault of the policy without its key.
+    fn keyless(self, alloc: Global, error: &PolicyError) -> Result<Text, AllocError>
+        ensures { IfOk result (IsPolicyDiagnostic self.entry.policy_name.now error.now) }
+    {
+        keyless_diagnostic(alloc, self.policy_name, error)
+    }
+
+    /// The diagnostic of a fault of the policy, with the key where there is one and memory to find it.
     fn policy_diagnostic(self, alloc: Global, error: &PolicyError) -> Result<Text, AllocError>
         ensures { IfOk result (IsPolicyDiagnostic self.entry.policy_name.now error.now) }
     {
-        match checked(alloc, self.design) {
-            Ok(checked) => {
+        match self.design_for(alloc, error) {
+            Some(checked) => {
                 policy_diagnostic(
                     alloc,
                     self.policy_name,
@@ -140,7 +173,7 @@ impl Sources<'_, '_> {
                     error,
                 )
             }
-            Err(_) => Err(AllocError),
+            None => self.keyless(alloc, error),
         }
     }
 }

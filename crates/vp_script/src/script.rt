@@ -142,6 +142,7 @@ pub fn run_script<R: Read, W: Write>(
 {
     let mut keeper = opened(alloc, design, policy)?;
     let ran = answered(alloc, &mut keeper, reader, writer);
+    // Dropped by a call, so that how a keeper is dropped is no part of this function's proof.
     drop(keeper);
     match ran {
         Ok(ran) => Ok(ran),

@@ -24,19 +24,14 @@ fn print_text<R: Print>(rt: &R, text: &Text) -> io::Result<ExitCode> {
     Ok(ExitCode::SUCCESS)
 }
 
-/// Prints a fault; the status is 1.
-fn print_fault<R: Print>(rt: &R, fault: &ServeFault) -> io::Result<ExitCode> {
-    let code = fault.code();
-    let line = fault.line();
-    println!(rt; "fault {code} line {line}")?;
-    Ok(ExitCode::FAILURE)
-}
-
-/// Prints a fault, and its diagnostic on standard error; the status is 1.
+/// Prints a fault, and its diagnostic on standard error, also where the fault can't be printed; the status is 1.
 fn print_refused<R: Print + Eprint>(rt: &R, refused: &Refused) -> io::Result<ExitCode> {
-    let status = print_fault(rt, &refused.fault)?;
+    let code = refused.fault.code();
+    let line = refused.fault.line();
+    let printed = println!(rt; "fault {code} line {line}");
     rt.eprint(refused.diagnostic.as_str())?;
-    Ok(status)
+    printed?;
+    Ok(ExitCode::FAILURE)
 }
 
 /// Prints the fault that ended a run, if one did; the status is 1 then. That there was no memory to let the simulation run on is
@@ -105,8 +100,9 @@ fn serve_status<R: Print + Eprint>(rt: &R, served: Result<(), Unserved>) -> io::
         Err(Unserved::Refused(refused)) => print_refused(rt, &refused),
         Err(Unserved::Fault(fault)) => {
             let code = fault.code();
-            println!(rt; "fault {code} line 0")?;
+            let printed = println!(rt; "fault {code} line 0");
             eprintln!(rt; "fault {code}: {fault}")?;
+            printed?;
             Ok(ExitCode::FAILURE)
         }
     }
@@ -150,6 +146,6 @@ fn main(rt: HostRuntime) -> io::Result<ExitCode> {
             rt.eprint(text.as_str())?;
             Ok(ExitCode::from(2))
         }
-        Err(Misuse::NoMemory) => print_fault(&rt, &ServeFault::NoMemory),
+        Err(Misuse::NoMemory) => print_refused(&rt, &Refused::new(alloc, ServeFault::NoMemory)),
     }
 }

@@ -81,6 +81,7 @@ where
 /// The number of entries of the log of a server that has ended.
 fn entry_count(closed: Closed) -> u64 {
     let entries = closed.log().len() as u64;
+    // Dropped by a call, so that how it is dropped is no part of this function's proof.
     drop(closed);
     entries
 }
@@ -127,6 +128,7 @@ where
             print_line(rt, "closed", entries)
         }
         Err(unserved) => {
+            // Dropped by a call, as the log is in `entry_count`.
             drop(world);
             Err(unserved)
         }

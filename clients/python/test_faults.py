@@ -1,0 +1,168 @@
+"""Tests of the faults that the machine brings: standard input or output that fails, and want of memory and of threads. Each is told by its number on
+standard output and in words on standard error. python3 -m unittest, in this folder, over the program of test_loddrume.
+"""
+
+import fcntl
+import json
+import os
+import resource
+import socket
+import subprocess
+import tempfile
+import unittest
+from pathlib import Path
+from typing import Callable, Set, Tuple
+
+from test_loddrume import PROGRAM, TOP, needs_serve
+
+EXAMPLE = TOP / "docs" / "policy"
+
+# What is told of each want of memory, by docs/FORMATS.md: of the design d.v and the policy p.json.
+WANTS = {
+    **{number: [f"d.v: fault {number}: no memory (no line is known for it)\n"] for number in (206, 310, 404, 510, 604)},
+    905: ["p.json: fault 905: no memory (no line is known for it)\n"],
+    1307: ["fault 1307: no memory for a world\n"],
+    1607: [f"{name}fault 1607: no memory\n" for name in ("d.v: ", "p.json: ", "")],
+}
+# The C library asks for memory page by page (mallopt(3)), so that a little more of it lets a run come a little further.
+BY_PAGES = {"MALLOC_TOP_PAD_": "0", "MALLOC_MMAP_THRESHOLD_": str(1 << 32)}
+# So many sizes of memory are tried, from the least with which the program prints its help.
+SIZES = 40
+
+
+def limited(**sizes: int) -> Callable[[], None]:
+    """What sets limits of a new process (setrlimit(2)), in bytes."""
+
+    def limit() -> None:
+        for name, size in sizes.items():
+            resource.setrlimit(getattr(resource, f"RLIMIT_{name}"), (size, size))
+
+    return limit
+
+
+def told(process: "subprocess.CompletedProcess[str]") -> Tuple[int, str, str]:
+    """The status, standard output and standard error."""
+    return process.returncode, process.stdout, process.stderr
+
+
+class Lines(unittest.TestCase):
+    """Standard input and standard output."""
+
+    words = [PROGRAM, "run", "soc.v", "policy.json"]
+
+    def test_input_that_fails(self) -> None:
+        folder = os.open(EXAMPLE, os.O_RDONLY)
+        try:
+            run = subprocess.run(self.words, cwd=EXAMPLE, stdin=folder, capture_output=True, encoding="utf-8", check=False)
+        finally:
+            os.close(folder)
+        self.assertEqual(told(run), (1, "fault 1504 line 0\n", "fault 1504: standard input can't be read\n"))
+
+    def test_output_that_fails(self) -> None:
+        with (EXAMPLE / "sam.script").open() as script, open("/dev/full", "w") as full:
+            run = subprocess.run(self.words, cwd=EXAMPLE, stdin=script, stdout=full, stderr=subprocess.PIPE, encoding="utf-8", check=False)
+        self.assertEqual((run.returncode, run.stderr.splitlines()[0]), (1, "fault 1505: standard output can't be written"))
+
+    def test_input_of_too_many_reads(self) -> None:
+        """Each byte of the writer is read by itself, since each write makes a packet of the pipe (pipe(2))."""
+        reader, writer = os.pipe2(os.O_DIRECT)
+        fcntl.fcntl(writer, fcntl.F_SETPIPE_SZ, 1 << 20)
+        zeros = ["dd", "if=/dev/zero", "bs=1", f"count={1 << 25}"]
+        with subprocess.Popen(zeros, stdout=writer, stderr=subprocess.DEVNULL) as writing:
+            os.close(writer)
+            run = subprocess.run(self.words, cwd=EXAMPLE, stdin=reader, capture_output=True, encoding="utf-8", check=False)
+            os.close(reader)
+        self.assertNotEqual(writing.returncode, 0)
+        self.assertEqual(told(run), (1, "fault 1506 line 0\n", "fault 1506: standard input was read 16,777,216 times\n"))
+
+
+def wires(count: int) -> str:
+    """A module with so many wires, and an expression for each."""
+    items = [f"wire w{number} = a & (a | {number % 7}) ^ ~a;\n" for number in range(count)]
+    return "module top(input wire a);\n" + "".join(items) + "endmodule\n"
+
+
+def levels(count: int) -> str:
+    """Modules, each of which has two instances of the next, so many levels deep."""
+    modules = [f"module m{level}; reg r; m{level + 1} a(), b(); endmodule\n" for level in range(count)]
+    return "".join(modules) + f"module m{count}; reg r; endmodule\n"
+
+
+def envelopes(count: int, author: str) -> str:
+    """A module with so many envelopes, each of an author of its own."""
+    items = [f'`pragma protect author="{author}{number}", begin\nreg r{number};\n`pragma protect end\n' for number in range(count)]
+    return "module top;\n" + "".join(items) + "endmodule\n"
+
+
+def policy(users: int, grants: int) -> str:
+    """A policy of so many users, each with grants for so many envelopes."""
+    granted = [{"envelope": number + 1, "access": "list+read"} for number in range(grants)]
+    return json.dumps({"users": [{"name": f"u{number}", "token": "t", "open": "list", "run": True, "grants": granted} for number in range(users)]})
+
+
+class Memory(unittest.TestCase):
+    """Want of memory for a file, a design, a policy or a world, and for threads."""
+
+    def run_within(self, size: int, folder: Path, *words: str) -> "subprocess.CompletedProcess[str]":
+        """A run of the program with so many bytes of memory."""
+        return subprocess.run(
+            [PROGRAM, *words],
+            cwd=folder,
+            stdin=subprocess.DEVNULL,
+            capture_output=True,
+            encoding="utf-8",
+            env={**os.environ, **BY_PAGES},
+            preexec_fn=limited(DATA=size, CORE=0),
+            check=False,
+        )
+
+    def enough(self, size: int, growth: Callable[[int], int], folder: Path, *words: str) -> int:
+        """The first size of memory, from this one on, in which a run succeeds."""
+        while self.run_within(size, folder, *words).returncode:
+            size = growth(size)
+            self.assertLess(size, 1 << 32)
+        return size
+
+    def faults(self, folder: Path, *words: str) -> Set[Tuple[str, str]]:
+        """What the program tells of files for which there is too little memory: faults, and their words."""
+        least = self.enough(64 << 10, lambda size: size + (16 << 10), folder, "--help")
+        enough = self.enough(least, lambda size: 2 * size, folder, *words)
+        found = set()
+        for size in range(least, enough, (enough - least) // SIZES):
+            status, output, error = told(self.run_within(size, folder, *words))
+            if (status, output, error) != (0, "", ""):
+                self.assertEqual(status, 1, error)
+                found.add((output, error))
+        return found
+
+    def check(self, command: str, design: str, rules: str, *wanted: int) -> None:
+        """Each fault of a design and a policy is want of memory and told so, and among them are these."""
+        with tempfile.TemporaryDirectory() as folder:
+            (Path(folder) / "d.v").write_text(design)
+            (Path(folder) / "p.json").write_text(rules)
+            found = self.faults(Path(folder), command, "d.v", "p.json")
+        self.assertLessEqual(found, {(f"fault {number} line 0\n", text) for number, texts in WANTS.items() for text in texts})
+        self.assertLessEqual({f"fault {number} line 0\n" for number in wanted}, {output for output, _ in found})
+
+    def test_a_text_of_many_wires(self) -> None:
+        self.check("check", wires(1000), policy(1, 0), 206, 404, 510, 604, 1607)
+
+    def test_envelopes_of_long_authors(self) -> None:
+        self.check("check", envelopes(200, "a" * 2000), policy(1, 0), 310)
+
+    def test_a_policy_of_many_grants(self) -> None:
+        self.check("check", envelopes(20, "acme"), policy(100, 20), 905)
+
+    def test_a_world_of_many_objects(self) -> None:
+        self.check("run", levels(10), policy(1, 0), 1307)
+
+    @needs_serve
+    def test_threads(self) -> None:
+        with socket.create_server(("127.0.0.1", 0)) as listener:
+            port = listener.getsockname()[1]
+        run = self.run_within(4 << 20, EXAMPLE, "serve", "soc.v", "policy.json", "--port", str(port))
+        self.assertEqual(told(run), (1, f"listening {port}\nfault 1606 line 0\n", "fault 1606: no thread can be started\n"))
+
+
+if __name__ == "__main__":
+    unittest.main()
