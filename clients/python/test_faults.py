@@ -13,7 +13,7 @@ import unittest
 from pathlib import Path
 from typing import Callable, Set, Tuple
 
-from test_loddrume import PROGRAM, TOP, needs_serve
+from test_loddrume import PROGRAM, TOP, free_port, needs_serve
 
 EXAMPLE = TOP / "docs" / "policy"
 
@@ -158,10 +158,29 @@ class Memory(unittest.TestCase):
 
     @needs_serve
     def test_threads(self) -> None:
-        with socket.create_server(("127.0.0.1", 0)) as listener:
-            port = listener.getsockname()[1]
+        port = free_port()
         run = self.run_within(4 << 20, EXAMPLE, "serve", "soc.v", "policy.json", "--port", str(port))
         self.assertEqual(told(run), (1, f"listening {port}\nfault 1606 line 0\n", "fault 1606: no thread can be started\n"))
+
+    @needs_serve
+    def test_the_end_of_a_server(self) -> None:
+        """A server that may have no more memory can't compare the receipts of a long session with the log."""
+        port = free_port()
+        words = [PROGRAM, "serve", "soc.v", "policy.json", "--port", str(port), "--sessions", "1"]
+        opening = (EXAMPLE / "sam.script").read_text().splitlines(keepends=True)[0]
+        lines = [opening, *['{"op":"time"}\n'] * 20_000]
+        with subprocess.Popen(words, cwd=EXAMPLE, stdout=subprocess.PIPE, stderr=subprocess.PIPE, encoding="utf-8") as server:
+            assert server.stdout
+            self.assertEqual(server.stdout.readline(), f"listening {port}\n")
+            with socket.create_connection(("127.0.0.1", port), 60) as connection, connection.makefile("rw", encoding="utf-8", newline="\n") as stream:
+                for line in lines:
+                    stream.write(line)
+                    stream.flush()
+                    self.assertTrue(stream.readline())
+                resource.prlimit(server.pid, resource.RLIMIT_DATA, (0, 0))
+            output, error = server.communicate(timeout=60)
+        wanted = (1, "fault 1403 line 0\n", "fault 1403: the hub can't be closed: world: no memory\n")
+        self.assertEqual((server.returncode, output, error), wanted)
 
 
 if __name__ == "__main__":
