@@ -25,7 +25,7 @@ WANTS = {
     1607: [f"{name}fault 1607: no memory\n" for name in ("d.v: ", "p.json: ", "")],
 }
 # The C library asks for memory page by page (mallopt(3)), so that a little more of it lets a run come a little further.
-BY_PAGES = {"MALLOC_TOP_PAD_": "0", "MALLOC_MMAP_THRESHOLD_": str(1 << 32)}
+BY_PAGES = {"MALLOC_TOP_PAD_": "0", "MALLOC_MMAP_THRESHOLD_": str(32 << 20)}
 # So many sizes of memory are tried, from the least with which the program prints its help.
 SIZES = 40
 
