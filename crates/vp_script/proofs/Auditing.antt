@@ -107,6 +107,16 @@ module _ (text bytes : List ℕ) (design : Elaborated) (policy : PolicyState) (r
       ended f (inl (lacks, still)) = untold f (lacking name f lacks) still
       ended f (inr ends) = inr (opening_of design policy, user, opens_for, ends)
 
+-- of a design that is lent comes what comes of its owner's
+module _ (lent own : Elaborated) (same : lent ≡ own) (policy : PolicyState) (unread still_unread : Option (List ℕ)) where
+  pub audit_of_own :
+      (explain : Bool) (user : ℕ) (audited : Audited) → IsAuditBehind explain (opening_of lent policy) user unread still_unread audited
+      → IsAuditBehind explain (opening_of own policy) user unread still_unread audited
+  audit_of_own explain user audited is = subst (λ (d : Elaborated). IsAuditBehind explain (opening_of d policy) user unread still_unread audited) same is
+
+  pub ends_own : (f : ServeFault) → EndsRunBy (opening_of lent policy) unread still_unread f → EndsOpenedBy (opening_of own policy) unread still_unread f
+  ends_own f ends = inr (subst (λ (d : Elaborated). EndsRunBy (opening_of d policy) unread still_unread f) same ends)
+
 -- a script that opens with a design and a policy, which are lent
 pub opens_lent : (script : Script) (own lent : Elaborated) (policy : PolicyState) → script ≡ opened (opening_of own policy) → own ≡ lent → script ≡ opened (opening_of lent policy)
 opens_lent script own lent policy opens same = opens ∙ ap (λ (d : Elaborated). opened (opening_of d policy)) same
@@ -137,5 +147,5 @@ module _ (opening : Opening) (unread still_unread : Option (List ℕ)) where
     }
 
     -- or memory is lacking for that
-    pub lacks_behind : (f : ServeFault) → f ≡ fault.NoMemory → EndsOpenedBy opening unread still_unread f
-    lacks_behind f is = subst (EndsOpenedBy opening unread still_unread) (sym is) (inr (behind, runs))
+    pub lacks_behind : (f : ServeFault) → f ≡ fault.NoMemory → EndsRunBy opening unread still_unread f
+    lacks_behind f is = subst (EndsRunBy opening unread still_unread) (sym is) (behind, runs)

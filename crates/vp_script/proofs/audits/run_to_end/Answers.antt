@@ -1,5 +1,5 @@
 use Rattle.vp_script.specs.Keeping.{script_of}
-use Rattle.vp_script.proofs.Auditing.{runs_to, stops}
+use Rattle.vp_script.proofs.Auditing.{runs_to}
 use Rattle.vp_script.proofs.Openings.{answered_keeps}
 use Rattle.vp_script.proofs.audits.run_to_end.Goals as goal
 

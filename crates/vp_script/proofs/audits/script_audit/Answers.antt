@@ -1,12 +1,12 @@
-use Rattle.std.proofs.Common.{◌≡◌, ◌∙◌, ap, inl, inr, refl, subst, sym}
+use Rattle.std.proofs.Common.{inl, refl, subst, sym}
 use Rattle.std.proofs.lemmas.Result.{IfErr-weaker, IfOk-weaker}
 use Rattle.std.specs.Arc.{arc_value}
 use Rattle.vp_elab.specs.Built.{Elaborated}
 use Rattle.vp_audit.specs.Openings.{IsRight}
 use Rattle.vp_design.proofs.Results.{told_as}
-use Rattle.vp_script.specs.Audits.{EndsOpenedBy, EndsRunBy, IsAuditBehind}
+use Rattle.vp_script.specs.Audits.{EndsOpenedBy}
 use Rattle.vp_script.specs.Scripts.{opening_of}
-use Rattle.vp_script.proofs.Auditing.{opens_lent}
+use Rattle.vp_script.proofs.Auditing.{audit_of_own, ends_own, opens_lent}
 use Rattle.vp_script.proofs.audits.script_audit.Goals as goal
 
 pub keeper_for-requires : goal.keeper_for-requires
@@ -18,20 +18,22 @@ returns-in_err-keeper-clause-refused g c =
     told_as _ (EndsOpenedBy opening _ _) c.from_residual.result c.from_residual.ensures.1
     (λ f told. subst (EndsOpenedBy opening _ _) (sym told) (inl ((c.in_err-keeper.ensures {u = tt}).refused, refl)))
 
-pub run_and_audit-requires-clause-right : goal.run_and_audit-requires-clause-right
-run_and_audit-requires-clause-right g c =
+pub run_and_audit-audited-requires-clause-right : goal.run_and_audit-audited-requires-clause-right
+run_and_audit-audited-requires-clause-right g c =
     subst (λ (d : Elaborated). IsRight (opening_of d c.args.policy.now)) (sym c.deref.ensures) c.requires
 
-pub run_and_audit-requires-clause-fresh : goal.run_and_audit-requires-clause-fresh
-run_and_audit-requires-clause-fresh g c =
+pub run_and_audit-audited-requires-clause-fresh : goal.run_and_audit-audited-requires-clause-fresh
+run_and_audit-audited-requires-clause-fresh g c =
     opens_lent _ (arc_value c.args.checked.now) _ c.args.policy.now (c.in_ok-keeper.ensures {u = tt}).script (sym c.deref.ensures)
 
 pub returns-clause-audit : goal.returns-clause-audit
 returns-clause-audit g c =
-    subst (λ (d : Elaborated). IfOk c.run_and_audit.result (IsAuditBehind c.args.explain (opening_of d c.args.policy.now) c.args.user.0 _ _)) c.deref.ensures c.run_and_audit.ensures.audit
+    IfOk-weaker c.run_and_audit-audited.result _ _
+    (λ audited is. audit_of_own _ _ c.deref.ensures c.args.policy.now _ _ c.args.explain c.args.user.0 audited is)
+    c.run_and_audit-audited.ensures.audit
 
 pub returns-clause-refused : goal.returns-clause-refused
 returns-clause-refused g c =
-    IfErr-weaker c.run_and_audit.result _ _
-    (λ f ends. subst (λ (d : Elaborated). EndsOpenedBy (opening_of d c.args.policy.now) _ _ f) c.deref.ensures (inr ends))
-    c.run_and_audit.ensures.refused
+    IfErr-weaker c.run_and_audit-audited.result _ _
+    (λ f ends. ends_own _ _ c.deref.ensures c.args.policy.now _ _ f ends)
+    c.run_and_audit-audited.ensures.refused
