@@ -2,6 +2,7 @@
 standard output and in words on standard error. python3 -m unittest, in this folder, over the program of test_loddrume.
 """
 
+import errno
 import fcntl
 import json
 import os
@@ -16,6 +17,9 @@ from typing import Callable, Set, Tuple
 from test_loddrume import PROGRAM, TOP, free_port, needs_serve
 
 EXAMPLE = TOP / "docs" / "policy"
+
+# Sets the size of a pipe (fcntl(2)); Python has the name from 3.10 on.
+F_SETPIPE_SZ = 1031
 
 # What is told of each want of memory, by docs/FORMATS.md: of the design d.v and the policy p.json.
 WANTS = {
@@ -61,12 +65,13 @@ class Lines(unittest.TestCase):
     def test_output_that_fails(self) -> None:
         with (EXAMPLE / "sam.script").open() as script, open("/dev/full", "w") as full:
             run = subprocess.run(self.words, cwd=EXAMPLE, stdin=script, stdout=full, stderr=subprocess.PIPE, encoding="utf-8", check=False)
-        self.assertEqual((run.returncode, run.stderr.splitlines()[0]), (1, "fault 1505: standard output can't be written"))
+        system = f'Error: Os {{ code: {errno.ENOSPC}, kind: StorageFull, message: "{os.strerror(errno.ENOSPC)}" }}\n'
+        self.assertEqual((run.returncode, run.stderr), (1, "fault 1505: standard output can't be written\n" + system))
 
     def test_input_of_too_many_reads(self) -> None:
         """Each byte of the writer is read by itself, since each write makes a packet of the pipe (pipe(2))."""
         reader, writer = os.pipe2(os.O_DIRECT)
-        fcntl.fcntl(writer, fcntl.F_SETPIPE_SZ, 1 << 20)
+        fcntl.fcntl(writer, F_SETPIPE_SZ, 1 << 20)
         zeros = ["dd", "if=/dev/zero", "bs=1", f"count={1 << 25}"]
         with subprocess.Popen(zeros, stdout=writer, stderr=subprocess.DEVNULL) as writing:
             os.close(writer)
@@ -113,6 +118,7 @@ class Memory(unittest.TestCase):
             encoding="utf-8",
             env={**os.environ, **BY_PAGES},
             preexec_fn=limited(DATA=size, CORE=0),
+            timeout=60,
             check=False,
         )
 
@@ -170,15 +176,18 @@ class Memory(unittest.TestCase):
         opening = (EXAMPLE / "sam.script").read_text().splitlines(keepends=True)[0]
         lines = [opening, *['{"op":"time"}\n'] * 20_000]
         with subprocess.Popen(words, cwd=EXAMPLE, stdout=subprocess.PIPE, stderr=subprocess.PIPE, encoding="utf-8") as server:
-            assert server.stdout
-            self.assertEqual(server.stdout.readline(), f"listening {port}\n")
-            with socket.create_connection(("127.0.0.1", port), 60) as connection, connection.makefile("rw", encoding="utf-8", newline="\n") as stream:
-                for line in lines:
-                    stream.write(line)
-                    stream.flush()
-                    self.assertTrue(stream.readline())
-                resource.prlimit(server.pid, resource.RLIMIT_DATA, (0, 0))
-            output, error = server.communicate(timeout=60)
+            try:
+                assert server.stdout
+                self.assertEqual(server.stdout.readline(), f"listening {port}\n")
+                with socket.create_connection(("127.0.0.1", port), 60) as connection, connection.makefile("rw", encoding="utf-8", newline="\n") as stream:
+                    for line in lines:
+                        stream.write(line)
+                        stream.flush()
+                        self.assertTrue(stream.readline())
+                    resource.prlimit(server.pid, resource.RLIMIT_DATA, (0, 0))
+                output, error = server.communicate(timeout=60)
+            finally:
+                server.kill()
         wanted = (1, "fault 1403 line 0\n", "fault 1403: the hub can't be closed: world: no memory\n")
         self.assertEqual((server.returncode, output, error), wanted)
 
