@@ -1,5 +1,5 @@
-"""Tests of the faults that the machine brings: standard input or output that fails, and want of memory and of threads. Each is told by its number on
-standard output and in words on standard error. python3 -m unittest, in this folder, over the program of test_loddrume.
+"""Tests of the faults that no text brings: words that ask nothing, standard input or output that fails, and want of memory and of threads. Each but the
+first is told by its number on standard output, and in words on standard error. python3 -m unittest, in this folder, over the program of test_loddrume.
 """
 
 import errno
@@ -47,6 +47,15 @@ def limited(**sizes: int) -> Callable[[], None]:
 def told(process: "subprocess.CompletedProcess[str]") -> Tuple[int, str, str]:
     """The status, standard output and standard error."""
     return process.returncode, process.stdout, process.stderr
+
+
+class Words(unittest.TestCase):
+    """The command line."""
+
+    def test_words_that_ask_nothing(self) -> None:
+        run = subprocess.run([PROGRAM, "frob"], capture_output=True, encoding="utf-8", check=False)
+        wanted = "error: unrecognized subcommand 'frob'\n\nUsage: vp_served [COMMAND]\n\nFor more information, try '--help'.\n"
+        self.assertEqual(told(run), (2, "", wanted))
 
 
 class Lines(unittest.TestCase):
