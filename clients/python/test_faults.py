@@ -160,16 +160,16 @@ class Memory(unittest.TestCase):
         self.assertLessEqual({f"fault {number} line 0\n" for number in wanted}, {output for output, _ in found})
 
     def test_a_text_of_many_wires(self) -> None:
-        self.check("check", wires(1000), policy(1, 0), 206, 404, 510, 604, 1607)
+        self.check("check", wires(1000), policy(1, 0), 206, 404, 604)
 
     def test_envelopes_of_long_authors(self) -> None:
-        self.check("check", envelopes(200, "a" * 2000), policy(1, 0), 310)
+        self.check("check", envelopes(200, "a" * 2000), policy(1, 0), 310, 1607)
 
     def test_a_policy_of_many_grants(self) -> None:
         self.check("check", envelopes(20, "acme"), policy(100, 20), 905)
 
     def test_a_world_of_many_objects(self) -> None:
-        self.check("run", levels(10), policy(1, 0), 1307)
+        self.check("run", levels(10), policy(1, 0), 510, 1307)
 
     @needs_serve
     def test_threads(self) -> None:
