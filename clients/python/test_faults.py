@@ -197,7 +197,7 @@ class Memory(unittest.TestCase):
                 output, error = server.communicate(timeout=60)
             finally:
                 server.kill()
-        wanted = (1, "fault 1403 line 0\n", "fault 1403: the hub can't be closed: world: no memory\n")
+        wanted = (1, "fault 1403 line 0\n", "fault 1403: no memory to compare what was answered with the log\n")
         self.assertEqual((server.returncode, output, error), wanted)
 
 

@@ -79,6 +79,7 @@ module _ (text bytes : List ℕ) (design : Elaborated) (policy : PolicyState) (r
   lacking name fault.NoMemory h = inl tt
   lacking name (fault.Design e) h = absurd h
   lacking name (fault.Lines e) h = absurd h
+  lacking name (fault.Hub e) h = absurd h
   lacking name fault.BadBundle h = absurd h
   lacking name fault.ReadFailed h = absurd h
   lacking name fault.TooLong h = absurd h

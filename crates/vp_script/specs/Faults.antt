@@ -4,8 +4,9 @@ use Rattle.vp_design.specs.Faults as design
 use Rattle.vp_policy.specs.Faults as policy
 use Rattle.vp_world.specs.Faults as world
 use Rattle.vp_wire.specs.Faults as wire
+use Rattle.vp_hub.specs.Faults as hub
 use Rattle.vp_script.specs.declared.fault.ServeFault.{ServeFault}
-use Rattle.vp_script.specs.declared.fault.ServeFault.TheVariants.{Design, Policy, World, Lines, BadBundle, ReadFailed, TooLong, NoSuchUser, ListenFailed, NoThread, NoMemory}
+use Rattle.vp_script.specs.declared.fault.ServeFault.TheVariants.{Design, Policy, World, Lines, Hub, BadBundle, ReadFailed, TooLong, NoSuchUser, ListenFailed, NoThread, NoMemory}
 
 -- the number of a fault (profile)
 abbrev pub code_of : ServeFault → ℕ
@@ -13,6 +14,7 @@ code_of (Design e) = design.code_of e
 code_of (Policy e) = policy.code_of e
 code_of (World e) = world.code_of e
 code_of (Lines e) = wire.code_of e
+code_of (Hub e) = hub.code_of e
 code_of BadBundle = 1601
 code_of ReadFailed = 1602
 code_of TooLong = 1603
@@ -27,6 +29,7 @@ line_of (Design e) = design.line_of e
 line_of (Policy e) = 0
 line_of (World e) = 0
 line_of (Lines e) = 0
+line_of (Hub e) = 0
 line_of BadBundle = 0
 line_of ReadFailed = 0
 line_of TooLong = 0

@@ -6,6 +6,8 @@ use Rattle.vp_diagnostic.specs.Rendering.{file_text, plain_text}
 use Rattle.vp_script.specs.Faults.{code_of}
 use Rattle.vp_script.specs.declared.fault.ServeFault.{ServeFault}
 use Rattle.vp_script.specs.declared.fault.ServeFault.TheVariants as fault
+use Rattle.vp_hub.specs.declared.fault.HubError.{HubError}
+use Rattle.vp_hub.specs.declared.fault.HubError.TheVariants.{Mismatch, Receipt, World}
 use Rattle.vp_wire.specs.declared.fault.WireError.{WireError}
 use Rattle.vp_wire.specs.declared.fault.WireError.TheVariants.{ReadFault, TurnLimit, WriteFault}
 
@@ -16,12 +18,19 @@ words_of_lines WriteFault = codes "standard output can't be written"
 words_of_lines TurnLimit = codes "standard input was read 16,777,216 times"
 words_of_lines e = codes "bad lines"
 
+-- the words of a hub that can't be closed
+abbrev pub words_of_hub : HubError → List ℕ
+words_of_hub Receipt = codes "a reply is not at its place in the log"
+words_of_hub Mismatch = codes "the log has more requests than were answered"
+words_of_hub (World e) = codes "no memory to compare what was answered with the log"
+
 -- the words of a fault that is none of a design's or a policy's text
 abbrev pub words_of : ServeFault → List ℕ
 words_of (fault.Design e) = codes "bad design"
 words_of (fault.Policy e) = codes "bad policy"
 words_of (fault.World e) = codes "no memory for a world"
 words_of (fault.Lines e) = words_of_lines e
+words_of (fault.Hub e) = words_of_hub e
 words_of fault.BadBundle = codes "a bundle is a design in UTF-8, a line %%, a policy, a line %%, and a script"
 words_of fault.ReadFailed = codes "it can't be read as text in UTF-8"
 words_of fault.TooLong = codes "a design and a policy have at most 1,048,576 bytes, a bundle 16,777,216"

@@ -4,6 +4,7 @@ ghost use Rattle.vp_script.specs.declared.fault.ServeFault.TheVariants.{Design, 
 use std::alloc::{AllocError, AllocFailed};
 use thiserror::Error;
 use vp_design::DesignFault;
+use vp_hub::HubError;
 use vp_policy::PolicyError;
 use vp_wire::WireError;
 use vp_world::WorldError;
@@ -19,6 +20,9 @@ pub enum ServeFault {
     World(WorldError),
     #[error(transparent)]
     Lines(WireError),
+    /// The hub of a server that can't be closed (1401 to 1403).
+    #[error(transparent)]
+    Hub(HubError),
     /// A bundle without two lines `%%`, or whose design is no UTF-8 (1601).
     #[error("bad bundle")]
     BadBundle,
@@ -54,6 +58,7 @@ impl ServeFault {
             ServeFault::Policy(error) => error.code(),
             ServeFault::World(error) => error.code(),
             ServeFault::Lines(error) => error.code(),
+            ServeFault::Hub(error) => error.code(),
             ServeFault::BadBundle => 1601,
             ServeFault::ReadFailed => 1602,
             ServeFault::TooLong => 1603,

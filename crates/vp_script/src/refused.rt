@@ -1,6 +1,6 @@
 // What a run is refused for, in words.
 ghost use Rattle.std.specs.Prelude.{◌≡◌, [], MatchResult};
-ghost use Rattle.vp_script.specs.Refused.{words_of, words_of_lines};
+ghost use Rattle.vp_script.specs.Refused.{words_of, words_of_hub, words_of_lines};
 
 use crate::bundle::cut;
 use crate::fault::ServeFault;
@@ -12,6 +12,7 @@ use vp_diagnostic::{
     design_diagnostic, file_diagnostic, keyless_diagnostic, plain_diagnostic, policy_diagnostic,
 };
 use vp_expr::Checked;
+use vp_hub::HubError;
 use vp_list::Text;
 use vp_policy::PolicyError;
 use vp_wire::WireError;
@@ -82,6 +83,17 @@ fn words_of_lines(error: WireError) -> &'static str
     }
 }
 
+/// The words of a hub that can't be closed.
+fn words_of_hub(error: HubError) -> &'static str
+    ensures { result.now ≡ words_of_hub error }
+{
+    match error {
+        HubError::Receipt => "a reply is not at its place in the log",
+        HubError::Mismatch => "the log has more requests than were answered",
+        HubError::World(_) => "no memory to compare what was answered with the log",
+    }
+}
+
 /// The words of a fault that is none of a design's or a policy's text.
 fn words_of(fault: &ServeFault) -> &'static str
     ensures { result.now ≡ words_of fault.now }
@@ -91,6 +103,7 @@ fn words_of(fault: &ServeFault) -> &'static str
         ServeFault::Policy(_) => "bad policy",
         ServeFault::World(_) => "no memory for a world",
         ServeFault::Lines(error) => words_of_lines(*error),
+        ServeFault::Hub(error) => words_of_hub(*error),
         ServeFault::BadBundle =>
             "a bundle is a design in UTF-8, a line %%, a policy, a line %%, and a script",
         ServeFault::ReadFailed => "it can't be read as text in UTF-8",

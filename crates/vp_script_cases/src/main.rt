@@ -4,7 +4,7 @@
 //! next line goes on. For each line `%@ USER`, which is no line of the bundle, the user is audited by its script, and a line more is
 //! printed, which begins with his name; for each line `%? USER` what he was told is explained as well, by lines after that. For a line `%!` the diagnostic of the bundle's fault is
 //! printed after the line of the fault. Then it runs designs and policies of files on the script of standard input, checks them, tells
-//! what users see of them, and audits users.
+//! what users see of them, and audits users. Last it tells the faults of a server whose replies and log do not agree.
 #![tactic(auto)]
 
 mod cases;
@@ -13,7 +13,8 @@ use crate::cases::{Case, audit_lines, fault_line, read_cases};
 use std::io::BufReader;
 use std::rt::Files;
 use std::{env, fs, io};
-use vp_script::{Refused, audit_files, check_files, run_files, view_files};
+use vp_hub::HubError;
+use vp_script::{Refused, ServeFault, audit_files, check_files, run_files, view_files};
 
 /// Whether a case prints what it must; what it prints is shown where it does not.
 fn is_as_wanted<R: AllocGlobal + Print>(rt: &R, case: &Case) -> io::Result<bool> {
@@ -45,6 +46,11 @@ fn check_file<R: AllocGlobal + Files + Print>(rt: &R, file: &str) -> io::Result<
 fn print_fault<R: AllocGlobal + Print>(rt: &R, refused: &Refused) -> io::Result<()> {
     rt.print(fault_line(rt.alloc(), &refused.fault)?.as_str())?;
     rt.print(refused.diagnostic.as_str())
+}
+
+/// Tells the fault of a server whose hub can't be closed.
+fn print_unclosed<R: AllocGlobal + Print>(rt: &R, error: HubError) -> io::Result<()> {
+    print_fault(rt, &Refused::new(rt.alloc(), ServeFault::Hub(error)))
 }
 
 /// Runs a design and a policy of files, and tells the fault that ends the run, if one does.
@@ -121,5 +127,7 @@ fn main(rt: HostRuntime) -> io::Result<()> {
     print_audit(&rt, "hidden.v", "missing.json", "ann")?;
     print_audit(&rt, "hidden.v", "ann.json", "bob")?;
     // Standard input has been read to its end.
-    print_audit(&rt, "hidden.v", "ann.json", "ann")
+    print_audit(&rt, "hidden.v", "ann.json", "ann")?;
+    print_unclosed(&rt, HubError::Receipt)?;
+    print_unclosed(&rt, HubError::Mismatch)
 }

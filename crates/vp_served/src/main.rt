@@ -8,7 +8,7 @@ mod tests;
 mod words;
 
 use crate::parser::command;
-use crate::serving::{Unserved, serve_files};
+use crate::serving::serve_files;
 use crate::words::{Command, Misuse};
 use std::process::ExitCode;
 use std::{env, io};
@@ -48,9 +48,9 @@ fn run_status<R: Print + Eprint>(rt: &R, ran: Result<Ran, Refused>) -> io::Resul
     }
 }
 
-/// Prints the fault of a design and a policy, if there is one; the status is 1 then.
-fn check_status<R: Print + Eprint>(rt: &R, check: Result<(), Refused>) -> io::Result<ExitCode> {
-    match check {
+/// Prints the fault of a command that tells nothing else, if there is one; the status is 1 then.
+fn fault_status<R: Print + Eprint>(rt: &R, done: Result<(), Refused>) -> io::Result<ExitCode> {
+    match done {
         Ok(()) => Ok(ExitCode::SUCCESS),
         Err(refused) => print_refused(rt, &refused),
     }
@@ -93,27 +93,12 @@ fn audit_status<R: Print + Eprint>(
     }
 }
 
-/// Prints why files were not served to the end, if they were not; the status is 1 then.
-fn serve_status<R: Print + Eprint>(rt: &R, served: Result<(), Unserved>) -> io::Result<ExitCode> {
-    match served {
-        Ok(()) => Ok(ExitCode::SUCCESS),
-        Err(Unserved::Refused(refused)) => print_refused(rt, &refused),
-        Err(Unserved::Fault(fault)) => {
-            let code = fault.code();
-            let printed = println!(rt; "fault {code} line 0");
-            eprintln!(rt; "fault {code}: {fault}")?;
-            printed?;
-            Ok(ExitCode::FAILURE)
-        }
-    }
-}
-
 fn main(rt: HostRuntime) -> io::Result<ExitCode> {
     let alloc = rt.alloc();
     let words: Vec<String> = env::args(&rt)?.collect(alloc)?;
     match command(alloc, &words) {
         Ok(Command::Run { design, policy }) => run_status(&rt, run_files(&rt, design, policy)),
-        Ok(Command::Check { design, policy }) => check_status(
+        Ok(Command::Check { design, policy }) => fault_status(
             &rt,
             check_files(&rt, design, policy),
         ),
@@ -139,7 +124,7 @@ fn main(rt: HostRuntime) -> io::Result<ExitCode> {
                 port,
                 settings,
             },
-        ) => serve_status(&rt, serve_files(&rt, design, policy, port, settings)),
+        ) => fault_status(&rt, serve_files(&rt, design, policy, port, settings)),
         Ok(Command::Bundle) => run_status(&rt, run_input(&rt)),
         Ok(Command::Show(text)) => print_text(&rt, &text),
         Err(Misuse::BadWords(text)) => {

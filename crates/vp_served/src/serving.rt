@@ -1,6 +1,8 @@
 // A server of files.
 ghost use Rattle.std.specs.Prelude.{◌≡◌, [], IfOk};
+ghost use Rattle.vp_script.specs.Faults.{code_of};
 ghost use Rattle.vp_script.specs.Scripts.{greatest};
+ghost use Rattle.vp_serve.specs.Faults as server;
 
 use std::net::{Ipv4Addr, Net, TcpListener, TcpStream};
 use std::rt::Files;
@@ -13,27 +15,6 @@ use vp_script::{Refused, ServeFault, SourceFiles, fresh_world};
 use vp_serve::{ServerFault, Settings, serve};
 use vp_wire::WireError;
 use vp_world::{Limits, World};
-
-/// Why files are not served to the end.
-#[derive(Drop)]
-pub enum Unserved {
-    /// They can't be read, or are refused.
-    Refused(Refused),
-    /// The server has ended by a fault.
-    Fault(ServerFault),
-}
-
-impl From<Refused> for Unserved {
-    fn from(refused: Refused) -> Unserved {
-        Unserved::Refused(refused)
-    }
-}
-
-impl From<ServerFault> for Unserved {
-    fn from(fault: ServerFault) -> Unserved {
-        Unserved::Fault(fault)
-    }
-}
 
 /// A world of the files of a design and a policy, with the greatest limits, in which nothing has happened; or the first fault.
 #[tactic(auto, using(crate::proofs::Fresh::limits_of, crate::proofs::Fresh::log_of))]
@@ -55,24 +36,24 @@ fn world_of_files<R: AllocGlobal + Files>(
 }
 
 /// Prints a line; or tells that it can't be printed (1505).
-fn print_line<R: AllocGlobal + Print>(rt: &R, word: &str, number: u64) -> Result<(), Unserved> {
+fn print_line<R: AllocGlobal + Print>(rt: &R, word: &str, number: u64) -> Result<(), Refused> {
     match println!(rt; "{word} {number}") {
         Ok(()) => Ok(()),
         Err(_) => {
             let fault = ServeFault::Lines(WireError::WriteFault);
-            Err(Unserved::Refused(Refused::new(rt.alloc(), fault)))
+            Err(Refused::new(rt.alloc(), fault))
         }
     }
 }
 
 /// Listens on a port of 127.0.0.1, and prints `listening` and the port; or tells that it can't be listened on (1605).
-fn listen<R>(rt: &R, port: u16) -> Result<TcpListener, Unserved>
+fn listen<R>(rt: &R, port: u16) -> Result<TcpListener, Refused>
 where
     R: AllocGlobal + Print + Net<Listener = TcpListener, Stream = TcpStream>,
 {
     let Ok(listener) = TcpListener::bind(rt, (Ipv4Addr::LOCALHOST, port)) else {
         let fault = ServeFault::ListenFailed;
-        return Err(Unserved::Refused(Refused::new(rt.alloc(), fault)));
+        return Err(Refused::new(rt.alloc(), fault));
     };
     print_line(rt, "listening", u64::from(port))?;
     Ok(listener)
@@ -86,6 +67,16 @@ fn entry_count(closed: Closed) -> u64 {
     entries
 }
 
+/// The fault of a run that a server's fault is.
+fn fault_of(fault: ServerFault) -> ServeFault
+    ensures { code_of result ≡ server.code_of fault }
+{
+    match fault {
+        ServerFault::NoThread => ServeFault::NoThread,
+        ServerFault::Hub(error) => ServeFault::Hub(error),
+    }
+}
+
 /// Serves a world in which nothing has happened, with the greatest limits, to whoever connects to a listener, and gives the number of the log's
 /// entries at the end; or the fault of `vp_serve::serve`.
 fn serve_world<R: AllocGlobal + Threads + Wait + Clock + Sync>(
@@ -93,12 +84,15 @@ fn serve_world<R: AllocGlobal + Threads + Wait + Clock + Sync>(
     world: World,
     settings: Settings,
     listener: &TcpListener,
-) -> Result<u64, ServerFault>
+) -> Result<u64, Refused>
     requires limits { world.opening.limits ≡ greatest }
     requires empty { world.log ≡ [] }
 {
     let limits = Limits::GREATEST;
-    serve(rt, rt.alloc(), world, limits, settings, listener, &OpenGate).map(entry_count)
+    match serve(rt, rt.alloc(), world, limits, settings, listener, &OpenGate) {
+        Ok(closed) => Ok(entry_count(closed)),
+        Err(fault) => Err(Refused::new(rt.alloc(), fault_of(fault))),
+    }
 }
 
 /// Serves the files of a design and a policy on a port of 127.0.0.1, and prints `listening` and the port before, and `closed` and the number of
@@ -110,7 +104,7 @@ pub fn serve_files<R>(
     policy: &str,
     port: u16,
     settings: Settings,
-) -> Result<(), Unserved>
+) -> Result<(), Refused>
 where
     R: AllocGlobal
         + Files
@@ -127,10 +121,10 @@ where
             let entries = serve_world(rt, world, settings, &listener)?;
             print_line(rt, "closed", entries)
         }
-        Err(unserved) => {
+        Err(refused) => {
             // Dropped by a call, as the log is in `entry_count`.
             drop(world);
-            Err(unserved)
+            Err(refused)
         }
     }
 }
