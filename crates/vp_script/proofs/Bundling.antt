@@ -6,6 +6,7 @@ use Rattle.vp_script.specs.declared.fault.ServeFault.{ServeFault}
 use Rattle.vp_script.specs.declared.fault.ServeFault.TheVariants as fault
 use Rattle.vp_script.specs.Bundles.{cut_of}
 use Rattle.vp_design.specs.Designs.{text_limit}
+use Rattle.vp_script.specs.Refused.{HasDesignText}
 use Rattle.vp_script.specs.Scripts.{EndsBundleBy, EndsBy, HasParts, IsBadBundle, IsBundle, IsScript, Parts, bundle_limit}
 
 -- what a cut that was found gives
@@ -17,9 +18,21 @@ pub parts_of : {A : Type 0} (now : A → List ℕ × List ℕ) (bundle : List �
     → HasParts bundle (record { text = (now a).0; policy = (now b).0; input = (now b).1 })
 parts_of now bundle r s a b fits first first_found second second_found = record {
   fits = fits;
-  rest = (now a).1;
-  first_cut = cut_found now r a (cut_of bundle) first first_found;
-  second_cut = cut_found now s b (cut_of (now a).1) second second_found;
+  cut = record {
+    rest = (now a).1;
+    first_cut = cut_found now r a (cut_of bundle) first first_found;
+    second_cut = cut_found now s b (cut_of (now a).1) second second_found;
+  };
+}
+
+-- the text of the design of a bundle that was cut twice
+pub has_design_text : (bundle text rest policy input design : List ℕ) → Some (text, rest) ≡ cut_of bundle → Some (policy, input) ≡ cut_of rest → design ≡ text → (length text ≤ text_limit) × IsUtf8 text → HasDesignText bundle design
+has_design_text bundle text rest policy input design first second is text_is = record {
+  parts = record { text = text; policy = policy; input = input };
+  cut = record { rest = rest; first_cut = sym first; second_cut = sym second };
+  first = is;
+  fits = subst (λ (t : List ℕ). length t ≤ text_limit) (sym is) text_is.0;
+  text = subst (λ (t : List ℕ). IsUtf8 t) (sym is) text_is.1;
 }
 
 module _ (bundle : List ℕ) (parts : Parts) (has : HasParts bundle parts) where

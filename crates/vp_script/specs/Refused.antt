@@ -1,9 +1,11 @@
 -- What is told of a fault in words (profile).
-use Rattle.std.specs.Prelude.{◌≡◌, ◌⊎◌, ℕ, List, [], codes}
+use Rattle.std.specs.Prelude.{◌≡◌, ◌⊎◌, ◌≤◌, IsUtf8, length, ℕ, List, [], codes}
+use Rattle.vp_design.specs.Designs.{text_limit}
 use Rattle.vp_diagnostic.specs.Diagnostics.{IsDesignDiagnostic}
 use Rattle.vp_diagnostic.specs.Policies.{IsPolicyDiagnostic}
 use Rattle.vp_diagnostic.specs.Rendering.{file_text, plain_text}
 use Rattle.vp_script.specs.Faults.{code_of}
+use Rattle.vp_script.specs.Scripts.{IsCutInto, Parts}
 use Rattle.vp_script.specs.declared.fault.ServeFault.{ServeFault}
 use Rattle.vp_script.specs.declared.fault.ServeFault.TheVariants as fault
 use Rattle.vp_hub.specs.declared.fault.HubError.{HubError}
@@ -50,3 +52,28 @@ IsDiagnostic design_name design policy_name f text = text ≡ plain_text (code_o
 -- what is told where there may be no memory for it: nothing then
 abbrev pub IsToldOr : (List ℕ → Type 0) → List ℕ → Type 0
 IsToldOr is text = (text ≡ []) ⊎ is text
+
+-- ---- a bundle
+
+-- the name under which the parts of a bundle are told
+abbrev pub standard_input : List ℕ
+standard_input = codes "standard input"
+
+-- a bundle has a design of this text: the first of the parts that it is cut into, which is not too long, and in UTF-8
+pub record HasDesignText (bundle design : List ℕ) : Type 0 where
+  pub parts : Parts
+  pub cut : IsCutInto bundle parts
+  pub first : design ≡ parts.text
+  pub fits : length design ≤ text_limit
+  pub text : IsUtf8 design
+
+-- a bundle has no design
+abbrev pub HasNoDesignText : List ℕ → Type 0
+HasNoDesignText bundle = (design : List ℕ) → HasDesignText bundle design → ⊥
+
+-- the diagnostic of a fault of a run of a bundle: that over its design, with its policy under the same name, if it has one; else that of
+-- the bundle as a whole
+abbrev pub IsBundleDiagnostic : List ℕ → ServeFault → List ℕ → Type 0
+IsBundleDiagnostic bundle f text =
+    ((design : List ℕ) × HasDesignText bundle design × IsDiagnostic standard_input design standard_input f text)
+    ⊎ (HasNoDesignText bundle × (text ≡ file_text standard_input (code_of f) (words_of f)))

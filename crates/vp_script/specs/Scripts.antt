@@ -228,12 +228,16 @@ pub record Parts : Type 0 where
   pub policy : List ℕ
   pub input : List ℕ
 
--- a bundle is not too long, and has these parts: what stands before its first line `%%`, between this and the next, and after that
-pub record HasParts (bundle : List ℕ) (parts : Parts) : Type 0 where
-  pub fits : length bundle ≤ bundle_limit
+-- a bundle is cut into these parts: what stands before its first line `%%`, between this and the next, and after that
+pub record IsCutInto (bundle : List ℕ) (parts : Parts) : Type 0 where
   pub rest : List ℕ
   pub first_cut : cut_of bundle ≡ Some (parts.text, rest)
   pub second_cut : cut_of rest ≡ Some (parts.policy, parts.input)
+
+-- a bundle is not too long, and has these parts
+pub record HasParts (bundle : List ℕ) (parts : Parts) : Type 0 where
+  pub fits : length bundle ≤ bundle_limit
+  pub cut : IsCutInto bundle parts
 
 -- it has no two lines `%%`
 abbrev pub HasNoParts : List ℕ → Type 0

@@ -1,5 +1,6 @@
 // What a run is refused for, in words.
-ghost use Rattle.std.specs.Prelude.{◌≡◌, [], MatchResult};
+ghost use Rattle.std.specs.Prelude.{◌≡◌, [], MatchOption, MatchResult};
+ghost use Rattle.vp_script.specs.Refused.{HasDesignText, HasNoDesignText, IsBundleDiagnostic, IsToldOr};
 ghost use Rattle.vp_script.specs.Refused.{words_of, words_of_hub, words_of_lines};
 
 use crate::bundle::cut;
@@ -191,25 +192,34 @@ impl Sources<'_, '_> {
     }
 }
 
-/// The design and the policy of a bundle; none where it has no such parts, or the design is no text.
-fn bundle_sources(bundle: &[u8]) -> Option<Sources<'_, '_>> {
+/// The texts of the design and of the policy of a bundle; none where it has no such parts, or its design is too long or no UTF-8.
+fn bundle_texts(bundle: &[u8]) -> Option<(&str, &[u8])>
+    ensures { MatchOption result (HasNoDesignText bundle.now)
+        (λ texts. HasDesignText bundle.now texts.0.now) }
+{
     let (design, rest) = cut(bundle)?;
     let (policy, _) = cut(rest)?;
-    let design = text_of(design, ServeFault::BadBundle).ok()?;
-    Some(Sources {
-        design_name: STANDARD_INPUT,
-        design,
-        policy_name: STANDARD_INPUT,
-        policy,
-    })
+    match text_of(design, ServeFault::BadBundle) {
+        Ok(text) => Some((text, policy)),
+        Err(_) => None,
+    }
 }
 
 /// A fault of the run of a bundle; the lines are those of its design.
 pub fn bundle_refused(alloc: Global, bundle: &[u8], fault: ServeFault) -> Refused
-    ensures { result.fault ≡ fault }
+    ensures fault { result.fault ≡ fault }
+    ensures diagnostic { IsToldOr (IsBundleDiagnostic bundle.now fault) result.diagnostic }
 {
-    match bundle_sources(bundle) {
-        Some(sources) => sources.refused(alloc, fault),
+    match bundle_texts(bundle) {
+        Some((design, policy)) => {
+            let sources = Sources {
+                design_name: STANDARD_INPUT,
+                design,
+                policy_name: STANDARD_INPUT,
+                policy,
+            };
+            sources.refused(alloc, fault)
+        }
         None => Refused::of_file(alloc, STANDARD_INPUT, fault),
     }
 }

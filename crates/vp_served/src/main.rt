@@ -48,7 +48,7 @@ fn run_status<R: Print + Eprint>(rt: &R, ran: Result<Ran, Refused>) -> io::Resul
     }
 }
 
-/// Prints the fault of a command that tells nothing else, if there is one; the status is 1 then.
+/// Prints the fault that ended a command, if one did; the status is 1 then.
 fn fault_status<R: Print + Eprint>(rt: &R, done: Result<(), Refused>) -> io::Result<ExitCode> {
     match done {
         Ok(()) => Ok(ExitCode::SUCCESS),
