@@ -31,6 +31,7 @@ import getpass
 import itertools
 import json
 import os
+import re
 import socket
 import ssl
 import subprocess
@@ -47,7 +48,7 @@ KINDS: Tuple[Kind, ...] = ("module", "net", "reg", "parameter", "always", "initi
 
 
 class LoddrumeError(Exception):
-    """What the server did not answer as asked."""
+    """What was not done as asked."""
 
 
 class Disconnected(LoddrumeError):
@@ -778,10 +779,25 @@ class Shell(cmd.Cmd):
         print(text, file=self.stdout)
 
 
+def _address(text: str) -> Tuple[str, int]:
+    """A server's host, this machine's own where none is named, and its port."""
+    host, _, port = text.rpartition(":")
+    if not re.fullmatch("[0-9]{1,5}", port) or int(port) > 65535:
+        raise argparse.ArgumentTypeError(f"{text} is no HOST:PORT, such as localhost:7000")
+    return host or "127.0.0.1", int(port)
+
+
+def _number(text: str) -> int:
+    """The number of an envelope, or a time."""
+    if not re.fullmatch("[0-9]+", text):
+        raise argparse.ArgumentTypeError(f"{text} is no number from 0 on")
+    return int(text)
+
+
 def _with_words(parser: argparse.ArgumentParser, has_files: bool = True) -> argparse.ArgumentParser:
     """The words that all commands have; those that open a session may do so over files."""
     where = parser.add_mutually_exclusive_group(required=True)
-    where.add_argument("--server", metavar="HOST:PORT", help="a server: vp_served serve, or a proxy before it")
+    where.add_argument("--server", type=_address, metavar="HOST:PORT", help="a server: vp_served serve, or a proxy before it")
     if has_files:
         where.add_argument("--files", nargs=2, metavar=("DESIGN", "POLICY"), help="a run of one's own: vp_served run")
         parser.add_argument("--program", default="vp_served", help="the program that --files starts")
@@ -804,22 +820,29 @@ def _parser() -> argparse.ArgumentParser:
     waves.add_argument("--scope", metavar="NAME", help="only what is below this module")
     waves.add_argument("--timescale", default="1 s", help="what a time unit is, as the file is to have it (1 s)")
     waves.add_argument("--follow", action="store_true", help="lets nothing run, and writes what others let run")
-    waves.add_argument("UNTIL", type=int)
+    waves.add_argument("UNTIL", type=_number)
     waves.add_argument("FILE")
     races = _with_words(commands.add_parser("races", help="prints races, both orders side by side"))
-    races.add_argument("UNTIL", type=int, nargs="?", help="lets the design run until this time before")
+    races.add_argument("UNTIL", type=_number, nargs="?", help="lets the design run until this time before")
     grant = _with_words(commands.add_parser("grant", help="changes what a user is granted, by the operator's token"), has_files=False)
-    grant.add_argument("ENVELOPE", type=int)
+    grant.add_argument("ENVELOPE", type=_number)
     grant.add_argument("ACCESS", help='such as list+read, or ""')
     return parser
 
 
+def _tls(asked: argparse.Namespace) -> Optional[ssl.SSLContext]:
+    try:
+        tls = ssl.create_default_context(cafile=asked.ca) if asked.ca else None
+        if tls and asked.cert:
+            tls.load_cert_chain(asked.cert)
+        return tls
+    except OSError as error:
+        raise LoddrumeError(f"the files of --ca and --cert: {error}") from error
+
+
 def _server(asked: argparse.Namespace) -> Server:
-    host, _, port = asked.server.rpartition(":")
-    tls = ssl.create_default_context(cafile=asked.ca) if asked.ca else None
-    if tls and asked.cert:
-        tls.load_cert_chain(asked.cert)
-    return Server(int(port), host or "127.0.0.1", tls=tls, still=asked.still)
+    host, port = asked.server
+    return Server(port, host, tls=_tls(asked), still=asked.still)
 
 
 def _source(asked: argparse.Namespace) -> Source:
@@ -854,11 +877,19 @@ def _run_shell(session: Session) -> None:
         Shell(session, None if sys.stdin.isatty() else sys.stdin).cmdloop()
 
 
-def main(words: Optional[List[str]] = None) -> int:
-    """Does what the words of the command line ask. The status is 1 where the server did not answer as asked."""
-    asked = _parser().parse_args(words)
-    token = os.environ.get("LODDRUME_TOKEN") or getpass.getpass("token: ")
+def _token() -> str:
+    """The token in `LODDRUME_TOKEN`, or else the one that is typed."""
     try:
+        return os.environ.get("LODDRUME_TOKEN") or getpass.getpass("token: ")
+    except EOFError as error:
+        raise LoddrumeError("no token: set LODDRUME_TOKEN, or type it") from error
+
+
+def main(words: Optional[List[str]] = None) -> int:
+    """Does what the words of the command line ask. The status is 1 where that was not done, and 2 where they ask for nothing."""
+    asked = _parser().parse_args(words)
+    try:
+        token = _token()
         if asked.command == "grant":
             _server(asked).grant(token, asked.user, asked.ENVELOPE, asked.ACCESS)
             return 0
@@ -869,7 +900,7 @@ def main(words: Optional[List[str]] = None) -> int:
                 _print_races(session, asked.UNTIL)
             else:
                 _write_wave(session, asked)
-    except LoddrumeError as error:
+    except (LoddrumeError, OSError) as error:
         print(f"loddrume: {error}", file=sys.stderr)
         return 1
     return 0

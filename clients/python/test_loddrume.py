@@ -13,6 +13,7 @@ import re
 import shutil
 import socket
 import subprocess
+import sys
 import tempfile
 import threading
 import time
@@ -436,6 +437,36 @@ class Commands(Asking):
     def test_no_server(self) -> None:
         told = self.command("races", "--server", f"127.0.0.1:{free_port()}", "--user", "ann", status=1)
         self.assertIn("Connection refused", told)
+
+    def test_no_token(self) -> None:
+        words = [sys.executable, "-m", "loddrume", "races", "--server", "127.0.0.1:7000", "--user", "ann"]
+        without = {name: value for name, value in os.environ.items() if name != "LODDRUME_TOKEN"}
+        ended = subprocess.run(
+            words, cwd=HERE, env=without, stdin=subprocess.DEVNULL, capture_output=True, encoding="utf-8", start_new_session=True, timeout=30, check=False
+        )
+        self.assertEqual(ended.returncode, 1)
+        self.assertEqual(ended.stderr.splitlines()[-1].removeprefix("token: "), "loddrume: no token: set LODDRUME_TOKEN, or type it")
+
+    def test_a_wave_that_cant_be_written(self) -> None:
+        file = self.folder / "none" / "out.vcd"
+        told = self.over_files("wave", "10", str(file), status=1)
+        self.assertEqual(told, f"loddrume: [Errno 2] No such file or directory: '{file}.part'\n")
+
+    def test_no_certificates(self) -> None:
+        told = self.command("races", "--server", "127.0.0.1:7000", "--user", "ann", "--ca", str(self.folder / "none"), status=1)
+        self.assertEqual(told, "loddrume: the files of --ca and --cert: [Errno 2] No such file or directory\n")
+
+    def test_words_that_ask_nothing(self) -> None:
+        for words, told in [
+            (["races", "--server", "localhost"], "localhost is no HOST:PORT, such as localhost:7000"),
+            (["races", "--server", "localhost:65536"], "localhost:65536 is no HOST:PORT, such as localhost:7000"),
+            (["races", "--server", ":7000", "-5"], "-5 is no number from 0 on"),
+            (["grant", "--server", ":7000", "two", "list"], "two is no number from 0 on"),
+        ]:
+            with contextlib.redirect_stderr(io.StringIO()) as printed, self.assertRaises(SystemExit) as ended:
+                loddrume.main([*words, "--user", "ann"])
+            self.assertEqual(ended.exception.code, 2)
+            self.assertIn(told, printed.getvalue())
 
 
 # ---- a server
