@@ -169,13 +169,19 @@ class Policy(unittest.TestCase):
 
 
 class Lists(unittest.TestCase):
-    """What the tools check."""
+    """What the tools check and list."""
 
     def test_each_public_call_is_named(self) -> None:
         subprocess.run([TOP / "tools" / "public-calls"], stdout=subprocess.DEVNULL, check=True)
 
     def test_each_wrong_body_can_be_applied(self) -> None:
         subprocess.run([TOP / "tools" / "edits"], stdout=subprocess.DEVNULL, check=True)
+
+    def test_the_definitions_of_a_call_are_listed(self) -> None:
+        words = [TOP / "tools" / "definitions", "vp_script", "bundle_refused"]
+        listed = subprocess.run(words, stdout=subprocess.PIPE, encoding="utf-8", check=True).stdout
+        for file, name in [("vp_script/specs/Refused.antt", "IsBundleDiagnostic"), ("vp_hub/src/fault.rt", "HubError"), ("vp_lex/specs/Tokens.antt", "AreTokens")]:
+            self.assertRegex(listed, rf"(?m)^crates/{file}:[0-9]+: {name} \(")
 
 
 if __name__ == "__main__":
