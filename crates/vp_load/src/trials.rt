@@ -65,10 +65,15 @@ fn are_orders_found(alloc: Global, log: &[Entry], transcripts: &mut Transcripts)
     )
 }
 
-/// That a log lacks its first entry is found by what was told.
+/// That a log lacks its first entry is found: a grant by what the operator ordered, another by what a user was told.
 fn is_lack_found(alloc: Global, log: &[Entry], transcripts: &Transcripts) -> Option<bool> {
-    let difference = first_difference(alloc, log.get(1..)?, transcripts);
-    Some(matches!(difference, Some(Difference::Transcript { .. })))
+    let difference = first_difference(alloc, log.get(1..)?, transcripts)?;
+    let is_grant = matches!(&log.first()?.happening, Happening::Grant { .. });
+    Some(match difference {
+        Difference::Transcript { .. } => !is_grant,
+        Difference::Grant { .. } | Difference::LostOrder { .. } => is_grant,
+        _ => false,
+    })
 }
 
 /// A log in which u1 opened a session and asked the time, of which he was told this, and such was the time after it.
