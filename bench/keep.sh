@@ -7,7 +7,7 @@ top=$(cd "$(dirname "$0")/.." && pwd)
 . "$top/bench/common.sh"
 . "$top/bench/programs.sh"
 units=${1:-4000}
-build_program keep_speed "$top/bench/keep/main.txt" "time 0" vp_lex vp_sim vp_samples circular_buffer
+build_program keep_speed "$top/bench/keep/main.txt" "time 0" vp_lex vp_sim vp_design circular_buffer
 
 # The instructions of a time unit beside so many others, with so many copies. The first 300 units, in which the copies become 256, are left out.
 cost() {

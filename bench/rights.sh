@@ -6,7 +6,7 @@ set -eu
 top=$(cd "$(dirname "$0")/.." && pwd)
 . "$top/bench/common.sh"
 . "$top/bench/programs.sh"
-build_program rights_speed "$top/bench/rights/main.txt" "users 0" vp_lex vp_policy vp_samples
+build_program rights_speed "$top/bench/rights/main.txt" "users 0" vp_lex vp_policy vp_design
 
 none=$(shortest_of 5 "$work/rights_speed" 256 0)
 once=$(shortest_of 5 "$work/rights_speed" 256 1)

@@ -4,8 +4,7 @@ use crate::request::SessionId;
 use std::alloc::AllocError;
 use vp_bits::Bits;
 use vp_list::{Sequence, SharedText};
-use vp_policy::DenialWords;
-use vp_vpi::{RaceLine, RaceTold, Shared, SharedListing, SharedNotices};
+use vp_vpi::{DenialWords, RaceLine, RaceTold, Shared, SharedListing, SharedNotices};
 
 /// What a line is told where it is refused.
 #[derive(Clone, Copy, Debug, PartialEq, Eq)]

@@ -3,8 +3,7 @@ ghost use Rattle.std.specs.Prelude.{◌≡◌, IfOk};
 use std::alloc::{AllocError, Global};
 use vp_elab::Kind;
 use vp_list::Text;
-use vp_policy::{Access, UserId};
-use vp_vpi::{NumberProperty, PutValue, TextProperty};
+use vp_vpi::{Access, NumberProperty, PutValue, TextProperty, UserId};
 
 /// A session: its user, and the how-many-th of his it is, from 1.
 #[derive(Clone, Copy, Debug, PartialEq, Eq, Hash)]

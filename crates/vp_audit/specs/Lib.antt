@@ -1,3 +1,8 @@
+pub use Rattle.vp_view.specs.Seen
+pub use Rattle.vp_vpi.specs.declared.races.SeenRace
+pub use Rattle.vp_world.specs.Entries
+pub use Rattle.vp_world.specs.History
+pub use Rattle.vp_world.specs.Worlds
 pub mod Audits
 pub mod Explained
 pub mod Faults

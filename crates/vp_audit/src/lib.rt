@@ -17,3 +17,7 @@ pub use fault::AuditError;
 pub use item::{Granted, Item, Own, Projection};
 pub use projecting::project;
 pub use replaying::replay;
+pub use vp_answer::Reply;
+pub use vp_view::full_name;
+pub use vp_vpi::SeenRace;
+pub use vp_world::Entry;

@@ -3,6 +3,8 @@
 
 mod fault;
 mod reading;
+mod shared;
 
 pub use fault::DesignFault;
 pub use reading::{TEXT_LIMIT, read_design};
+pub use shared::shared_of;

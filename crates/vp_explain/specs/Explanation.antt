@@ -7,10 +7,10 @@ use Rattle.vp_elab.specs.Tree.{dotted}
 use Rattle.vp_policy.specs.Users.{member_at}
 use Rattle.vp_policy.specs.View.{View, view_of}
 use Rattle.vp_waking.specs.declared.change.Change.{Change}
-use Rattle.vp_vpi.specs.declared.races.SeenRace.{SeenRace}
-use Rattle.vp_world.specs.Entries.{Entry}
-use Rattle.vp_world.specs.Worlds.{Opening}
-use Rattle.vp_view.specs.Seen.{names_seen}
+use Rattle.vp_audit.specs.SeenRace.{SeenRace}
+use Rattle.vp_audit.specs.Entries.{Entry}
+use Rattle.vp_audit.specs.Worlds.{Opening}
+use Rattle.vp_audit.specs.Seen.{names_seen}
 use Rattle.vp_audit.specs.declared.explaining.Explained.{Explained}
 use Rattle.vp_audit.specs.declared.item.Granted.{Granted}
 use Rattle.vp_audit.specs.declared.item.Item.{Item}

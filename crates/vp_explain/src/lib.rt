@@ -6,3 +6,4 @@ mod users;
 
 pub use lines::explanation;
 pub use users::explain_user;
+pub use vp_audit::{Audit, audit_user};

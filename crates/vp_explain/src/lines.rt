@@ -6,13 +6,10 @@ ghost use Rattle.vp_wire.specs.Lines.{line_of};
 ghost use Rattle.vp_explain.specs.Explanation.{change_line, explanation_of, finish_line, grant_line, item_lines, origin_words, own_line, race_line, time_line, told_behind, told_line, view_behind};
 
 use std::alloc::{AllocError, Global};
-use vp_answer::Reply;
-use vp_audit::{Explained, Granted, Item, Projection};
+use vp_audit::{Explained, Granted, Item, Projection, Reply, SeenRace, full_name};
 use vp_list::Text;
 use vp_outline::{push_access, push_word};
 use vp_policy::View;
-use vp_view::full_name;
-use vp_vpi::SeenRace;
 use vp_waking::Change;
 use vp_wire::reply_text;
 

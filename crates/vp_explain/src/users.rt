@@ -1,19 +1,18 @@
 // What a user of a log was told.
 ghost use Rattle.std.specs.Prelude.{◌≡◌, [], IfOk, IsOkUnless};
 ghost use Rattle.vp_policy.specs.PolicyState.{Fits};
-ghost use Rattle.vp_world.specs.History.{IsLegal};
-ghost use Rattle.vp_world.specs.Worlds.{Opening};
+ghost use Rattle.vp_audit.specs.History.{IsLegal};
+ghost use Rattle.vp_audit.specs.Worlds.{Opening};
 ghost use Rattle.vp_audit.specs.declared.fault.AuditError.TheVariants.{NoMemory};
 ghost use Rattle.vp_audit.specs.Openings.{IsRight};
 ghost use Rattle.vp_explain.specs.Explanation.{log_explanation};
 
 use crate::lines::explanation;
 use std::alloc::Global;
-use vp_audit::{AuditError, explain, project};
+use vp_audit::{AuditError, Entry, explain, project};
 use vp_expr::Checked;
 use vp_list::Text;
 use vp_policy::{Policy, UserId};
-use vp_world::Entry;
 
 /// What a user was told by a log of a world that opens with this design and policy, and what came to him of it: a line each, with the number of the
 /// item (docs/FORMATS.md, "What a user was told"). Of a legal log it is refused for want of memory alone (1307), of others by 1303 as well.

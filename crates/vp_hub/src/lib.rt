@@ -17,3 +17,4 @@ pub use hub::{Hub, Ran, Worked};
 pub use opens::Opens;
 pub use pass::Pass;
 pub use receipt::Receipt;
+pub use vp_world::{Limits, World};

@@ -3,6 +3,7 @@ ghost use Rattle.std.specs.Arc.{arc_value};
 ghost use Rattle.vp_list.specs.Chunks.{with_items};
 ghost use Rattle.vp_list.specs.Exchanges.{AreExchanges, Fits, exchanged_in, taken_in};
 
+use crate::blocks::{Block, Blocks};
 use crate::same::{Same, are_same};
 use std::alloc::{AllocError, Global};
 use std::marker::{Model, PhantomData};
@@ -236,19 +237,19 @@ impl<T: Copy + Drop> Model for Exchange<T> {
     ghost view = { λ e. (e.number, arc_value e.chunk) };
 }
 
-/// A list that several hold at once: one holder more costs at most five counts. At most four chunks of 64 items are exchanged for those of
+/// A list in chunks of 64 items that its copies share: a copy costs at most five counts. At most four chunks are exchanged for those of
 /// the base, so that to write one of these copies no more than itself; else one of them is taken into the base first, with the pointers to
 /// 16 chunks and to 16 times 16 of them, and those to all of these. A contract sees its items, in order.
 #[derive(Drop)]
-pub struct SharedList<T: Copy + Drop> {
+pub(crate) struct ChunkedList<T: Copy + Drop> {
     alloc: Global,
     len: usize,
-    base: Arc<Parts<T, Parts<T, Parts<T, Chunk<T>, 64>, 1024>, 16384>>,
+    base: Arc<Parts<T, Blocks<T>, 16384>>,
     /// Each at the rest of its chunk's number by 4, so that it is found at once.
     exchanges: [Option<Exchange<T>>; 4],
 }
 
-impl<T: Copy + Drop> Model for SharedList<T> {
+impl<T: Copy + Drop> Model for ChunkedList<T> {
     ghost use Rattle.std.specs.Arc.{arc_value};
     ghost use Rattle.std.specs.Prelude.{◌≡◌, List, length};
     ghost use Rattle.vp_list.specs.Exchanges.{exchanged_in, AreExchanges};
@@ -261,13 +262,13 @@ impl<T: Copy + Drop> Model for SharedList<T> {
         × AreExchanges s.len s.exchanges };
 }
 
-impl<T: Copy + Drop> SharedList<T> {
+impl<T: Copy + Drop> ChunkedList<T> {
     /// The list of a slice's items. Takes memory.
     #[tactic(auto, using(crate::specs::laws::Exchanges::none_exchanged))]
-    pub fn from_slice(alloc: Global, list: &[T]) -> Result<SharedList<T>, AllocError>
+    pub fn from_slice(alloc: Global, list: &[T]) -> Result<ChunkedList<T>, AllocError>
         ensures { IfOk result (λ s. s ≡ list.now) }
     {
-        Ok(SharedList {
+        Ok(ChunkedList {
             alloc,
             len: list.len(),
             base: Arc::new(alloc, Parts::cut(alloc, list)?)?,
@@ -307,19 +308,6 @@ impl<T: Copy + Drop> SharedList<T> {
         put(&mut self.base, &mut self.exchanges, number, chunk)
     }
 
-    /// The same list for one holder more, which shares the items; or an error where the holders can't be counted.
-    pub fn try_clone(&self) -> Result<SharedList<T>, AllocError>
-        ensures { IfOk result (λ s. s ≡ self.now) }
-    {
-        let [first, second, third, fourth] = &self.exchanges;
-        Ok(SharedList {
-            alloc: self.alloc,
-            len: self.len,
-            base: Arc::try_clone(&self.base)?,
-            exchanges: [share(first)?, share(second)?, share(third)?, share(fourth)?],
-        })
-    }
-
     /// The items, one by one. Takes memory for all of them.
     #[tactic(auto, using(crate::specs::laws::Copies::chunk_more, crate::specs::laws::Copies::chunk_within, crate::specs::laws::Copies::all_same))]
     pub fn to_vec(&self, alloc: Global) -> Result<Vec<T>, AllocError>
@@ -346,6 +334,20 @@ impl<T: Copy + Drop> SharedList<T> {
     }
 }
 
+impl<T: Copy + Drop> Clone for ChunkedList<T> {
+    ghost is_clone = { λ c d. d ≡ c };
+
+    fn clone(&self) -> Result<ChunkedList<T>, AllocError> {
+        let [first, second, third, fourth] = &self.exchanges;
+        Ok(ChunkedList {
+            alloc: self.alloc,
+            len: self.len,
+            base: Arc::try_clone(&self.base)?,
+            exchanges: [share(first)?, share(second)?, share(third)?, share(fourth)?],
+        })
+    }
+}
+
 /// The same exchange for one holder more, if there is one.
 fn share<T: Copy + Drop>(exchange: &Option<Exchange<T>>) -> Result<Option<Exchange<T>>, AllocError>
     ensures { IfOk result (λ e. e ≡ exchange.now) }
@@ -361,7 +363,7 @@ fn share<T: Copy + Drop>(exchange: &Option<Exchange<T>>) -> Result<Option<Exchan
 
 /// Exchanges a chunk of the base; another that stands at its place is taken into the base first.
 fn put<T: Copy + Drop>(
-    base: &mut Arc<Parts<T, Parts<T, Parts<T, Chunk<T>, 64>, 1024>, 16384>>,
+    base: &mut Arc<Parts<T, Blocks<T>, 16384>>,
     exchanges: &mut [Option<Exchange<T>>; 4],
     number: usize,
     chunk: Arc<Chunk<T>>,
@@ -389,7 +391,7 @@ fn put<T: Copy + Drop>(
 
 /// Takes an exchange into the base, if there is one and of another chunk than that of a number.
 fn make_room<T: Copy + Drop>(
-    base: &mut Arc<Parts<T, Parts<T, Parts<T, Chunk<T>, 64>, 1024>, 16384>>,
+    base: &mut Arc<Parts<T, Blocks<T>, 16384>>,
     exchange: &Option<Exchange<T>>,
     number: usize,
 ) -> Result<(), AllocError>
@@ -409,47 +411,22 @@ fn make_room<T: Copy + Drop>(
 }
 
 /// A chunk of the base by its number.
-fn base_chunk<T: Copy + Drop>(
-    base: &Parts<T, Parts<T, Parts<T, Chunk<T>, 64>, 1024>, 16384>,
-    number: usize,
-) -> &Arc<Chunk<T>>
+fn base_chunk<T: Copy + Drop>(base: &Parts<T, Blocks<T>, 16384>, number: usize) -> &Arc<Chunk<T>>
     requires { 64 * number < length base.now }
     ensures { arc_value result.now ≡ take 64 (drop (64 * number) base.now) }
 {
-    chunk_in(chunks_from(base, number / 16), number % 16)
+    block_of(base, number / 16).chunk(number % 16)
 }
 
-/// The part of 16 chunks, or fewer at the end, of the base by its number.
-fn chunks_from<T: Copy + Drop>(
-    base: &Parts<T, Parts<T, Parts<T, Chunk<T>, 64>, 1024>, 16384>,
-    number: usize,
-) -> &Parts<T, Chunk<T>, 64>
+/// The block of 16 chunks, or fewer at the end, of the base by its number.
+fn block_of<T: Copy + Drop>(base: &Parts<T, Blocks<T>, 16384>, number: usize) -> &Block<T>
     requires { 1024 * number < length base.now }
     ensures { result.now ≡ take 1024 (drop (1024 * number) base.now) }
 {
-    part_in(base.part(number / 16), number % 16)
+    base.part(number / 16).block(number % 16)
 }
 
-/// A chunk of a part by its number there.
-fn chunk_in<T: Copy + Drop>(part: &Parts<T, Chunk<T>, 64>, number: usize) -> &Arc<Chunk<T>>
-    requires { 64 * number < length part.now }
-    ensures { arc_value result.now ≡ take 64 (drop (64 * number) part.now) }
-{
-    part.part(number)
-}
-
-/// A part of 16 chunks by its number in a greater part.
-fn part_in<T: Copy + Drop>(
-    part: &Parts<T, Parts<T, Chunk<T>, 64>, 1024>,
-    number: usize,
-) -> &Parts<T, Chunk<T>, 64>
-    requires { 1024 * number < length part.now }
-    ensures { result.now ≡ take 1024 (drop (1024 * number) part.now) }
-{
-    part.part(number)
-}
-
-impl<T: Copy + Drop + Same> SharedList<T> {
+impl<T: Copy + Drop + Same> ChunkedList<T> {
     /// The chunk of a number has these items.
     pub(crate) fn has_chunk(&self, number: usize, list: &[T]) -> bool
         requires { 64 * number < length self.now }
@@ -460,7 +437,7 @@ impl<T: Copy + Drop + Same> SharedList<T> {
 
     /// Two lists have the same items. It takes time for each item at most, chunk by chunk, and no memory.
     #[tactic(auto, using(crate::specs::laws::Copies::chunk_within, crate::specs::laws::Copies::next_same, crate::specs::laws::Copies::all_same))]
-    pub fn is_same(&self, other: &SharedList<T>) -> bool
+    pub fn is_same(&self, other: &ChunkedList<T>) -> bool
         ensures same { result ≡ true → self.now ≡ other.now }
         ensures differs { self.now ≡ other.now → result ≡ true }
     {

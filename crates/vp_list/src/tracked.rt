@@ -2,8 +2,8 @@ ghost use Rattle.std.specs.Prelude.{◌≡◌, ◌<◌, ◌≤◌, ◌+◌, ◌*
 ghost use Rattle.std.specs.List.{Contains};
 ghost use Rattle.vp_list.specs.Tracked.{AreMarked, IsRenewed, IsWritten, Lags, Lets, MayBeWritten};
 
-use crate::chunks::SharedList;
 use crate::same::Same;
+use crate::shared_list::SharedList;
 use std::alloc::{AllocError, Global};
 use std::marker::Model;
 

@@ -4,8 +4,8 @@ ghost use Rattle.std.specs.Arc.{arc_value};
 
 use std::alloc::{AllocError, Global};
 use std::sync::Arc;
+use vp_design::shared_of;
 use vp_expr::Checked;
-use vp_samples::shared_of;
 use vp_world::{Limits, World};
 use vp_world_samples::world_of_design;
 

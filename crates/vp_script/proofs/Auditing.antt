@@ -8,7 +8,7 @@ use Rattle.vp_policy.specs.File.{file_in, file_of, policy_for}
 use Rattle.vp_policy.specs.PolicyState.{Fits, PolicyState}
 use Rattle.vp_policy.specs.Users.{user_of}
 use Rattle.vp_elab.specs.Tree.{Tree}
-use Rattle.vp_audit.specs.Openings.{IsRight}
+use Rattle.vp_explain.specs.Openings.{IsRight}
 use Rattle.vp_script.specs.declared.audits.Audited.{Audited}
 use Rattle.vp_script.specs.declared.fault.ServeFault.{ServeFault}
 use Rattle.vp_script.specs.declared.fault.ServeFault.TheVariants as fault

@@ -6,8 +6,8 @@ use Rattle.vp_answer.specs.declared.reply.Reply.{Reply}
 use Rattle.vp_answer.specs.declared.reply.Reply.TheVariants as reply
 use Rattle.vp_answer.specs.declared.request.Request.{Request}
 use Rattle.vp_answer.specs.declared.request.Request.TheVariants as request
-use Rattle.vp_world.specs.Refusals.{refusal_of_error}
-use Rattle.vp_world.specs.Worlds.{Opening}
+use Rattle.vp_hub.specs.Refusals.{refusal_of_error}
+use Rattle.vp_hub.specs.Worlds.{Opening}
 use Rattle.vp_hub.specs.declared.fault.HubError.{HubError}
 use Rattle.vp_hub.specs.declared.fault.HubError.TheVariants as hub_error
 use Rattle.vp_hub.specs.Calls.{Passed}

@@ -15,3 +15,4 @@ mod settings;
 pub use fault::ServerFault;
 pub use server::serve;
 pub use settings::Settings;
+pub use vp_hub::Limits;

@@ -16,9 +16,8 @@ use std::sync::ledger::Blank;
 use std::thread;
 use std::thread::{Scope, Threads};
 use std::time::Clock;
-use vp_hub::{Closed, Desk, Hub, Opens};
+use vp_hub::{Closed, Desk, Hub, Limits, Opens, World};
 use vp_race::Gate;
-use vp_world::{Limits, World};
 
 /// Starts the thread of the simulation and those of the workers, and tells whether all could be started.
 fn start<'s, 'a, E, L: Opens + Send + Sync, R: Threads + Wait + Clock + Sync, G: Gate + Sync>(

@@ -1,22 +1,18 @@
 //! The program: it answers a script of request lines about one design under one policy.
 #![tactic(auto)]
 
-mod parser;
 mod serving;
-#[cfg(test)]
-mod tests;
-mod words;
 
-use crate::parser::command;
 use crate::serving::serve_files;
-use crate::words::{Command, Misuse};
 use std::process::ExitCode;
 use std::{env, io};
 use vp_audit::Audit;
+use vp_cli::{Command, Misuse, command};
 use vp_list::Text;
 use vp_script::{
     Audited, Ran, Refused, ServeFault, audit_files, check_files, run_files, run_input, view_files,
 };
+use vp_serve::Settings;
 
 /// Prints a text; the status is 0.
 fn print_text<R: Print>(rt: &R, text: &Text) -> io::Result<ExitCode> {
@@ -122,9 +118,13 @@ fn main(rt: HostRuntime) -> io::Result<ExitCode> {
                 design,
                 policy,
                 port,
-                settings,
+                workers,
+                sessions,
             },
-        ) => fault_status(&rt, serve_files(&rt, design, policy, port, settings)),
+        ) => {
+            let settings = Settings::new(workers, sessions);
+            fault_status(&rt, serve_files(&rt, design, policy, port, settings))
+        }
         Ok(Command::Bundle) => run_status(&rt, run_input(&rt)),
         Ok(Command::Show(text)) => print_text(&rt, &text),
         Err(Misuse::BadWords(text)) => {

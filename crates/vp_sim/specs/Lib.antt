@@ -1,4 +1,6 @@
 pub use Rattle.vp_expr.specs.Tables
+pub use Rattle.vp_statement.specs.Effects
+pub use Rattle.vp_statement.specs.Walking
 pub use Rattle.vp_waking.specs.declared.change.Change
 pub use Rattle.vp_waking.specs.declared.waiting.Waiting
 pub mod Faults

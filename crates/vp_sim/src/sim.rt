@@ -18,9 +18,10 @@ use vp_expr::{Checked, Values};
 use vp_waking::Change;
 
 /// A simulation of a design (IEEE Std 1364-2005, 11.3; docs/FORMATS.md, "Simulation"). A contract sees its state.
+// Behind a pointer, so that to move a simulation is to move the pointer, and to let go of it one call.
 #[derive(Drop)]
 pub struct Sim {
-    machine: Machine,
+    machine: Box<Machine>,
 }
 
 impl Model for Sim {
@@ -28,7 +29,7 @@ impl Model for Sim {
 
     ghost Value = { State };
 
-    ghost view = { λ s. s.machine.state };
+    ghost view = { λ s. s.machine.value.state };
 }
 
 impl Sim {
@@ -38,7 +39,9 @@ impl Sim {
         ensures err { IsOkUnless result NoMemory }
     {
         let machine = Machine::new(alloc, checked)?;
-        Ok(Sim { machine })
+        Ok(Sim {
+            machine: Box::new(alloc, machine)?,
+        })
     }
 
     /// A copy of the simulation to be kept, which shares what was not written since the last one; or want of memory (806).
@@ -56,7 +59,9 @@ impl Sim {
         ensures err { IsOkUnless result NoMemory }
     {
         let machine = Machine::of_kept(kept)?;
-        Ok(Sim { machine })
+        Ok(Sim {
+            machine: Box::new(machine.alloc, machine)?,
+        })
     }
 
     /// The simulation goes on from a copy of one of the same design; or want of memory (806), which leaves it as it was.

@@ -1,5 +1,5 @@
-//! Tests alone: tokens, designs and notices by themselves, each public call that takes memory called once with ample memory, so that it
-//! gives the answer that the documents name. A call that only ever answers want of memory would be proved; here it fails.
+//! Tests alone: tokens, designs, notices and the command line by themselves, each public call that takes memory called once with ample
+//! memory, so that it gives the answer that the documents name. A call that only ever answers want of memory would be proved; here it fails.
 //!
 //! The calls that a script makes are tested through it: the cases of `vp_script_cases` compare each byte that it
 //! prints. They call `Text::copy`, `tokens`, `string_value`, `envelopes`, `parse`, `elaborate`, `check`, `read_policy`,

@@ -1,3 +1,4 @@
+mod command_line;
 mod designs;
 mod notices;
 mod tokens;

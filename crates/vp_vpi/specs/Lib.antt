@@ -1,3 +1,4 @@
+pub use Rattle.vp_policy.specs.Denials
 pub mod Faults
 pub mod Observers
 pub mod Lookups

@@ -22,4 +22,5 @@ pub use races::{RaceLine, RaceTold, SeenRace};
 pub use session::{HANDLE_LIMIT, Session};
 pub use shown_races::{is_race_shown, seen_race, seen_races};
 pub use user_observer::UserObserver;
+pub use vp_policy::{Access, DenialWords, UserId};
 pub use vp_race::Shared;

@@ -10,5 +10,6 @@ mod waking;
 pub use change::{Change, change_of};
 pub use listeners::Listeners;
 pub use processes::{net_at, process_at};
+pub use vp_elab::ObjectId;
 pub use waiting::Waiting;
 pub use waking::wake;

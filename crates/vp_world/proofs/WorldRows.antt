@@ -18,9 +18,9 @@ use Rattle.vp_elab.specs.declared.object.Kind.{Kind}
 use Rattle.vp_elab.specs.declared.object.Kind.TheVariants.{Module, Reg, Initial}
 use Rattle.vp_elab.specs.Tree.{Node, Tree}
 use Rattle.vp_operand.specs.Arena.{sizes_in}
-use Rattle.vp_expr.specs.Tables.{tables_of}
-use Rattle.vp_statement.specs.Effects.{effect_at}
-use Rattle.vp_statement.specs.Walking.{flow_of}
+use Rattle.vp_sim.specs.Tables.{tables_of}
+use Rattle.vp_sim.specs.Effects.{effect_at}
+use Rattle.vp_sim.specs.Walking.{flow_of}
 use Rattle.vp_policy.specs.declared.denial.Barrier.TheVariants as by
 use Rattle.vp_policy.specs.Users.{Member}
 use Rattle.vp_vpi.specs.declared.property.PutValue.TheVariants.{Digits}

@@ -22,9 +22,9 @@ use std::marker::Model;
 use std::snapshot::Snapshot;
 use std::sync::Arc;
 use vp_answer::{GrantChange, Request, SessionId};
-use vp_expr::Checked;
 use vp_policy::{Policy, UserId};
 use vp_race::{Book, Finding, Recording, Segment, Shared};
+use vp_sim::Checked;
 use vp_vpi::Session;
 use vp_waking::Change;
 

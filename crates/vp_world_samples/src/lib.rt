@@ -7,10 +7,10 @@ ghost use Rattle.vp_policy.specs.PolicyState.{Fits};
 
 use std::alloc::Global;
 use std::sync::Arc;
+use vp_design::shared_of;
 use vp_elab::Design;
 use vp_expr::Checked;
 use vp_policy::{Policy, read_policy};
-use vp_samples::shared_of;
 use vp_world::{Limits, World};
 
 /// A policy for a design, read; none where it is refused, or for want of memory.

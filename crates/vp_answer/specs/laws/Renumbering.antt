@@ -9,7 +9,7 @@ use Rattle.vp_pragma.specs.declared.rights.Right.{Right}
 use Rattle.vp_pragma.specs.declared.rights.Right.TheVariants as right
 use Rattle.vp_elab.specs.declared.object.Kind.{Kind}
 use Rattle.vp_elab.specs.declared.object.ObjectId.{ObjectId}
-use Rattle.vp_policy.specs.Denials.{DenialWords}
+use Rattle.vp_vpi.specs.Denials.{DenialWords}
 use Rattle.vp_notify.specs.Change.{Change}
 use Rattle.vp_notify.specs.declared.notice.Notice.{Notice}
 use Rattle.vp_notify.specs.declared.registry.Callback.{Callback}

@@ -2,8 +2,8 @@
 
 use std::alloc::Global;
 use std::sync::Arc;
+use vp_design::shared_of;
 use vp_race::{Recording, Segment};
-use vp_samples::shared_of;
 
 /// Regs `top.a` (1), `top.b` (2) and `top.c` (3), and two processes that race for `a` and `b` at time 5.
 pub const SWAPPED: &str = "module top;\n  reg a, b, c;\n\

@@ -3,8 +3,8 @@ ghost use Rattle.std.specs.Prelude.{◌≡◌, IfSome, OnSome};
 
 use std::alloc::Global;
 use vp_bits::Bits;
+use vp_design::shared_of;
 use vp_elab::ObjectId;
-use vp_samples::shared_of;
 use vp_sim::{KeptSim, Sim};
 
 /// A reg `top.a` (1) and a process (2) with two assignments.

@@ -6,8 +6,7 @@ use std::net::{Net, TcpStream};
 use std::thread;
 use std::time::{Clock, Duration};
 use vp_race::OpenGate;
-use vp_serve::Settings;
-use vp_world::Limits;
+use vp_serve::{Limits, Settings};
 
 /// A design whose simulation never ends, with an empty envelope.
 const ENDLESS: &str = "module top;

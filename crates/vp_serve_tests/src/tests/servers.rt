@@ -7,8 +7,7 @@ use std::sync::Wait;
 use std::thread::{Threads, join};
 use std::time::Clock;
 use vp_race::Gate;
-use vp_serve::{Settings, serve};
-use vp_world::Limits;
+use vp_serve::{Limits, Settings, serve};
 use vp_world_samples::world_of;
 
 /// A module of a vendor, in an envelope, and one that has an instance of it.

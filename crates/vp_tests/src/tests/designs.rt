@@ -1,9 +1,9 @@
 //! What is declared in the scopes of a design. Each function asks one question, which keeps each proof short.
 
 use std::alloc::Global;
+use vp_design::shared_of;
 use vp_elab::{Design, ObjectId};
 use vp_list::Sequence;
-use vp_samples::shared_of;
 
 /// Two top modules, one of them with a reg and two instances, each of which has two ports and an assignment.
 const DESIGN: &str = "module inv(input wire a, output wire y);

@@ -4,8 +4,8 @@ use crate::tests::sessions::{order_in, poll_in, put_in};
 use std::alloc::Global;
 use vp_answer::{Request, ValueFormat};
 use vp_audit::{Audit, audit_user};
+use vp_design::shared_of;
 use vp_policy::UserId;
-use vp_samples::shared_of;
 use vp_world::{Entry, Limits, World};
 use vp_world_samples::{policy_of, world_of};
 

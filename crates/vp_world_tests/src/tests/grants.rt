@@ -4,11 +4,11 @@ ghost use Rattle.vp_policy.specs.PolicyState.{Fits};
 use crate::tests::sessions::{find_in, open_as, order_in, poll_in, put_in};
 use std::alloc::Global;
 use vp_answer::{GrantChange, Request, SessionId};
+use vp_design::shared_of;
 use vp_elab::{Design, ObjectId};
 use vp_list::Text;
 use vp_policy::{Access, Policy, UserId};
 use vp_pragma::{Right, access};
-use vp_samples::shared_of;
 use vp_world::{Event, Limits, World};
 use vp_world_samples::{policy_of, world_of};
 

@@ -1,10 +1,10 @@
 //! What a user sees of a design.
 use crate::tests::sessions::READER;
 use std::alloc::Global;
+use vp_design::shared_of;
 use vp_elab::Design;
 use vp_list::Text;
 use vp_policy::{SeenObject, UserId, View};
-use vp_samples::shared_of;
 use vp_world_samples::policy_of;
 
 /// A design in which `acme` hides two regs, and opens one of them by a viewport.

@@ -14,15 +14,15 @@ skip_less number = omega (arith, mod-lt number {m = 16} (omega arith))
 skip_left : (number : ℕ) → 1024 ≡ 64 * (number % 16) + (1024 - 64 * (number % 16))
 skip_left number = omega (arith, mod-lt number {m = 16} (omega arith))
 
-pub chunk_in-requires : goal.chunk_in-requires
-chunk_in-requires g c =
+pub chunk-requires : goal.chunk-requires
+chunk-requires g c =
     let n = c.args.number in
     let within = place_in_part 1024 (64 * (n % 16)) (1024 * (n / 16)) (64 * n) c.args.base.now (skip_less n) (place_of n) c.requires in
-    omega (arith, within, ap length c.chunks_from.ensures)
+    omega (arith, within, ap length c.block_of.ensures)
 
 pub returns : goal.returns
 returns g c =
     let n = c.args.number in
-    c.chunk_in.ensures
-    ∙ ap (λ items. take 64 (drop (64 * (n % 16)) items)) c.chunks_from.ensures
+    c.chunk.ensures
+    ∙ ap (λ items. take 64 (drop (64 * (n % 16)) items)) c.block_of.ensures
     ∙ part_of_part 1024 64 (64 * (n % 16)) (1024 - 64 * (n % 16)) (1024 * (n / 16)) (64 * n) c.args.base.now (skip_left n) (omega (arith, mod-lt n {m = 16} (omega arith))) (place_of n)

@@ -1,4 +1,4 @@
-use Rattle.std.proofs.Common.{rules, ◌∙◌, ◌*◌, ◌<◌, length, lit<, ap, arith}
+use Rattle.std.proofs.Common.{rules, ◌∙◌, ◌*◌, ◌<◌, length, ap, arith}
 use Rattle.std.proofs.lemmas.Result.{on_ok_weaker}
 use Rattle.vp_list.specs.Chunks.{with_items}
 use Rattle.vp_list.specs.laws.Tracked.{chunk_length, own_taken, others_taken}
@@ -25,4 +25,7 @@ set_chunk-requires g c =
     let some = c.chunk_of.ensures.some in
     let there = c.chunk_of.ensures.there in
     let whole = chunk_length c.args.items.now c.args.number in
-    (lit< tt, (omega (arith, some, there, c.requires.length), omega (arith, ap length c.chunk_of.ensures.items, whole, c.requires.length)))
+    record {
+      there = omega (arith, some, there, c.requires.length);
+      whole = omega (arith, ap length c.chunk_of.ensures.items, whole, c.requires.length);
+    }

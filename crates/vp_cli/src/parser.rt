@@ -5,7 +5,6 @@ use clap::error::ErrorKind;
 use clap::{Arg, ArgAction, ArgMatches, Error};
 use std::alloc::{AllocError, Global};
 use vp_list::Text;
-use vp_serve::Settings;
 
 const ABOUT: &str =
     "Answers questions about a Verilog design, to each user what the policy lets him see.";
@@ -47,27 +46,29 @@ const SERVE_HELP: &str =
 `run` reads and answers them, but that all share one simulation, which runs beside them. With --sessions M it ends when M \
 connections have ended, and prints `closed L`, L the number of entries of the log. docs/OPERATING.md tells how to run it for others.";
 
-/// The file of a design.
-fn design_word<'a>(alloc: Global) -> Arg<'a> {
-    Arg::new(alloc, "DESIGN")
-        .help("The file of the Verilog text, at most 1,048,576 bytes")
-        .required(true)
+/// A word by its name.
+fn word<'a>(alloc: Global, name: &'static str, help: &'static str, required: bool) -> Arg<'a> {
+    Arg::new(alloc, name)
+        .help(help)
+        .required(required)
         .action(ArgAction::Set)
 }
 
+/// The file of a design.
+fn design_word<'a>(alloc: Global) -> Arg<'a> {
+    let help = "The file of the Verilog text, at most 1,048,576 bytes";
+    word(alloc, "DESIGN", help, true)
+}
+
 /// The file of a policy.
-fn policy_word<'a>(alloc: Global) -> Arg<'a> {
-    Arg::new(alloc, "POLICY")
-        .help("The file of the policy, in JSON, at most 1,048,576 bytes")
-        .action(ArgAction::Set)
+fn policy_word<'a>(alloc: Global, required: bool) -> Arg<'a> {
+    let help = "The file of the policy, in JSON, at most 1,048,576 bytes";
+    word(alloc, "POLICY", help, required)
 }
 
 /// The name of a user.
 fn user_word<'a>(alloc: Global) -> Arg<'a> {
-    Arg::new(alloc, "USER")
-        .help("The name of a user of the policy")
-        .required(true)
-        .action(ArgAction::Set)
+    word(alloc, "USER", "The name of a user of the policy", true)
 }
 
 /// The words of `run`.
@@ -76,7 +77,7 @@ fn run_words<'a>(alloc: Global) -> Result<clap::Command<'a>, AllocError> {
         .about("Runs a script over a design under a policy")
         .after_help(RUN_HELP)
         .arg(design_word(alloc))?
-        .arg(policy_word(alloc).required(true))
+        .arg(policy_word(alloc, true))
 }
 
 /// The words of `check`.
@@ -85,7 +86,7 @@ fn check_words<'a>(alloc: Global) -> Result<clap::Command<'a>, AllocError> {
         .about("Reads a design, and a policy if it is named, and prints the first fault")
         .after_help(CHECK_HELP)
         .arg(design_word(alloc))?
-        .arg(policy_word(alloc))
+        .arg(policy_word(alloc, false))
 }
 
 /// The words of `view`.
@@ -94,7 +95,7 @@ fn view_words<'a>(alloc: Global) -> Result<clap::Command<'a>, AllocError> {
         .about("Prints what a user may see of a design under a policy")
         .after_help(VIEW_HELP)
         .arg(design_word(alloc))?
-        .arg(policy_word(alloc).required(true))?
+        .arg(policy_word(alloc, true))?
         .arg(user_word(alloc))
 }
 
@@ -112,7 +113,7 @@ fn audit_words<'a>(alloc: Global) -> Result<clap::Command<'a>, AllocError> {
         .about("Runs a script, and compares what a user was told with what he may know")
         .after_help(AUDIT_HELP)
         .arg(design_word(alloc))?
-        .arg(policy_word(alloc).required(true))?
+        .arg(policy_word(alloc, true))?
         .arg(user_word(alloc))?
         .arg(explain_word(alloc))
 }
@@ -131,7 +132,7 @@ fn serve_words<'a>(alloc: Global) -> Result<clap::Command<'a>, AllocError> {
         .about("Serves a design under a policy to whoever connects")
         .after_help(SERVE_HELP)
         .arg(design_word(alloc))?
-        .arg(policy_word(alloc).required(true))?
+        .arg(policy_word(alloc, true))?
         .arg(
             number_word(alloc, "port", 1, 65_535)
                 .required(true)
@@ -180,10 +181,8 @@ fn served<'a>(serve: &ArgMatches<'a>) -> words::Command<'a> {
         design: serve.get_str("DESIGN").unwrap_or(""),
         policy: serve.get_str("POLICY").unwrap_or(""),
         port: serve.get_one("port").unwrap_or(0),
-        settings: Settings::new(
-            serve.get_one("workers").unwrap_or(0),
-            serve.get_one("sessions").unwrap_or(0),
-        ),
+        workers: serve.get_one("workers").unwrap_or(0),
+        sessions: serve.get_one("sessions").unwrap_or(0),
     }
 }
 

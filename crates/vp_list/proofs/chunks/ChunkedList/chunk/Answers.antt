@@ -5,8 +5,8 @@ use Rattle.std.proofs.Math.Nat.{mod-lt}
 use Rattle.std.proofs.lemmas.Option.{slice_get_read}
 use Rattle.vp_list.specs.Exchanges.{Fits, exchanged_item}
 use Rattle.vp_list.specs.laws.Exchanges.{chunk_exchanged, chunk_kept, item_other, length_exchanged}
-use Rattle.vp_list.proofs.chunks.SharedList.chunk.Goals.{in-Some+else-exchange-number, in_default}
-use Rattle.vp_list.proofs.chunks.SharedList.chunk.Goals as goal
+use Rattle.vp_list.proofs.chunks.ChunkedList.chunk.Goals.{in-Some+else-exchange-number, in_default}
+use Rattle.vp_list.proofs.chunks.ChunkedList.chunk.Goals as goal
 
 pub returns-then-exchange-number : goal.returns-then-exchange-number
 returns-then-exchange-number g c =

@@ -1,5 +1,5 @@
 use Rattle.std.proofs.Common.{◌≡◌, ◌*◌, take}
-use Rattle.vp_list.proofs.chunks.SharedList.is_same.Given as goal
+use Rattle.vp_list.proofs.chunks.ChunkedList.is_same.Given as goal
 
 -- those of the chunks so far are the same
 abbrev pub invariant-loop-number : goal.invariant-loop-number

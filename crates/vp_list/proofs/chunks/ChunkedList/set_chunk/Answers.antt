@@ -2,7 +2,7 @@ use Rattle.std.proofs.Common.{◌∙◌, length, lit<, ap, subst, arith}
 use Rattle.std.specs.Arc.{arc_value}
 use Rattle.vp_list.specs.Exchanges.{AreExchanges}
 use Rattle.vp_list.specs.laws.Exchanges.{length_exchanged}
-use Rattle.vp_list.proofs.chunks.SharedList.set_chunk.Goals as goal
+use Rattle.vp_list.proofs.chunks.ChunkedList.set_chunk.Goals as goal
 
 pub put-requires : goal.put-requires
 put-requires g c =

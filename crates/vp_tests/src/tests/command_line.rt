@@ -1,9 +1,7 @@
 //! The command line.
 
-use crate::parser::command;
-use crate::words::{Command, Misuse};
 use std::alloc::Global;
-use vp_serve::Settings;
+use vp_cli::{Command, Misuse, command};
 
 /// The words of a command line.
 fn words(alloc: Global, line: &str) -> Vec<String> {
@@ -53,17 +51,14 @@ fn asked(alloc: Global, line: &str) -> &'static str {
                 design,
                 policy,
                 port,
-                settings,
+                workers,
+                sessions,
             },
-        ) if design == "d.v" && policy == "p.json" => {
-            if port == 7 && settings == Settings::new(2, 0) {
-                "serve"
-            } else if port == 65_535 && settings == Settings::new(16, 4_294_967_295) {
-                "serve most"
-            } else {
-                "serve other"
-            }
-        }
+        ) if design == "d.v" && policy == "p.json" => match (port, workers, sessions) {
+            (7, 2, 0) => "serve",
+            (65_535, 16, 4_294_967_295) => "serve most",
+            _ => "serve other",
+        },
         Ok(Command::Show(_)) => "show",
         Err(Misuse::BadWords(_)) => "misuse",
         _ => "other",

@@ -1,5 +1,4 @@
 use vp_list::Text;
-use vp_serve::Settings;
 
 /// What the program's words ask.
 #[derive(Drop)]
@@ -32,7 +31,10 @@ pub enum Command<'a> {
         design: &'a str,
         policy: &'a str,
         port: u16,
-        settings: Settings,
+        /// So many threads search for races.
+        workers: u32,
+        /// It ends after so many connections; where it is 0, it does not end.
+        sessions: u32,
     },
     /// To run the bundle of standard input.
     Bundle,
@@ -51,7 +53,7 @@ pub enum Misuse {
 
 impl Misuse {
     ghost use Rattle.std.specs.Prelude.{◌≡◌};
-    ghost use Rattle.vp_served.specs.Misuses.{code_of};
+    ghost use Rattle.vp_cli.specs.Misuses.{code_of};
 
     /// Its number.
     pub fn code(&self) -> u32

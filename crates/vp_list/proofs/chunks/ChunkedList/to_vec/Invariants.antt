@@ -1,5 +1,5 @@
 use Rattle.std.proofs.Common.{◌≡◌, ◌*◌, take}
-use Rattle.vp_list.proofs.chunks.SharedList.to_vec.Given as goal
+use Rattle.vp_list.proofs.chunks.ChunkedList.to_vec.Given as goal
 
 -- those of the chunks so far are there
 abbrev pub invariant-loop-number : goal.invariant-loop-number
