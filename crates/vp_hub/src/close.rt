@@ -203,11 +203,17 @@ impl<L: Opens> Desk<L> {
     pub(crate) fn close(self, passes: &[Pass<L>]) -> Result<Closed, HubError>
         ensures { IfOk result (λ closed. IsClosed L.opening passes.now closed) }
     {
-        let receipts = self.handed_back(passes)?;
-        Ok(Closed {
-            world: self.into_world(),
-            receipts,
-        })
+        match self.handed_back(passes) {
+            Ok(receipts) => Ok(Closed {
+                world: self.into_world(),
+                receipts,
+            }),
+            Err(error) => {
+                // Dropped by a call, so that how a desk is dropped is no part of this function's proof.
+                drop(self);
+                Err(error)
+            }
+        }
     }
 
     /// For each of these passes the places of its calls, which are all that the log has of sessions.
@@ -223,10 +229,9 @@ impl<L: Opens> Desk<L> {
     {
         let log = self.log();
         check_receipts(log, passes)?;
-        let receipts = all_places(self.alloc(), log, passes)?;
         if !are_so_many(passes, count_entries(log)) {
             return Err(HubError::Mismatch);
         }
-        Ok(receipts)
+        Ok(all_places(self.alloc(), log, passes)?)
     }
 }

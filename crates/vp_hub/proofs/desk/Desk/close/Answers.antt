@@ -3,10 +3,10 @@ use Rattle.vp_world.specs.Worlds.{Logged}
 use Rattle.vp_hub.specs.Closing.{IsClosed}
 use Rattle.vp_hub.proofs.desk.Desk.close.Goals as goal
 
-pub returns : goal.returns
-returns g c =
-    let back = c.in_ok-receipts.ensures {u = tt} in
-    subst (λ (w : Logged). IsClosed g.L.Opens.opening c.args.passes.now (record { world = w; receipts = c.in_ok-receipts.receipts })) (sym c.into_world.ensures)
+pub returns-in-Ok : goal.returns-in-Ok
+returns-in-Ok g c =
+    let back = c.in-Ok.ensures in
+    subst (λ (w : Logged). IsClosed g.L.Opens.opening c.args.passes.now (record { world = w; receipts = c.in-Ok.receipts })) (sym c.into_world.ensures)
     (record {
       opened = back.opening;
       legal = back.legal;
