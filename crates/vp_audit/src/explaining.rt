@@ -106,10 +106,33 @@ fn explain_item<'a>(
     }))
 }
 
+/// What a user was told by each event of his own among these items, the first of which has the number 1, with the item with which each value came.
+/// Its refusals are those of `Part::take`.
+fn explain_items<'a>(
+    alloc: Global,
+    part: &mut Part<'a>,
+    brought: &mut Vec<u64>,
+    items: &'a [Item],
+) -> Result<Sequence<Explained>, AuditError>
+    ensures explained { IfOk result (λ told. told
+        ≡ explained_from 1 brought.old.items part.old items.now) }
+    ensures accepted { OnOk result (takes_all part.old items.now ≡ true) }
+    ensures refused { IfErr result (MayRefuse (takes_all part.old items.now)) }
+{
+    let mut told = Vec::new(alloc);
+    for (place, item) in items.iter().enumerate() {
+        let number = place as u64 + 1;
+        if let Some(one) = explain_item(alloc, part, brought, number, item)? {
+            told.push(one)?;
+        }
+    }
+    Ok(Sequence::from_vec(told))
+}
+
 /// What a user was told by each event of his own, in order, as `replay` has it, with the item with which each value came. Its refusals are
 /// those of `replay`.
 #[tactic(auto, using(crate::proofs::Filling::fill_is))]
-fn explain_items<'a>(
+fn explain_projection<'a>(
     alloc: Global,
     view: &'a View,
     projection: &'a Projection,
@@ -124,14 +147,7 @@ fn explain_items<'a>(
 {
     let mut part = Part::new(alloc, view, projection.values.as_slice())?;
     let mut brought = vec![in alloc; 0; projection.values.len()]?;
-    let mut told = Vec::new(alloc);
-    for (place, item) in projection.items.as_slice().iter().enumerate() {
-        let number = place as u64 + 1;
-        if let Some(one) = explain_item(alloc, &mut part, &mut brought, number, item)? {
-            told.push(one)?;
-        }
-    }
-    Ok(Sequence::from_vec(told))
+    explain_items(alloc, &mut part, &mut brought, projection.items.as_slice())
 }
 
 /// What a user was told by each event of his own, in order, as `replay` has it, with the number of its item and, for each value, the number of the
@@ -154,5 +170,5 @@ pub fn explain<'a>(
     ensures refused { IfErr result
         (MayRefuse (takes_all (first_part view.now projection.now.values) projection.now.items)) }
 {
-    explain_items(alloc, view, projection)
+    explain_projection(alloc, view, projection)
 }
