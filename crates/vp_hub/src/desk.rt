@@ -90,6 +90,16 @@ fn receive(
     Ok(told?)
 }
 
+/// The request that opens a session. Takes memory.
+fn opening_of(alloc: Global, user: &Text, token: &Text) -> Result<Request, AllocError>
+    ensures { IfOk result (λ request. request ≡ requests.Open user.now token.now) }
+{
+    Ok(Request::Open {
+        user: Text::copy(alloc, user.as_str())?,
+        token: Text::copy(alloc, token.as_str())?,
+    })
+}
+
 impl<L: Opens> Desk<L> {
     /// A desk with a world in which nothing has happened, and a new ledger with a part for each entry that the log may get, and one
     /// more.
@@ -158,12 +168,9 @@ impl<L: Opens> Desk<L> {
             (MayExplain starved (refusal_of self.old (event.Open user token))) }
         ensures unchanged { OnErr result (self.new ≡ self.old) }
     {
-        let request = Request::Open {
-            user: Text::copy(self.alloc, user.as_str())?,
-            token: Text::copy(self.alloc, token.as_str())?,
-        };
         let mut receipts = Vec::new(self.alloc);
         receipts.reserve(1)?;
+        let request = opening_of(self.alloc, &user, &token)?;
         let place = self.world.log().len();
         let reply = self.world.apply(Event::Open { user, token })?;
         let Reply::Opened(session) = reply else {
