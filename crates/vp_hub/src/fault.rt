@@ -4,6 +4,7 @@ ghost use Rattle.vp_hub.specs.declared.fault.HubError.TheVariants.{World};
 
 use std::alloc::{AllocError, AllocFailed};
 use thiserror::Error;
+use vp_answer::Refusal;
 use vp_world::WorldError;
 
 /// Why a call of a hub is refused.
@@ -21,7 +22,7 @@ pub enum HubError {
 }
 
 impl HubError {
-    ghost use Rattle.vp_hub.specs.Faults.{code_of};
+    ghost use Rattle.vp_hub.specs.Faults.{code_of, refusal_of};
 
     /// The number of the refusal, 1401 to 1403.
     pub fn code(&self) -> u32
@@ -31,6 +32,16 @@ impl HubError {
             HubError::Receipt => 1401,
             HubError::Mismatch => 1402,
             HubError::World(_) => 1403,
+        }
+    }
+
+    /// What a line tells of the refusal: the world's own, else that a receipt is bad.
+    pub fn refusal(self) -> Refusal
+        ensures { result ≡ refusal_of self }
+    {
+        match self {
+            HubError::World(error) => Refusal::from(error),
+            HubError::Receipt | HubError::Mismatch => Refusal::BadReceipt,
         }
     }
 }

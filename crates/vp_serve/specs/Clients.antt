@@ -1,23 +1,15 @@
 -- What the client of a connection is answered.
 use Rattle.std.specs.Prelude.{◌≡◌, ◌⊎◌, Option, Some, None, Result, Ok, Err}
 use Rattle.vp_answer.specs.declared.reply.Refusal.{Refusal}
-use Rattle.vp_answer.specs.declared.reply.Refusal.TheVariants.{BadReceipt}
 use Rattle.vp_answer.specs.declared.reply.Reply.{Reply}
 use Rattle.vp_answer.specs.declared.reply.Reply.TheVariants as reply
 use Rattle.vp_answer.specs.declared.request.Request.{Request}
 use Rattle.vp_answer.specs.declared.request.Request.TheVariants as request
-use Rattle.vp_hub.specs.Refusals.{refusal_of_error}
+use Rattle.vp_hub.specs.Faults.{refusal_of}
 use Rattle.vp_hub.specs.Worlds.{Opening}
 use Rattle.vp_hub.specs.declared.fault.HubError.{HubError}
-use Rattle.vp_hub.specs.declared.fault.HubError.TheVariants as hub_error
 use Rattle.vp_hub.specs.Calls.{Passed}
 use Rattle.vp_hub.specs.Hubs.{IsAnswered, IsOpened}
-
--- the refusal that a line tells of a hub's
-abbrev pub refusal_of : HubError → Refusal
-refusal_of (hub_error.World e) = refusal_of_error e
-refusal_of hub_error.Receipt = BadReceipt
-refusal_of hub_error.Mismatch = BadReceipt
 
 -- what a client is told of what a hub answers
 abbrev pub reply_of : Result Reply HubError → Reply

@@ -2,13 +2,13 @@ ghost use Rattle.std.specs.Prelude.{◌≡◌, ◌⊎◌, Some, None, IfErr, IfO
 ghost use Rattle.vp_answer.specs.declared.reply.Reply.TheVariants as replies;
 ghost use Rattle.vp_answer.specs.declared.request.Request.TheVariants as requests;
 ghost use Rattle.vp_hub.specs.Calls.{IsCall};
-ghost use Rattle.vp_serve.specs.Clients.{Answers, IsAsked, IsGranted, IsOpening, refusal_of};
+ghost use Rattle.vp_serve.specs.Clients.{Answers, IsAsked, IsGranted, IsOpening};
 
 use std::net::TcpStream;
 use std::sync::Wait;
 use std::sync::atomic::{AtomicBool, Ordering};
 use vp_answer::{GrantChange, Refusal, Reply, Request};
-use vp_hub::{Hub, HubError, Opens, Pass};
+use vp_hub::{Hub, Opens, Pass};
 use vp_list::Text;
 use vp_race::Gate;
 use vp_wire::Caller;
@@ -23,16 +23,6 @@ pub(crate) struct Client<'a, L: Opens, R: Wait, G: Gate> {
     /// He has shown a token that holds.
     pub(crate) is_known: &'a AtomicBool,
     pub(crate) pass: Option<Pass<L>>,
-}
-
-/// The refusal that a line tells of a hub's.
-fn refusal_of(error: HubError) -> Refusal
-    ensures { result ≡ refusal_of error }
-{
-    match error {
-        HubError::World(error) => Refusal::from(error),
-        HubError::Receipt | HubError::Mismatch => Refusal::BadReceipt,
-    }
 }
 
 impl<'a, L: Opens, R: Wait, G: Gate> Client<'a, L, R, G> {
@@ -56,7 +46,7 @@ impl<'a, L: Opens, R: Wait, G: Gate> Client<'a, L, R, G> {
                 self.note_known();
                 Reply::Opened(session)
             }
-            Err(error) => Reply::Error(refusal_of(error)),
+            Err(error) => Reply::Error(error.refusal()),
         }
     }
 
@@ -69,7 +59,7 @@ impl<'a, L: Opens, R: Wait, G: Gate> Client<'a, L, R, G> {
                 self.note_known();
                 reply
             }
-            Err(error) => Reply::Error(refusal_of(error)),
+            Err(error) => Reply::Error(error.refusal()),
         }
     }
 
@@ -85,7 +75,7 @@ impl<'a, L: Opens, R: Wait, G: Gate> Client<'a, L, R, G> {
         self.pass = Some(pass);
         match answer {
             Ok(reply) => reply,
-            Err(error) => Reply::Error(refusal_of(error)),
+            Err(error) => Reply::Error(error.refusal()),
         }
     }
 }
