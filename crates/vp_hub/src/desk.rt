@@ -91,7 +91,7 @@ fn receive(
 }
 
 /// The request that opens a session. Takes memory.
-fn opening_of(alloc: Global, user: &Text, token: &Text) -> Result<Request, AllocError>
+fn open_request(alloc: Global, user: &Text, token: &Text) -> Result<Request, AllocError>
     ensures { IfOk result (λ request. request ≡ requests.Open user.now token.now) }
 {
     Ok(Request::Open {
@@ -170,7 +170,7 @@ impl<L: Opens> Desk<L> {
     {
         let mut receipts = Vec::new(self.alloc);
         receipts.reserve(1)?;
-        let request = opening_of(self.alloc, &user, &token)?;
+        let request = open_request(self.alloc, &user, &token)?;
         let place = self.world.log().len();
         let reply = self.world.apply(Event::Open { user, token })?;
         let Reply::Opened(session) = reply else {
