@@ -107,10 +107,10 @@ sums_set {X} f xs p s t n within is = elim (cases_eq (p / 16) n) [
   | inr other ↦
       (let here : block_of n (set xs p t) ≡ block_of n xs = elim (cases_lt p (16 * n)) [
         | inl before ↦ ap (take 16) (drop-set-lt (16 * n) xs p t before)
-        | inr behind ↦
+        | inr following ↦
             (let i = p - 16 * n in
-            let at : 16 * n + i ≡ p = omega (arith, behind) in
-            ap (λ (q : ℕ). block_of n (set xs q t)) (sym at) ∙ ap (take 16) (drop-set-add (16 * n) xs i t) ∙ take-set-le 16 (drop (16 * n) xs) i t (omega (arith, behind, other)))
+            let at : 16 * n + i ≡ p = omega (arith, following) in
+            ap (λ (q : ℕ). block_of n (set xs q t)) (sym at) ∙ ap (take 16) (drop-set-add (16 * n) xs i t) ∙ take-set-le 16 (drop (16 * n) xs) i t (omega (arith, following, other)))
       ] in
       let ne = ne_eqb (p / 16) n other in
       ap (λ (b : Bool). sum_by f (block_of n (set xs p t)) + cond b (f s) 0) ne

@@ -14,8 +14,8 @@ use Rattle.vp_active.specs.declared.event.Event.TheVariants as events
 use Rattle.vp_active.specs.declared.slot.Slot.{Slot}
 use Rattle.vp_active.specs.declared.slot.Slot.TheVariants.{Empty, Evaluation, NetUpdate}
 use Rattle.vp_active.specs.Events.{drives}
-use Rattle.vp_active.specs.Slots.{AreMarkedBehind, IsMarked, does_first_wait, events_at, events_of, freed, is_empty, is_update_of, released}
-use Rattle.vp_active.specs.laws.Choosing.{get_behind}
+use Rattle.vp_active.specs.Slots.{AreMarkedAfter, IsMarked, does_first_wait, events_at, events_of, freed, is_empty, is_update_of, released}
+use Rattle.vp_active.specs.laws.Choosing.{get_after}
 
 abbrev number : Bool → ℕ
 number b = cond b 1 0
@@ -52,19 +52,19 @@ is_marked_same b c (Evaluation process) same h = tt
 is_marked_same b c (NetUpdate process value waiting) same h = h ∙ same process
 
 -- marks are right after updates of the same nets
-pub marked_same : (b c : ℕ → Bool) (ss : List Slot) → ((n : ℕ) → b n ≡ c n) → AreMarkedBehind b ss → AreMarkedBehind c ss
+pub marked_same : (b c : ℕ → Bool) (ss : List Slot) → ((n : ℕ) → b n ≡ c n) → AreMarkedAfter b ss → AreMarkedAfter c ss
 marked_same b c [] same h = tt
 marked_same b c (s ∷ ss) same h =
     (is_marked_same b c s same h.0, marked_same (λ n. b n || is_update_of n s) (λ n. c n || is_update_of n s) ss (λ n. ap (λ t. t || is_update_of n s) (same n)) h.1)
 
 -- one more event
-pub marked_push : (b : ℕ → Bool) (ss : List Slot) (s : Slot) → AreMarkedBehind b ss → IsMarked (λ n. b n || list_any (is_update_of n) ss) s → AreMarkedBehind b (ss ++ s ∷ [])
+pub marked_push : (b : ℕ → Bool) (ss : List Slot) (s : Slot) → AreMarkedAfter b ss → IsMarked (λ n. b n || list_any (is_update_of n) ss) s → AreMarkedAfter b (ss ++ s ∷ [])
 marked_push b [] s h last = (is_marked_same (λ n. b n || false) b s (λ n. or_none (b n)) last, tt)
 marked_push b (x ∷ ss) s h last =
     (h.0, marked_push (λ n. b n || is_update_of n x) ss s h.1 (is_marked_same (λ n. b n || (is_update_of n x || list_any (is_update_of n) ss)) (λ n. (b n || is_update_of n x) || list_any (is_update_of n) ss) s (λ n. sym (or_assoc (b n) (is_update_of n x) (list_any (is_update_of n) ss))) last))
 
 -- the empty slots go
-pub marked_kept : (b : ℕ → Bool) (ss : List Slot) → AreMarkedBehind b ss → AreMarkedBehind b (filter (λ (s : Slot). not (is_empty s)) ss)
+pub marked_kept : (b : ℕ → Bool) (ss : List Slot) → AreMarkedAfter b ss → AreMarkedAfter b (filter (λ (s : Slot). not (is_empty s)) ss)
 marked_kept b [] h = tt
 marked_kept b (Empty ∷ ss) h = marked_kept b ss (marked_same (λ n. b n || false) b ss (λ n. or_none (b n)) h.1)
 marked_kept b (Evaluation process ∷ ss) h = (tt, marked_kept (λ n. b n || false) ss h.1)
@@ -78,7 +78,7 @@ events_kept (NetUpdate process value waiting ∷ ss) = ap (λ (es : List Event).
 
 -- ---- an update is over: the next of its net waits no longer
 
-pub released_marks : (b c : ℕ → Bool) (q : ℕ) (ss : List Slot) → ((n : ℕ) → c n ≡ (b n || eqb q n)) → b q ≡ false → AreMarkedBehind c ss → AreMarkedBehind b (released q ss)
+pub released_marks : (b c : ℕ → Bool) (q : ℕ) (ss : List Slot) → ((n : ℕ) → c n ≡ (b n || eqb q n)) → b q ≡ false → AreMarkedAfter c ss → AreMarkedAfter b (released q ss)
 released_marks b c q [] so none h = tt
 released_marks b c q (Empty ∷ ss) so none h =
     (tt, released_marks (λ n. b n || false) (λ n. c n || false) q ss (λ n. ap (λ t. t || false) (so n) ∙ or_swap (b n) (eqb q n) false) (or_from (b q) false none refl) h.1)
@@ -87,13 +87,13 @@ released_marks b c q (Evaluation process ∷ ss) so none h =
 released_marks b c q (NetUpdate r value waiting ∷ ss) so none h = elim (cases_Bool (eqb r q)) [
   | inl same ↦
       (let is : r ≡ q = eqb-true r q same in
-      let first : AreMarkedBehind b (NetUpdate r value false ∷ ss) =
+      let first : AreMarkedAfter b (NetUpdate r value false ∷ ss) =
       (sym (ap b is ∙ none), marked_same (λ n. c n || eqb r n) (λ n. b n || eqb r n) ss (λ n. ap (λ t. t || eqb r n) (so n) ∙ ap (λ (m : ℕ). (b n || eqb m n) || eqb r n) (sym is) ∙ or_twice (b n) (eqb r n)) h.1) in
-      subst (λ t. AreMarkedBehind b (cond t (NetUpdate r value false ∷ ss) (NetUpdate r value waiting ∷ released q ss))) (sym same) first)
+      subst (λ t. AreMarkedAfter b (cond t (NetUpdate r value false ∷ ss) (NetUpdate r value waiting ∷ released q ss))) (sym same) first)
   | inr other ↦
       (let rest = released_marks (λ n. b n || eqb r n) (λ n. c n || eqb r n) q ss (λ n. ap (λ t. t || eqb r n) (so n) ∙ or_swap (b n) (eqb q n) (eqb r n)) (or_from (b q) (eqb r q) none other) h.1 in
-      let later : AreMarkedBehind b (NetUpdate r value waiting ∷ released q ss) = (h.0 ∙ so r ∙ ap (λ t. b r || t) (eqb_swap q r ∙ other) ∙ or_none (b r), rest) in
-      subst (λ t. AreMarkedBehind b (cond t (NetUpdate r value false ∷ ss) (NetUpdate r value waiting ∷ released q ss))) (sym other) later)
+      let later : AreMarkedAfter b (NetUpdate r value waiting ∷ released q ss) = (h.0 ∙ so r ∙ ap (λ t. b r || t) (eqb_swap q r ∙ other) ∙ or_none (b r), rest) in
+      subst (λ t. AreMarkedAfter b (cond t (NetUpdate r value false ∷ ss) (NetUpdate r value waiting ∷ released q ss))) (sym other) later)
 ]
 
 events_freed : (s : Slot) → events_at (freed s) ≡ events_at s
@@ -120,7 +120,7 @@ events_released_from q p ss =
 
 -- ---- the first update of a net waits, where there is an older one
 
-pub first_waits : (b : ℕ → Bool) (q : ℕ) (ss : List Slot) → AreMarkedBehind b ss → b q ≡ true → does_first_wait q ss ≡ true
+pub first_waits : (b : ℕ → Bool) (q : ℕ) (ss : List Slot) → AreMarkedAfter b ss → b q ≡ true → does_first_wait q ss ≡ true
 first_waits b q [] h older = refl
 first_waits b q (Empty ∷ ss) h older = first_waits (λ n. b n || false) q ss h.1 (or_left (b q) false older)
 first_waits b q (Evaluation process ∷ ss) h older = first_waits (λ n. b n || false) q ss h.1 (or_left (b q) false older)
@@ -132,27 +132,27 @@ first_waits b q (NetUpdate r value waiting ∷ ss) h older = elim (cases_Bool (e
 -- ---- the event at a place is over
 
 -- an update of a net
-pub update_taken : (b : ℕ → Bool) (ss : List Slot) (p q : ℕ) (value : _) → AreMarkedBehind b ss → slice_get ss p ≡ Some (NetUpdate q value false) → AreMarkedBehind b (take p (set ss p Empty) ++ released q (drop p (set ss p Empty)))
+pub update_taken : (b : ℕ → Bool) (ss : List Slot) (p q : ℕ) (value : _) → AreMarkedAfter b ss → slice_get ss p ≡ Some (NetUpdate q value false) → AreMarkedAfter b (take p (set ss p Empty) ++ released q (drop p (set ss p Empty)))
 update_taken b [] p q value h found = absurd cc
 update_taken b (s ∷ ss) zero q value h found =
     let is = same_Some s (NetUpdate q value false) found in
     let here : IsMarked b (NetUpdate q value false) = subst (λ (x : Slot). IsMarked b x) is h.0 in
-    let rest : AreMarkedBehind (λ n. b n || eqb q n) ss = subst (λ (x : Slot). AreMarkedBehind (λ n. b n || is_update_of n x) ss) is h.1 in
+    let rest : AreMarkedAfter (λ n. b n || eqb q n) ss = subst (λ (x : Slot). AreMarkedAfter (λ n. b n || is_update_of n x) ss) is h.1 in
     (tt, released_marks (λ n. b n || false) (λ n. b n || eqb q n) q ss (λ n. ap (λ t. t || eqb q n) (sym (or_none (b n)))) (or_from (b q) false (sym here) refl) rest)
 update_taken b (s ∷ ss) (suc p) q value h found = (h.0, update_taken (λ n. b n || is_update_of n s) ss p q value h.1 found)
 
-pub next_waits_behind : (b : ℕ → Bool) (ss : List Slot) (p q : ℕ) (value : _) → AreMarkedBehind b ss → slice_get ss p ≡ Some (NetUpdate q value false) → does_first_wait q (drop p (set ss p Empty)) ≡ true
-next_waits_behind b [] p q value h found = absurd cc
-next_waits_behind b (s ∷ ss) zero q value h found =
+pub next_waits_after : (b : ℕ → Bool) (ss : List Slot) (p q : ℕ) (value : _) → AreMarkedAfter b ss → slice_get ss p ≡ Some (NetUpdate q value false) → does_first_wait q (drop p (set ss p Empty)) ≡ true
+next_waits_after b [] p q value h found = absurd cc
+next_waits_after b (s ∷ ss) zero q value h found =
     let is = same_Some s (NetUpdate q value false) found in
     first_waits (λ n. b n || is_update_of n s) q ss h.1 (or_right (b q) (is_update_of q s) (ap (is_update_of q) is ∙ eq-eqb q q refl))
-next_waits_behind b (s ∷ ss) (suc p) q value h found = next_waits_behind (λ n. b n || is_update_of n s) ss p q value h.1 found
+next_waits_after b (s ∷ ss) (suc p) q value h found = next_waits_after (λ n. b n || is_update_of n s) ss p q value h.1 found
 
 -- an evaluation
-pub evaluation_taken : (b : ℕ → Bool) (ss : List Slot) (p q : ℕ) → AreMarkedBehind b ss → slice_get ss p ≡ Some (Evaluation q) → AreMarkedBehind b (set ss p Empty)
+pub evaluation_taken : (b : ℕ → Bool) (ss : List Slot) (p q : ℕ) → AreMarkedAfter b ss → slice_get ss p ≡ Some (Evaluation q) → AreMarkedAfter b (set ss p Empty)
 evaluation_taken b [] p q h found = absurd cc
 evaluation_taken b (s ∷ ss) zero q h found =
-    (tt, subst (λ (x : Slot). AreMarkedBehind (λ n. b n || is_update_of n x) ss) (same_Some s (Evaluation q) found) h.1)
+    (tt, subst (λ (x : Slot). AreMarkedAfter (λ n. b n || is_update_of n x) ss) (same_Some s (Evaluation q) found) h.1)
 evaluation_taken b (s ∷ ss) (suc p) q h found = (h.0, evaluation_taken (λ n. b n || is_update_of n s) ss p q h.1 found)
 
 -- the events are those that are left
@@ -173,7 +173,7 @@ pub event_found : (ss : List Slot) (p : ℕ) (s : Slot) (e : Event) → slice_ge
 event_found [] p s e found is = absurd cc
 event_found (x ∷ ss) zero s e found is = ap (λ (es : List Event). slice_get (es ++ events_of ss) 0) (ap events_at (same_Some x s found) ∙ is)
 event_found (x ∷ ss) (suc p) s e found is =
-    get_behind (events_at x) (events_of ss) (length (events_at x ++ events_of (take p ss))) (length (events_of (take p ss))) (length-append (events_at x) (events_of (take p ss))) ∙ event_found ss p s e found is
+    get_after (events_at x) (events_of ss) (length (events_at x ++ events_of (take p ss))) (length (events_of (take p ss))) (length-append (events_at x) (events_of (take p ss))) ∙ event_found ss p s e found is
 
 -- ---- how many updates of a net there are
 

@@ -8,7 +8,7 @@ use Rattle.std.proofs.lemmas.List.Sums.{count_by-le-length, sum_by-append, sum_b
 use Rattle.std.proofs.lemmas.Option.{same_Some, slice_get-get_or}
 use Rattle.vp_active.specs.declared.slot.Slot.{Slot}
 use Rattle.vp_active.specs.declared.slot.Slot.TheVariants.{Empty, Evaluation, NetUpdate}
-use Rattle.vp_active.specs.laws.Choosing.{get_behind}
+use Rattle.vp_active.specs.laws.Choosing.{get_after}
 use Rattle.vp_active.specs.Slots.{AreBlocksCounted, count_empty, does_first_wait, events_at, events_of, freed, is_empty, is_ready, is_update_of, is_waiting, next_from, ready_from, released}
 
 abbrev number : Bool → ℕ
@@ -114,8 +114,8 @@ ready_place place (s ∷ ss) k n found = ready_place_at (is_ready s) place k n s
 -- ---- the slots of a block
 
 -- the k-th stands in a block, or after it
-pub block_behind : (ss : List Slot) (cs : List ℕ) (n left : ℕ) → AreBlocksCounted ss cs → get_or cs n 0 ≤ left → slice_get (ready_from (16 * (n + 1)) (drop (16 * (n + 1)) ss)) (left - get_or cs n 0) ≡ slice_get (ready_from (16 * n) (drop (16 * n) ss)) left
-block_behind ss cs n left h few =
+pub block_after : (ss : List Slot) (cs : List ℕ) (n left : ℕ) → AreBlocksCounted ss cs → get_or cs n 0 ≤ left → slice_get (ready_from (16 * (n + 1)) (drop (16 * (n + 1)) ss)) (left - get_or cs n 0) ≡ slice_get (ready_from (16 * n) (drop (16 * n) ss)) left
+block_after ss cs n left h few =
     let from = drop (16 * n) ss in
     let next : 16 * n + 16 ≡ 16 * (n + 1) = omega arith in
     let count = h n in
@@ -123,25 +123,25 @@ block_behind ss cs n left h few =
     let long = length-ready_from (16 * n) (take 16 from) in
     let split : ready_from (16 * n) from ≡ here ++ ready_from (16 * n + length (take 16 from)) (drop 16 from) =
     ap (ready_from (16 * n)) (sym (take-append-drop 16 from)) ∙ ready-append (16 * n) (take 16 from) (drop 16 from) in
-    let behind : drop 16 from ≡ drop (16 * (n + 1)) ss = drop-drop 16 (16 * n) ss ∙ ap (λ (m : ℕ). drop m ss) next in
+    let following : drop 16 from ≡ drop (16 * (n + 1)) ss = drop-drop 16 (16 * n) ss ∙ ap (λ (m : ℕ). drop m ss) next in
     sym (
     ap (λ (ps : List ℕ). slice_get ps left) split
-    ∙ get_behind here (ready_from (16 * n + length (take 16 from)) (drop 16 from)) left (left - get_or cs n 0) (omega (arith, few, count, long))
+    ∙ get_after here (ready_from (16 * n + length (take 16 from)) (drop 16 from)) left (left - get_or cs n 0) (omega (arith, few, count, long))
     ∙ elim (cases_lt 16 (length from)) [
       | inl longer ↦
           (let full : 16 * n + length (take 16 from) ≡ 16 * (n + 1) = omega (arith, longer, length-take 16 from) in
           ap (λ (m : ℕ). slice_get (ready_from m (drop 16 from)) (left - get_or cs n 0)) full
-          ∙ ap (λ (xs : List Slot). slice_get (ready_from (16 * (n + 1)) xs) (left - get_or cs n 0)) behind)
+          ∙ ap (λ (xs : List Slot). slice_get (ready_from (16 * (n + 1)) xs) (left - get_or cs n 0)) following)
       | inr short ↦
           (let none : drop 16 from ≡ [] = drop_all 16 from short in
           ap (λ (xs : List Slot). slice_get (ready_from (16 * n + length (take 16 from)) xs) (left - get_or cs n 0)) none
-          ∙ sym (ap (λ (xs : List Slot). slice_get (ready_from (16 * (n + 1)) xs) (left - get_or cs n 0)) (sym behind ∙ none)))
+          ∙ sym (ap (λ (xs : List Slot). slice_get (ready_from (16 * (n + 1)) xs) (left - get_or cs n 0)) (sym following ∙ none)))
     ])
 
 -- where so many stand in the blocks before one, the k-th stands from there on
-pub blocks_behind : (ss : List Slot) (cs : List ℕ) (k n left : ℕ) → AreBlocksCounted ss cs → n ≤ length cs → sum (take n cs) + left ≡ k → slice_get (ready_from (16 * n) (drop (16 * n) ss)) left ≡ slice_get (ready_from 0 ss) k
-blocks_behind ss cs k zero left h within all = ap (slice_get (ready_from 0 ss)) (omega (arith, all))
-blocks_behind ss cs k (suc n) left h within all =
+pub blocks_after : (ss : List Slot) (cs : List ℕ) (k n left : ℕ) → AreBlocksCounted ss cs → n ≤ length cs → sum (take n cs) + left ≡ k → slice_get (ready_from (16 * n) (drop (16 * n) ss)) left ≡ slice_get (ready_from 0 ss) k
+blocks_after ss cs k zero left h within all = ap (slice_get (ready_from 0 ss)) (omega (arith, all))
+blocks_after ss cs k (suc n) left h within all =
     let next : 16 * (n + 1) ≡ 16 * suc n = omega arith in
     let c = get_or cs n 0 in
     let more = ap sum (take_more cs n 0 (omega (arith, within))) in
@@ -152,8 +152,8 @@ blocks_behind ss cs k (suc n) left h within all =
     let back : left + c - c ≡ left = omega arith in
     ap (λ (m : ℕ). slice_get (ready_from m (drop m ss)) left) (sym next)
     ∙ ap (slice_get (ready_from (16 * (n + 1)) (drop (16 * (n + 1)) ss))) (sym back)
-    ∙ block_behind ss cs n (left + c) h (omega arith)
-    ∙ blocks_behind ss cs k n (left + c) h (omega (arith, within)) (omega (arith, all, count, same))
+    ∙ block_after ss cs n (left + c) h (omega arith)
+    ∙ blocks_after ss cs k n (left + c) h (omega (arith, within)) (omega (arith, all, count, same))
 
 -- ---- the next update of a net
 
@@ -198,7 +198,7 @@ next_within process start n ss found =
 found_slot : (start n i : ℕ) (ss : List Slot) → n ≡ start + i → start ≤ length ss → slice_get ss n ≡ slice_get (drop start ss) i
 found_slot start n i ss is fits =
     ap (λ (xs : List Slot). slice_get xs n) (sym (take-append-drop start ss))
-    ∙ get_behind (take start ss) (drop start ss) n i (omega (arith, is, fits, length-take start ss))
+    ∙ get_after (take start ss) (drop start ss) n i (omega (arith, is, fits, length-take start ss))
 
 -- and waits
 pub next_waits : (process start n : ℕ) (ss : List Slot) → start ≤ length ss → does_first_wait process (drop start ss) ≡ true → next_from start process (drop start ss) ≡ Some n → IfSome (slice_get ss n) (λ x. is_waiting x ≡ true)

@@ -13,12 +13,12 @@ use Rattle.vp_active.specs.declared.event.Event.{Event}
 use Rattle.vp_active.specs.declared.event.Event.TheVariants as events
 use Rattle.vp_active.specs.declared.slot.Slot.{Slot}
 use Rattle.vp_active.specs.declared.slot.Slot.TheVariants.{Empty, Evaluation, NetUpdate}
-use Rattle.vp_active.specs.Events.{AreCounted, drives, eligible_behind, eligible_places}
-use Rattle.vp_active.specs.Slots.{AreMarked, AreMarkedBehind, IsMarked, count_empty, does_first_wait, events_at, events_of, is_empty, is_ready, is_update_of, is_waiting, ready_from, released, without_at}
+use Rattle.vp_active.specs.Events.{AreCounted, drives, eligible_after, eligible_places}
+use Rattle.vp_active.specs.Slots.{AreMarked, AreMarkedAfter, IsMarked, count_empty, does_first_wait, events_at, events_of, is_empty, is_ready, is_update_of, is_waiting, ready_from, released, without_at}
 use Rattle.vp_active.specs.laws.Choosing.{first_eligible}
 use Rattle.vp_active.proofs.Counted.{any_counted, counted_fewer, counted_more, counted_push, counted_same, some_counted}
 use Rattle.vp_active.proofs.Indexed.{ready_is}
-use Rattle.vp_active.proofs.Marking.{count_updates, drives_any, evaluation_taken, event_found, events_kept, events_released, events_released_from, events_taken, marked_kept, marked_push, next_waits_behind, none_released, update_taken}
+use Rattle.vp_active.proofs.Marking.{count_updates, drives_any, evaluation_taken, event_found, events_kept, events_released, events_released_from, events_taken, marked_kept, marked_push, next_waits_after, none_released, update_taken}
 use Rattle.vp_active.proofs.Places.{ready_place}
 
 abbrev number : Bool → ℕ
@@ -41,43 +41,43 @@ rank_here : (front ss : List Slot) → rank (front ++ ss) (length front) ≡ len
 rank_here front ss = ap (λ (xs : List Slot). length (events_of xs)) (take_at front ss (length front) refl)
 
 -- what holds of the slots after one
-abbrev Behind : (ℕ → Bool) → List Slot → List Slot → Type 0
-Behind b front ss = AreMarkedBehind b ss → ((n : ℕ) → b n ≡ list_any (drives n) (events_of front)) → eligible_behind (events_of front) (events_of ss) ≡ map (rank (front ++ ss)) (ready_from (length front) ss)
+abbrev After : (ℕ → Bool) → List Slot → List Slot → Type 0
+After b front ss = AreMarkedAfter b ss → ((n : ℕ) → b n ≡ list_any (drives n) (events_of front)) → eligible_after (events_of front) (events_of ss) ≡ map (rank (front ++ ss)) (ready_from (length front) ss)
 
-behind_slot : (b : ℕ → Bool) (front ss : List Slot) (s : Slot) → Behind (λ n. b n || is_update_of n s) (front ++ s ∷ []) ss → AreMarkedBehind (λ n. b n || is_update_of n s) ss → ((n : ℕ) → b n ≡ list_any (drives n) (events_of front))
-    → eligible_behind (events_of front ++ events_at s) (events_of ss) ≡ map (rank (front ++ s ∷ ss)) (ready_from (length front + 1) ss)
-behind_slot b front ss s more h older =
+after_slot : (b : ℕ → Bool) (front ss : List Slot) (s : Slot) → After (λ n. b n || is_update_of n s) (front ++ s ∷ []) ss → AreMarkedAfter (λ n. b n || is_update_of n s) ss → ((n : ℕ) → b n ≡ list_any (drives n) (events_of front))
+    → eligible_after (events_of front ++ events_at s) (events_of ss) ≡ map (rank (front ++ s ∷ ss)) (ready_from (length front + 1) ss)
+after_slot b front ss s more h older =
     let es = events_front front s in
     let next : (n : ℕ) → (b n || is_update_of n s) ≡ list_any (drives n) (events_of (front ++ s ∷ [])) = λ n.
     ap (λ t. t || is_update_of n s) (older n) ∙ ap (λ t. list_any (drives n) (events_of front) || t) (sym (drives_any n s)) ∙ sym (list_any-append (drives n) (events_of front) (events_at s)) ∙ ap (list_any (drives n)) (sym es) in
-    ap (λ (o : List Event). eligible_behind o (events_of ss)) (sym es)
+    ap (λ (o : List Event). eligible_after o (events_of ss)) (sym es)
     ∙ more h next
     ∙ ap (λ (n : ℕ). map (rank ((front ++ s ∷ []) ++ ss)) (ready_from n ss)) (length-append front (s ∷ []))
     ∙ ap (λ (xs : List Slot). map (rank xs) (ready_from (length front + 1) ss)) (append_assoc front (s ∷ []) ss)
 
-places_behind : (b : ℕ → Bool) (front ss : List Slot) → Behind b front ss
-places_behind b front [] h older = refl
-places_behind b front (Empty ∷ ss) h older =
-    ap (λ (o : List Event). eligible_behind o (events_of ss)) (sym (append-nil (events_of front)))
-    ∙ behind_slot b front ss Empty (places_behind (λ n. b n || false) (front ++ Empty ∷ []) ss) h.1 older
-places_behind b front (Evaluation q ∷ ss) h older =
+places_after : (b : ℕ → Bool) (front ss : List Slot) → After b front ss
+places_after b front [] h older = refl
+places_after b front (Empty ∷ ss) h older =
+    ap (λ (o : List Event). eligible_after o (events_of ss)) (sym (append-nil (events_of front)))
+    ∙ after_slot b front ss Empty (places_after (λ n. b n || false) (front ++ Empty ∷ []) ss) h.1 older
+places_after b front (Evaluation q ∷ ss) h older =
     let s = Evaluation q in
-    place_here true (rank (front ++ s ∷ ss)) (length front) (length (events_of front)) _ (ready_from (length front + 1) ss) (rank_here front (s ∷ ss)) (behind_slot b front ss s (places_behind (λ n. b n || false) (front ++ s ∷ []) ss) h.1 older)
-places_behind b front (NetUpdate q value waiting ∷ ss) h older =
+    place_here true (rank (front ++ s ∷ ss)) (length front) (length (events_of front)) _ (ready_from (length front + 1) ss) (rank_here front (s ∷ ss)) (after_slot b front ss s (places_after (λ n. b n || false) (front ++ s ∷ []) ss) h.1 older)
+places_after b front (NetUpdate q value waiting ∷ ss) h older =
     let s = NetUpdate q value waiting in
-    let rest = eligible_behind (events_of front ++ events.NetUpdate q value ∷ []) (events_of ss) in
+    let rest = eligible_after (events_of front ++ events.NetUpdate q value ∷ []) (events_of ss) in
     ap (λ t. cond (not t) (length (events_of front) ∷ []) [] ++ rest) (sym (h.0 ∙ older q))
-    ∙ place_here (not waiting) (rank (front ++ s ∷ ss)) (length front) (length (events_of front)) rest (ready_from (length front + 1) ss) (rank_here front (s ∷ ss)) (behind_slot b front ss s (places_behind (λ n. b n || eqb q n) (front ++ s ∷ []) ss) h.1 older)
+    ∙ place_here (not waiting) (rank (front ++ s ∷ ss)) (length front) (length (events_of front)) rest (ready_from (length front + 1) ss) (rank_here front (s ∷ ss)) (after_slot b front ss s (places_after (λ n. b n || eqb q n) (front ++ s ∷ []) ss) h.1 older)
 
 -- the eligible events are those of the slots that are ready
-pub eligible_are : (ss : List Slot) → AreMarkedBehind (λ n. false) ss → eligible_places (events_of ss) ≡ map (rank ss) (ready_from 0 ss)
-eligible_are ss h = places_behind (λ n. false) [] ss h (λ n. refl)
+pub eligible_are : (ss : List Slot) → AreMarkedAfter (λ n. false) ss → eligible_places (events_of ss) ≡ map (rank ss) (ready_from 0 ss)
+eligible_are ss h = places_after (λ n. false) [] ss h (λ n. refl)
 
-pub count_eligible : (ss : List Slot) → AreMarkedBehind (λ n. false) ss → length (eligible_places (events_of ss)) ≡ length (ready_from 0 ss)
+pub count_eligible : (ss : List Slot) → AreMarkedAfter (λ n. false) ss → length (eligible_places (events_of ss)) ≡ length (ready_from 0 ss)
 count_eligible ss h = ap length (eligible_are ss h) ∙ length-map (ready_from 0 ss) (rank ss)
 
 -- the k-th of them
-pub sought : (ss : List Slot) (k : ℕ) (o : Option ℕ) → AreMarkedBehind (λ n. false) ss → o ≡ slice_get (ready_from 0 ss) k → slice_get (eligible_places (events_of ss)) k ≡ option_map (rank ss) o
+pub sought : (ss : List Slot) (k : ℕ) (o : Option ℕ) → AreMarkedAfter (λ n. false) ss → o ≡ slice_get (ready_from 0 ss) k → slice_get (eligible_places (events_of ss)) k ≡ option_map (rank ss) o
 sought ss k o h is =
     ap (λ (ps : List ℕ). slice_get ps k) (eligible_are ss h) ∙ slice_get-map (rank ss) (ready_from 0 ss) k ∙ ap (option_map (rank ss)) (sym is)
 
@@ -110,13 +110,13 @@ ready_there ss k p found =
     let at : m.0 ≡ p = let h = m.1 in omega (arith, h) in
     subst (λ (i : ℕ). IfSome (slice_get ss i) (λ s. is_ready s ≡ true)) at m.3
 
-pub peeked_at : (ss : List Slot) (k p : ℕ) (s : Slot) (r : Option Event) → AreMarkedBehind (λ n. false) ss → Some p ≡ slice_get (ready_from 0 ss) k → slice_get ss p ≡ Some s → option_to_list r ≡ events_at s → r ≡ option_and_then (slice_get (events_of ss)) (slice_get (eligible_places (events_of ss)) k)
+pub peeked_at : (ss : List Slot) (k p : ℕ) (s : Slot) (r : Option Event) → AreMarkedAfter (λ n. false) ss → Some p ≡ slice_get (ready_from 0 ss) k → slice_get ss p ≡ Some s → option_to_list r ≡ events_at s → r ≡ option_and_then (slice_get (events_of ss)) (slice_get (eligible_places (events_of ss)) k)
 peeked_at ss k p s r h found is read = with_event s (ready_is s (ready_slot ss k p s found is)).0 (λ e one.
     is_event r e (read ∙ one)
     ∙ sym (event_found ss p s e is one)
     ∙ sym (ap (option_and_then (slice_get (events_of ss))) (sought ss k (Some p) h found)))
 
-pub peeked_none : (ss : List Slot) (k : ℕ) → AreMarkedBehind (λ n. false) ss → None ≡ slice_get (ready_from 0 ss) k → None ≡ option_and_then (slice_get (events_of ss)) (slice_get (eligible_places (events_of ss)) k)
+pub peeked_none : (ss : List Slot) (k : ℕ) → AreMarkedAfter (λ n. false) ss → None ≡ slice_get (ready_from 0 ss) k → None ≡ option_and_then (slice_get (events_of ss)) (slice_get (eligible_places (events_of ss)) k)
 peeked_none ss k h found = sym (ap (option_and_then (slice_get (events_of ss))) (sought ss k None h found))
 
 -- no slot is empty: the first has the oldest event
@@ -203,14 +203,14 @@ update_counted ss us p q value h found =
     let here = h.counted q in
     omega (arith, some, here)
 
-pub none_behind : (ss : List Slot) (us : List ℕ) (p q : ℕ) (value : _) → AreMarked ss us → slice_get ss p ≡ Some (NetUpdate q value false) → get_or us q 0 ≡ 1 → released q (drop p (set ss p Empty)) ≡ drop p (set ss p Empty)
-none_behind ss us p q value h found one =
+pub none_after : (ss : List Slot) (us : List ℕ) (p q : ℕ) (value : _) → AreMarked ss us → slice_get ss p ≡ Some (NetUpdate q value false) → get_or us q 0 ≡ 1 → released q (drop p (set ss p Empty)) ≡ drop p (set ss p Empty)
+none_after ss us p q value h found one =
     let all : count_by (is_update_of q) ss ≡ 1 = sym (count_updates q ss) ∙ sym (h.counted q) ∙ one in
     let none = count_out (is_update_of q) ss p 1 (NetUpdate q value false) found (eq-eqb q q refl) refl all in
     none_released q (drop p (set ss p Empty)) (omega (arith, none))
 
-pub waits_behind : (ss : List Slot) (us : List ℕ) (p q : ℕ) (value : _) → AreMarked ss us → slice_get ss p ≡ Some (NetUpdate q value false) → does_first_wait q (drop p (set ss p Empty)) ≡ true
-waits_behind ss us p q value h found = next_waits_behind (λ n. false) ss p q value h.marks found
+pub waits_after : (ss : List Slot) (us : List ℕ) (p q : ℕ) (value : _) → AreMarked ss us → slice_get ss p ≡ Some (NetUpdate q value false) → does_first_wait q (drop p (set ss p Empty)) ≡ true
+waits_after ss us p q value h found = next_waits_after (λ n. false) ss p q value h.marks found
 
 pub update_over : (ss ts : List Slot) (us vs : List ℕ) (p q : ℕ) (value : _) → AreMarked ss us → slice_get ss p ≡ Some (NetUpdate q value false) → ts ≡ take p (set ss p Empty) ++ released q (drop p (set ss p Empty)) → vs ≡ set us q (get_or us q 0 - 1) → AreMarked ts vs
 update_over ss ts us vs p q value h found is counts =
@@ -220,7 +220,7 @@ update_over ss ts us vs p q value h found is counts =
     let P : List Event → Type 0 = λ fs. AreCounted fs vs in
     let Q : List ℕ → Type 0 = λ ws. AreCounted (remove (events_of ss) (rank ss p)) ws in
     record {
-      marks = subst (AreMarkedBehind (λ n. false)) (sym is) (update_taken (λ n. false) ss p q value h.marks found);
+      marks = subst (AreMarkedAfter (λ n. false)) (sym is) (update_taken (λ n. false) ss p q value h.marks found);
       counted = subst P (sym es) (subst Q (sym counts) (counted_fewer (events_of ss) us (rank ss p) q e h.counted (event_found ss p s e found refl) (λ r. refl)));
     }
 
@@ -242,13 +242,13 @@ evaluation_events ss p q found = events_taken ss p (Evaluation q) (events.Evalua
 -- ---- the oldest event is over
 
 -- it does not wait
-pub oldest_ready : (ss : List Slot) → AreMarkedBehind (λ n. false) ss → IfSome (slice_get ss 0) (λ s. is_waiting s ≡ false)
+pub oldest_ready : (ss : List Slot) → AreMarkedAfter (λ n. false) ss → IfSome (slice_get ss 0) (λ s. is_waiting s ≡ false)
 oldest_ready [] h = tt
 oldest_ready (Empty ∷ ss) h = refl
 oldest_ready (Evaluation q ∷ ss) h = refl
 oldest_ready (NetUpdate q value waiting ∷ ss) h = h.0
 
-front_is : (ss : List Slot) (q : ℕ) (value : _) (waiting : Bool) → AreMarkedBehind (λ n. false) ss → slice_get ss 0 ≡ Some (NetUpdate q value waiting) → slice_get ss 0 ≡ Some (NetUpdate q value false)
+front_is : (ss : List Slot) (q : ℕ) (value : _) (waiting : Bool) → AreMarkedAfter (λ n. false) ss → slice_get ss 0 ≡ Some (NetUpdate q value waiting) → slice_get ss 0 ≡ Some (NetUpdate q value false)
 front_is [] q value waiting h found = absurd cc
 front_is (x ∷ ss) q value waiting h found =
     let is = same_Some x (NetUpdate q value waiting) found in
@@ -260,11 +260,11 @@ front_counted ss us q value waiting h found = update_counted ss us 0 q value h (
 
 pub front_none : (ss : List Slot) (us : List ℕ) (q : ℕ) (value : _) (waiting : Bool) → AreMarked ss us → slice_get ss 0 ≡ Some (NetUpdate q value waiting) → get_or us q 0 ≡ 1 → released q (drop 1 ss) ≡ drop 1 ss
 front_none [] us q value waiting h found one = absurd cc
-front_none (x ∷ ss) us q value waiting h found one = ap (drop 1) (none_behind (x ∷ ss) us 0 q value h (front_is (x ∷ ss) q value waiting h.marks found) one)
+front_none (x ∷ ss) us q value waiting h found one = ap (drop 1) (none_after (x ∷ ss) us 0 q value h (front_is (x ∷ ss) q value waiting h.marks found) one)
 
 pub front_waits : (ss : List Slot) (us : List ℕ) (q : ℕ) (value : _) (waiting : Bool) → AreMarked ss us → slice_get ss 0 ≡ Some (NetUpdate q value waiting) → does_first_wait q (drop 1 ss) ≡ true
 front_waits [] us q value waiting h found = absurd cc
-front_waits (x ∷ ss) us q value waiting h found = waits_behind (x ∷ ss) us 0 q value h (front_is (x ∷ ss) q value waiting h.marks found)
+front_waits (x ∷ ss) us q value waiting h found = waits_after (x ∷ ss) us 0 q value h (front_is (x ∷ ss) q value waiting h.marks found)
 
 -- an empty first slot goes
 without_empty : (ss : List Slot) (us : List ℕ) → AreMarked (Empty ∷ ss) us → AreMarked ss us

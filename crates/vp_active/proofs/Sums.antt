@@ -73,17 +73,17 @@ zeros_sum zero k = refl
 zeros_sum (suc m) zero = refl
 zeros_sum (suc m) (suc k) = let all = sum_by-cons (λ (x : ℕ). x) 0 (take m (replicate k 0)) in let rest = zeros_sum m k in omega (arith, all, rest)
 
-zeros_behind : (m k : ℕ) (cs : List ℕ) → sum (take m (cs ++ replicate k 0)) ≡ sum (take m cs)
-zeros_behind zero k cs = refl
-zeros_behind (suc m) k [] = zeros_sum (suc m) k
-zeros_behind (suc m) k (c ∷ cs) =
+zeros_after : (m k : ℕ) (cs : List ℕ) → sum (take m (cs ++ replicate k 0)) ≡ sum (take m cs)
+zeros_after zero k cs = refl
+zeros_after (suc m) k [] = zeros_sum (suc m) k
+zeros_after (suc m) k (c ∷ cs) =
     let one = sum_by-cons (λ (x : ℕ). x) c (take m (cs ++ replicate k 0)) in
     let two = sum_by-cons (λ (x : ℕ). x) c (take m cs) in
-    let rest = zeros_behind m k cs in
+    let rest = zeros_after m k cs in
     omega (arith, one, two, rest)
 
 drop_zeros : (m n k : ℕ) (cs : List ℕ) → sum (take m (drop n (cs ++ replicate k 0))) ≡ sum (take m (drop n cs))
-drop_zeros m zero k cs = zeros_behind m k cs
+drop_zeros m zero k cs = zeros_after m k cs
 drop_zeros m (suc n) k [] = ap (λ (xs : List ℕ). sum (take m xs)) (drop-replicate (suc n) k 0) ∙ zeros_sum m (k - suc n) ∙ sym (zeros_sum m 0)
 drop_zeros m (suc n) k (c ∷ cs) = drop_zeros m n k cs
 
@@ -137,5 +137,5 @@ groups_sum cs ss (suc g) h within =
     let two = sum_by-take-drop (λ (x : ℕ). x) cs (16 * g) in
     let three = sum_by-take-drop (λ (x : ℕ). x) cs (16 * suc g) in
     let at : 16 * g + 16 ≡ 16 * suc g = omega arith in
-    let behind = ap sum (drop-drop 16 (16 * g) cs ∙ ap (λ (m : ℕ). drop m cs) at) in
-    omega (arith, same, more, split, rest, here, one, two, three, behind)
+    let following = ap sum (drop-drop 16 (16 * g) cs ∙ ap (λ (m : ℕ). drop m cs) at) in
+    omega (arith, same, more, split, rest, here, one, two, three, following)

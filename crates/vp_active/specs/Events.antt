@@ -30,14 +30,14 @@ is_eligible older (NetUpdate process value) = not (list_any (drives process) old
 is_eligible older (Nonblocking update) = not (list_any is_nonblocking older)
 
 -- the places of the eligible events among these, which stand after older ones
-abbrev pub eligible_behind : (older : List Event) → List Event → List ℕ
-eligible_behind older [] = []
-eligible_behind older (e ∷ es) =
-    (if is_eligible older e then length older ∷ [] else []) ++ eligible_behind (older ++ e ∷ []) es
+abbrev pub eligible_after : (older : List Event) → List Event → List ℕ
+eligible_after older [] = []
+eligible_after older (e ∷ es) =
+    (if is_eligible older e then length older ∷ [] else []) ++ eligible_after (older ++ e ∷ []) es
 
 -- the places of the eligible events, the oldest first
 abbrev pub eligible_places : List Event → List ℕ
-eligible_places events = eligible_behind [] events
+eligible_places events = eligible_after [] events
 
 -- how often the net of each process is updated by these events
 abbrev pub AreCounted : List Event → (updates : List ℕ) → Type 0

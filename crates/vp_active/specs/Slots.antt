@@ -65,9 +65,9 @@ IsMarked older (Evaluation process) = Unit {0}
 IsMarked older (NetUpdate process value waiting) = waiting ≡ older process
 
 -- slots have marks that are right after older updates
-abbrev pub AreMarkedBehind : (older : ℕ → Bool) → List Slot → Type 0
-AreMarkedBehind older [] = Unit {0}
-AreMarkedBehind older (s ∷ ss) = IsMarked older s × AreMarkedBehind (λ process. older process || is_update_of process s) ss
+abbrev pub AreMarkedAfter : (older : ℕ → Bool) → List Slot → Type 0
+AreMarkedAfter older [] = Unit {0}
+AreMarkedAfter older (s ∷ ss) = IsMarked older s × AreMarkedAfter (λ process. older process || is_update_of process s) ss
 
 -- the places of the slots whose events wait for none, where the first slot has a place
 abbrev pub ready_from : (place : ℕ) → List Slot → List ℕ
@@ -91,7 +91,7 @@ does_first_wait process (s ∷ ss) = if is_update_of process s then is_waiting s
 
 -- each event that waits is marked, and the updates of nets are counted
 pub record AreMarked (slots : List Slot) (updates : List ℕ) : Type 0 where
-  pub marks : AreMarkedBehind (λ process. false) slots
+  pub marks : AreMarkedAfter (λ process. false) slots
   pub counted : AreCounted (events_of slots) updates
 
 -- an event may become active that is no update of a nonblocking assignment, and one of a net is by one of so many processes

@@ -2,7 +2,7 @@
 use Rattle.std.specs.Prelude.{◌≡◌, ℕ, List, Option, None, option_map}
 use Rattle.vp_bits.specs.declared.bit.Bit.{Bit}
 use Rattle.vp_elab.specs.declared.object.ObjectId.{ObjectId}
-use Rattle.vp_vpi.specs.Seats.{Seat}
+use Rattle.vp_vpi.specs.SessionStates.{SessionState}
 use Rattle.vp_answer.specs.declared.answering.Answer.{Answer}
 use Rattle.vp_answer.specs.declared.reply.Reply.{Reply}
 use Rattle.vp_answer.specs.Answers.{Response}
@@ -17,9 +17,9 @@ put_shown put = option_map (λ p. (p.0.0, p.1)) put
 
 -- an answer is what comes of a request: its reply, for the session and for the log, the goal that it sets, and its put; and this is the
 -- session after it
-pub record IsGiven (given : Response) (session : Seat) (a : Answer) : Type 0 where
+pub record IsGiven (given : Response) (session : SessionState) (a : Answer) : Type 0 where
   pub gives_reply : a.reply ≡ given.reply
   pub gives_entry : a.entry_reply ≡ given.reply
   pub goal : a.goal ≡ given.goal
   pub put : put_shown a.put ≡ given.put
-  pub seat : session ≡ given.seat
+  pub session_state : session ≡ given.session_state

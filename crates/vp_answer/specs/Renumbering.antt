@@ -10,7 +10,7 @@ use Rattle.vp_notify.specs.declared.notice.Notice.{Notice}
 use Rattle.vp_notify.specs.Registry.{RegistryState}
 use Rattle.vp_vpi.specs.Observers.{Absent, Denied, Found, Lookup, Observer}
 use Rattle.vp_vpi.specs.Calls.{is_module}
-use Rattle.vp_vpi.specs.Seats.{Seat}
+use Rattle.vp_vpi.specs.SessionStates.{SessionState}
 use Rattle.vp_answer.specs.Answers.{Response}
 
 -- other numbers for objects, in the same order
@@ -43,8 +43,8 @@ abbrev pub registry : Renumbering → RegistryState → RegistryState
 registry n r = record { callbacks = map (callback n) r.callbacks; given = r.given; waiting = map (notice n) r.waiting; lost = r.lost }
 
 -- a session
-abbrev pub seat : Renumbering → Seat → Seat
-seat n s = record { user = s.user; handles = map (handle n) s.handles; registry = registry n s.registry }
+abbrev pub session_state : Renumbering → SessionState → SessionState
+session_state n s = record { user = s.user; handles = map (handle n) s.handles; registry = registry n s.registry }
 
 -- a look-up
 abbrev pub lookup : Renumbering → Lookup → Lookup
@@ -63,7 +63,7 @@ put n p = (n.number p.0, p.1)
 
 -- what comes of a request: the reply is the same, since it tells no object's number
 abbrev pub response : Renumbering → Response → Response
-response n g = record g { seat = seat n g.seat; put = option_map (put n) g.put }
+response n g = record g { session_state = session_state n g.session_state; put = option_map (put n) g.put }
 
 -- a scope in which a session may look up names: that of the top modules, or a module that is listed
 abbrev pub IsOpen : Observer → (scope : Option ℕ) → Type 0
@@ -71,20 +71,20 @@ IsOpen seen None = Unit {0}
 IsOpen seen (Some o) = (seen.denied right.List o ≡ None) × (is_module (seen.kind o) ≡ true)
 
 -- the same can be looked up, under other numbers
-pub record IsSeenAs (n : Renumbering) (seen eyes : Observer) : Type 0 where
-  pub denied : (r : Right) → (o : ℕ) → eyes.denied r (n.number o) ≡ seen.denied r o
-  pub kind : (o : ℕ) → eyes.kind (n.number o) ≡ seen.kind o
-  pub width : (o : ℕ) → eyes.width (n.number o) ≡ seen.width o
-  pub line : (o : ℕ) → eyes.line (n.number o) ≡ seen.line o
-  pub name : (o : ℕ) → eyes.name (n.number o) ≡ seen.name o
-  pub full_name : (o : ℕ) → eyes.full_name (n.number o) ≡ seen.full_name o
-  pub definition : (o : ℕ) → eyes.definition (n.number o) ≡ seen.definition o
-  pub value : (o : ℕ) → seen.denied right.Read o ≡ None → eyes.value (n.number o) ≡ seen.value o
+pub record IsSeenAs (n : Renumbering) (seen observation : Observer) : Type 0 where
+  pub denied : (r : Right) → (o : ℕ) → observation.denied r (n.number o) ≡ seen.denied r o
+  pub kind : (o : ℕ) → observation.kind (n.number o) ≡ seen.kind o
+  pub width : (o : ℕ) → observation.width (n.number o) ≡ seen.width o
+  pub line : (o : ℕ) → observation.line (n.number o) ≡ seen.line o
+  pub name : (o : ℕ) → observation.name (n.number o) ≡ seen.name o
+  pub full_name : (o : ℕ) → observation.full_name (n.number o) ≡ seen.full_name o
+  pub definition : (o : ℕ) → observation.definition (n.number o) ≡ seen.definition o
+  pub value : (o : ℕ) → seen.denied right.Read o ≡ None → observation.value (n.number o) ≡ seen.value o
   pub named : (scope : Option ℕ) → IsOpen seen scope → (name : List ℕ)
-      → eyes.named (option_map n.number scope) name ≡ lookup n (seen.named scope name)
-  pub listed : (scope : Option ℕ) → IsOpen seen scope → eyes.listed (option_map n.number scope) ≡ map n.number (seen.listed scope)
-  pub closed : (scope : Option ℕ) → IsOpen seen scope → eyes.closed (option_map n.number scope) ≡ seen.closed scope
-  pub may_run : eyes.may_run ≡ seen.may_run
-  pub time : eyes.time ≡ seen.time
-  pub finished : eyes.finished ≡ seen.finished
-  pub races : eyes.races ≡ seen.races
+      → observation.named (option_map n.number scope) name ≡ lookup n (seen.named scope name)
+  pub listed : (scope : Option ℕ) → IsOpen seen scope → observation.listed (option_map n.number scope) ≡ map n.number (seen.listed scope)
+  pub closed : (scope : Option ℕ) → IsOpen seen scope → observation.closed (option_map n.number scope) ≡ seen.closed scope
+  pub may_run : observation.may_run ≡ seen.may_run
+  pub time : observation.time ≡ seen.time
+  pub finished : observation.finished ≡ seen.finished
+  pub races : observation.races ≡ seen.races

@@ -1,8 +1,8 @@
 // What a session's request is answered, and what comes of it (docs/FORMATS.md, "Lines").
 ghost use Rattle.std.specs.Prelude.{◌≡◌, ◌≢◌, length, IfOk, IsTrue, OnErr, OnOk};
-ghost use Rattle.vp_vpi.specs.declared.fault.VpiError.TheVariants as vpi_error;
+ghost use Rattle.vp_vpi.specs.declared.error.VpiError.TheVariants as vpi_error;
 ghost use Rattle.vp_vpi.specs.Observers.{Observer};
-ghost use Rattle.vp_vpi.specs.Seats.{Seat, has_room, with_handles};
+ghost use Rattle.vp_vpi.specs.SessionStates.{SessionState, has_room, with_handles};
 ghost use Rattle.vp_answer.specs.declared.request.Request.TheVariants as request;
 ghost use Rattle.vp_answer.specs.declared.reply.Reply.TheVariants as reply;
 ghost use Rattle.vp_answer.specs.Answers.{refused, respond, value_in};
@@ -74,16 +74,16 @@ fn refusal(error: VpiError) -> Result<Answer, AllocError>
 /// Makes a handle of a name.
 fn handle<E: Observe>(
     session: &mut Session,
-    eyes: &E,
+    observation: &E,
     name: &str,
     scope: Option<u32>,
 ) -> Result<Answer, AllocError>
-    requires { E.is_sound eyes.now }
-    ensures given { IfOk result (IsGiven (respond (E.observer eyes.now) session.old
+    requires { E.is_sound observation.now }
+    ensures given { IfOk result (IsGiven (respond (E.observer observation.now) session.old
         (request.Handle name.now scope)) session.new) }
     ensures unchanged { OnErr result (session.new ≡ session.old) }
 {
-    match session.handle_by_name(eyes, scope, name) {
+    match session.handle_by_name(observation, scope, name) {
         Ok(handle) => Ok(Answer {
             reply: Reply::Handle(handle),
             entry_reply: Reply::Handle(handle),
@@ -110,16 +110,16 @@ fn scan(session: &mut Session, found: &Iteration) -> Result<Answer, AllocError>
 /// Makes handles of all objects of a kind in a scope.
 fn iterate<E: Observe>(
     session: &mut Session,
-    eyes: &E,
+    observation: &E,
     kind: Kind,
     scope: Option<u32>,
 ) -> Result<Answer, AllocError>
-    requires { E.is_sound eyes.now }
-    ensures given { IfOk result (IsGiven (respond (E.observer eyes.now) session.old
+    requires { E.is_sound observation.now }
+    ensures given { IfOk result (IsGiven (respond (E.observer observation.now) session.old
         (request.Iterate kind scope)) session.new) }
     ensures unchanged { OnErr result (session.new ≡ session.old) }
 {
-    match session.iterate(eyes, kind, scope) {
+    match session.iterate(observation, kind, scope) {
         Ok(found) => scan(session, &found),
         Err(error) => refusal(error),
     }
@@ -128,15 +128,15 @@ fn iterate<E: Observe>(
 /// Tells a number of a handle's object.
 fn get<E: Observe>(
     session: &Session,
-    eyes: &E,
+    observation: &E,
     handle: u32,
     property: NumberProperty,
 ) -> Result<Answer, AllocError>
-    requires { E.is_sound eyes.now }
-    ensures { IfOk result (IsGiven (respond (E.observer eyes.now) session.now
+    requires { E.is_sound observation.now }
+    ensures { IfOk result (IsGiven (respond (E.observer observation.now) session.now
         (request.Get handle property)) session.now) }
 {
-    match session.get(eyes, handle, property) {
+    match session.get(observation, handle, property) {
         Ok(number) => plain(Reply::Number(number)),
         Err(error) => refusal(error),
     }
@@ -145,15 +145,15 @@ fn get<E: Observe>(
 /// Tells a text of a handle's object.
 fn get_str<E: Observe>(
     session: &Session,
-    eyes: &E,
+    observation: &E,
     handle: u32,
     property: TextProperty,
 ) -> Result<Answer, AllocError>
-    requires { E.is_sound eyes.now }
-    ensures { IfOk result (IsGiven (respond (E.observer eyes.now) session.now
+    requires { E.is_sound observation.now }
+    ensures { IfOk result (IsGiven (respond (E.observer observation.now) session.now
         (request.GetStr handle property)) session.now) }
 {
-    match session.get_str(eyes, handle, property) {
+    match session.get_str(observation, handle, property) {
         Ok(text) => plain(Reply::Text(text)),
         Err(error) => refusal(error),
     }
@@ -172,15 +172,15 @@ fn value_in(format: ValueFormat, bits: Bits) -> Reply
 /// Tells the value of a handle's object.
 fn value<E: Observe>(
     session: &Session,
-    eyes: &E,
+    observation: &E,
     handle: u32,
     format: ValueFormat,
 ) -> Result<Answer, AllocError>
-    requires { E.is_sound eyes.now }
-    ensures { IfOk result (IsGiven (respond (E.observer eyes.now) session.now
+    requires { E.is_sound observation.now }
+    ensures { IfOk result (IsGiven (respond (E.observer observation.now) session.now
         (request.Value handle format)) session.now) }
 {
-    match session.get_value(eyes, handle) {
+    match session.get_value(observation, handle) {
         Ok(bits) => plain(value_in(format, bits)),
         Err(error) => refusal(error),
     }
@@ -189,15 +189,15 @@ fn value<E: Observe>(
 /// Tells what a put of a value on a handle's object gives which object.
 fn put<E: Observe>(
     session: &Session,
-    eyes: &E,
+    observation: &E,
     handle: u32,
     value: &PutValue,
 ) -> Result<Answer, AllocError>
-    requires { E.is_sound eyes.now }
-    ensures { IfOk result (IsGiven (respond (E.observer eyes.now) session.now
+    requires { E.is_sound observation.now }
+    ensures { IfOk result (IsGiven (respond (E.observer observation.now) session.now
         (request.Put handle value.now)) session.now) }
 {
-    match session.put_value(eyes, handle, value) {
+    match session.put_value(observation, handle, value) {
         Ok(put) => Ok(Answer {
             reply: Reply::Done,
             entry_reply: Reply::Done,
@@ -210,7 +210,7 @@ fn put<E: Observe>(
 
 /// Tells whether two handles are of one object.
 fn compare(session: &Session, first: u32, second: u32) -> Result<Answer, AllocError>
-    ensures { (eyes : Observer) → IfOk result (IsGiven (respond eyes session.now
+    ensures { (observation : Observer) → IfOk result (IsGiven (respond observation session.now
         (request.Compare first second)) session.now) }
 {
     match session.compare_objects(first, second) {
@@ -221,7 +221,7 @@ fn compare(session: &Session, first: u32, second: u32) -> Result<Answer, AllocEr
 
 /// Frees a handle.
 fn free(session: &mut Session, handle: u32) -> Result<Answer, AllocError>
-    ensures given { (eyes : Observer) → IfOk result (IsGiven (respond eyes session.old
+    ensures given { (observation : Observer) → IfOk result (IsGiven (respond observation session.old
         (request.Free handle)) session.new) }
     ensures unchanged { OnErr result (session.new ≡ session.old) }
 {
@@ -237,13 +237,17 @@ fn free(session: &mut Session, handle: u32) -> Result<Answer, AllocError>
 }
 
 /// Registers a callback on a handle's object.
-fn watch<E: Observe>(session: &mut Session, eyes: &E, handle: u32) -> Result<Answer, AllocError>
-    requires { E.is_sound eyes.now }
-    ensures given { IfOk result (IsGiven (respond (E.observer eyes.now) session.old
+fn watch<E: Observe>(
+    session: &mut Session,
+    observation: &E,
+    handle: u32,
+) -> Result<Answer, AllocError>
+    requires { E.is_sound observation.now }
+    ensures given { IfOk result (IsGiven (respond (E.observer observation.now) session.old
         (request.Watch handle)) session.new) }
     ensures unchanged { OnErr result (session.new ≡ session.old) }
 {
-    match session.register_cb(eyes, handle) {
+    match session.register_cb(observation, handle) {
         Ok(callback) => Ok(Answer {
             reply: Reply::Callback(callback),
             entry_reply: Reply::Callback(callback),
@@ -256,7 +260,7 @@ fn watch<E: Observe>(session: &mut Session, eyes: &E, handle: u32) -> Result<Ans
 
 /// Removes a callback.
 fn unwatch(session: &mut Session, callback: u32) -> Result<Answer, AllocError>
-    ensures given { (eyes : Observer) → IfOk result (IsGiven (respond eyes session.old
+    ensures given { (observation : Observer) → IfOk result (IsGiven (respond observation session.old
         (request.Unwatch callback)) session.new) }
     ensures unchanged { OnErr result (session.new ≡ session.old) }
 {
@@ -273,7 +277,7 @@ fn unwatch(session: &mut Session, callback: u32) -> Result<Answer, AllocError>
 
 /// Tells the notices that wait, which wait no more.
 fn poll(session: &mut Session) -> Result<Answer, AllocError>
-    ensures given { (eyes : Observer) → IfOk result (IsGiven (respond eyes session.old
+    ensures given { (observation : Observer) → IfOk result (IsGiven (respond observation session.old
         request.Poll) session.new) }
     ensures unchanged { OnErr result (session.new ≡ session.old) }
 {
@@ -286,36 +290,36 @@ fn poll(session: &mut Session) -> Result<Answer, AllocError>
 }
 
 /// Tells the races that are shown, from a number on.
-fn races<E: Observe>(session: &Session, eyes: &E, from: u64) -> Result<Answer, AllocError>
-    requires { E.is_sound eyes.now }
-    ensures { IfOk result (IsGiven (respond (E.observer eyes.now) session.now
+fn races<E: Observe>(session: &Session, observation: &E, from: u64) -> Result<Answer, AllocError>
+    requires { E.is_sound observation.now }
+    ensures { IfOk result (IsGiven (respond (E.observer observation.now) session.now
         (request.Races from)) session.now) }
 {
-    match session.races(eyes, from) {
+    match session.races(observation, from) {
         Ok(races) => plain(Reply::Races(races)),
         Err(_) => Err(AllocError),
     }
 }
 
 /// Tells a race that is shown, by its number.
-fn race<E: Observe>(session: &Session, eyes: &E, number: u64) -> Result<Answer, AllocError>
-    requires { E.is_sound eyes.now }
-    ensures { IfOk result (IsGiven (respond (E.observer eyes.now) session.now
+fn race<E: Observe>(session: &Session, observation: &E, number: u64) -> Result<Answer, AllocError>
+    requires { E.is_sound observation.now }
+    ensures { IfOk result (IsGiven (respond (E.observer observation.now) session.now
         (request.Race number)) session.now) }
 {
-    match session.race(eyes, number) {
+    match session.race(observation, number) {
         Ok(race) => plain(Reply::Race(race)),
         Err(error) => refusal(error),
     }
 }
 
 /// Lets the design run until a time, if it may be run.
-fn let_run<E: Observe>(eyes: &E, until: u64) -> Answer
-    requires { E.is_sound eyes.now }
-    ensures { (seat : Seat)
-        → IsGiven (respond (E.observer eyes.now) seat (request.Run until)) seat result }
+fn let_run<E: Observe>(observation: &E, until: u64) -> Answer
+    requires { E.is_sound observation.now }
+    ensures { (session_state : SessionState)
+        → IsGiven (respond (E.observer observation.now) session_state (request.Run until)) session_state result }
 {
-    if eyes.may_run() {
+    if observation.may_run() {
         Answer {
             reply: Reply::Done,
             entry_reply: Reply::Done,
@@ -333,13 +337,13 @@ fn let_run<E: Observe>(eyes: &E, until: u64) -> Answer
 }
 
 /// Tells the time.
-fn time<E: Observe>(eyes: &E) -> Answer
-    requires { E.is_sound eyes.now }
-    ensures { (seat : Seat)
-        → IsGiven (respond (E.observer eyes.now) seat request.Time) seat result }
+fn time<E: Observe>(observation: &E) -> Answer
+    requires { E.is_sound observation.now }
+    ensures { (session_state : SessionState)
+        → IsGiven (respond (E.observer observation.now) session_state request.Time) session_state result }
 {
-    let time = eyes.time();
-    let finished = eyes.finished();
+    let time = observation.time();
+    let finished = observation.finished();
     Answer {
         reply: Reply::Time { time, finished },
         entry_reply: Reply::Time { time, finished },
@@ -351,31 +355,31 @@ fn time<E: Observe>(eyes: &E) -> Answer
 /// What a session's request is answered, by what it can look up; or want of memory, which leaves the session as it was.
 pub fn respond<E: Observe>(
     session: &mut Session,
-    eyes: &E,
+    observation: &E,
     request: &Request,
 ) -> Result<Answer, AllocError>
     requires asked { IsAsked request.now }
-    requires sound { E.is_sound eyes.now }
+    requires sound { E.is_sound observation.now }
     ensures given { IfOk result
-        (IsGiven (respond (E.observer eyes.now) session.old request.now) session.new) }
+        (IsGiven (respond (E.observer observation.now) session.old request.now) session.new) }
     ensures unchanged { OnErr result (session.new ≡ session.old) }
 {
     match request {
-        Request::Handle { name, scope } => handle(session, eyes, name.as_str(), *scope),
-        Request::Iterate { kind, scope } => iterate(session, eyes, *kind, *scope),
-        Request::Get { handle, property } => get(session, eyes, *handle, *property),
-        Request::GetStr { handle, property } => get_str(session, eyes, *handle, *property),
-        Request::Value { handle, format } => value(session, eyes, *handle, *format),
-        Request::Put { handle, value } => put(session, eyes, *handle, value),
+        Request::Handle { name, scope } => handle(session, observation, name.as_str(), *scope),
+        Request::Iterate { kind, scope } => iterate(session, observation, *kind, *scope),
+        Request::Get { handle, property } => get(session, observation, *handle, *property),
+        Request::GetStr { handle, property } => get_str(session, observation, *handle, *property),
+        Request::Value { handle, format } => value(session, observation, *handle, *format),
+        Request::Put { handle, value } => put(session, observation, *handle, value),
         Request::Compare { first, second } => compare(session, *first, *second),
         Request::Free { handle } => free(session, *handle),
-        Request::Watch { handle } => watch(session, eyes, *handle),
+        Request::Watch { handle } => watch(session, observation, *handle),
         Request::Unwatch { callback } => unwatch(session, *callback),
         Request::Poll => poll(session),
-        Request::Races { from } => races(session, eyes, *from),
-        Request::Race { number } => race(session, eyes, *number),
-        Request::Run { until } => Ok(let_run(eyes, *until)),
-        Request::Time => Ok(time(eyes)),
+        Request::Races { from } => races(session, observation, *from),
+        Request::Race { number } => race(session, observation, *number),
+        Request::Run { until } => Ok(let_run(observation, *until)),
+        Request::Time => Ok(time(observation)),
         Request::Open { .. } | Request::Close | Request::Grant(_) => unreachable!(),
     }
 }

@@ -4,7 +4,7 @@ use crate::request::SessionId;
 use std::alloc::AllocError;
 use vp_bits::Bits;
 use vp_list::{Sequence, SharedText};
-use vp_vpi::{DenialWords, RaceLine, RaceTold, Shared, SharedListing, SharedNotices};
+use vp_vpi::{DenialText, RaceDetails, RaceLine, Shared, SharedListing, SharedNotices};
 
 /// What a line is told where it is refused.
 #[derive(Clone, Copy, Debug, PartialEq, Eq)]
@@ -95,11 +95,11 @@ pub enum Reply {
     /// Races that the user is shown.
     Races(Shared<Sequence<RaceLine>>),
     /// A race that the user is shown, with its steps.
-    Race(Shared<RaceTold>),
+    Race(Shared<RaceDetails>),
     /// A closed segment is handed out, by its number.
     Job(u64),
     /// A right is lacking, in the words that the user is told.
-    Denied(DenialWords),
+    Denied(DenialText),
     /// The user may not let the design run.
     RunDenied,
     /// The current time, in time units, and whether `$finish` was executed.

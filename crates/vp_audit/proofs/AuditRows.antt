@@ -15,7 +15,7 @@ use Rattle.vp_elab.specs.Tree.{Node}
 use Rattle.vp_operand.specs.Arena.{sizes_in}
 use Rattle.vp_expr.specs.Tables.{tables_of}
 use Rattle.vp_statement.specs.Effects.{effect_at}
-use Rattle.vp_policy.specs.declared.denial.Barrier.TheVariants as by
+use Rattle.vp_policy.specs.declared.denial.ShownBarrier.TheVariants as by
 use Rattle.vp_policy.specs.Users.{Member}
 use Rattle.vp_policy.specs.View.{SeenNode, view_of, marked}
 use Rattle.vp_waking.specs.declared.change.Change.{Change}
@@ -174,7 +174,7 @@ values_at_first = refl
 
 -- her own events, one item for the put that she may read, none for all else that bob does, and one for her grant
 own_events :
-    map (λ i. i.own) (projection opening 0 log).items
+    map (λ i. i.own_event) (projection opening 0 log).items
     ≡ Some (Opens of_ann) ∷ Some (Asks of_ann (request.Handle (codes "top.a") None)) ∷ Some (Asks of_ann (request.Handle (codes "top.k") None))
     ∷ None
     ∷ Some (Asks of_ann (request.Value 1 format.Binary))

@@ -33,9 +33,9 @@ given b None h = absurd (cc)
 given b (Some a) h = refl
 
 pub replies_own : (u : ℕ) (log : List Entry) (n : ℕ) (e : Entry) → slice_get log n ≡ Some e → is_own u e ≡ true → replies_of u (drop n log) ≡ e.reply ∷ replies_of u (drop (n + 1) log)
-replies_own u log n e there own =
+replies_own u log n e there own_event =
     ap (replies_of u) (entry_first log n e there)
-    ∙ ap (λ (r : Option Reply). cons_option r (replies_of u (drop (n + 1) log))) (given e.reply (own_of u e.event e.reply) own)
+    ∙ ap (λ (r : Option Reply). cons_option r (replies_of u (drop (n + 1) log))) (given e.reply (own_of u e.event e.reply) own_event)
 
 -- the first other reply, after so many that are the same
 pub first_other : (told replayed rest : List Reply) (n : ℕ) → n ≤ length replayed → told ≡ take n replayed ++ rest → (slice_get rest 0 ≡ slice_get replayed n → ⊥) → IsFirstOther told replayed (n + 1)

@@ -5,23 +5,23 @@ use Rattle.std.specs.Option.{option_map_or}
 use Rattle.vp_policy.specs.PolicyState.{PolicyState}
 use Rattle.vp_policy.specs.Users.{member_at}
 use Rattle.vp_waking.specs.declared.change.Change.{Change}
-use Rattle.vp_vpi.specs.declared.races.SeenRace.{SeenRace}
+use Rattle.vp_vpi.specs.declared.races.ShownRace.{ShownRace}
 use Rattle.vp_answer.specs.declared.request.GrantChange.{GrantChange}
-use Rattle.vp_world.specs.declared.entry.Happening.{Happening}
-use Rattle.vp_world.specs.declared.entry.Happening.TheVariants as happening
+use Rattle.vp_world.specs.declared.entry.LoggedEvent.{LoggedEvent}
+use Rattle.vp_world.specs.declared.entry.LoggedEvent.TheVariants as happening
 use Rattle.vp_world.specs.declared.event.Event.{Event}
 use Rattle.vp_world.specs.declared.event.Event.TheVariants as event
 use Rattle.vp_world.specs.Entries.{Entry, event_in}
 use Rattle.vp_world.specs.History.{after, entry_of}
 use Rattle.vp_world.specs.Worlds.{Opening, State}
 use Rattle.vp_audit.specs.Known.{known_also}
-use Rattle.vp_audit.specs.Parts.{Granted, Item, Own}
-use Rattle.vp_audit.specs.Projections.{change_seen, granted_of, item_if, known_behind, other_flag, other_number, own_of, race_of_event, regrant_of}
-use Rattle.vp_audit.specs.Readings.{Continues, Grants, Reading, Reads, followed, reading_of}
+use Rattle.vp_audit.specs.Parts.{GrantItem, Item, OwnEvent}
+use Rattle.vp_audit.specs.Projections.{change_seen, granted_of, item_if, known_after, other_flag, other_number, own_of, race_of_event, regrant_of}
+use Rattle.vp_audit.specs.Readings.{Continues, Grants, LogReader, Reads, followed, reading_of}
 use Rattle.vp_audit.proofs.Following.{IsNoGrant, followed_is}
 
 -- what happened is no change of grants
-pub no_grant : (h : Happening) → ((change : _) → h ≡ happening.Grant change → ⊥) → IsNoGrant (event_in h)
+pub no_grant : (h : LoggedEvent) → ((change : _) → h ≡ happening.Grant change → ⊥) → IsNoGrant (event_in h)
 no_grant (happening.Open login session) other = tt
 no_grant (happening.Ask asked reply) other = tt
 no_grant (happening.Put asked change) other = tt
@@ -45,52 +45,52 @@ no_regrant u policy event.TakeJob n = refl
 no_regrant u policy (event.Book finding) n = refl
 
 -- an item, by its parts
-same_items : (own own' : Option Own) (granted granted' : Option Granted) (change change' : Option Change) (time time' : Option ℕ) (finished finished' : Option Bool) (race race' : Option SeenRace)
-    → own ≡ own' → granted ≡ granted' → change ≡ change' → time ≡ time' → finished ≡ finished' → race ≡ race'
-    → ◌≡◌ {A = Item} (record { own = own; granted = granted; change = change; time = time; finished = finished; race = race })
-    (record { own = own'; granted = granted'; change = change'; time = time'; finished = finished'; race = race' })
-same_items own own' granted granted' change change' time time' finished finished' race race' a b c d e f = cc
+same_items : (own_event own_event' : Option OwnEvent) (granted granted' : Option GrantItem) (change change' : Option Change) (time time' : Option ℕ) (finished finished' : Option Bool) (race race' : Option ShownRace)
+    → own_event ≡ own_event' → granted ≡ granted' → change ≡ change' → time ≡ time' → finished ≡ finished' → race ≡ race'
+    → ◌≡◌ {A = Item} (record { own_event = own_event; granted = granted; change = change; time = time; finished = finished; race = race })
+    (record { own_event = own_event'; granted = granted'; change = change'; time = time'; finished = finished'; race = race' })
+same_items own_event own_event' granted granted' change change' time time' finished finished' race race' a b c d e f = cc
 
 -- what goes to him of a change of his grants by the event, and the reading after the entry
-pub record Leaves (u : ℕ) (opening : Opening) (s : State) (known : List Bool) (e : Entry) (granted : Option Granted) (mid : Reading) : Type 0 where
-  pub item : granted ≡ option_map (granted_of u (after opening s e.event) known (known_behind u s (after opening s e.event) known e.event)) (regrant_of u s.policy e.event)
-  pub reading : followed mid e ≡ reading_of u (after opening s e.event) (known_behind u s (after opening s e.event) known e.event)
+pub record Leaves (u : ℕ) (opening : Opening) (s : State) (known : List Bool) (e : Entry) (granted : Option GrantItem) (mid : LogReader) : Type 0 where
+  pub item : granted ≡ option_map (granted_of u (after opening s e.event) known (known_after u s (after opening s e.event) known e.event)) (regrant_of u s.policy e.event)
+  pub reading : followed mid e ≡ reading_of u (after opening s e.event) (known_after u s (after opening s e.event) known e.event)
 
 module _ (opening : Opening) (u : ℕ) (s : State) (known : List Bool) (e : Entry) (goes : Continues opening s e) where
-  abbrev behind : State
-  behind = after opening s e.event
+  abbrev following : State
+  following = after opening s e.event
 
   -- an event that is no change of grants
-  pub other_leaves : IsNoGrant e.event → (granted : Option Granted) (mid : Reading) → granted ≡ None → mid ≡ reading_of u s known → Leaves u opening s known e granted mid
+  pub other_leaves : IsNoGrant e.event → (granted : Option GrantItem) (mid : LogReader) → granted ≡ None → mid ≡ reading_of u s known → Leaves u opening s known e granted mid
   other_leaves n granted mid none reads =
       let same = no_regrant u s.policy e.event n in
-      let knows : known_behind u s behind known e.event ≡ known =
-      ap (λ (g : Option GrantChange). option_map_or (λ x. known_also behind.run.design.tree (member_at behind.policy.members u) known behind.run.design.tree.nodes) g known) same in
+      let knows : known_after u s following known e.event ≡ known =
+      ap (λ (g : Option GrantChange). option_map_or (λ x. known_also following.run.design.tree (member_at following.policy.members u) known following.run.design.tree.nodes) g known) same in
       record {
-        item = none ∙ sym (ap (option_map (granted_of u behind known (known_behind u s behind known e.event))) same);
-        reading = ap (λ (r : Reading). followed r e) reads ∙ ap (followed (reading_of u s known)) goes.entry ∙ followed_is opening u s known e.event n ∙ ap (reading_of u behind) (sym knows);
+        item = none ∙ sym (ap (option_map (granted_of u following known (known_after u s following known e.event))) same);
+        reading = ap (λ (r : LogReader). followed r e) reads ∙ ap (followed (reading_of u s known)) goes.entry ∙ followed_is opening u s known e.event n ∙ ap (reading_of u following) (sym knows);
       }
 
   -- a change of a grant
-  pub grant_leaves : (change : GrantChange) → e.event ≡ event.Grant change → (granted : Option Granted) (mid : Reading)
+  pub grant_leaves : (change : GrantChange) → e.event ≡ event.Grant change → (granted : Option GrantItem) (mid : LogReader)
       → Grants u s (after opening s (event.Grant change)) known change (Ok granted) mid → Leaves u opening s known e granted mid
   grant_leaves change is granted mid grants =
       let t = after opening s (event.Grant change) in
-      let now = known_behind u s t known (event.Grant change) in
+      let now = known_after u s t known (event.Grant change) in
       record {
-        item = grants.item ∙ ap (λ (x : Event). option_map (granted_of u (after opening s x) known (known_behind u s (after opening s x) known x)) (regrant_of u s.policy x)) (sym is);
-        reading = ap (λ (r : Reading). followed r e) grants.reading ∙ ap (followed (reading_of u t now)) (goes.entry ∙ ap (entry_of opening s) is)
-            ∙ ap (λ (x : Event). reading_of u (after opening s x) (known_behind u s (after opening s x) known x)) (sym is);
+        item = grants.item ∙ ap (λ (x : Event). option_map (granted_of u (after opening s x) known (known_after u s (after opening s x) known x)) (regrant_of u s.policy x)) (sym is);
+        reading = ap (λ (r : LogReader). followed r e) grants.reading ∙ ap (followed (reading_of u t now)) (goes.entry ∙ ap (entry_of opening s) is)
+            ∙ ap (λ (x : Event). reading_of u (after opening s x) (known_after u s (after opening s x) known x)) (sym is);
       }
 
   -- what goes to him, by its parts
-  pub reads_by : (own : Option Own) (granted : Option Granted) (change : Option Change) (time : Option ℕ) (finished : Option Bool) (race : Option SeenRace) (mid last : Reading) (item : Option Item)
-      → item ≡ item_if (record { own = own; granted = granted; change = change; time = time; finished = finished; race = race }) → last ≡ followed mid e
-      → Leaves u opening s known e granted mid → own ≡ own_of u e.event e.reply → change ≡ change_seen s.run.design.tree (member_at s.policy.members u) known e.change
+  pub reads_by : (own_event : Option OwnEvent) (granted : Option GrantItem) (change : Option Change) (time : Option ℕ) (finished : Option Bool) (race : Option ShownRace) (mid last : LogReader) (item : Option Item)
+      → item ≡ item_if (record { own_event = own_event; granted = granted; change = change; time = time; finished = finished; race = race }) → last ≡ followed mid e
+      → Leaves u opening s known e granted mid → own_event ≡ own_of u e.event e.reply → change ≡ change_seen s.run.design.tree (member_at s.policy.members u) known e.change
       → time ≡ other_number s.run.time e.time → finished ≡ other_flag s.run.finished e.finished → race ≡ race_of_event s.run.design.tree (member_at s.policy.members u) e.event
       → Reads u opening s known e (Ok item) last
-  reads_by own granted change time finished race mid last item is follows leaves its_own its_change its_time its_finished its_race =
+  reads_by own_event granted change time finished race mid last item is follows leaves its_own its_change its_time its_finished its_race =
       record {
-        item = is ∙ ap item_if (same_items own _ granted _ change _ time _ finished _ race _ its_own leaves.item its_change its_time its_finished its_race);
+        item = is ∙ ap item_if (same_items own_event _ granted _ change _ time _ finished _ race _ its_own leaves.item its_change its_time its_finished its_race);
         reading = follows ∙ leaves.reading;
       }

@@ -7,27 +7,27 @@ use Rattle.vp_policy.specs.PolicyState.{PolicyState}
 use Rattle.vp_policy.specs.Regrants.{is_operator}
 use Rattle.vp_policy.specs.Users.{login_of, user_of}
 use Rattle.vp_race.specs.Recording.{Segments, with_anew, with_step}
-use Rattle.vp_race.specs.Segments.{Told}
+use Rattle.vp_race.specs.Segments.{FindingState}
 use Rattle.vp_sim.specs.States as sim
 use Rattle.vp_sim.specs.laws.Designs.{Leaves, advance_leaves, step_leaves}
 use Rattle.vp_bits.specs.declared.bit.Bit.{Bit}
 use Rattle.vp_waking.specs.declared.change.Change.{Change}
-use Rattle.vp_waking.specs.Changes.{values_behind}
+use Rattle.vp_waking.specs.Changes.{values_with}
 use Rattle.vp_answer.specs.declared.request.GrantChange.{GrantChange}
 use Rattle.vp_answer.specs.declared.request.Request.{Request}
 use Rattle.vp_world.specs.declared.event.Event.{Event}
 use Rattle.vp_world.specs.declared.event.Event.TheVariants as event
-use Rattle.vp_world.specs.declared.fault.WorldError.TheVariants as error
+use Rattle.vp_world.specs.declared.error.WorldError.TheVariants as error
 use Rattle.vp_world.specs.History.{after, asked_at, change_of, changed, changed_by, closed_at, entry_of, opened_by, outcome_of_put, refusal_of, refusal_of_grantee, refusal_of_log, response_of, segments_of_put, state_asked, stepped}
-use Rattle.vp_world.specs.Worlds.{Opening, SessionState, State, index_of}
-use Rattle.vp_audit.specs.Readings.{Reading, book_behind, followed, reading_of}
+use Rattle.vp_world.specs.Worlds.{Opening, OpenSessionState, State, index_of}
+use Rattle.vp_audit.specs.Readings.{LogReader, book_after, followed, reading_of}
 use Rattle.vp_audit.specs.laws.Cases.{outcome_changes, outcome_leaves}
 use Rattle.vp_audit.specs.laws.Sims.{Changes, advance_changes, step_changes}
 
 -- after something the design and the policy are as before, and the values and the book are these
-pub record Stays (s t : State) (change : Option Change) (book : List Told) : Type 0 where
+pub record Stays (s t : State) (change : Option Change) (book : List FindingState) : Type 0 where
   pub design : t.run.design ≡ s.run.design
-  pub values : t.run.values ≡ values_behind s.run.values change
+  pub values : t.run.values ≡ values_with s.run.values change
   pub policy : t.policy ≡ s.policy
   pub booked : t.book ≡ book
 
@@ -48,10 +48,10 @@ opens s None = nothing s
 opens s (Some u) = record { design = refl; values = refl; policy = refl; booked = refl }
 
 -- a request
-asks : (s : State) (place : ℕ) (session : Option SessionState) (r : Request) → Stays s (state_asked s place session r) (changed_by s session r) s.book
+asks : (s : State) (place : ℕ) (session : Option OpenSessionState) (r : Request) → Stays s (state_asked s place session r) (changed_by s session r) s.book
 asks s place None r = nothing s
 asks s place (Some session) r =
-    let given = response_of s session.seat r in
+    let given = response_of s session.session_state r in
     does s _ refl refl refl (segments_of_put s.segments given.put) (outcome_of_put s.run given.put) (outcome_leaves s.run given.put) (outcome_changes s.run given.put)
 
 asks_at : (s : State) (place : Option ℕ) (r : Request) → Stays s (asked_at s place r) (changed_by s (option_and_then (slice_get s.sessions) place) r) s.book
@@ -69,7 +69,7 @@ IsNoGrant (event.Grant change) = ⊥
 IsNoGrant e = Unit {0}
 
 -- after each of them
-pub stays : (opening : Opening) (s : State) (e : Event) → IsNoGrant e → Stays s (after opening s e) (changed s e) (book_behind s.book e)
+pub stays : (opening : Opening) (s : State) (e : Event) → IsNoGrant e → Stays s (after opening s e) (changed s e) (book_after s.book e)
 stays opening s (event.Open name token) n = opens s (login_of s.policy.members name token)
 stays opening s (event.Ask id request) n = asks_at s (index_of s.sessions id) request
 stays opening s (event.Close id) n = closes s (index_of s.sessions id)
@@ -80,8 +80,8 @@ stays opening s event.TakeJob n = record { design = refl; values = refl; policy 
 stays opening s (event.Book finding) n = record { design = refl; values = refl; policy = refl; booked = refl }
 
 -- a reading, by its parts
-same_readings : (u : ℕ) (known : List Bool) (time : ℕ) (finished : Bool) (d d' : Elaborated) (p p' : PolicyState) (v v' : List (List Bit)) (b b' : List Told) → d ≡ d' → p ≡ p' → v ≡ v' → b ≡ b'
-    → ◌≡◌ {A = Reading} (record { design = d; user = u; policy = p; known = known; values = v; book = b; time = time; finished = finished })
+same_readings : (u : ℕ) (known : List Bool) (time : ℕ) (finished : Bool) (d d' : Elaborated) (p p' : PolicyState) (v v' : List (List Bit)) (b b' : List FindingState) → d ≡ d' → p ≡ p' → v ≡ v' → b ≡ b'
+    → ◌≡◌ {A = LogReader} (record { design = d; user = u; policy = p; known = known; values = v; book = b; time = time; finished = finished })
     (record { design = d'; user = u; policy = p'; known = known; values = v'; book = b'; time = time; finished = finished })
 same_readings u known time finished d d' p p' v v' b b' hd hp hv hb = cc
 
@@ -90,7 +90,7 @@ pub followed_is : (opening : Opening) (u : ℕ) (s : State) (known : List Bool) 
 followed_is opening u s known e n =
     let t = after opening s e in
     let h = stays opening s e n in
-    same_readings u known t.run.time t.run.finished s.run.design t.run.design s.policy t.policy (values_behind s.run.values (changed s e)) t.run.values (book_behind s.book e) t.book
+    same_readings u known t.run.time t.run.finished s.run.design t.run.design s.policy t.policy (values_with s.run.values (changed s e)) t.run.values (book_after s.book e) t.book
     (sym h.design) (sym h.policy) (sym h.values) (sym h.booked)
 
 -- ---- grants

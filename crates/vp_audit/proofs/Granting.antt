@@ -7,36 +7,36 @@ use Rattle.vp_pragma.specs.Rights.{RightSet}
 use Rattle.vp_policy.specs.Regrants.{regranted}
 use Rattle.vp_policy.specs.Users.{member_at, user_of}
 use Rattle.vp_policy.specs.View.{View, known_view}
-use Rattle.vp_vpi.specs.declared.races.SeenRace.{SeenRace}
+use Rattle.vp_vpi.specs.declared.races.ShownRace.{ShownRace}
 use Rattle.vp_vpi.specs.Races.{races_seen}
 use Rattle.vp_answer.specs.declared.request.GrantChange.{GrantChange}
 use Rattle.vp_world.specs.declared.event.Event.TheVariants as event
 use Rattle.vp_world.specs.History.{after, granted_to}
 use Rattle.vp_world.specs.Worlds.{Opening, State}
 use Rattle.vp_audit.specs.Known.{known_also}
-use Rattle.vp_audit.specs.Parts.{Granted}
-use Rattle.vp_audit.specs.Projections.{granted_of, known_behind, moved_numbers, regrant_of, values_seen}
-use Rattle.vp_audit.specs.Readings.{Grants, Reading, reading_of}
+use Rattle.vp_audit.specs.Parts.{GrantItem}
+use Rattle.vp_audit.specs.Projections.{granted_of, known_after, moved_numbers, regrant_of, values_seen}
+use Rattle.vp_audit.specs.Readings.{Grants, LogReader, reading_of}
 
 -- what he knows after a change of his own
 abbrev pub known_then : (user : ℕ) → State → (known : List Bool) → List Bool
 known_then u t known = known_also t.run.design.tree (member_at t.policy.members u) known t.run.design.tree.nodes
 
 -- a reading under the policy in which the grant of a user is changed
-abbrev pub regranted_reading : Reading → (grantee : ℕ) → GrantChange → Reading
+abbrev pub regranted_reading : LogReader → (grantee : ℕ) → GrantChange → LogReader
 regranted_reading r v change = record r { policy = regranted r.policy v change.envelope change.access }
 
 module _ (opening : Opening) (u : ℕ) (s : State) (known : List Bool) (change : GrantChange) (v : ℕ) (found : user_of s.policy.members change.user ≡ Some v) where
-  abbrev behind : State
-  behind = after opening s (event.Grant change)
+  abbrev following : State
+  following = after opening s (event.Grant change)
 
   -- the state after it
-  pub behind_is : behind ≡ granted_to s change v
-  behind_is = ap (λ x. option_map_or (granted_to s change) x s) found
+  pub after_is : following ≡ granted_to s change v
+  after_is = ap (λ x. option_map_or (granted_to s change) x s) found
 
   -- the reading of the state after it
-  pub regranted_is : regranted_reading (reading_of u s known) v change ≡ reading_of u behind known
-  regranted_is = ap (λ (t : State). reading_of u t known) (sym behind_is)
+  pub regranted_is : regranted_reading (reading_of u s known) v change ≡ reading_of u following known
+  regranted_is = ap (λ (t : State). reading_of u t known) (sym after_is)
 
   -- it is a change of his, or of another's
   regrant_is : (b : Bool) → (v == u) ≡ b → regrant_of u s.policy (event.Grant change) ≡ (if b then Some change else None)
@@ -45,60 +45,60 @@ module _ (opening : Opening) (u : ℕ) (s : State) (known : List Bool) (change :
       ∙ ap (λ (c : Bool). if c then Some change else None) is
 
   -- one of another's
-  pub grants_other : (v == u) ≡ false → (r : Reading) → r ≡ regranted_reading (reading_of u s known) v change → Grants u s behind known change (Ok None) r
+  pub grants_other : (v == u) ≡ false → (r : LogReader) → r ≡ regranted_reading (reading_of u s known) v change → Grants u s following known change (Ok None) r
   grants_other other r is =
       let none = regrant_is false other in
       record {
-        item = sym (ap (option_map (granted_of u behind known (known_behind u s behind known (event.Grant change)))) none);
-        reading = is ∙ regranted_is ∙ ap (λ (g : Option GrantChange). reading_of u behind (option_map_or (λ x. known_then u behind known) g known)) (sym none);
+        item = sym (ap (option_map (granted_of u following known (known_after u s following known (event.Grant change)))) none);
+        reading = is ∙ regranted_is ∙ ap (λ (g : Option GrantChange). reading_of u following (option_map_or (λ x. known_then u following known) g known)) (sym none);
       }
 
   -- one of his own
-  pub grants_own : (v == u) ≡ true → (r : Reading) (granted : Granted) → r ≡ reading_of u behind (known_then u behind known) → granted ≡ granted_of u behind known (known_then u behind known) change
-      → Grants u s behind known change (Ok (Some granted)) r
-  grants_own own r granted is goes =
-      let some = regrant_is true own in
-      let now : known_behind u s behind known (event.Grant change) ≡ known_then u behind known = ap (λ (g : Option GrantChange). option_map_or (λ x. known_then u behind known) g known) some in
+  pub grants_own : (v == u) ≡ true → (r : LogReader) (granted : GrantItem) → r ≡ reading_of u following (known_then u following known) → granted ≡ granted_of u following known (known_then u following known) change
+      → Grants u s following known change (Ok (Some granted)) r
+  grants_own own_event r granted is goes =
+      let some = regrant_is true own_event in
+      let now : known_after u s following known (event.Grant change) ≡ known_then u following known = ap (λ (g : Option GrantChange). option_map_or (λ x. known_then u following known) g known) some in
       record {
-        item = ap Some goes ∙ sym (ap (λ (ks : List Bool). option_map (granted_of u behind known ks) (regrant_of u s.policy (event.Grant change))) now
-            ∙ ap (option_map (granted_of u behind known (known_then u behind known))) some);
-        reading = is ∙ ap (reading_of u behind) (sym now);
+        item = ap Some goes ∙ sym (ap (λ (ks : List Bool). option_map (granted_of u following known ks) (regrant_of u s.policy (event.Grant change))) now
+            ∙ ap (option_map (granted_of u following known (known_then u following known))) some);
+        reading = is ∙ ap (reading_of u following) (sym now);
       }
 
   -- by what each step leaves: the policy is changed, then he learns what is listed to him, and then it is told him
-  pub grants_learned : (v == u) ≡ true → (changed learned : Reading) (before : List Bool) (granted : Granted) → changed ≡ regranted_reading (reading_of u s known) v change
+  pub grants_learned : (v == u) ≡ true → (changed learned : LogReader) (before : List Bool) (granted : GrantItem) → changed ≡ regranted_reading (reading_of u s known) v change
       → learned ≡ record changed { known = known_also changed.design.tree (member_at changed.policy.members changed.user) changed.known changed.design.tree.nodes }
       → before ≡ changed.known
       → ((t : State) → learned ≡ reading_of learned.user t learned.known → granted ≡ granted_of learned.user t before learned.known change)
-      → Grants u s behind known change (Ok (Some granted)) learned
-  grants_learned own changed learned before granted changes learns knew goes =
-      let now = known_then u behind known in
-      let first : changed ≡ reading_of u behind known = changes ∙ regranted_is in
-      let last : learned ≡ reading_of u behind now =
-      learns ∙ ap (λ (r : Reading). record r { known = known_also r.design.tree (member_at r.policy.members r.user) r.known r.design.tree.nodes }) first in
-      let reads : learned ≡ reading_of learned.user behind learned.known = subst (λ (r : Reading). r ≡ reading_of r.user behind r.known) (sym last) refl in
-      grants_own own learned granted last
-      (goes behind reads ∙ ap (λ (r : Reading). granted_of r.user behind before r.known change) last
-      ∙ ap (λ (ks : List Bool). granted_of u behind ks now change) (knew ∙ ap (λ (r : Reading). r.known) first))
+      → Grants u s following known change (Ok (Some granted)) learned
+  grants_learned own_event changed learned before granted changes learns knew goes =
+      let now = known_then u following known in
+      let first : changed ≡ reading_of u following known = changes ∙ regranted_is in
+      let last : learned ≡ reading_of u following now =
+      learns ∙ ap (λ (r : LogReader). record r { known = known_also r.design.tree (member_at r.policy.members r.user) r.known r.design.tree.nodes }) first in
+      let reads : learned ≡ reading_of learned.user following learned.known = subst (λ (r : LogReader). r ≡ reading_of r.user following r.known) (sym last) refl in
+      grants_own own_event learned granted last
+      (goes following reads ∙ ap (λ (r : LogReader). granted_of r.user following before r.known change) last
+      ∙ ap (λ (ks : List Bool). granted_of u following ks now change) (knew ∙ ap (λ (r : LogReader). r.known) first))
 
 -- ---- what goes to him
 
 -- its parts
-granted_parts : (envelope : ℕ) (access access' : RightSet) (view view' : View) (moved moved' : List ℕ) (values values' : List (Option (List Bit))) (races races' : List SeenRace)
+granted_parts : (envelope : ℕ) (access access' : RightSet) (view view' : View) (moved moved' : List ℕ) (values values' : List (Option (List Bit))) (races races' : List ShownRace)
     → access ≡ access' → view ≡ view' → moved ≡ moved' → values ≡ values' → races ≡ races'
-    → ◌≡◌ {A = Granted} (record { envelope = envelope; access = access; view = view; moved = moved; values = values; races = races })
+    → ◌≡◌ {A = GrantItem} (record { envelope = envelope; access = access; view = view; moved = moved; values = values; races = races })
     (record { envelope = envelope; access = access'; view = view'; moved = moved'; values = values'; races = races' })
 granted_parts envelope access access' view view' moved moved' values values' races races' a b c d e = cc
 
 -- by the reading of a state
-pub granted_is : (r : Reading) (t : State) (before : List Bool) (change : GrantChange) (access : RightSet) (view : View) (moved : List ℕ) (values : List (Option (List Bit))) (races : List SeenRace)
+pub granted_is : (r : LogReader) (t : State) (before : List Bool) (change : GrantChange) (access : RightSet) (view : View) (moved : List ℕ) (values : List (Option (List Bit))) (races : List ShownRace)
     → r ≡ reading_of r.user t r.known → access ≡ change.access → view ≡ known_view r.design (member_at r.policy.members r.user) r.known → moved ≡ moved_numbers before r.known
     → values ≡ values_seen t.run (member_at r.policy.members r.user) r.known → races ≡ races_seen r.design.tree (member_at r.policy.members r.user) r.book
-    → ◌≡◌ {A = Granted} (record { envelope = change.envelope; access = access; view = view; moved = moved; values = values; races = races }) (granted_of r.user t before r.known change)
+    → ◌≡◌ {A = GrantItem} (record { envelope = change.envelope; access = access; view = view; moved = moved; values = values; races = races }) (granted_of r.user t before r.known change)
 granted_is r t before change access view moved values races reads its_access its_view its_moved its_values its_races =
     granted_parts change.envelope access change.access view _ moved _ values _ races _
     its_access
-    (its_view ∙ ap (λ (x : Reading). known_view x.design (member_at x.policy.members r.user) r.known) reads)
+    (its_view ∙ ap (λ (x : LogReader). known_view x.design (member_at x.policy.members r.user) r.known) reads)
     its_moved
-    (its_values ∙ ap (λ (x : Reading). values_seen t.run (member_at x.policy.members r.user) r.known) reads)
-    (its_races ∙ ap (λ (x : Reading). races_seen x.design.tree (member_at x.policy.members r.user) x.book) reads)
+    (its_values ∙ ap (λ (x : LogReader). values_seen t.run (member_at x.policy.members r.user) r.known) reads)
+    (its_races ∙ ap (λ (x : LogReader). races_seen x.design.tree (member_at x.policy.members r.user) x.book) reads)

@@ -8,17 +8,17 @@ use Rattle.vp_bits.specs.declared.bit.Bit.{Bit}
 use Rattle.vp_policy.specs.Users.{member_at}
 use Rattle.vp_sim.specs.States as sim
 use Rattle.vp_world.specs.Entries.{Entry}
-use Rattle.vp_world.specs.History.{IsLegal, after, entry_of, is_log_full, refusal_of, state_behind}
+use Rattle.vp_world.specs.History.{IsLegal, after, entry_of, is_log_full, refusal_of, state_after}
 use Rattle.vp_world.specs.Worlds.{Opening, State, start}
 use Rattle.vp_audit.specs.Parts.{Item}
-use Rattle.vp_audit.specs.Projections.{Projection, item_if, item_of, items_from, known_at_first, known_behind, projection, values_seen}
-use Rattle.vp_audit.specs.Readings.{Continues, Reading, reading_of}
+use Rattle.vp_audit.specs.Projections.{Projection, item_if, item_of, items_from, known_at_first, known_after, projection, values_seen}
+use Rattle.vp_audit.specs.Readings.{Continues, LogReader, reading_of}
 
 -- so many entries of a legal log were read: the reading stands where they lead to, and the items so far and those of the entries that remain are all
-pub record IsAt (opening : Opening) (u : ℕ) (log : List Entry) (n : ℕ) (items : List Item) (reading : Reading) : Type 0 where
+pub record IsAt (opening : Opening) (u : ℕ) (log : List Entry) (n : ℕ) (items : List Item) (reading : LogReader) : Type 0 where
   pub state : State
   pub known : List Bool
-  pub stands : state ≡ state_behind opening (take n log)
+  pub stands : state ≡ state_after opening (take n log)
   pub reads : reading ≡ reading_of u state known
   pub legal : IsLegal opening (take n log) (drop n log)
   pub items_are : items_from opening u (start opening) (known_at_first opening u) log ≡ items ++ items_from opening u state known (drop n log)
@@ -50,7 +50,7 @@ one_more items None rest = refl
 one_more items (Some i) rest = sym (append_assoc items (i ∷ []) rest)
 
 -- the entry that is read continues its state
-pub continues : (opening : Opening) (u : ℕ) (log : List Entry) (n : ℕ) (items : List Item) (reading : Reading) (at : IsAt opening u log n items reading) (e : Entry) → slice_get log n ≡ Some e
+pub continues : (opening : Opening) (u : ℕ) (log : List Entry) (n : ℕ) (items : List Item) (reading : LogReader) (at : IsAt opening u log n items reading) (e : Entry) → slice_get log n ≡ Some e
     → Continues opening at.state e
 continues opening u log n items reading at e there =
     let (formed, accepted, entry, rest) = subst (IsLegal opening (take n log)) (entry_first log n e there) at.legal in
@@ -61,19 +61,19 @@ continues opening u log n items reading at e there =
     }
 
 -- one more was read
-pub next_at : (opening : Opening) (u : ℕ) (log : List Entry) (n : ℕ) (items : List Item) (reading : Reading) (at : IsAt opening u log n items reading) (e : Entry) → slice_get log n ≡ Some e
-    → (item : Option Item) (next : Reading)
-    → item ≡ item_if (item_of u at.state (after opening at.state e.event) at.known (known_behind u at.state (after opening at.state e.event) at.known e.event) e)
-    → next ≡ reading_of u (after opening at.state e.event) (known_behind u at.state (after opening at.state e.event) at.known e.event)
+pub next_at : (opening : Opening) (u : ℕ) (log : List Entry) (n : ℕ) (items : List Item) (reading : LogReader) (at : IsAt opening u log n items reading) (e : Entry) → slice_get log n ≡ Some e
+    → (item : Option Item) (next : LogReader)
+    → item ≡ item_if (item_of u at.state (after opening at.state e.event) at.known (known_after u at.state (after opening at.state e.event) at.known e.event) e)
+    → next ≡ reading_of u (after opening at.state e.event) (known_after u at.state (after opening at.state e.event) at.known e.event)
     → IsAt opening u log (n + 1) (with_item items item) next
 next_at opening u log n items reading at e there item next is reads =
     let (formed, accepted, entry, rest) = subst (IsLegal opening (take n log)) (entry_first log n e there) at.legal in
     let t = after opening at.state e.event in
-    let now = known_behind u at.state t at.known e.event in
+    let now = known_after u at.state t at.known e.event in
     record {
       state = t;
       known = now;
-      stands = ap (λ (s : State). after opening s e.event) at.stands ∙ sym (fold-append (λ x y. after opening x y.event) (start opening) (take n log) (e ∷ [])) ∙ ap (state_behind opening) (sym (entry_last log n e there));
+      stands = ap (λ (s : State). after opening s e.event) at.stands ∙ sym (fold-append (λ x y. after opening x y.event) (start opening) (take n log) (e ∷ [])) ∙ ap (state_after opening) (sym (entry_last log n e there));
       reads = reads;
       legal = subst (λ (before : List Entry). IsLegal opening before (drop (n + 1) log)) (sym (entry_last log n e there)) rest;
       items_are =
@@ -83,7 +83,7 @@ next_at opening u log n items reading at e there item next is reads =
     }
 
 -- all were read
-pub all_read : (opening : Opening) (u : ℕ) (log : List Entry) (n : ℕ) (items : List Item) (reading : Reading) → IsAt opening u log n items reading → length log ≤ n
+pub all_read : (opening : Opening) (u : ℕ) (log : List Entry) (n : ℕ) (items : List Item) (reading : LogReader) → IsAt opening u log n items reading → length log ≤ n
     → items_from opening u (start opening) (known_at_first opening u) log ≡ items
 all_read opening u log n items reading at past =
     at.items_are ∙ ap (λ (es : List Entry). items ++ items_from opening u at.state at.known es) (drop_all n log past) ∙ append-nil items

@@ -9,11 +9,11 @@ use Rattle.vp_notify.specs.declared.registry.Callback.{Callback}
 use Rattle.vp_notify.specs.declared.notice.Notice.{Notice}
 use Rattle.vp_notify.specs.Registry.{RegistryState}
 use Rattle.vp_notify.specs.Renumbered.{is_callback_within, is_notice_within, is_within, moved_callback, moved_notice, moved_registry, number_now}
-use Rattle.vp_vpi.specs.Renumbered.{is_handle_within, is_seat_within, moved_handle, moved_seat}
-use Rattle.vp_vpi.specs.Seats.{Seat, retired}
-use Rattle.vp_world.specs.Worlds.{SessionState}
+use Rattle.vp_vpi.specs.Renumbered.{is_handle_within, is_session_state_within, moved_handle, moved_session_state}
+use Rattle.vp_vpi.specs.SessionStates.{SessionState, retired}
+use Rattle.vp_world.specs.Worlds.{OpenSessionState}
 use Rattle.vp_view.specs.Seen.{denied_seen}
-use Rattle.vp_audit.specs.Parts.{Granted, granted_session, is_session_within, moved_session, moved_to}
+use Rattle.vp_audit.specs.Parts.{GrantItem, granted_session, is_session_within, moved_session, moved_to}
 use Rattle.vp_audit.specs.laws.Tests.{both_first, both_second}
 
 -- forms that agree where a test holds
@@ -41,30 +41,30 @@ module _ (n : ℕ) (f g : ℕ → ℕ) (agree : (k : ℕ) → nat_lt k n ≡ tru
       ∙ ap (λ (ts : List Notice). (let x : RegistryState = record { callbacks = map (moved_callback g) r.callbacks; given = r.given; waiting = ts; lost = r.lost } in x)) notices
 
   -- the objects of a session, which are among so many, get the same numbers
-  seat_same : (s : Seat) → is_seat_within n s ≡ true → moved_seat f s ≡ moved_seat g s
-  seat_same s within =
+  session_state_same : (s : SessionState) → is_session_state_within n s ≡ true → moved_session_state f s ≡ moved_session_state g s
+  session_state_same s within =
       let handles = map_within (is_handle_within n) (moved_handle f) (moved_handle g) handle_same s.handles (both_first (list_all (is_handle_within n) s.handles) (is_within n s.registry) within) in
       let registry = registry_same s.registry (both_second (list_all (is_handle_within n) s.handles) (is_within n s.registry) within) in
-      ap (λ (hs : List (Option ObjectId)). (let x : Seat = record { user = s.user; handles = hs; registry = moved_registry f s.registry } in x)) handles
-      ∙ ap (λ (r : RegistryState). (let x : Seat = record { user = s.user; handles = map (moved_handle g) s.handles; registry = r } in x)) registry
+      ap (λ (hs : List (Option ObjectId)). (let x : SessionState = record { user = s.user; handles = hs; registry = moved_registry f s.registry } in x)) handles
+      ∙ ap (λ (r : RegistryState). (let x : SessionState = record { user = s.user; handles = map (moved_handle g) s.handles; registry = r } in x)) registry
 
 -- what a test finds gone, another that agrees does
-retired_same : (gone gone' : ℕ → Bool) → ((o : ℕ) → gone o ≡ gone' o) → (s : Seat) → retired gone s ≡ retired gone' s
+retired_same : (gone gone' : ℕ → Bool) → ((o : ℕ) → gone o ≡ gone' o) → (s : SessionState) → retired gone s ≡ retired gone' s
 retired_same gone gone' h s =
     let callbacks = filter_agree (λ (c : Callback). not (gone c.object.0)) (λ (c : Callback). not (gone' c.object.0)) (λ c. ap not (h c.object.0)) s.registry.callbacks in
     let notices = filter_agree (λ (t : Notice). not (gone t.object.0)) (λ (t : Notice). not (gone' t.object.0)) (λ t. ap not (h t.object.0)) s.registry.waiting in
-    ap (λ (cs : List Callback). (let x : Seat = record s { registry = record s.registry { callbacks = cs; waiting = filter (λ t. not (gone t.object.0)) s.registry.waiting } } in x)) callbacks
-    ∙ ap (λ (ts : List Notice). (let x : Seat = record s { registry = record s.registry { callbacks = filter (λ c. not (gone' c.object.0)) s.registry.callbacks; waiting = ts } } in x)) notices
+    ap (λ (cs : List Callback). (let x : SessionState = record s { registry = record s.registry { callbacks = cs; waiting = filter (λ t. not (gone t.object.0)) s.registry.waiting } } in x)) callbacks
+    ∙ ap (λ (ts : List Notice). (let x : SessionState = record s { registry = record s.registry { callbacks = filter (λ c. not (gone' c.object.0)) s.registry.callbacks; waiting = ts } } in x)) notices
 
 -- a number of before is that of the list
 number_there : (moved : List ℕ) (count k : ℕ) → nat_lt k (length moved) ≡ true → number_now moved k ≡ moved_to moved count k
 number_there moved count k within = sym (ap (λ (b : Bool). if b then slice_index_or moved k 0 else count + (k - length moved)) within)
 
 -- so sessions whose objects are among those before get what a change of grants brings them
-pub sessions_granted : (g : Granted) (gone : ℕ → Bool) → ((o : ℕ) → gone o ≡ is_some (denied_seen g.view right.Watch o)) → (sessions : List SessionState)
+pub sessions_granted : (g : GrantItem) (gone : ℕ → Bool) → ((o : ℕ) → gone o ≡ is_some (denied_seen g.view right.Watch o)) → (sessions : List OpenSessionState)
     → list_all (is_session_within (length g.moved)) sessions ≡ true → map (moved_session (number_now g.moved) gone) sessions ≡ map (granted_session g) sessions
 sessions_granted g gone h sessions within =
     map_within (is_session_within (length g.moved)) (moved_session (number_now g.moved) gone) (granted_session g)
-    (λ t is. ap (λ (s : Seat). (let x : SessionState = record { id = t.id; seat = s } in x))
-    (ap (retired gone) (seat_same (length g.moved) (number_now g.moved) (moved_to g.moved (length g.view.nodes)) (number_there g.moved (length g.view.nodes)) t.seat is)
-    ∙ retired_same gone (λ o. is_some (denied_seen g.view right.Watch o)) h (moved_seat (moved_to g.moved (length g.view.nodes)) t.seat))) sessions within
+    (λ t is. ap (λ (s : SessionState). (let x : OpenSessionState = record { id = t.id; session_state = s } in x))
+    (ap (retired gone) (session_state_same (length g.moved) (number_now g.moved) (moved_to g.moved (length g.view.nodes)) (number_there g.moved (length g.view.nodes)) t.session_state is)
+    ∙ retired_same gone (λ o. is_some (denied_seen g.view right.Watch o)) h (moved_session_state (moved_to g.moved (length g.view.nodes)) t.session_state))) sessions within

@@ -5,8 +5,8 @@ use Rattle.vp_policy.specs.View.{View, view_of}
 use Rattle.vp_world.specs.Entries.{Entry}
 use Rattle.vp_world.specs.History.{IsLegal}
 use Rattle.vp_world.specs.Worlds.{Opening}
-use Rattle.vp_audit.specs.declared.fault.AuditError.{AuditError}
-use Rattle.vp_audit.specs.declared.fault.AuditError.TheVariants.{NoMemory, NotOpen}
+use Rattle.vp_audit.specs.declared.error.AuditError.{AuditError}
+use Rattle.vp_audit.specs.declared.error.AuditError.TheVariants.{NoMemory, NotOpen}
 use Rattle.vp_audit.specs.Faults.{MayRefuse}
 use Rattle.vp_audit.specs.Openings.{IsRight}
 use Rattle.vp_audit.specs.Parts.{takes_all}
@@ -23,8 +23,8 @@ goes_all v q opening right u log legal same_view same_projection =
     ∙ projection_taken opening right u log legal
 
 -- where all is taken up, a refusal is want of memory
-pub starved : {T : Type 0} (r : Result T AuditError) (taken : Bool) → taken ≡ true → IfErr r (MayRefuse taken) → IsOkUnless r NoMemory
-starved r true e h = by_result r h where
+pub out_of_memory : {T : Type 0} (r : Result T AuditError) (taken : Bool) → taken ≡ true → IfErr r (MayRefuse taken) → IsOkUnless r NoMemory
+out_of_memory r true e h = by_result r h where
   by_error : (x : AuditError) → MayRefuse true x → x ≡ NoMemory
   by_error NotOpen refused = absurd (cc)
   by_error NoMemory refused = refl
@@ -32,7 +32,7 @@ starved r true e h = by_result r h where
   by_result : {T : Type 0} (r : Result T AuditError) → IfErr r (MayRefuse true) → IsOkUnless r NoMemory
   by_result (Ok x) h = h
   by_result (Err x) h = by_error x h
-starved r false e h = absurd (cc)
+out_of_memory r false e h = absurd (cc)
 
 -- what follows of an answer, if there is one
 pub if_ok : {T : Type 0} (r : Result T AuditError) (P Q : T → Type 0) → ((x : T) → P x → Q x) → IfOk r P → IfOk r Q

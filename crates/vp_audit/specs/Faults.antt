@@ -1,7 +1,7 @@
 -- Refusals.
 use Rattle.std.specs.Prelude.{◌≡◌, ℕ, Bool, false}
-use Rattle.vp_audit.specs.declared.fault.AuditError.{AuditError}
-use Rattle.vp_audit.specs.declared.fault.AuditError.TheVariants.{NoMemory, NotOpen}
+use Rattle.vp_audit.specs.declared.error.AuditError.{AuditError}
+use Rattle.vp_audit.specs.declared.error.AuditError.TheVariants.{NoMemory, NotOpen}
 
 -- the number of a refusal (profile)
 abbrev pub code_of : AuditError → ℕ

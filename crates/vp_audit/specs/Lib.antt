@@ -1,5 +1,5 @@
 pub use Rattle.vp_view.specs.Seen
-pub use Rattle.vp_vpi.specs.declared.races.SeenRace
+pub use Rattle.vp_vpi.specs.declared.races.ShownRace
 pub use Rattle.vp_world.specs.Entries
 pub use Rattle.vp_world.specs.History
 pub use Rattle.vp_world.specs.Worlds

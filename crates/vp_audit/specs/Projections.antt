@@ -12,7 +12,7 @@ use Rattle.vp_policy.specs.Users.{Member, member_at, user_of}
 use Rattle.vp_policy.specs.View.{View, known_view, listed_marks, marked}
 use Rattle.vp_sim.specs.States as sim
 use Rattle.vp_waking.specs.declared.change.Change.{Change}
-use Rattle.vp_vpi.specs.declared.races.SeenRace.{SeenRace}
+use Rattle.vp_vpi.specs.declared.races.ShownRace.{ShownRace}
 use Rattle.vp_vpi.specs.Observers.{is_readable, kind_at}
 use Rattle.vp_vpi.specs.Races.{is_shown, race_seen, races_seen}
 use Rattle.vp_answer.specs.declared.request.GrantChange.{GrantChange}
@@ -26,7 +26,7 @@ use Rattle.vp_world.specs.History.{after}
 use Rattle.vp_world.specs.Worlds.{Opening, State, start}
 use Rattle.vp_audit.specs.Known.{known_also, place_of}
 pub use Rattle.vp_audit.specs.declared.item.Projection.{Projection}
-use Rattle.vp_audit.specs.Parts.{Asks, Closes, Granted, Item, Opens, Own, Part}
+use Rattle.vp_audit.specs.Parts.{Asks, Closes, GrantItem, Item, Opens, OwnEvent, Part}
 
 -- ---- numbers
 
@@ -65,16 +65,16 @@ change_seen tree u known (Some c) =
 -- ---- items
 
 -- a session is one of a user
-abbrev pub own_if : (user : ℕ) → SessionId → Own → Option Own
-own_if u id own = if id.user.0 == u then Some own else None
+abbrev pub own_if : (user : ℕ) → SessionId → OwnEvent → Option OwnEvent
+own_if u id own_event = if id.user.0 == u then Some own_event else None
 
 -- an opening of a session, by its reply
-abbrev pub opened_by_reply : (user : ℕ) → Reply → Option Own
+abbrev pub opened_by_reply : (user : ℕ) → Reply → Option OwnEvent
 opened_by_reply u (reply.Opened id) = own_if u id (Opens id)
 opened_by_reply u r = None
 
 -- an event, if it is a user's own
-abbrev pub own_of : (user : ℕ) → Event → Reply → Option Own
+abbrev pub own_of : (user : ℕ) → Event → Reply → Option OwnEvent
 own_of u (event.Open name token) r = opened_by_reply u r
 own_of u (event.Ask id request) r = own_if u id (Asks id request)
 own_of u (event.Close id) r = own_if u id (Closes id)
@@ -90,12 +90,12 @@ regrant_of u policy (event.Grant change) = if option_map_or (λ v. v == u) (user
 regrant_of u policy e = None
 
 -- what a user knows after an event
-abbrev pub known_behind : (user : ℕ) → (before behind : State) → (known : List Bool) → Event → List Bool
-known_behind u s t known e =
+abbrev pub known_after : (user : ℕ) → (before following : State) → (known : List Bool) → Event → List Bool
+known_after u s t known e =
     option_map_or (λ g. known_also t.run.design.tree (member_at t.policy.members u) known t.run.design.tree.nodes) (regrant_of u s.policy e) known
 
 -- what goes to him of a change of his grants
-abbrev pub granted_of : (user : ℕ) → (behind : State) → (known now : List Bool) → GrantChange → Granted
+abbrev pub granted_of : (user : ℕ) → (following : State) → (known now : List Bool) → GrantChange → GrantItem
 granted_of u t known now change = record {
   envelope = change.envelope;
   access = change.access;
@@ -106,25 +106,25 @@ granted_of u t known now change = record {
 }
 
 -- a number, and whether something is so, if they are others than before
-abbrev pub other_number : (before behind : ℕ) → Option ℕ
-other_number before behind = if before == behind then None else Some behind
+abbrev pub other_number : (before following : ℕ) → Option ℕ
+other_number before following = if before == following then None else Some following
 
 -- whether something is so, if that is other than before
-abbrev pub other_flag : (before behind : Bool) → Option Bool
+abbrev pub other_flag : (before following : Bool) → Option Bool
 other_flag true true = None
 other_flag false false = None
 other_flag true false = Some false
 other_flag false true = Some true
 
 -- a race that is booked, if a user is shown it
-abbrev pub race_of_event : Tree → Member → Event → Option SeenRace
+abbrev pub race_of_event : Tree → Member → Event → Option ShownRace
 race_of_event tree u (event.Book finding) = if is_shown tree u finding then Some (race_seen tree u finding) else None
 race_of_event tree u e = None
 
 -- what of an entry goes to a user, by the states before and after it
-abbrev pub item_of : (user : ℕ) → (before behind : State) → (known now : List Bool) → Entry → Item
+abbrev pub item_of : (user : ℕ) → (before following : State) → (known now : List Bool) → Entry → Item
 item_of u s t known now e = record {
-  own = own_of u e.event e.reply;
+  own_event = own_of u e.event e.reply;
   granted = option_map (granted_of u t known now) (regrant_of u s.policy e.event);
   change = change_seen s.run.design.tree (member_at s.policy.members u) known e.change;
   time = other_number s.run.time e.time;
@@ -135,14 +135,14 @@ item_of u s t known now e = record {
 -- an item, if it is any
 abbrev pub item_if : Item → Option Item
 item_if i =
-    if is_none i.own && is_none i.granted && is_none i.change && is_none i.time && is_none i.finished && is_none i.race then None else Some i
+    if is_none i.own_event && is_none i.granted && is_none i.change && is_none i.time && is_none i.finished && is_none i.race then None else Some i
 
 -- what of entries goes to a user, from a state on: an entry of which nothing goes to him leaves no trace
 abbrev pub items_from : Opening → (user : ℕ) → State → (known : List Bool) → List Entry → List Item
 items_from opening u s known [] = []
 items_from opening u s known (e ∷ log) =
-    cons_option (item_if (item_of u s (after opening s e.event) known (known_behind u s (after opening s e.event) known e.event) e))
-    (items_from opening u (after opening s e.event) (known_behind u s (after opening s e.event) known e.event) log)
+    cons_option (item_if (item_of u s (after opening s e.event) known (known_after u s (after opening s e.event) known e.event) e))
+    (items_from opening u (after opening s e.event) (known_after u s (after opening s e.event) known e.event) log)
 
 -- what a user knows at the opening
 abbrev pub known_at_first : Opening → (user : ℕ) → List Bool

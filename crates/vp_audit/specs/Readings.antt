@@ -8,8 +8,8 @@ use Rattle.vp_elab.specs.Tree.{Tree}
 use Rattle.vp_policy.specs.Filter.{denial_at}
 use Rattle.vp_policy.specs.PolicyState.{PolicyState}
 use Rattle.vp_policy.specs.Users.{Member}
-use Rattle.vp_race.specs.Segments.{Told}
-use Rattle.vp_waking.specs.Changes.{values_behind}
+use Rattle.vp_race.specs.Segments.{FindingState}
+use Rattle.vp_waking.specs.Changes.{values_with}
 use Rattle.vp_vpi.specs.Observers.{is_readable, kind_at}
 use Rattle.vp_answer.specs.declared.request.GrantChange.{GrantChange}
 use Rattle.vp_world.specs.Entries.{Entry}
@@ -17,23 +17,23 @@ use Rattle.vp_world.specs.declared.event.Event.{Event}
 use Rattle.vp_world.specs.declared.event.Event.TheVariants as event
 use Rattle.vp_world.specs.History.{after, entry_of, refusal_of}
 use Rattle.vp_world.specs.Worlds.{Opening, State}
-use Rattle.vp_audit.specs.declared.fault.AuditError.{AuditError}
-use Rattle.vp_audit.specs.Parts.{Granted, Item}
-use Rattle.vp_audit.specs.Projections.{granted_of, item_if, item_of, known_behind, regrant_of}
+use Rattle.vp_audit.specs.declared.error.AuditError.{AuditError}
+use Rattle.vp_audit.specs.Parts.{GrantItem, Item}
+use Rattle.vp_audit.specs.Projections.{granted_of, item_if, item_of, known_after, regrant_of}
 
 -- what of a state of a world decides what goes to a user, and which objects he knows
-pub record Reading : Type 0 where
+pub record LogReader : Type 0 where
   pub design : Elaborated
   pub user : ℕ
   pub policy : PolicyState
   pub known : List Bool
   pub values : List (List Bit)
-  pub book : List Told
+  pub book : List FindingState
   pub time : ℕ
   pub finished : Bool
 
 -- that of a state
-abbrev pub reading_of : (user : ℕ) → State → (known : List Bool) → Reading
+abbrev pub reading_of : (user : ℕ) → State → (known : List Bool) → LogReader
 reading_of u s known = record {
   design = s.run.design;
   user = u;
@@ -63,25 +63,25 @@ value_of tree values u o =
     if is_readable (kind_at tree o) && is_none (denial_at tree u right.Read o) then Some (slice_index_or values o (Unknown ∷ [])) else None
 
 -- the races of a book after an event
-abbrev pub book_behind : List Told → Event → List Told
-book_behind book (event.Book finding) = book ++ finding ∷ []
-book_behind book e = book
+abbrev pub book_after : List FindingState → Event → List FindingState
+book_after book (event.Book finding) = book ++ finding ∷ []
+book_after book e = book
 
 -- the values, the book and the time after an entry
-abbrev pub followed : Reading → Entry → Reading
+abbrev pub followed : LogReader → Entry → LogReader
 followed r e = record r {
-  values = values_behind r.values e.change;
-  book = book_behind r.book e.event;
+  values = values_with r.values e.change;
+  book = book_after r.book e.event;
   time = e.time;
   finished = e.finished;
 }
 
 -- what goes to a user of a change of a grant, and the reading after it
-pub record Grants (u : ℕ) (s t : State) (known : List Bool) (change : GrantChange) (result : Result (Option Granted) AuditError) (r : Reading) : Type 0 where
-  pub item : IfOk result (λ g. g ≡ option_map (granted_of u t known (known_behind u s t known (event.Grant change))) (regrant_of u s.policy (event.Grant change)))
-  pub reading : OnOk result (r ≡ reading_of u t (known_behind u s t known (event.Grant change)))
+pub record Grants (u : ℕ) (s t : State) (known : List Bool) (change : GrantChange) (result : Result (Option GrantItem) AuditError) (r : LogReader) : Type 0 where
+  pub item : IfOk result (λ g. g ≡ option_map (granted_of u t known (known_after u s t known (event.Grant change))) (regrant_of u s.policy (event.Grant change)))
+  pub reading : OnOk result (r ≡ reading_of u t (known_after u s t known (event.Grant change)))
 
 -- what goes to a user of an entry, and the reading after it
-pub record Reads (u : ℕ) (opening : Opening) (s : State) (known : List Bool) (e : Entry) (result : Result (Option Item) AuditError) (r : Reading) : Type 0 where
-  pub item : IfOk result (λ i. i ≡ item_if (item_of u s (after opening s e.event) known (known_behind u s (after opening s e.event) known e.event) e))
-  pub reading : OnOk result (r ≡ reading_of u (after opening s e.event) (known_behind u s (after opening s e.event) known e.event))
+pub record Reads (u : ℕ) (opening : Opening) (s : State) (known : List Bool) (e : Entry) (result : Result (Option Item) AuditError) (r : LogReader) : Type 0 where
+  pub item : IfOk result (λ i. i ≡ item_if (item_of u s (after opening s e.event) known (known_after u s (after opening s e.event) known e.event) e))
+  pub reading : OnOk result (r ≡ reading_of u (after opening s e.event) (known_after u s (after opening s e.event) known e.event))

@@ -6,7 +6,7 @@ pub mod Looks
 pub mod Alike
 pub mod Sims
 pub mod Sessions
-pub mod Behind
+pub mod After
 pub mod Events
 pub mod Cases
 pub mod Grants

@@ -4,12 +4,12 @@ ghost use Rattle.vp_policy.specs.PolicyState.{Fits};
 ghost use Rattle.vp_world.specs.Entries.{reply_in};
 ghost use Rattle.vp_world.specs.History.{IsLegal};
 ghost use Rattle.vp_world.specs.Worlds.{Opening};
-ghost use Rattle.vp_audit.specs.declared.fault.AuditError.TheVariants.{NoMemory};
+ghost use Rattle.vp_audit.specs.declared.error.AuditError.TheVariants.{NoMemory};
 ghost use Rattle.vp_audit.specs.Audits.{IsAudit};
 ghost use Rattle.vp_audit.specs.Openings.{IsRight};
 ghost use Rattle.vp_audit.specs.Projections.{is_own, replies_of};
 
-use crate::fault::AuditError;
+use crate::error::AuditError;
 use crate::projecting::project;
 use crate::replaying::replay;
 use std::alloc::Global;
@@ -17,7 +17,7 @@ use vp_answer::Reply;
 use vp_expr::Checked;
 use vp_list::Same;
 use vp_policy::{Policy, UserId};
-use vp_world::{Entry, Happening};
+use vp_world::{Entry, LoggedEvent};
 
 /// Whether the replies that a user was told are those that were replayed.
 #[derive(Clone, Copy, Debug, PartialEq, Eq)]
@@ -32,35 +32,35 @@ fn is_own(entry: &Entry, user: UserId) -> bool
     ensures { result ≡ is_own user.0 entry.now }
 {
     let session = match &entry.happening {
-        Happening::Open { session, .. } | Happening::Close { session } => *session,
-        Happening::Ask { asked, .. } | Happening::Put { asked, .. } => asked.session,
+        LoggedEvent::Open { session, .. } | LoggedEvent::Close { session } => *session,
+        LoggedEvent::Ask { asked, .. } | LoggedEvent::Put { asked, .. } => asked.session,
         _ => return false,
     };
     session.user.0 == user.0
 }
 
 /// The reply to what happened is this one.
-fn is_answered(happening: &Happening, reply: &Reply) -> bool
+fn is_answered(happening: &LoggedEvent, reply: &Reply) -> bool
     ensures same { result ≡ true → reply_in happening.now ≡ reply.now }
     ensures differs { reply_in happening.now ≡ reply.now → result ≡ true }
 {
     match happening {
-        Happening::Ask { reply: told, .. } => told.is_same(reply),
-        Happening::Open { session, .. } => match reply {
+        LoggedEvent::Ask { reply: told, .. } => told.is_same(reply),
+        LoggedEvent::Open { session, .. } => match reply {
             Reply::Opened(id) => session == id,
             _ => false,
         },
-        Happening::TakeJob { number } => match reply {
+        LoggedEvent::TakeJob { number } => match reply {
             Reply::Job(job) => number == job,
             _ => false,
         },
-        Happening::Put { .. }
-        | Happening::Close { .. }
-        | Happening::Grant { .. }
-        | Happening::Step { .. }
-        | Happening::StepWithChange { .. }
-        | Happening::Advance
-        | Happening::Book { .. } => matches!(reply, Reply::Done),
+        LoggedEvent::Put { .. }
+        | LoggedEvent::Close { .. }
+        | LoggedEvent::Grant { .. }
+        | LoggedEvent::Step { .. }
+        | LoggedEvent::StepWithChange { .. }
+        | LoggedEvent::Advance
+        | LoggedEvent::Book { .. } => matches!(reply, Reply::Done),
     }
 }
 

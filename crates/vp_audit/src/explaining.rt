@@ -5,7 +5,7 @@ ghost use Rattle.vp_policy.specs.View.{view_of};
 ghost use Rattle.vp_world.specs.Entries.{Entry};
 ghost use Rattle.vp_world.specs.History.{IsLegal};
 ghost use Rattle.vp_world.specs.Worlds.{Opening};
-ghost use Rattle.vp_audit.specs.declared.fault.AuditError.TheVariants.{NoMemory};
+ghost use Rattle.vp_audit.specs.declared.error.AuditError.TheVariants.{NoMemory};
 ghost use Rattle.vp_audit.specs.Explained.{brought_by, explained, explained_from, is_value, value_asked};
 ghost use Rattle.vp_audit.specs.Faults.{MayRefuse};
 ghost use Rattle.vp_audit.specs.Openings.{IsRight};
@@ -13,8 +13,8 @@ ghost use Rattle.vp_audit.specs.Parts.{part_after, takes, takes_all};
 ghost use Rattle.vp_audit.specs.Projections as projections;
 ghost use Rattle.vp_audit.specs.Projections.{first_part};
 
-use crate::fault::AuditError;
-use crate::item::{Item, Own, Projection};
+use crate::error::AuditError;
+use crate::item::{Item, OwnEvent, Projection};
 use crate::part::Part;
 use std::alloc::{AllocError, Global};
 use vp_answer::Reply;
@@ -39,10 +39,10 @@ fn is_value(reply: &Reply) -> bool
 }
 
 /// The number of the item with which the value last came that an event of his own asks, if it asks one.
-fn asked_of(part: &Part<'_>, brought: &[u64], own: &Own) -> Option<u64>
-    ensures { result ≡ option_and_then (slice_get brought.now) (value_asked part.now own.now) }
+fn asked_of(part: &Part<'_>, brought: &[u64], own_event: &OwnEvent) -> Option<u64>
+    ensures { result ≡ option_and_then (slice_get brought.now) (value_asked part.now own_event.now) }
 {
-    let object = part.value_asked(own)?;
+    let object = part.value_asked(own_event)?;
     brought.get(object.0 as usize).copied()
 }
 
@@ -66,11 +66,11 @@ fn bring(alloc: Global, brought: &mut Vec<u64>, number: u64, item: &Item) -> Res
 
 /// The number of the item with which the value last came that an item's own event asks, if it has one that asks one.
 fn came_with(part: &Part<'_>, brought: &[u64], item: &Item) -> Option<u64>
-    ensures { result ≡ option_and_then (λ own. option_and_then (slice_get brought.now)
-        (value_asked part.now own)) item.now.own }
+    ensures { result ≡ option_and_then (λ own_event. option_and_then (slice_get brought.now)
+        (value_asked part.now own_event)) item.now.own_event }
 {
-    match &item.own {
-        Some(own) => asked_of(part, brought, own),
+    match &item.own_event {
+        Some(own_event) => asked_of(part, brought, own_event),
         None => None,
     }
 }
@@ -85,7 +85,7 @@ fn explain_item<'a>(
     item: &'a Item,
 ) -> Result<Option<Explained>, AuditError>
     ensures told { IfOk result (λ told. told
-        ≡ option_map (explained number brought.old.items part.old) item.now.own) }
+        ≡ option_map (explained number brought.old.items part.old) item.now.own_event) }
     ensures after { OnOk result (part.new ≡ part_after part.old item.now) }
     ensures brought { OnOk result (brought.new.items
         ≡ brought_by number brought.old.items item.now.granted item.now.change) }

@@ -4,12 +4,12 @@ use vp_bits::Bits;
 use vp_list::Sequence;
 use vp_policy::{Access, View};
 use vp_race::Shared;
-use vp_vpi::SeenRace;
+use vp_vpi::ShownRace;
 use vp_waking::Change;
 
 /// An event of a user's own.
 #[derive(Drop)]
-pub enum Own {
+pub enum OwnEvent {
     /// He opened this session.
     Opens(SessionId),
     /// A session of his asked.
@@ -20,7 +20,7 @@ pub enum Own {
 
 /// A change of a user's own grants.
 #[derive(Drop)]
-pub struct Granted {
+pub struct GrantItem {
     /// The number of the envelope; 0 for the open text.
     pub envelope: u32,
     /// What he is granted there from then on.
@@ -32,16 +32,16 @@ pub struct Granted {
     /// By their numbers there, the values of the objects that he may read.
     pub values: Sequence<Option<Bits>>,
     /// The races that he is shown then.
-    pub races: Sequence<Shared<SeenRace>>,
+    pub races: Sequence<Shared<ShownRace>>,
 }
 
 /// What of an entry of the log goes to a user.
 #[derive(Drop)]
 pub struct Item {
     /// His own event.
-    pub own: Option<Own>,
+    pub own_event: Option<OwnEvent>,
     /// A change of his grants.
-    pub granted: Option<Shared<Granted>>,
+    pub granted: Option<Shared<GrantItem>>,
     /// The change of an object that he knows and may read or watch.
     pub change: Option<Change>,
     /// The time, in time units, if it is another than before.
@@ -49,7 +49,7 @@ pub struct Item {
     /// Whether `$finish` was executed, if that is other than before.
     pub finished: Option<bool>,
     /// A race that he is shown.
-    pub race: Option<Shared<SeenRace>>,
+    pub race: Option<Shared<ShownRace>>,
 }
 
 /// What of a log goes to a user: an entry of which nothing goes to him leaves no trace, and no reply is in it.

@@ -2,8 +2,8 @@
 #![tactic(auto)]
 
 mod audit;
+mod error;
 mod explaining;
-mod fault;
 mod item;
 mod part;
 mod part_session;
@@ -12,12 +12,12 @@ mod reading;
 mod replaying;
 
 pub use audit::{Audit, audit_user};
+pub use error::AuditError;
 pub use explaining::{Explained, explain};
-pub use fault::AuditError;
-pub use item::{Granted, Item, Own, Projection};
+pub use item::{GrantItem, Item, OwnEvent, Projection};
 pub use projecting::project;
 pub use replaying::replay;
 pub use vp_answer::Reply;
 pub use vp_view::full_name;
-pub use vp_vpi::SeenRace;
+pub use vp_vpi::ShownRace;
 pub use vp_world::Entry;

@@ -1,17 +1,17 @@
 // A user's part of a world, and what comes of what of the log goes to him.
 ghost use Rattle.std.specs.Prelude.{◌≡◌, IfErr, IfOk, OnOk, None, Some, option_map, map, slice_set, true};
 ghost use Rattle.vp_pragma.specs.declared.rights.Right.TheVariants as right;
-ghost use Rattle.vp_notify.specs.Registry.{lacks_watch};
+ghost use Rattle.vp_notify.specs.Registry.{is_unwatchable};
 ghost use Rattle.vp_audit.specs.Explained.{value_asked};
 ghost use Rattle.vp_audit.specs.Faults.{MayRefuse};
 ghost use Rattle.vp_audit.specs.Parts.{part_after, part_after_entry, part_granted, races_after, reply_of, session_notified, takes, takes_grant, takes_own, values_after, with_own};
 ghost use Rattle.vp_audit.specs.Projections.{first_part};
-ghost use Rattle.vp_audit.specs.declared.item.Own.TheVariants as own;
+ghost use Rattle.vp_audit.specs.declared.item.OwnEvent.TheVariants as own_event;
 ghost use Rattle.vp_view.specs.Seen.{denied_seen};
 
-use crate::fault::AuditError;
-use crate::item::{Granted, Item, Own};
-use crate::part_session::{PartSession, are_within, grant_all, notify_all, place_of};
+use crate::error::AuditError;
+use crate::item::{GrantItem, Item, OwnEvent};
+use crate::part_session::{PartSession, are_within, grant_all, notify_all, session_index};
 use std::alloc::{AllocError, Global};
 use std::marker::Model;
 use vp_answer::{Reply, Request, SessionId};
@@ -21,7 +21,7 @@ use vp_notify::rises;
 use vp_policy::View;
 use vp_race::Shared;
 use vp_view::{PartObserver, watch_rights};
-use vp_vpi::SeenRace;
+use vp_vpi::ShownRace;
 use vp_waking::Change;
 
 /// A user's part of a world: what he sees of the objects that he knows, his open sessions, in which objects have their numbers in that
@@ -39,7 +39,7 @@ pub struct Part<'a> {
     /// In time units.
     time: u64,
     finished: bool,
-    races: Vec<Shared<SeenRace>>,
+    races: Vec<Shared<ShownRace>>,
 }
 
 impl<'a> Model for Part<'a> {
@@ -61,8 +61,8 @@ impl<'a> Model for Part<'a> {
 /// Races for one holder more. Takes memory.
 fn copied_races(
     alloc: Global,
-    races: &[Shared<SeenRace>],
-) -> Result<Vec<Shared<SeenRace>>, AllocError>
+    races: &[Shared<ShownRace>],
+) -> Result<Vec<Shared<ShownRace>>, AllocError>
     ensures { IfOk result (λ copies. copies.items ≡ races.now) }
 {
     let mut copies = Vec::new(alloc);
@@ -104,10 +104,10 @@ impl<'a> Part<'a> {
 
     /// He opens a session.
     fn open(&mut self, id: SessionId) -> Result<Reply, AuditError>
-        ensures reply { IfOk result (λ reply. reply ≡ reply_of self.old (own.Opens id)) }
-        ensures after { OnOk result (self.new ≡ with_own self.old (own.Opens id)) }
-        ensures accepted { OnOk result (takes_own self.old (own.Opens id) ≡ true) }
-        ensures refused { IfErr result (MayRefuse (takes_own self.old (own.Opens id))) }
+        ensures reply { IfOk result (λ reply. reply ≡ reply_of self.old (own_event.Opens id)) }
+        ensures after { OnOk result (self.new ≡ with_own self.old (own_event.Opens id)) }
+        ensures accepted { OnOk result (takes_own self.old (own_event.Opens id) ≡ true) }
+        ensures refused { IfErr result (MayRefuse (takes_own self.old (own_event.Opens id))) }
     {
         if self.opens == u64::MAX {
             return Err(AuditError::NotOpen);
@@ -124,33 +124,33 @@ impl<'a> Part<'a> {
 
     /// A session of his asks.
     fn ask(&mut self, id: SessionId, request: &Request) -> Result<Reply, AuditError>
-        ensures reply { IfOk result (λ reply. reply ≡ reply_of self.old (own.Asks id request.now)) }
-        ensures after { OnOk result (self.new ≡ with_own self.old (own.Asks id request.now)) }
-        ensures accepted { OnOk result (takes_own self.old (own.Asks id request.now) ≡ true) }
-        ensures refused { IfErr result (MayRefuse (takes_own self.old (own.Asks id request.now))) }
+        ensures reply { IfOk result (λ reply. reply ≡ reply_of self.old (own_event.Asks id request.now)) }
+        ensures after { OnOk result (self.new ≡ with_own self.old (own_event.Asks id request.now)) }
+        ensures accepted { OnOk result (takes_own self.old (own_event.Asks id request.now) ≡ true) }
+        ensures refused { IfErr result (MayRefuse (takes_own self.old (own_event.Asks id request.now))) }
     {
-        let Some(place) = place_of(&self.sessions, id) else {
+        let Some(place) = session_index(&self.sessions, id) else {
             return Err(AuditError::NotOpen);
         };
-        let eyes = PartObserver::new(
+        let observation = PartObserver::new(
             self.view,
             &self.values,
             self.time,
             self.finished,
             &self.races,
         );
-        let reply = self.sessions[place].ask(&eyes, request)?;
+        let reply = self.sessions[place].ask(&observation, request)?;
         Ok(reply)
     }
 
     /// A session of his is closed.
     fn close(&mut self, id: SessionId) -> Result<Reply, AuditError>
-        ensures reply { IfOk result (λ reply. reply ≡ reply_of self.old (own.Closes id)) }
-        ensures after { OnOk result (self.new ≡ with_own self.old (own.Closes id)) }
-        ensures accepted { OnOk result (takes_own self.old (own.Closes id) ≡ true) }
-        ensures refused { IfErr result (MayRefuse (takes_own self.old (own.Closes id))) }
+        ensures reply { IfOk result (λ reply. reply ≡ reply_of self.old (own_event.Closes id)) }
+        ensures after { OnOk result (self.new ≡ with_own self.old (own_event.Closes id)) }
+        ensures accepted { OnOk result (takes_own self.old (own_event.Closes id) ≡ true) }
+        ensures refused { IfErr result (MayRefuse (takes_own self.old (own_event.Closes id))) }
     {
-        let Some(place) = place_of(&self.sessions, id) else {
+        let Some(place) = session_index(&self.sessions, id) else {
             return Err(AuditError::NotOpen);
         };
         self.sessions.remove(place);
@@ -158,16 +158,16 @@ impl<'a> Part<'a> {
     }
 
     /// An event of his own happens, and is answered.
-    fn own(&mut self, own: &Own) -> Result<Reply, AuditError>
-        ensures reply { IfOk result (λ reply. reply ≡ reply_of self.old own.now) }
-        ensures after { OnOk result (self.new ≡ with_own self.old own.now) }
-        ensures accepted { OnOk result (takes_own self.old own.now ≡ true) }
-        ensures refused { IfErr result (MayRefuse (takes_own self.old own.now)) }
+    fn own_event(&mut self, own_event: &OwnEvent) -> Result<Reply, AuditError>
+        ensures reply { IfOk result (λ reply. reply ≡ reply_of self.old own_event.now) }
+        ensures after { OnOk result (self.new ≡ with_own self.old own_event.now) }
+        ensures accepted { OnOk result (takes_own self.old own_event.now ≡ true) }
+        ensures refused { IfErr result (MayRefuse (takes_own self.old own_event.now)) }
     {
-        match own {
-            Own::Opens(id) => self.open(*id),
-            Own::Asks(id, request) => self.ask(*id, request),
-            Own::Closes(id) => self.close(*id),
+        match own_event {
+            OwnEvent::Opens(id) => self.open(*id),
+            OwnEvent::Asks(id, request) => self.ask(*id, request),
+            OwnEvent::Closes(id) => self.close(*id),
         }
     }
 
@@ -198,18 +198,18 @@ impl<'a> Part<'a> {
     }
 
     /// The object whose value an event of his own asks, if it asks one.
-    pub fn value_asked(&self, own: &Own) -> Option<ObjectId>
-        ensures { option_map (λ o. o.0) result ≡ value_asked self.now own.now }
+    pub fn value_asked(&self, own_event: &OwnEvent) -> Option<ObjectId>
+        ensures { option_map (λ o. o.0) result ≡ value_asked self.now own_event.now }
     {
-        let Own::Asks(id, Request::Value { handle, .. }) = own else {
+        let OwnEvent::Asks(id, Request::Value { handle, .. }) = own_event else {
             return None;
         };
-        let place = place_of(&self.sessions, *id)?;
+        let place = session_index(&self.sessions, *id)?;
         self.sessions[place].object(*handle)
     }
 
     /// A change of his grants is taken up.
-    fn grant(&mut self, granted: &'a Granted) -> Result<(), AuditError>
+    fn grant(&mut self, granted: &'a GrantItem) -> Result<(), AuditError>
         ensures after { OnOk result (self.new ≡ part_granted self.old granted.now) }
         ensures accepted { OnOk result (takes_grant self.old granted.now ≡ true) }
         ensures refused { IfErr result (MayRefuse (takes_grant self.old granted.now)) }
@@ -231,19 +231,19 @@ impl<'a> Part<'a> {
     /// What of an entry of the log goes to him is taken up; an event of his own is answered. Refused where it goes to nobody so (1303),
     /// and for want of memory (1307), which leaves the part as it may be.
     pub fn take(&mut self, item: &'a Item) -> Result<Option<Reply>, AuditError>
-        ensures reply { IfOk result (λ reply. reply ≡ option_map (reply_of self.old) item.now.own) }
+        ensures reply { IfOk result (λ reply. reply ≡ option_map (reply_of self.old) item.now.own_event) }
         ensures after { OnOk result (self.new ≡ part_after self.old item.now) }
         ensures accepted { OnOk result (takes self.old item.now ≡ true) }
         ensures refused { IfErr result (MayRefuse (takes self.old item.now)) }
     {
-        match (&item.own, &item.granted) {
+        match (&item.own_event, &item.granted) {
             (Some(_), Some(_)) => Err(AuditError::NotOpen),
             (None, Some(granted)) => {
                 self.grant(granted.value())?;
                 Ok(None)
             }
-            (Some(own), None) => {
-                let reply = self.own(own)?;
+            (Some(own_event), None) => {
+                let reply = self.own_event(own_event)?;
                 self.follow(item)?;
                 Ok(Some(reply))
             }

@@ -1,15 +1,15 @@
 // An open session of a user's part of a world.
 ghost use Rattle.std.specs.Prelude.{◌≡◌, ◌<◌, IfOk, IfSome, IsOkUnless, OnOk, Some, length, map, option_map, true};
 ghost use Rattle.std.specs.List.{list_all};
-ghost use Rattle.vp_notify.specs.Registry.{lacks_watch};
+ghost use Rattle.vp_notify.specs.Registry.{is_unwatchable};
 ghost use Rattle.vp_notify.specs.Renumbered.{number_now, rises};
-ghost use Rattle.vp_vpi.specs.Seats.{new_seat, object_of};
+ghost use Rattle.vp_vpi.specs.SessionStates.{new_session_state, object_of};
 ghost use Rattle.vp_answer.specs.Answers.{respond};
 ghost use Rattle.vp_world.specs.Worlds.{index_of, same_session};
-ghost use Rattle.vp_audit.specs.declared.fault.AuditError.TheVariants.{NoMemory};
+ghost use Rattle.vp_audit.specs.declared.error.AuditError.TheVariants.{NoMemory};
 ghost use Rattle.vp_audit.specs.Parts.{is_session_within, moved_session, session_notified};
 
-use crate::fault::AuditError;
+use crate::error::AuditError;
 use std::alloc::Global;
 use std::marker::Model;
 use vp_answer::{Refusal, Reply, Request, SessionId, respond};
@@ -26,17 +26,17 @@ pub struct PartSession {
 }
 
 impl Model for PartSession {
-    ghost use Rattle.vp_world.specs.Worlds.{SessionState};
+    ghost use Rattle.vp_world.specs.Worlds.{OpenSessionState};
 
-    ghost Value = { SessionState };
+    ghost Value = { OpenSessionState };
 
-    ghost view = { λ s. record { id = s.id; seat = s.session } };
+    ghost view = { λ s. record { id = s.id; session_state = s.session } };
 }
 
 impl PartSession {
     /// A session of this name in which nothing has happened; or want of memory (1307).
     pub fn new(alloc: Global, id: SessionId) -> Result<PartSession, AuditError>
-        ensures session { IfOk result (λ s. s ≡ record { id = id; seat = new_seat id.user.0 }) }
+        ensures session { IfOk result (λ s. s ≡ record { id = id; session_state = new_session_state id.user.0 }) }
         ensures refused { IsOkUnless result NoMemory }
     {
         let Ok(session) = Session::new(alloc, id.user) else {
@@ -53,13 +53,17 @@ impl PartSession {
     }
 
     /// Answers a request by what its user can look up; or want of memory (1307).
-    pub fn ask<E: Observe>(&mut self, eyes: &E, request: &Request) -> Result<Reply, AuditError>
-        requires { E.is_sound eyes.now }
+    pub fn ask<E: Observe>(
+        &mut self,
+        observation: &E,
+        request: &Request,
+    ) -> Result<Reply, AuditError>
+        requires { E.is_sound observation.now }
         ensures reply { IfOk result (λ reply. reply
-            ≡ (respond (E.observer eyes.now) self.old.seat request.now).reply) }
+            ≡ (respond (E.observer observation.now) self.old.session_state request.now).reply) }
         ensures after { OnOk result (self.new ≡ record {
           id = self.old.id;
-          seat = (respond (E.observer eyes.now) self.old.seat request.now).seat;
+          session_state = (respond (E.observer observation.now) self.old.session_state request.now).session_state;
         }) }
         ensures refused { IsOkUnless result NoMemory }
     {
@@ -68,7 +72,7 @@ impl PartSession {
                 Ok(Reply::Error(Refusal::NotOpen))
             }
             _ => {
-                let answer = respond(&mut self.session, eyes, request)?;
+                let answer = respond(&mut self.session, observation, request)?;
                 Ok(answer.reply)
             }
         }
@@ -76,7 +80,7 @@ impl PartSession {
 
     /// The object of a handle; none where the number is no handle, or it was freed.
     pub fn object(&self, handle: u32) -> Option<ObjectId>
-        ensures { option_map (λ o. o.0) result ≡ object_of self.now.seat.handles handle }
+        ensures { option_map (λ o. o.0) result ≡ object_of self.now.session_state.handles handle }
     {
         self.session.object(handle)
     }
@@ -100,7 +104,7 @@ impl PartSession {
         requires rises { rises numbers.now ≡ true }
         requires within { is_session_within (length numbers.now) self.old ≡ true }
         ensures { self.new
-            ≡ moved_session (number_now numbers.now) (lacks_watch rights.now) self.old }
+            ≡ moved_session (number_now numbers.now) (is_unwatchable rights.now) self.old }
     {
         self.session.renumber(numbers);
         self.session.retire_unwatchable(rights);
@@ -108,7 +112,7 @@ impl PartSession {
 }
 
 /// Where the open session of a name stands.
-pub fn place_of(sessions: &[PartSession], id: SessionId) -> Option<usize>
+pub fn session_index(sessions: &[PartSession], id: SessionId) -> Option<usize>
     ensures place { result ≡ index_of sessions.now id }
     ensures within { IfSome result (λ place. place < length sessions.now) }
 {
@@ -136,7 +140,7 @@ pub fn grant_all(sessions: &mut [PartSession], numbers: &[u32], rights: &[Rights
     requires rises { rises numbers.now ≡ true }
     requires within { list_all (is_session_within (length numbers.now)) sessions.old ≡ true }
     ensures { sessions.new
-        ≡ map (moved_session (number_now numbers.now) (lacks_watch rights.now)) sessions.old }
+        ≡ map (moved_session (number_now numbers.now) (is_unwatchable rights.now)) sessions.old }
 {
     for session in sessions {
         session.grant(numbers, rights);

@@ -3,13 +3,13 @@ ghost use Rattle.std.specs.Prelude.{◌≡◌, ℕ, [], IfOk, IsOkUnless};
 ghost use Rattle.vp_policy.specs.PolicyState.{Fits};
 ghost use Rattle.vp_world.specs.History.{IsLegal};
 ghost use Rattle.vp_world.specs.Worlds.{Opening, start};
-ghost use Rattle.vp_audit.specs.declared.fault.AuditError.TheVariants.{NoMemory};
+ghost use Rattle.vp_audit.specs.declared.error.AuditError.TheVariants.{NoMemory};
 ghost use Rattle.vp_audit.specs.Projections.{known_at_first, projection};
 ghost use Rattle.vp_audit.specs.Readings.{reading_of};
 
-use crate::fault::AuditError;
+use crate::error::AuditError;
 use crate::item::Projection;
-use crate::reading::Reading;
+use crate::reading::LogReader;
 use std::alloc::Global;
 use vp_expr::Checked;
 use vp_list::Sequence;
@@ -19,7 +19,7 @@ use vp_world::Entry;
 /// What of a log goes to the user of a reading that has read nothing of it. Refused for want of memory (1307).
 fn read_log(
     alloc: Global,
-    reading: &mut Reading<'_>,
+    reading: &mut LogReader<'_>,
     log: &[Entry],
 ) -> Result<Projection, AuditError>
     ensures projection { (opening : Opening) → (u : ℕ)
@@ -55,7 +55,7 @@ pub fn project(
         → IfOk result (λ p. p ≡ projection opening user.0 log.now) }
     ensures refused { IsOkUnless result NoMemory }
 {
-    let mut reading = Reading::new(alloc, checked, policy, user)?;
+    let mut reading = LogReader::new(alloc, checked, policy, user)?;
     let projection = read_log(alloc, &mut reading, log);
     // Dropped by a call, so that how a reading is dropped is no part of this function's proof.
     drop(reading);

@@ -12,13 +12,13 @@ ghost use Rattle.vp_world.specs.declared.event.Event.{Event};
 ghost use Rattle.vp_world.specs.declared.event.Event.TheVariants as event;
 ghost use Rattle.vp_world.specs.History.{after, refusal_of};
 ghost use Rattle.vp_world.specs.Worlds.{Opening, State, start};
-ghost use Rattle.vp_audit.specs.declared.fault.AuditError.TheVariants.{NoMemory};
+ghost use Rattle.vp_audit.specs.declared.error.AuditError.TheVariants.{NoMemory};
 ghost use Rattle.vp_audit.specs.Known.{known_also};
 ghost use Rattle.vp_audit.specs.Projections.{change_seen, granted_of, is_followed, item_if, known_at_first, moved_numbers, other_flag, other_number, own_of, race_of_event, values_seen};
 ghost use Rattle.vp_audit.specs.Readings.{Continues, Grants, Reads, either_marked, followed, reading_of, value_of};
 
-use crate::fault::AuditError;
-use crate::item::{Granted, Item, Own};
+use crate::error::AuditError;
+use crate::item::{GrantItem, Item, OwnEvent};
 use std::alloc::{AllocError, Global};
 use std::marker::Model;
 use vp_answer::{GrantChange, SessionId};
@@ -29,13 +29,13 @@ use vp_list::Sequence;
 use vp_policy::{Policy, PolicyError, UserId};
 use vp_pragma::Right;
 use vp_race::{Finding, Shared};
-use vp_vpi::{SeenRace, is_race_shown, seen_race, seen_races};
+use vp_vpi::{ShownRace, is_race_shown, seen_race, seen_races};
 use vp_waking::Change;
-use vp_world::{Entry, Happening};
+use vp_world::{Entry, LoggedEvent};
 
 /// A log that is read for one user. A contract sees what is kept of the world's state, and which objects he knows.
 #[derive(Drop)]
-pub struct Reading<'a> {
+pub struct LogReader<'a> {
     alloc: Global,
     design: &'a Design,
     user: UserId,
@@ -53,14 +53,14 @@ pub struct Reading<'a> {
     finished: bool,
 }
 
-impl<'a> Model for Reading<'a> {
+impl<'a> Model for LogReader<'a> {
     ghost use Rattle.std.specs.Prelude.{◌≡◌, length};
     ghost use Rattle.vp_policy.specs.PolicyState.{Fits};
     ghost use Rattle.vp_policy.specs.SeenObjects.{numbers_from};
     ghost use Rattle.vp_policy.specs.View.{HoldScopes};
-    ghost use Rattle.vp_audit.specs.Readings.{Reading};
+    ghost use Rattle.vp_audit.specs.Readings.{LogReader};
 
-    ghost Value = { Reading };
+    ghost Value = { LogReader };
 
     ghost view = { λ r. record {
       design = r.design.now;
@@ -163,24 +163,32 @@ fn start_values(alloc: Global, checked: &Checked) -> Result<Vec<Bits>, AuditErro
 }
 
 /// A number, if it is another than before.
-fn other_number(before: u64, behind: u64) -> Option<u64>
-    ensures { result ≡ other_number before behind }
+fn other_number(before: u64, following: u64) -> Option<u64>
+    ensures { result ≡ other_number before following }
 {
-    if before == behind { None } else { Some(behind) }
+    if before == following {
+        None
+    } else {
+        Some(following)
+    }
 }
 
 /// Whether something is so, if that is other than before.
-fn other_flag(before: bool, behind: bool) -> Option<bool>
-    ensures { result ≡ other_flag before behind }
+fn other_flag(before: bool, following: bool) -> Option<bool>
+    ensures { result ≡ other_flag before following }
 {
-    if before == behind { None } else { Some(behind) }
+    if before == following {
+        None
+    } else {
+        Some(following)
+    }
 }
 
 /// What of an entry goes to a user, if anything does.
 fn item_if(item: Item) -> Option<Item>
     ensures { result ≡ item_if item }
 {
-    let is_empty = item.own.is_none()
+    let is_empty = item.own_event.is_none()
         && item.granted.is_none()
         && item.change.is_none()
         && item.time.is_none()
@@ -190,11 +198,13 @@ fn item_if(item: Item) -> Option<Item>
 }
 
 /// What happened changed this.
-fn change_in(happening: &Happening) -> Option<&Change>
+fn change_in(happening: &LoggedEvent) -> Option<&Change>
     ensures { option_copied result ≡ change_in happening.now }
 {
     match happening {
-        Happening::Put { change, .. } | Happening::StepWithChange { change, .. } => Some(change),
+        LoggedEvent::Put { change, .. } | LoggedEvent::StepWithChange { change, .. } => Some(
+            change,
+        ),
         _ => None,
     }
 }
@@ -208,14 +218,14 @@ fn set_value(values: &mut Vec<Bits>, change: &Change)
     }
 }
 
-impl<'a> Reading<'a> {
+impl<'a> LogReader<'a> {
     /// A log of which nothing was read, of a world that opens with this design and policy. Refused for want of memory (1307).
     pub fn new(
         alloc: Global,
         checked: &'a Checked,
         policy: &Policy,
         user: UserId,
-    ) -> Result<Reading<'a>, AuditError>
+    ) -> Result<LogReader<'a>, AuditError>
         requires { Fits policy.now checked.now.tree }
         ensures reading { (opening : Opening) → opening.design ≡ checked.now
             → opening.policy ≡ policy.now
@@ -232,7 +242,7 @@ impl<'a> Reading<'a> {
         };
         let numbers = numbers_of(alloc, design, &known)?;
         let values = start_values(alloc, checked)?;
-        Ok(Reading {
+        Ok(LogReader {
             alloc,
             design,
             user,
@@ -254,21 +264,21 @@ impl<'a> Reading<'a> {
     }
 
     /// The event of an entry, if it is his own. Takes memory.
-    fn own(&self, entry: &Entry) -> Result<Option<Own>, AllocError>
-        ensures { IfOk result (λ own. own
+    fn own_event(&self, entry: &Entry) -> Result<Option<OwnEvent>, AllocError>
+        ensures { IfOk result (λ own_event. own_event
             ≡ own_of self.now.user entry.now.event entry.now.reply) }
     {
         match &entry.happening {
-            Happening::Open { session, .. } if self.is_his(*session) => {
-                Ok(Some(Own::Opens(*session)))
+            LoggedEvent::Open { session, .. } if self.is_his(*session) => {
+                Ok(Some(OwnEvent::Opens(*session)))
             }
-            Happening::Ask { asked, .. } | Happening::Put { asked, .. }
+            LoggedEvent::Ask { asked, .. } | LoggedEvent::Put { asked, .. }
                 if self.is_his(asked.session) => {
                 let request = asked.request.try_clone(self.alloc)?;
-                Ok(Some(Own::Asks(asked.session, request)))
+                Ok(Some(OwnEvent::Asks(asked.session, request)))
             }
-            Happening::Close { session } if self.is_his(*session) => {
-                Ok(Some(Own::Closes(*session)))
+            LoggedEvent::Close { session } if self.is_his(*session) => {
+                Ok(Some(OwnEvent::Closes(*session)))
             }
             _ => Ok(None),
         }
@@ -300,12 +310,12 @@ impl<'a> Reading<'a> {
     }
 
     /// The race that an entry booked, if he is shown it. Takes memory.
-    fn race(&self, entry: &Entry) -> Result<Option<Shared<SeenRace>>, AllocError>
+    fn race(&self, entry: &Entry) -> Result<Option<Shared<ShownRace>>, AllocError>
         ensures { let member : Member = member_at self.now.policy.members self.now.user in
             IfOk result (λ race. race
             ≡ race_of_event self.now.design.tree member entry.now.event) }
     {
-        let Happening::Book { finding } = &entry.happening else {
+        let LoggedEvent::Book { finding } = &entry.happening else {
             return Ok(None);
         };
         let finding = finding.value();
@@ -391,7 +401,7 @@ impl<'a> Reading<'a> {
     }
 
     /// What goes to him of a change of his grants, after it, where he knew these objects before it. Refused for want of memory (1307).
-    fn granted(&self, before: &[bool], change: &GrantChange) -> Result<Granted, AuditError>
+    fn granted(&self, before: &[bool], change: &GrantChange) -> Result<GrantItem, AuditError>
         requires { length before.now ≡ length self.now.known }
         ensures granted { (t : State) → self.now ≡ reading_of self.now.user t self.now.known
             → IfOk result (λ granted. granted
@@ -404,7 +414,7 @@ impl<'a> Reading<'a> {
         let Ok(view) = view else {
             return Err(AuditError::NoMemory);
         };
-        Ok(Granted {
+        Ok(GrantItem {
             envelope: change.envelope,
             access: change.access.copy(),
             view,
@@ -415,7 +425,7 @@ impl<'a> Reading<'a> {
     }
 
     /// A grant of a user changes; what of it goes to him, if it is his. Refused for want of memory (1307).
-    fn grant(&mut self, change: &GrantChange) -> Result<Option<Shared<Granted>>, AuditError>
+    fn grant(&mut self, change: &GrantChange) -> Result<Option<Shared<GrantItem>>, AuditError>
         ensures grant { let e : Event = event.Grant change.now in
             (opening : Opening) → (s : State) → (known : List Bool) → (full : Bool)
             → self.old ≡ reading_of self.old.user s known
@@ -442,7 +452,7 @@ impl<'a> Reading<'a> {
         if let Some(change) = change_in(&entry.happening) {
             set_value(&mut self.values, change);
         }
-        if let Happening::Book { finding } = &entry.happening {
+        if let LoggedEvent::Book { finding } = &entry.happening {
             self.book.push(finding.try_clone()?)?;
         }
         self.time = entry.time;
@@ -458,18 +468,18 @@ impl<'a> Reading<'a> {
             → Reads self.old.user opening s known entry.now result self.new }
         ensures refused { IsOkUnless result NoMemory }
     {
-        let own = self.own(entry)?;
+        let own_event = self.own_event(entry)?;
         let change = self.change(entry);
         let race = self.race(entry)?;
         let time = other_number(self.time, entry.time);
         let finished = other_flag(self.finished, entry.finished);
         let granted = match &entry.happening {
-            Happening::Grant { change } => self.grant(change)?,
+            LoggedEvent::Grant { change } => self.grant(change)?,
             _ => None,
         };
         self.follow(entry)?;
         Ok(item_if(Item {
-            own,
+            own_event,
             granted,
             change,
             time,

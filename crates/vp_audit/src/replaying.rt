@@ -5,14 +5,14 @@ ghost use Rattle.vp_policy.specs.View.{view_of};
 ghost use Rattle.vp_world.specs.Entries.{Entry};
 ghost use Rattle.vp_world.specs.History.{IsLegal};
 ghost use Rattle.vp_world.specs.Worlds.{Opening};
-ghost use Rattle.vp_audit.specs.declared.fault.AuditError.TheVariants.{NoMemory};
+ghost use Rattle.vp_audit.specs.declared.error.AuditError.TheVariants.{NoMemory};
 ghost use Rattle.vp_audit.specs.Faults.{MayRefuse};
 ghost use Rattle.vp_audit.specs.Openings.{IsRight};
 ghost use Rattle.vp_audit.specs.Parts.{replies_from, takes_all};
 ghost use Rattle.vp_audit.specs.Projections as projections;
 ghost use Rattle.vp_audit.specs.Projections.{first_part, replies_of};
 
-use crate::fault::AuditError;
+use crate::error::AuditError;
 use crate::item::Projection;
 use crate::part::Part;
 use std::alloc::Global;

@@ -252,7 +252,7 @@ fn lowest(word: u64, width: u64) -> u64
 }
 
 // The bits of a word that are not in the other.
-fn without(word: u64, other: u64) -> u64
+fn and_not(word: u64, other: u64) -> u64
     ensures { result ≡ bit_xor word (bit_and word other) }
 {
     word & !other

@@ -2,7 +2,7 @@
 use Rattle.std.proofs.Common.{◌≡◌, ◌∙◌, ℕ, List, Result, Ok, sym, subst, ap}
 use Rattle.vp_lex.specs.declared.token.Token.{Token}
 use Rattle.vp_lex.proofs.TokenLaws.{one_list}
-use Rattle.vp_pragma.specs.declared.fault.PragmaError.{PragmaError}
+use Rattle.vp_pragma.specs.declared.error.PragmaError.{PragmaError}
 use Rattle.vp_pragma.specs.Envelopes.{Protection}
 use Rattle.vp_pragma.specs.EnvelopesOf.{AreEnvelopes}
 use Rattle.vp_pragma.proofs.Lines.{envelopes_once}

@@ -3,22 +3,22 @@ use Rattle.std.proofs.Common.{◌≡◌, ◌∙◌, ◌≤◌, ℕ, List, length
 use Rattle.vp_list.specs.Refusals.{MayExplain}
 use Rattle.vp_lex.specs.declared.token.Token.{Token}
 use Rattle.vp_lex.specs.Tokens.{AreTokens}
-use Rattle.vp_pragma.specs.declared.fault.PragmaError.{PragmaError}
+use Rattle.vp_pragma.specs.declared.error.PragmaError.{PragmaError}
 use Rattle.vp_pragma.specs.Envelopes.{Protection}
 use Rattle.vp_pragma.specs.EnvelopesOf.{AreEnvelopes, IsFaultOf}
 use Rattle.vp_source.specs.declared.source.Source.{Source}
 use Rattle.vp_source.specs.Grammar.{Derivation, IsDerivation}
 use Rattle.vp_source.specs.Layout.{IsSourceOf}
-use Rattle.vp_parse.specs.declared.fault.ParseError.{ParseError}
+use Rattle.vp_parse.specs.declared.error.ParseError.{ParseError}
 use Rattle.vp_parse.specs.Reading.{read}
 use Rattle.vp_parse.specs.Told.{IsUnderivable, Tells}
 use Rattle.vp_parse_expr.specs.Symbols.{symbols_of}
 use Rattle.vp_elab.specs.Built.{Elaborated, design_of}
 use Rattle.vp_elab.specs.Refusals.{refusal_of}
-use Rattle.vp_resolve.specs.declared.fault.ExprError.{ExprError}
-use Rattle.vp_resolve.specs.declared.fault.ExprError.TheVariants as expr_error
+use Rattle.vp_resolve.specs.declared.error.ExprError.{ExprError}
+use Rattle.vp_resolve.specs.declared.error.ExprError.TheVariants as expr_error
 use Rattle.vp_resolve.specs.Checks as expr
-use Rattle.vp_design.specs.declared.fault.DesignFault.TheVariants as fault
+use Rattle.vp_design.specs.declared.error.DesignError.TheVariants as fault
 use Rattle.vp_design.specs.Designs.{HasEnvelopes, HasSource, HasTokens, IsDesignOf, IsRefusedBy, text_limit}
 
 -- the tokens of a text, as they are lent to a stage

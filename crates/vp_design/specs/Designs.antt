@@ -14,11 +14,11 @@ use Rattle.vp_parse.specs.Told.{IsUnderivable, Tells}
 use Rattle.vp_elab.specs.Built.{Elaborated, design_of}
 use Rattle.vp_elab.specs.Refusals.{refusal_of}
 use Rattle.vp_list.specs.Refusals.{MayExplain}
-use Rattle.vp_names.specs.declared.fault.ElabError.TheVariants as elab_error
-use Rattle.vp_resolve.specs.declared.fault.ExprError.TheVariants as expr_error
+use Rattle.vp_names.specs.declared.error.ElabError.TheVariants as elab_error
+use Rattle.vp_resolve.specs.declared.error.ExprError.TheVariants as expr_error
 use Rattle.vp_resolve.specs.Checks as expr
-use Rattle.vp_design.specs.declared.fault.DesignFault.{DesignFault}
-use Rattle.vp_design.specs.declared.fault.DesignFault.TheVariants as fault
+use Rattle.vp_design.specs.declared.error.DesignError.{DesignError}
+use Rattle.vp_design.specs.declared.error.DesignError.TheVariants as fault
 
 -- the greatest length of the text of a design and of a policy file, in bytes (profile)
 abbrev pub text_limit : ℕ
@@ -53,7 +53,7 @@ pub record IsDesignOf (text : List ℕ) (design : Elaborated) : Type 0 where
 
 -- a text is refused by a fault: it is too long; or it is the first fault of its tokens, its envelopes, its grammar, its names and
 -- its expressions, where all that comes before is right; or memory is lacking
-abbrev pub IsRefusedBy : List ℕ → DesignFault → Type 0
+abbrev pub IsRefusedBy : List ℕ → DesignError → Type 0
 IsRefusedBy text fault.TooLong = text_limit < length text
 IsRefusedBy text (fault.Tokens e) = (length text ≤ text_limit) × lex.IsFaultOf text e
 IsRefusedBy text (fault.Envelopes e) = (tokens : List Token) × HasTokens text tokens × IsFaultOf text tokens e

@@ -6,17 +6,17 @@ use Rattle.std.specs.Str.{IsCharBoundary, bytes_eq, is_utf8}
 use Rattle.std.proofs.lemmas.List.{append-nil, drop_all, drop_more, map-append, take_more}
 use Rattle.std.proofs.lemmas.List.Concat.{flat_map-append}
 use Rattle.std.proofs.lemmas.Str.{is_utf8-from_IsUtf8, IsUtf8-from_is_utf8}
-use Rattle.vp_lex.specs.declared.fault.LexError.{LexError}
-use Rattle.vp_lex.specs.declared.fault.LexError.TheVariants as error
+use Rattle.vp_lex.specs.declared.error.LexError.{LexError}
+use Rattle.vp_lex.specs.declared.error.LexError.TheVariants as error
 use Rattle.vp_lex.specs.declared.token.Token.{Token}
 use Rattle.vp_lex.specs.Bytes.{is_newline}
 use Rattle.vp_lex.specs.Texts.{part_of}
 use Rattle.vp_lex.specs.Tokens.{IsFaultOf}
-use Rattle.vp_list.specs.Texts.{behind_part, parts}
+use Rattle.vp_list.specs.Texts.{part_and_rest, parts}
 use Rattle.vp_diagnostic.specs.Expected.{AreRead, IsReadOrNot}
 use Rattle.vp_diagnostic.specs.Fronts.{HasNoTokens}
 use Rattle.vp_diagnostic.specs.LeftOut.{reason_in}
-use Rattle.vp_diagnostic.specs.Lines.{behind_newlines, blank_of, blanks, first_of, text_in}
+use Rattle.vp_diagnostic.specs.Lines.{after_newlines, blank_of, blanks, first_of, text_in}
 use Rattle.vp_diagnostic.specs.Spreading.{spread_from}
 
 -- ---- lines
@@ -33,42 +33,42 @@ no_text bytes false e h = rw e refl
 pub text_absent : (bytes : List ℕ) → (IsUtf8 bytes → ⊥) → text_in bytes ≡ []
 text_absent bytes h = no_text bytes (is_utf8 bytes) refl h
 
-first_behind : (part : List ℕ) (rest : Option (List ℕ)) → first_of (behind_part 10 part rest) ≡ part
-first_behind part None = refl
-first_behind part (Some r) = refl
+first_after : (part : List ℕ) (rest : Option (List ℕ)) → first_of (part_and_rest 10 part rest) ≡ part
+first_after part None = refl
+first_after part (Some r) = refl
 
 -- the part before what follows is the first
-pub first_is : (bytes part : List ℕ) (rest : Option (List ℕ)) → parts 10 bytes ≡ behind_part 10 part rest → part ≡ first_of (parts 10 bytes)
-first_is bytes part rest e = sym (ap first_of e ∙ first_behind part rest)
+pub first_is : (bytes part : List ℕ) (rest : Option (List ℕ)) → parts 10 bytes ≡ part_and_rest 10 part rest → part ≡ first_of (parts 10 bytes)
+first_is bytes part rest e = sym (ap first_of e ∙ first_after part rest)
 
 -- a newline is passed
-pub newline_passed : (bytes : List ℕ) (at missing : ℕ) → at < length bytes → (missing ≡ 0 → ⊥) → get_or bytes at 0 ≡ 10 → behind_newlines missing (drop at bytes) ≡ behind_newlines (missing - 1) (drop (at + 1) bytes) + 1
+pub newline_passed : (bytes : List ℕ) (at missing : ℕ) → at < length bytes → (missing ≡ 0 → ⊥) → get_or bytes at 0 ≡ 10 → after_newlines missing (drop at bytes) ≡ after_newlines (missing - 1) (drop (at + 1) bytes) + 1
 newline_passed bytes at zero within some is = absurd (some refl)
 newline_passed bytes at (suc n) within some is =
     let less : n ≡ suc n - 1 = omega arith in
-    ap (behind_newlines (suc n)) (drop_more bytes at 0 within)
-    ∙ ap (λ (b : ℕ). behind_newlines (if is_newline b then n else suc n) (drop (at + 1) bytes) + 1) is
-    ∙ ap (λ (k : ℕ). behind_newlines k (drop (at + 1) bytes) + 1) less
+    ap (after_newlines (suc n)) (drop_more bytes at 0 within)
+    ∙ ap (λ (b : ℕ). after_newlines (if is_newline b then n else suc n) (drop (at + 1) bytes) + 1) is
+    ∙ ap (λ (k : ℕ). after_newlines k (drop (at + 1) bytes) + 1) less
 
 -- another byte is passed
-pub byte_passed : (bytes : List ℕ) (at missing : ℕ) → at < length bytes → (missing ≡ 0 → ⊥) → (get_or bytes at 0 ≡ 10 → ⊥) → behind_newlines missing (drop at bytes) ≡ behind_newlines missing (drop (at + 1) bytes) + 1
+pub byte_passed : (bytes : List ℕ) (at missing : ℕ) → at < length bytes → (missing ≡ 0 → ⊥) → (get_or bytes at 0 ≡ 10 → ⊥) → after_newlines missing (drop at bytes) ≡ after_newlines missing (drop (at + 1) bytes) + 1
 byte_passed bytes at zero within some other = absurd (some refl)
 byte_passed bytes at (suc n) within some other =
-    ap (behind_newlines (suc n)) (drop_more bytes at 0 within)
-    ∙ ap (λ (b : Bool). behind_newlines (if b then n else suc n) (drop (at + 1) bytes) + 1) (ne_eqb (get_or bytes at 0) 10 other)
+    ap (after_newlines (suc n)) (drop_more bytes at 0 within)
+    ∙ ap (λ (b : Bool). after_newlines (if b then n else suc n) (drop (at + 1) bytes) + 1) (ne_eqb (get_or bytes at 0) 10 other)
 
 -- no newline is missing
-pub newlines_here : (missing : ℕ) (bytes : List ℕ) → missing ≡ 0 → behind_newlines missing bytes ≡ 0
+pub newlines_here : (missing : ℕ) (bytes : List ℕ) → missing ≡ 0 → after_newlines missing bytes ≡ 0
 newlines_here zero bytes e = refl
 newlines_here (suc n) bytes e = absurd (omega arith)
 
-newlines_none : (missing : ℕ) → behind_newlines missing [] ≡ 0
+newlines_none : (missing : ℕ) → after_newlines missing [] ≡ 0
 newlines_none zero = refl
 newlines_none (suc n) = refl
 
 -- no byte is left
-pub newlines_end : (missing at : ℕ) (bytes : List ℕ) → length bytes ≤ at → behind_newlines missing (drop at bytes) ≡ 0
-newlines_end missing at bytes l = ap (behind_newlines missing) (drop_all at bytes l) ∙ newlines_none missing
+pub newlines_end : (missing at : ℕ) (bytes : List ℕ) → length bytes ≤ at → after_newlines missing (drop at bytes) ≡ 0
+newlines_end missing at bytes l = ap (after_newlines missing) (drop_all at bytes l) ∙ newlines_none missing
 
 -- a byte more leads under the caret
 pub blanks_more : (bytes : List ℕ) (i : ℕ) → i < length bytes → blanks (take (i + 1) bytes) ≡ blanks (take i bytes) ++ blank_of (get_or bytes i 0)
@@ -119,11 +119,11 @@ longest_of text end at fewer is below n low high boundary =
 abbrev pub words_with : Bool → List (List ℕ) → List ℕ → List (List ℕ)
 words_with b words word = if b then words ++ word ∷ [] else words
 
-words_behind : (b d : Bool) (word last : List ℕ) (words rest : List (List ℕ)) → words ≡ (if b then word ∷ rest else rest) → words_with d words last ≡ (if b then word ∷ words_with d rest last else words_with d rest last)
-words_behind true true word last words rest e = ap (λ (ws : List (List ℕ)). ws ++ last ∷ []) e
-words_behind true false word last words rest e = e
-words_behind false true word last words rest e = ap (λ (ws : List (List ℕ)). ws ++ last ∷ []) e
-words_behind false false word last words rest e = e
+words_after : (b d : Bool) (word last : List ℕ) (words rest : List (List ℕ)) → words ≡ (if b then word ∷ rest else rest) → words_with d words last ≡ (if b then word ∷ words_with d rest last else words_with d rest last)
+words_after true true word last words rest e = ap (λ (ws : List (List ℕ)). ws ++ last ∷ []) e
+words_after true false word last words rest e = e
+words_after false true word last words rest e = ap (λ (ws : List (List ℕ)). ws ++ last ∷ []) e
+words_after false false word last words rest e = e
 
 words_alone : (b : Bool) (word : List ℕ) (words : List (List ℕ)) → words ≡ [] → words_with b words word ≡ (if b then word ∷ [] else [])
 words_alone true word words e = ap (λ (ws : List (List ℕ)). ws ++ word ∷ []) e
@@ -133,7 +133,7 @@ words_alone false word words e = e
 pub read_more : (front : List ℕ) (table : List (List ℕ × List ℕ)) (words : List (List ℕ)) (c : List ℕ × List ℕ) (b : Bool) → AreRead front table words → IsReadOrNot b front c.0 → AreRead front (table ++ c ∷ []) (words_with b words c.1)
 read_more front [] words c b e is = (b, is, ([], refl, words_alone b c.1 words e))
 read_more front (x ∷ table) words c b h is =
-    (h.0, h.1, (words_with b h.2.0 c.1, read_more front table h.2.0 c b h.2.1 is, words_behind h.0 b x.1 c.1 words h.2.0 h.2.2))
+    (h.0, h.1, (words_with b h.2.0 c.1, read_more front table h.2.0 c b h.2.1 is, words_after h.0 b x.1 c.1 words h.2.0 h.2.2))
 
 -- ---- reasons
 

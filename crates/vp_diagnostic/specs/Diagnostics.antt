@@ -4,11 +4,11 @@ use Rattle.vp_lex.specs.declared.token.Token.{Token}
 use Rattle.vp_lex.specs.Faults as lex
 use Rattle.vp_lex.specs.Texts.{text_of}
 use Rattle.vp_lex.specs.Tokens.{AreTokens}
-use Rattle.vp_lex.specs.declared.fault.LexError.{LexError}
-use Rattle.vp_parse.specs.declared.fault.ParseError.{ParseError}
-use Rattle.vp_parse.specs.declared.fault.ParseError.TheVariants as grammar
-use Rattle.vp_design.specs.declared.fault.DesignFault.{DesignFault}
-use Rattle.vp_design.specs.declared.fault.DesignFault.TheVariants as fault
+use Rattle.vp_lex.specs.declared.error.LexError.{LexError}
+use Rattle.vp_parse.specs.declared.error.ParseError.{ParseError}
+use Rattle.vp_parse.specs.declared.error.ParseError.TheVariants as grammar
+use Rattle.vp_design.specs.declared.error.DesignError.{DesignError}
+use Rattle.vp_design.specs.declared.error.DesignError.TheVariants as fault
 use Rattle.vp_design.specs.Designs.{text_limit}
 use Rattle.vp_design.specs.Faults.{code_of, line_of}
 use Rattle.vp_diagnostic.specs.declared.design.Located.{Located}
@@ -26,12 +26,12 @@ AreGrammarNotes text token (grammar.LeftOut word line) notes = IsLeftOutNote (te
 AreGrammarNotes text token _ notes = notes ≡ []
 
 -- the notes on a fault at a token: those of the grammar; none for other faults
-abbrev pub AreNotes : List ℕ → Token → DesignFault → List ℕ → Type 0
+abbrev pub AreNotes : List ℕ → Token → DesignError → List ℕ → Type 0
 AreNotes text token (fault.Source e) notes = AreGrammarNotes text token e notes
 AreNotes text token _ notes = notes ≡ []
 
 -- a token's place, and the notes, are those of a fault there
-pub record IsAtToken (text : List ℕ) (token : Token) (f : DesignFault) (located : Located) : Type 0 where
+pub record IsAtToken (text : List ℕ) (token : Token) (f : DesignError) (located : Located) : Type 0 where
   pub line : located.place.line ≡ token.line
   pub offset : located.place.offset ≡ token.column - 1
   pub notes : AreNotes text token f located.notes
@@ -43,36 +43,36 @@ pub record IsAtFront (text : List ℕ) (e : LexError) (located : Located) : Type
   pub notes : located.notes ≡ []
 
 -- where another fault of a text that has these tokens stands: at the token at fault, if there is one
-abbrev pub IsLocatedAmong : List ℕ → List Token → DesignFault → Option Located → Type 0
+abbrev pub IsLocatedAmong : List ℕ → List Token → DesignError → Option Located → Type 0
 IsLocatedAmong text tokens f (Some located) = (token : Token) × IsTokenAtFault text tokens f (Some token) × IsAtToken text token f located
 IsLocatedAmong text tokens f None = IsTokenAtFault text tokens f None
 
 -- where it stands in a text, which has tokens; nowhere, where it has none
-abbrev pub IsLocatedIn : List ℕ → DesignFault → Option Located → Type 0
+abbrev pub IsLocatedIn : List ℕ → DesignError → Option Located → Type 0
 IsLocatedIn text f located =
     ((tokens : List Token) × AreTokens text tokens × IsLocatedAmong text tokens f located) ⊎ (HasNoTokens text × (located ≡ None))
 
 -- the fault of tokens that a fault is, if it is one
-abbrev pub fault_of_tokens : DesignFault → Option LexError
+abbrev pub fault_of_tokens : DesignError → Option LexError
 fault_of_tokens (fault.Tokens e) = Some e
 fault_of_tokens _ = None
 
 -- where a fault stands, of tokens or not; nowhere, where the text is too long or no line is known
-abbrev pub IsFoundBy : List ℕ → Option LexError → DesignFault → Option Located → Type 0
+abbrev pub IsFoundBy : List ℕ → Option LexError → DesignError → Option Located → Type 0
 IsFoundBy text e f None = (text_limit < length text) ⊎ ((line_of f ≡ 0) ⊎ IsLocatedIn text f None)
 IsFoundBy text (Some e) f (Some located) = IsAtFront text e located
 IsFoundBy text None f (Some located) = IsLocatedIn text f (Some located)
 
 -- where a fault stands
-abbrev pub IsFound : List ℕ → DesignFault → Option Located → Type 0
+abbrev pub IsFound : List ℕ → DesignError → Option Located → Type 0
 IsFound text f located = IsFoundBy text (fault_of_tokens f) f located
 
 -- the text of a fault that stands there
-abbrev pub IsRendered : (name text : List ℕ) → DesignFault → Option Located → List ℕ → Type 0
+abbrev pub IsRendered : (name text : List ℕ) → DesignError → Option Located → List ℕ → Type 0
 IsRendered name text f (Some located) result = IsLocated name text located.place (code_of f) (design_words f) located.notes result
 IsRendered name text f None result = result ≡ head_without_line name (code_of f) (design_words f)
 
 -- the diagnostic of a fault of the text of a design
-abbrev pub IsDesignDiagnostic : (name text : List ℕ) → DesignFault → List ℕ → Type 0
+abbrev pub IsDesignDiagnostic : (name text : List ℕ) → DesignError → List ℕ → Type 0
 IsDesignDiagnostic name text f result =
     (located : Option Located) × IsFound text f located × IsRendered name text f located result

@@ -8,8 +8,8 @@ use Rattle.vp_lex.specs.Bytes.{is_newline}
 use Rattle.vp_lex.specs.Texts.{part_of, text_of}
 use Rattle.vp_source.specs.Grammar.{Derivation, IsDerivation}
 use Rattle.vp_parse_expr.specs.Symbols.{symbols_of}
-use Rattle.vp_parse.specs.declared.fault.ParseError.{ParseError}
-use Rattle.vp_parse.specs.declared.fault.ParseError.TheVariants as grammar
+use Rattle.vp_parse.specs.declared.error.ParseError.{ParseError}
+use Rattle.vp_parse.specs.declared.error.ParseError.TheVariants as grammar
 use Rattle.vp_parse.specs.Faults.{line_of}
 use Rattle.vp_parse.specs.Reading.{read}
 use Rattle.vp_parse.specs.Told.{Tells}

@@ -2,8 +2,8 @@
 use Rattle.std.specs.Prelude.{◌≡◌, ◌<◌, ◌≤◌, ◌⊎◌, ◌+◌, ◌-◌, ℕ, List, length, take, min}
 use Rattle.std.specs.Str.{IsCharBoundary}
 use Rattle.vp_lex.specs.declared.token.Token.{Token}
-use Rattle.vp_lex.specs.declared.fault.LexError.{LexError}
-use Rattle.vp_lex.specs.declared.fault.LexError.TheVariants as error
+use Rattle.vp_lex.specs.declared.error.LexError.{LexError}
+use Rattle.vp_lex.specs.declared.error.LexError.TheVariants as error
 use Rattle.vp_lex.specs.Tokens.{AreTokens, IsError}
 use Rattle.vp_diagnostic.specs.Lines.{line_of, line_start}
 

@@ -7,14 +7,14 @@ use Rattle.vp_lex.specs.Bytes.{is_newline}
 use Rattle.vp_list.specs.Texts.{parts}
 
 -- where the line stands that has so many newlines before it; the end of the text where there are fewer
-abbrev pub behind_newlines : ℕ → List ℕ → ℕ
-behind_newlines zero text = 0
-behind_newlines (suc n) [] = 0
-behind_newlines (suc n) (byte ∷ bytes) = behind_newlines (if is_newline byte then n else suc n) bytes + 1
+abbrev pub after_newlines : ℕ → List ℕ → ℕ
+after_newlines zero text = 0
+after_newlines (suc n) [] = 0
+after_newlines (suc n) (byte ∷ bytes) = after_newlines (if is_newline byte then n else suc n) bytes + 1
 
 -- where the line of a number begins
 abbrev pub line_start : ℕ → List ℕ → ℕ
-line_start number text = behind_newlines (number - 1) text
+line_start number text = after_newlines (number - 1) text
 
 -- the first of some parts
 abbrev pub first_of : List (List ℕ) → List ℕ
@@ -46,5 +46,5 @@ abbrev pub count_characters : List ℕ → ℕ
 count_characters front = count_by (λ byte. not (goes_on_character byte)) front
 
 -- the column after these bytes of a line: 1, and one more for each character; it is told up to 2 ^ 64 - 1
-abbrev pub column_behind : List ℕ → ℕ
-column_behind front = min (count_characters front + 1) 18446744073709551615
+abbrev pub column_after : List ℕ → ℕ
+column_after front = min (count_characters front + 1) 18446744073709551615

@@ -1,10 +1,10 @@
 -- The token of a text at which a fault stands.
 use Rattle.std.specs.Prelude.{◌≡◌, ℕ, List, slice_get, Option, Some, None}
 use Rattle.vp_lex.specs.declared.token.Token.{Token}
-use Rattle.vp_parse.specs.declared.fault.ParseError.{ParseError}
-use Rattle.vp_parse.specs.declared.fault.ParseError.TheVariants as grammar
-use Rattle.vp_design.specs.declared.fault.DesignFault.{DesignFault}
-use Rattle.vp_design.specs.declared.fault.DesignFault.TheVariants as fault
+use Rattle.vp_parse.specs.declared.error.ParseError.{ParseError}
+use Rattle.vp_parse.specs.declared.error.ParseError.TheVariants as grammar
+use Rattle.vp_design.specs.declared.error.DesignError.{DesignError}
+use Rattle.vp_design.specs.declared.error.DesignError.TheVariants as fault
 use Rattle.vp_design.specs.Faults.{line_of}
 use Rattle.vp_diagnostic.specs.Spreading.{IsNumberAtFault, tokens_on}
 
@@ -21,7 +21,7 @@ abbrev pub word_in : ParseError → Option ℕ
 word_in (grammar.LeftOut word line) = Some word
 word_in _ = None
 
-abbrev pub word_left_out : DesignFault → Option ℕ
+abbrev pub word_left_out : DesignError → Option ℕ
 word_left_out (fault.Source e) = word_in e
 word_left_out _ = None
 
@@ -31,5 +31,5 @@ IsTokenAt text tokens (Some word) line token = token ≡ slice_get tokens word
 IsTokenAt text tokens None line token = IsTokenOn text tokens line token
 
 -- the token at fault: the word that is left out; else that of the fault's line
-abbrev pub IsTokenAtFault : List ℕ → List Token → DesignFault → Option Token → Type 0
+abbrev pub IsTokenAtFault : List ℕ → List Token → DesignError → Option Token → Type 0
 IsTokenAtFault text tokens f token = IsTokenAt text tokens (word_left_out f) (line_of f) token

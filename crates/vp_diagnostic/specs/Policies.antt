@@ -1,6 +1,6 @@
 -- The diagnostic of a fault of a policy.
 use Rattle.std.specs.Prelude.{◌≡◌, ℕ, List, ◌++◌}
-use Rattle.vp_policy.specs.declared.fault.PolicyError.{PolicyError}
+use Rattle.vp_policy.specs.declared.error.PolicyError.{PolicyError}
 use Rattle.vp_policy.specs.Faults.{code_of}
 use Rattle.vp_diagnostic.specs.Rendering.{head_without_line}
 use Rattle.vp_diagnostic.specs.Words.{policy_words}

@@ -2,7 +2,7 @@
 use Rattle.std.specs.Prelude.{◌≡◌, ◌≤◌, ℕ, ◌+◌, ◌⊎◌, List, [], ◌∷◌, ◌++◌, codes, decimal, drop, length, take}
 use Rattle.std.specs.Str.{IsCharBoundary}
 use Rattle.vp_diagnostic.specs.declared.rendering.Place.{Place}
-use Rattle.vp_diagnostic.specs.Lines.{blanks, column_behind, line_of}
+use Rattle.vp_diagnostic.specs.Lines.{blanks, column_after, line_of}
 
 -- ---- a line that is cut
 
@@ -63,7 +63,7 @@ pub record IsLocated (name text : List ℕ) (place : Place) (code : ℕ) (words 
   pub shown_front : List ℕ
   pub shown_rest : List ℕ
   pub shown : IsShown front rest shown_front shown_rest
-  pub is : result ≡ head_at name place.line (column_behind front) code words ++ (picture shown_front shown_rest ++ notes)
+  pub is : result ≡ head_at name place.line (column_after front) code words ++ (picture shown_front shown_rest ++ notes)
 
 -- the text of a fault of no file
 abbrev pub plain_text : (code : ℕ) (words : List ℕ) → List ℕ

@@ -4,7 +4,7 @@ use Rattle.std.specs.List.{list_any}
 use Rattle.vp_lex.specs.declared.token.Token.{Token}
 use Rattle.vp_lex.specs.Texts.{part_of}
 use Rattle.vp_elab.specs.Built.{Elaborated}
-use Rattle.vp_design.specs.declared.fault.DesignFault.{DesignFault}
+use Rattle.vp_design.specs.declared.error.DesignError.{DesignError}
 use Rattle.vp_design.specs.Designs.{IsDesignOf, IsRefusedBy}
 use Rattle.vp_design.specs.Faults.{line_of}
 
@@ -29,7 +29,7 @@ has_directive on = list_any (λ t. t.directive) on
 abbrev pub IsFaultLine : List ℕ → ℕ → Type 0
 IsFaultLine text line =
     ((design : Elaborated) × IsDesignOf text design × (line ≡ 0))
-    ⊎ ((fault : DesignFault) × IsRefusedBy text fault × (line ≡ line_of fault))
+    ⊎ ((fault : DesignError) × IsRefusedBy text fault × (line ≡ line_of fault))
 
 -- which of so many lines from one on a line is, from 0; the first where it is none of them
 abbrev pub number_among : (line count : ℕ) → ℕ → ℕ

@@ -2,7 +2,7 @@
 use Rattle.std.specs.Prelude.{◌≡◌, ℕ, List, map}
 use Rattle.vp_diagnostic.specs.LeftOut.{left_out_note, reason_in}
 use Rattle.vp_diagnostic.specs.declared.expected.TheConstants.{CANDIDATES}
-use Rattle.vp_diagnostic.specs.declared.left_out.TheConstants.{OTHERWISE, REASONS}
+use Rattle.vp_diagnostic.specs.declared.unsupported.TheConstants.{OTHERWISE, REASONS}
 
 -- what is tried where a text has a syntax error, with the words for it
 abbrev pub candidates : List (List ℕ × List ℕ)

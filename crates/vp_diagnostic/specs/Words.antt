@@ -1,19 +1,19 @@
 -- The words of faults (profile).
 use Rattle.std.specs.Prelude.{ℕ, List, codes}
-use Rattle.vp_lex.specs.declared.fault.LexError.{LexError}
-use Rattle.vp_lex.specs.declared.fault.LexError.TheVariants as lex
-use Rattle.vp_pragma.specs.declared.fault.PragmaError.{PragmaError}
-use Rattle.vp_pragma.specs.declared.fault.PragmaError.TheVariants as pragma
-use Rattle.vp_parse.specs.declared.fault.ParseError.{ParseError}
-use Rattle.vp_parse.specs.declared.fault.ParseError.TheVariants as grammar
-use Rattle.vp_names.specs.declared.fault.ElabError.{ElabError}
-use Rattle.vp_names.specs.declared.fault.ElabError.TheVariants as name
-use Rattle.vp_resolve.specs.declared.fault.ExprError.{ExprError}
-use Rattle.vp_resolve.specs.declared.fault.ExprError.TheVariants as expression
-use Rattle.vp_design.specs.declared.fault.DesignFault.{DesignFault}
-use Rattle.vp_design.specs.declared.fault.DesignFault.TheVariants as design
-use Rattle.vp_policy.specs.declared.fault.PolicyError.{PolicyError}
-use Rattle.vp_policy.specs.declared.fault.PolicyError.TheVariants as policy
+use Rattle.vp_lex.specs.declared.error.LexError.{LexError}
+use Rattle.vp_lex.specs.declared.error.LexError.TheVariants as lex
+use Rattle.vp_pragma.specs.declared.error.PragmaError.{PragmaError}
+use Rattle.vp_pragma.specs.declared.error.PragmaError.TheVariants as pragma
+use Rattle.vp_parse.specs.declared.error.ParseError.{ParseError}
+use Rattle.vp_parse.specs.declared.error.ParseError.TheVariants as grammar
+use Rattle.vp_names.specs.declared.error.ElabError.{ElabError}
+use Rattle.vp_names.specs.declared.error.ElabError.TheVariants as name
+use Rattle.vp_resolve.specs.declared.error.ExprError.{ExprError}
+use Rattle.vp_resolve.specs.declared.error.ExprError.TheVariants as expression
+use Rattle.vp_design.specs.declared.error.DesignError.{DesignError}
+use Rattle.vp_design.specs.declared.error.DesignError.TheVariants as design
+use Rattle.vp_policy.specs.declared.error.PolicyError.{PolicyError}
+use Rattle.vp_policy.specs.declared.error.PolicyError.TheVariants as policy
 
 -- the words of a fault of tokens (201 to 206)
 abbrev pub token_words : LexError → List ℕ
@@ -65,7 +65,7 @@ expression_words (expression.BadSelect line) = codes "a select that is not withi
 expression_words expression.NoMemory = codes "no memory"
 
 -- the words of a fault of a design
-abbrev pub design_words : DesignFault → List ℕ
+abbrev pub design_words : DesignError → List ℕ
 design_words (design.Tokens e) = token_words e
 design_words (design.Envelopes e) = pragma_words e
 design_words (design.Source e) = grammar_words e

@@ -3,13 +3,13 @@ ghost use Rattle.std.specs.Prelude.{◌≡◌, ◌≤◌, length, option_map, If
 ghost use Rattle.vp_diagnostic.specs.Diagnostics.{AreGrammarNotes, AreNotes, IsAtFront, IsAtToken, IsDesignDiagnostic, IsFound, IsLocatedAmong, IsLocatedIn, fault_of_tokens};
 
 use crate::expected::expected_note;
-use crate::fronts::offset_of;
-use crate::left_out::left_out_note;
 use crate::place::token_at_fault;
+use crate::prefixes::offset_of;
 use crate::rendering::{Place, lineless, located};
+use crate::unsupported::left_out_note;
 use crate::words::design_words;
 use std::alloc::{AllocError, Global};
-use vp_design::{DesignFault, TEXT_LIMIT};
+use vp_design::{DesignError, TEXT_LIMIT};
 use vp_lex::{LexError, Token, tokens};
 use vp_list::Text;
 use vp_parse::ParseError;
@@ -39,17 +39,17 @@ fn grammar_notes(
 }
 
 /// The notes on a fault at a token.
-fn notes(alloc: Global, text: &str, token: Token, fault: &DesignFault) -> Result<Text, AllocError>
+fn notes(alloc: Global, text: &str, token: Token, fault: &DesignError) -> Result<Text, AllocError>
     ensures { IfOk result (AreNotes text.now token fault.now) }
 {
     match fault {
-        DesignFault::Source(error) => grammar_notes(alloc, text, token, error),
-        DesignFault::Tokens(_)
-        | DesignFault::Envelopes(_)
-        | DesignFault::Names(_)
-        | DesignFault::Expressions(_)
-        | DesignFault::TooLong
-        | DesignFault::NoMemory => Text::copy(alloc, ""),
+        DesignError::Source(error) => grammar_notes(alloc, text, token, error),
+        DesignError::Tokens(_)
+        | DesignError::Envelopes(_)
+        | DesignError::Names(_)
+        | DesignError::Expressions(_)
+        | DesignError::TooLong
+        | DesignError::NoMemory => Text::copy(alloc, ""),
     }
 }
 
@@ -58,7 +58,7 @@ fn at_token(
     alloc: Global,
     text: &str,
     token: Token,
-    fault: &DesignFault,
+    fault: &DesignError,
 ) -> Result<Located, AllocError>
     ensures { IfOk result (IsAtToken text.now token fault.now) }
 {
@@ -75,7 +75,7 @@ fn located_among(
     alloc: Global,
     text: &str,
     tokens: &[Token],
-    fault: &DesignFault,
+    fault: &DesignError,
 ) -> Result<Option<Located>, AllocError>
     requires { length text.now ≤ TEXT_LIMIT }
     ensures { IfOk result (IsLocatedAmong text.now tokens.now fault.now) }
@@ -100,7 +100,7 @@ fn at_front(alloc: Global, text: &str, fault: &LexError) -> Result<Located, Allo
 }
 
 /// Where a fault that is none of tokens stands.
-fn located_in(alloc: Global, text: &str, fault: &DesignFault) -> Result<Option<Located>, AllocError>
+fn located_in(alloc: Global, text: &str, fault: &DesignError) -> Result<Option<Located>, AllocError>
     requires { length text.now ≤ TEXT_LIMIT }
     ensures { IfOk result (IsLocatedIn text.now fault.now) }
 {
@@ -112,22 +112,22 @@ fn located_in(alloc: Global, text: &str, fault: &DesignFault) -> Result<Option<L
 }
 
 /// The fault of tokens that a fault is, if it is one.
-fn fault_of_tokens(fault: &DesignFault) -> Option<&LexError>
+fn fault_of_tokens(fault: &DesignError) -> Option<&LexError>
     ensures { option_map (λ e. e.now) result ≡ fault_of_tokens fault.now }
 {
     match fault {
-        DesignFault::Tokens(error) => Some(error),
-        DesignFault::Envelopes(_)
-        | DesignFault::Source(_)
-        | DesignFault::Names(_)
-        | DesignFault::Expressions(_)
-        | DesignFault::TooLong
-        | DesignFault::NoMemory => None,
+        DesignError::Tokens(error) => Some(error),
+        DesignError::Envelopes(_)
+        | DesignError::Source(_)
+        | DesignError::Names(_)
+        | DesignError::Expressions(_)
+        | DesignError::TooLong
+        | DesignError::NoMemory => None,
     }
 }
 
 /// Where a fault stands.
-fn found(alloc: Global, text: &str, fault: &DesignFault) -> Result<Option<Located>, AllocError>
+fn found(alloc: Global, text: &str, fault: &DesignError) -> Result<Option<Located>, AllocError>
     ensures { IfOk result (IsFound text.now fault.now) }
 {
     if text.len() > TEXT_LIMIT || fault.line() == 0 {
@@ -145,7 +145,7 @@ pub fn design_diagnostic(
     alloc: Global,
     name: &str,
     text: &str,
-    fault: &DesignFault,
+    fault: &DesignError,
 ) -> Result<Text, AllocError>
     ensures { IfOk result (IsDesignDiagnostic name.now text.now fault.now) }
 {

@@ -5,7 +5,7 @@ ghost use Rattle.vp_lex.specs.Bytes.{is_newline};
 ghost use Rattle.vp_diagnostic.specs.Tables.{candidates};
 ghost use Rattle.vp_diagnostic.specs.Expected.{AreRead, GoesOn, IsExpectedNote, IsReadOrNot, Stops, expected_note, listed, quoted, tried};
 
-use crate::spreading::part_of;
+use crate::one_token_lines::part_of;
 use std::alloc::{AllocError, Global};
 use vp_lex::{LexError, TEXT_LIMIT, Token, tokens};
 use vp_list::Text;

@@ -1,7 +1,7 @@
 // The key of a policy file at fault, found by trial.
 ghost use Rattle.std.specs.Prelude.{◌<◌, ◌≤◌, length, IfOk, IfSome};
 
-use crate::trials::{are_refused, is_refused_behind, user_granted, user_with};
+use crate::trials::{are_refused, is_refused_after, user_granted, user_with};
 use serde_json::{Map, Value};
 use std::alloc::{AllocError, Global};
 use vp_elab::Design;
@@ -40,7 +40,7 @@ fn refused_key<'a>(
 ) -> Result<Option<&'a str>, AllocError> {
     for (place, (key, _)) in keys.iter().enumerate() {
         let user = user_with(alloc, keys, place.saturating_add(1))?;
-        if is_refused_behind(alloc, others, user, design)? {
+        if is_refused_after(alloc, others, user, design)? {
             return Ok(Some(key.as_str()));
         }
     }
@@ -56,7 +56,7 @@ fn refused_grant(
 ) -> Result<Option<usize>, AllocError> {
     for number in 0..grants.len() {
         let user = user_granted(alloc, &grants[..number + 1])?;
-        if is_refused_behind(alloc, others, user, design)? {
+        if is_refused_after(alloc, others, user, design)? {
             return Ok(Some(number));
         }
     }

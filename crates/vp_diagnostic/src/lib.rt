@@ -4,16 +4,16 @@
 
 mod design;
 mod expected;
-mod fronts;
 mod keys;
-mod left_out;
 mod lines;
+mod one_token_lines;
 mod place;
 mod plain;
 mod policy;
+mod prefixes;
 mod rendering;
-mod spreading;
 mod trials;
+mod unsupported;
 mod words;
 
 pub use design::design_diagnostic;

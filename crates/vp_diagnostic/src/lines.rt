@@ -1,7 +1,7 @@
 // Lines of a text, and columns.
 ghost use Rattle.std.specs.Prelude.{◌≡◌, ◌≤◌, ◌<◌, ◌++◌, length, string_bytes, OnOk};
 ghost use Rattle.vp_list.specs.Texts.{parts};
-ghost use Rattle.vp_diagnostic.specs.Lines.{blank_of, blanks, column_behind, count_characters, first_of, goes_on_character, line_of, line_start, text_in};
+ghost use Rattle.vp_diagnostic.specs.Lines.{blank_of, blanks, column_after, count_characters, first_of, goes_on_character, line_of, line_start, text_in};
 
 use std::alloc::AllocError;
 use vp_list::first_piece;
@@ -76,8 +76,8 @@ fn count_characters(front: &str) -> usize
 }
 
 /// The column after a part of a line, in characters from 1.
-pub fn column_behind(front: &str) -> usize
-    ensures { result ≡ column_behind front.now }
+pub fn column_after(front: &str) -> usize
+    ensures { result ≡ column_after front.now }
 {
     count_characters(front).saturating_add(1)
 }

@@ -2,9 +2,9 @@
 ghost use Rattle.std.specs.Prelude.{◌≡◌, ◌<◌, length, slice_get, IfOk};
 ghost use Rattle.vp_diagnostic.specs.Places.{IsTokenAmong, IsTokenAtFault, IsTokenOn, word_in, word_left_out};
 
-use crate::spreading::{number_at_fault, tokens_on};
+use crate::one_token_lines::{number_at_fault, tokens_on};
 use std::alloc::{AllocError, Global};
-use vp_design::DesignFault;
+use vp_design::DesignError;
 use vp_lex::Token;
 use vp_parse::ParseError;
 
@@ -54,17 +54,17 @@ fn word_in(error: &ParseError) -> Option<u32>
 }
 
 /// The same of a fault of a design.
-fn word_left_out(fault: &DesignFault) -> Option<u32>
+fn word_left_out(fault: &DesignError) -> Option<u32>
     ensures { result ≡ word_left_out fault.now }
 {
     match fault {
-        DesignFault::Source(error) => word_in(error),
-        DesignFault::Tokens(_)
-        | DesignFault::Envelopes(_)
-        | DesignFault::Names(_)
-        | DesignFault::Expressions(_)
-        | DesignFault::TooLong
-        | DesignFault::NoMemory => None,
+        DesignError::Source(error) => word_in(error),
+        DesignError::Tokens(_)
+        | DesignError::Envelopes(_)
+        | DesignError::Names(_)
+        | DesignError::Expressions(_)
+        | DesignError::TooLong
+        | DesignError::NoMemory => None,
     }
 }
 
@@ -73,7 +73,7 @@ pub fn token_at_fault(
     alloc: Global,
     text: &str,
     tokens: &[Token],
-    fault: &DesignFault,
+    fault: &DesignError,
 ) -> Result<Option<Token>, AllocError>
     requires { length text.now < 4294967296 }
     ensures { IfOk result (IsTokenAtFault text.now tokens.now fault.now) }

@@ -1,10 +1,10 @@
 // The text of a diagnostic.
 ghost use Rattle.std.specs.Prelude.{◌≡◌, ◌+◌, ◌≤◌, ◌++◌, ◌∷◌, [], codes, drop, length, string_bytes, take, IfOk, OnOk};
 ghost use Rattle.std.specs.Str.{IsCharBoundary};
-ghost use Rattle.vp_diagnostic.specs.Lines.{blanks, column_behind, line_of};
+ghost use Rattle.vp_diagnostic.specs.Lines.{blanks, column_after, line_of};
 ghost use Rattle.vp_diagnostic.specs.Rendering.{IsFrontShown, IsLocated, IsRestShown, IsShown, IsSplit, half_width, head_at, head_without_line, picture, width_limit};
 
-use crate::lines::{column_behind, line_of, push_blanks};
+use crate::lines::{column_after, line_of, push_blanks};
 use std::alloc::{AllocError, Global};
 use vp_list::Text;
 
@@ -108,7 +108,7 @@ pub fn located(
         (λ rendered. IsLocated name.now text.now place code words.now notes.now rendered) }
 {
     let (front, rest) = split(line_of(text, place.line), place.offset);
-    let mut rendered = head_at(alloc, name, place.line, column_behind(front), code, words)?;
+    let mut rendered = head_at(alloc, name, place.line, column_after(front), code, words)?;
     let (front, rest) = parts_shown(alloc, front, rest)?;
     push_picture(&mut rendered, front.as_str(), rest.as_str())?;
     rendered.push_str(notes)?;

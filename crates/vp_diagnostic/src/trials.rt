@@ -14,7 +14,7 @@ pub fn are_refused(alloc: Global, users: &[Value], design: &Design) -> Result<bo
 }
 
 /// A policy file of some users, and of one more, is refused.
-pub fn is_refused_behind(
+pub fn is_refused_after(
     alloc: Global,
     users: &[Value],
     user: Value,

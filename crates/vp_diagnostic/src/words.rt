@@ -2,7 +2,7 @@
 ghost use Rattle.std.specs.Prelude.{◌≡◌};
 ghost use Rattle.vp_diagnostic.specs.Words.{design_words, expression_words, grammar_words, name_words, policy_words, pragma_words, token_words};
 
-use vp_design::DesignFault;
+use vp_design::DesignError;
 use vp_lex::LexError;
 use vp_names::ElabError;
 use vp_parse::ParseError;
@@ -88,17 +88,17 @@ fn expression_words(fault: &ExprError) -> &'static str
 }
 
 /// The words of a fault of a design.
-pub fn design_words(fault: &DesignFault) -> &'static str
+pub fn design_words(fault: &DesignError) -> &'static str
     ensures { result.now ≡ design_words fault.now }
 {
     match fault {
-        DesignFault::Tokens(error) => token_words(error),
-        DesignFault::Envelopes(error) => pragma_words(error),
-        DesignFault::Source(error) => grammar_words(error),
-        DesignFault::Names(error) => name_words(error),
-        DesignFault::Expressions(error) => expression_words(error),
-        DesignFault::TooLong => "a design has at most 1,048,576 bytes",
-        DesignFault::NoMemory => "no memory",
+        DesignError::Tokens(error) => token_words(error),
+        DesignError::Envelopes(error) => pragma_words(error),
+        DesignError::Source(error) => grammar_words(error),
+        DesignError::Names(error) => name_words(error),
+        DesignError::Expressions(error) => expression_words(error),
+        DesignError::TooLong => "a design has at most 1,048,576 bytes",
+        DesignError::NoMemory => "no memory",
     }
 }
 

@@ -10,8 +10,8 @@ use Rattle.vp_list.specs.Refusals.{MayExplain}
 use Rattle.vp_source.specs.declared.source.Source.{Source}
 use Rattle.vp_source.specs.declared.source.Module.{Module}
 use Rattle.vp_source.specs.declared.source.Item.{Item}
-use Rattle.vp_names.specs.declared.fault.ElabError.{ElabError}
-use Rattle.vp_names.specs.declared.fault.ElabError.TheVariants.{TooManyObjects, NoMemory}
+use Rattle.vp_names.specs.declared.error.ElabError.{ElabError}
+use Rattle.vp_names.specs.declared.error.ElabError.TheVariants.{TooManyObjects, NoMemory}
 use Rattle.vp_names.specs.Items.{definition_of, is_top, items_in}
 use Rattle.vp_pragma.specs.declared.envelope.Envelope.{Envelope}
 use Rattle.vp_elab.specs.declared.object.TheConstants.{OBJECT_LIMIT}

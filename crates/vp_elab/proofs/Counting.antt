@@ -151,7 +151,7 @@ module _ (source : Source) where
 
 -- what a module declares, of its parts
 abbrev pub declared_of : List ℕ → List ℕ → List (RightSet × Option ℕ) → Declared
-declared_of envelopes slots sights = record { envelopes = envelopes; slots = slots; sights = sights }
+declared_of envelopes slots all_step_rights = record { envelopes = envelopes; slots = slots; all_step_rights = all_step_rights }
 
 pub declared_same : (a b c d : List ℕ) (e f : List (RightSet × Option ℕ)) → a ≡ b → c ≡ d → e ≡ f → declared_of a c e ≡ declared_of b d f
 declared_same a b c d e f p q r = ap (λ (x : List ℕ). declared_of x c e) p ∙ ap (λ (x : List ℕ). declared_of b x e) q ∙ ap (declared_of b d) r

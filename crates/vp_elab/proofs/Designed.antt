@@ -23,21 +23,21 @@ use Rattle.vp_elab.specs.declared.object.TheConstants.{OBJECT_LIMIT}
 use Rattle.vp_elab.specs.declared.object.Object.{Object}
 use Rattle.vp_elab.specs.declared.object.ObjectId.{ObjectId}
 use Rattle.vp_elab.specs.Tree.{declared_in as declared_in_scope}
-use Rattle.vp_elab.specs.Tree.{AreAlike, Node, Step, Tree, below, declared_envelopes, Named, definition_at, envelopes_in, find_in, find_named, first_of, name_at, named_in, names_of, node_name, seen_from, sight_at, sight_in}
+use Rattle.vp_elab.specs.Tree.{AreAlike, Node, Step, Tree, below, declared_envelopes, Named, definition_at, envelopes_in, find_in, find_named, first_of, name_at, named_in, names_of, node_name, seen_from, step_rights_at, step_rights_in}
 use Rattle.vp_elab.specs.Elaboration.{further_limit, item_kind, item_range, lowest_of, root_step, width_of}
 use Rattle.vp_elab.specs.Objects.{AreObjects, Declared, StandsFor, declared_in, is_of, module_name_at}
 use Rattle.vp_elab.specs.Sizes.{capped, size, slots_from, slots_in, total, whole_size}
 use Rattle.vp_elab.specs.Built.{Elaborated, IsBuilt, IsFoundAs, design_of}
 use Rattle.vp_elab.specs.Items.{instantiated_at, node_item, parent_of}
 use Rattle.vp_elab.proofs.Entries.{Entry, Inner, Top, entries_within, module_at, node_at, object_at, path_at, top_entries, within_nodes, within_objects}
-use Rattle.vp_elab.proofs.Found.{at_mapped, child_found, child_nothing, leaf_nothing, path_is, root_behind, root_first, root_other, root_unknown}
+use Rattle.vp_elab.proofs.Found.{at_mapped, child_found, child_nothing, leaf_nothing, path_is, root_after, root_first, root_other, root_unknown}
 use Rattle.vp_elab.proofs.Items.{inner_item, instance_same, item_inner, item_top, parent_same, position_mapped}
 use Rattle.vp_elab.proofs.Named.{found_at, module_index, right_once}
 use Rattle.vp_elab.proofs.Parts.{nowhere, some_same}
 use Rattle.vp_elab.proofs.Placed.{AllFrom, Good, Tops, full_size, slot, within_good}
 use Rattle.vp_elab.proofs.Scopes.{child_numbers, leaf_numbers, root_numbers, scoped}
 use Rattle.vp_elab.proofs.Stable.{long_below}
-use Rattle.vp_elab.proofs.Standing.{definition_entry, first_same, kinds_same, line_same, lowest_same, name_inner, name_top, object_stands, scope_same, scopes_same, sight_inner, sight_top, widths_same, widths_some}
+use Rattle.vp_elab.proofs.Standing.{definition_entry, first_same, kinds_same, line_same, lowest_same, name_inner, name_top, object_stands, scope_same, scopes_same, step_rights_inner, step_rights_top, widths_same, widths_some}
 use Rattle.vp_elab.proofs.Unique.{good_at, module_there}
 
 module _ (source : Source) (envelopes : List Envelope) where
@@ -195,25 +195,25 @@ module _ (source : Source) (protection : Protection) (tables : Tables) (scopes :
   name_none os id is found = sym (ap (λ (x : Option Node). option_map_or node_name x []) (no_node id (no_entry os id is found)))
 
   -- what viewports open of it
-  pub sight_child : (os : List Object) (ss : List Declared) (id : ℕ) (o : Object) (parent : ObjectId) → os ≡ objects.all → ss ≡ scopes → Some o ≡ slice_get os id → o.parent ≡ Some parent → option_map_or (λ (s : Declared). slice_index_or s.sights o.index (nothing, None)) (option_and_then (slice_get ss) (option_and_then (λ (o : Object). o.scope) (slice_get os parent.0))) (nothing, None) ≡ sight_at d.tree id
-  sight_child os ss id o parent is ss_is found inside =
+  pub step_rights_child : (os : List Object) (ss : List Declared) (id : ℕ) (o : Object) (parent : ObjectId) → os ≡ objects.all → ss ≡ scopes → Some o ≡ slice_get os id → o.parent ≡ Some parent → option_map_or (λ (s : Declared). slice_index_or s.all_step_rights o.index (nothing, None)) (option_and_then (slice_get ss) (option_and_then (λ (o : Object). o.scope) (slice_get os parent.0))) (nothing, None) ≡ step_rights_at d.tree id
+  step_rights_child os ss id o parent is ss_is found inside =
       let it = entry_of os id o is found in
-      ap (λ (xs : List Object). option_map_or (λ (s : Declared). slice_index_or s.sights o.index (nothing, None)) (option_and_then (slice_get ss) (option_and_then (λ (o : Object). o.scope) (slice_get xs parent.0))) (nothing, None)) (is ∙ made_is)
-      ∙ ap (λ (xs : List Declared). option_map_or (λ (s : Declared). slice_index_or s.sights o.index (nothing, None)) (option_and_then (slice_get xs) (option_and_then (λ (o : Object). o.scope) (slice_get made parent.0))) (nothing, None)) (ss_is ∙ built.declared)
-      ∙ ap (λ (x : Option Declared). option_map_or (λ (s : Declared). slice_index_or s.sights o.index (nothing, None)) x (nothing, None)) (scoped source envelopes once all placed (declared_in source protection) parent.0)
-      ∙ ap (λ (x : Object). option_map_or (λ (s : Declared). slice_index_or s.sights x.index (nothing, None)) (option_map (declared_in source protection) (option_and_then (module_at source envelopes) (slice_get all parent.0))) (nothing, None)) (sym it.2)
-      ∙ sight_inner source envelopes built.right all placed protection.viewports id it.0 parent it.1 (ap (λ (x : Object). x.parent) it.2 ∙ inside)
-      ∙ sym (ap (λ (x : Option Node). option_map_or (sight_in protection.viewports) x (nothing, None)) (node_is id it.0 it.1))
-      ∙ ap (λ (x : Elaborated). option_map_or (sight_in x.tree.viewports) (slice_get d.tree.nodes id) (nothing, None)) view
+      ap (λ (xs : List Object). option_map_or (λ (s : Declared). slice_index_or s.all_step_rights o.index (nothing, None)) (option_and_then (slice_get ss) (option_and_then (λ (o : Object). o.scope) (slice_get xs parent.0))) (nothing, None)) (is ∙ made_is)
+      ∙ ap (λ (xs : List Declared). option_map_or (λ (s : Declared). slice_index_or s.all_step_rights o.index (nothing, None)) (option_and_then (slice_get xs) (option_and_then (λ (o : Object). o.scope) (slice_get made parent.0))) (nothing, None)) (ss_is ∙ built.declared)
+      ∙ ap (λ (x : Option Declared). option_map_or (λ (s : Declared). slice_index_or s.all_step_rights o.index (nothing, None)) x (nothing, None)) (scoped source envelopes once all placed (declared_in source protection) parent.0)
+      ∙ ap (λ (x : Object). option_map_or (λ (s : Declared). slice_index_or s.all_step_rights x.index (nothing, None)) (option_map (declared_in source protection) (option_and_then (module_at source envelopes) (slice_get all parent.0))) (nothing, None)) (sym it.2)
+      ∙ step_rights_inner source envelopes built.right all placed protection.viewports id it.0 parent it.1 (ap (λ (x : Object). x.parent) it.2 ∙ inside)
+      ∙ sym (ap (λ (x : Option Node). option_map_or (step_rights_in protection.viewports) x (nothing, None)) (node_is id it.0 it.1))
+      ∙ ap (λ (x : Elaborated). option_map_or (step_rights_in x.tree.viewports) (slice_get d.tree.nodes id) (nothing, None)) view
 
-  pub sight_root : (os : List Object) (id : ℕ) (o : Object) → os ≡ objects.all → Some o ≡ slice_get os id → o.parent ≡ None → (nothing, None) ≡ sight_at d.tree id
-  sight_root os id o is found inside =
+  pub step_rights_root : (os : List Object) (id : ℕ) (o : Object) → os ≡ objects.all → Some o ≡ slice_get os id → o.parent ≡ None → (nothing, None) ≡ step_rights_at d.tree id
+  step_rights_root os id o is found inside =
       let it = entry_of os id o is found in
-      sight_top source envelopes built.right all placed d.tree.viewports it.0 (ap (λ (x : Object). x.parent) it.2 ∙ inside)
-      ∙ sym (ap (λ (x : Option Node). option_map_or (sight_in d.tree.viewports) x (nothing, None)) (node_is id it.0 it.1))
+      step_rights_top source envelopes built.right all placed d.tree.viewports it.0 (ap (λ (x : Object). x.parent) it.2 ∙ inside)
+      ∙ sym (ap (λ (x : Option Node). option_map_or (step_rights_in d.tree.viewports) x (nothing, None)) (node_is id it.0 it.1))
 
-  pub sight_none : (os : List Object) (id : ℕ) → os ≡ objects.all → None ≡ slice_get os id → (nothing, None) ≡ sight_at d.tree id
-  sight_none os id is found = sym (ap (λ (x : Option Node). option_map_or (sight_in d.tree.viewports) x (nothing, None)) (no_node id (no_entry os id is found)))
+  pub step_rights_none : (os : List Object) (id : ℕ) → os ≡ objects.all → None ≡ slice_get os id → (nothing, None) ≡ step_rights_at d.tree id
+  step_rights_none os id is found = sym (ap (λ (x : Option Node). option_map_or (step_rights_in d.tree.viewports) x (nothing, None)) (no_node id (no_entry os id is found)))
 
   -- its definition
   definition_by : (id : ℕ) (o : Option Entry) → slice_get all id ≡ o → option_map (λ (m : Module). word_at source m.name) (option_and_then (module_at source envelopes) o) ≡ option_and_then (λ (n : Node). n.definition) (slice_get d.tree.nodes id)
@@ -365,9 +365,9 @@ module _ (source : Source) (protection : Protection) (tables : Tables) (scopes :
   at_names : (ns : List (List ℕ)) (name : List ℕ) (number : ℕ) → ns ≡ tables.modules → Some number ≡ position (bytes_eq name) ns → position (bytes_eq name) (map (λ (m : Module). word_at source m.name) source.modules) ≡ Some number
   at_names ns name number is found = ap (position (bytes_eq name)) (sym (modules_are ns is)) ∙ sym found
 
-  pub top_behind : (ns : List (List ℕ)) (fs : List (Option ObjectId)) (name : List ℕ) (number : ℕ) → ns ≡ tables.modules → fs ≡ objects.firsts → Some number ≡ position (bytes_eq name) ns → None ≡ slice_index_or fs number None → None ≡ find_in d.tree.nodes None name
-  top_behind ns fs name number is fs_is found none =
-      sym (root_behind source envelopes once all placed name number (at_names ns name number is found)
+  pub top_after : (ns : List (List ℕ)) (fs : List (Option ObjectId)) (name : List ℕ) (number : ℕ) → ns ≡ tables.modules → fs ≡ objects.firsts → Some number ≡ position (bytes_eq name) ns → None ≡ slice_index_or fs number None → None ≡ find_in d.tree.nodes None name
+  top_after ns fs name number is fs_is found none =
+      sym (root_after source envelopes once all placed name number (at_names ns name number is found)
       (sym (first_is fs number fs_is (number_within ns name number is found)) ∙ ap (option_map (λ (o : ObjectId). o.0)) (sym none))) ∙ find_top name
 
   first_found : (ns : List (List ℕ)) (fs : List (Option ObjectId)) (name : List ℕ) (number : ℕ) (first : ObjectId) → ns ≡ tables.modules → fs ≡ objects.firsts → Some number ≡ position (bytes_eq name) ns → Some first ≡ slice_index_or fs number None → position (is_of number) made ≡ Some first.0
@@ -395,7 +395,7 @@ module _ (source : Source) (protection : Protection) (tables : Tables) (scopes :
   first_by : (fs : List (Option ObjectId)) (number : ℕ) (o : Option Module) → fs ≡ objects.firsts → slice_get source.modules number ≡ o → option_map (λ (o : ObjectId). o.0) (slice_index_or fs number None) ≡ option_and_then (first_of d.tree.nodes) (option_map (λ (m : Module). word_at source m.name) o)
   first_by fs number None is at =
       let long : length fs ≡ length source.modules = ap length is ∙ built.firsts.each in
-      ap (option_map (λ (o : ObjectId). o.0)) (past fs number (let behind = no_item source.modules number at in omega arith))
+      ap (option_map (λ (o : ObjectId). o.0)) (past fs number (let following = no_item source.modules number at in omega arith))
     where
       no_item : (ms : List Module) (n : ℕ) → slice_get ms n ≡ None → length ms ≤ n
       no_item [] n h = omega arith

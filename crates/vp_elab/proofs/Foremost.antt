@@ -93,10 +93,10 @@ turn_of objects id count old number within before is small =
         ∙ ap (λ (t : Bool). option_or (get_or old k None) (cond t (Some (record { 0 = id })) None)) (sym (other_by k number (get_or objects id no_object).scope false is h))
 
 -- of a module of another number, which there is not
-pub turn_behind :
+pub turn_after :
     (objects : List Object) (id count : ℕ) (old : List (Option ObjectId)) (number : ℕ) → id < length objects → AreFirsts (take id objects) count old
     → (get_or objects id no_object).scope ≡ Some number → count ≤ number → AreFirsts (take (id + 1) objects) count old
-turn_behind objects id count old number within before is large =
+turn_after objects id count old number within before is large =
     turn objects id count old old within before before.each
     (λ k l.
     or_none (get_or old k None)

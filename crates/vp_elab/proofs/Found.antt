@@ -220,8 +220,8 @@ module _ (source : Source) (envelopes : List Envelope) (once : twice_in source [
       ap (is_of k) (sym (get_or_from_slice_get objects id (object_at source envelopes e) (object_at source envelopes e) there)) ∙ (position-Some (is_of k) objects id (object_at source envelopes e) found).1
 
   -- a module without an object is no top module
-  pub root_behind : (name : List ℕ) (k : ℕ) → position (bytes_eq name) (map (λ (x : Module). word_at source x.name) source.modules) ≡ Some k → position (is_of k) objects ≡ None → find_named nodes (name ∷ []) ≡ None
-  root_behind name k found none =
+  pub root_after : (name : List ℕ) (k : ℕ) → position (bytes_eq name) (map (λ (x : Module). word_at source x.name) source.modules) ≡ Some k → position (is_of k) objects ≡ None → find_named nodes (name ∷ []) ≡ None
+  root_after name k found none =
       nothing_named (name ∷ []) (λ j f at_f same.
       let it = root_of name j f at_f same in
       let number = module_position source it.0 it.1 once it.3 in

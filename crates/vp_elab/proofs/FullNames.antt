@@ -10,16 +10,16 @@ use Rattle.vp_elab.specs.Tree.{Node, Step, Tree, dotted, full_name_at, name_at, 
 use Rattle.vp_elab.proofs.LastSteps.{name_there}
 
 -- a step more is a '.' and its name more
-dotted_behind : (t : Step) (path : List Step) (s : Step) → dotted (names_of ((t ∷ path) ++ s ∷ [])) ≡ dotted (names_of (t ∷ path)) ++ 46 ∷ s.name
-dotted_behind t [] s = refl
-dotted_behind t (u ∷ path) s =
-    ap (λ (x : List ℕ). t.name ++ 46 ∷ x) (dotted_behind u path s)
+dotted_after : (t : Step) (path : List Step) (s : Step) → dotted (names_of ((t ∷ path) ++ s ∷ [])) ≡ dotted (names_of (t ∷ path)) ++ 46 ∷ s.name
+dotted_after t [] s = refl
+dotted_after t (u ∷ path) s =
+    ap (λ (x : List ℕ). t.name ++ 46 ∷ x) (dotted_after u path s)
     ∙ sym (append_assoc t.name (46 ∷ dotted (names_of (u ∷ path))) (46 ∷ s.name))
 
 -- the same after a path that ends in a step
 dotted_below : (above : List Step) (t s : Step) → dotted (names_of ((above ++ t ∷ []) ++ s ∷ [])) ≡ dotted (names_of (above ++ t ∷ [])) ++ 46 ∷ s.name
 dotted_below [] t s = refl
-dotted_below (u ∷ above) t s = dotted_behind u (above ++ t ∷ []) s
+dotted_below (u ∷ above) t s = dotted_after u (above ++ t ∷ []) s
 
 -- what a text is after a name that is pushed
 pub name_pushed : {T E : Type 0} (r : Result T E) (old was now name full : List ℕ) → now ≡ cond (is_ok r) (was ++ name) was → was ++ name ≡ old ++ full → OnOk r (now ≡ old ++ full)
@@ -43,7 +43,7 @@ module _ (tree : Tree) (os : List Object) (all : AreObjects tree.nodes os) where
   above_by id None within none =
       elim ((slice_get_cases tree.nodes id).1) [
         | inl there ↦ let some = there.2 in absurd cc
-        | inr past ↦ let behind = past.0 in absurd (omega arith)
+        | inr past ↦ let following = past.0 in absurd (omega arith)
       ]
   above_by id (Some o) within there = (o, there)
 
@@ -51,7 +51,7 @@ module _ (tree : Tree) (os : List Object) (all : AreObjects tree.nodes os) where
   above_there : (id : ℕ) (o : Object) (p : ObjectId) → slice_get os id ≡ Some o → o.parent ≡ Some p → (above : Object) × StandsFor tree.nodes p.0 above
   above_there id o p at is =
       let h = stands id o at in
-      let before : p.0 < id = subst (λ (x : Option ObjectId). IfSome x (λ (q : ObjectId). q.0 < id)) is h.behind in
+      let before : p.0 < id = subst (λ (x : Option ObjectId). IfSome x (λ (q : ObjectId). q.0 < id)) is h.following in
       let within : id < length tree.nodes = slice_get_within tree.nodes id h.node h.there in
       above_by p.0 (slice_get os p.0) (omega arith) (all p.0)
 

@@ -4,7 +4,7 @@ use Rattle.std.specs.Prelude.{codes, map, option_map}
 use Rattle.std.specs.Fmt.{digits}
 use Rattle.std.specs.Str.{chars, is_utf8}
 use Rattle.std.specs.Char.{encode_utf8}
-use Rattle.vp_lex.specs.declared.fault.LexError.{LexError}
+use Rattle.vp_lex.specs.declared.error.LexError.{LexError}
 use Rattle.vp_lex.specs.declared.token.Token.{Token}
 use Rattle.vp_lex.specs.Tokens.{tokens_of}
 use Rattle.vp_source.specs.declared.expression.Expression.{Expression}

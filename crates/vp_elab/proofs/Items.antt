@@ -19,7 +19,7 @@ use Rattle.vp_elab.specs.Elaboration.{item_step}
 use Rattle.vp_elab.specs.Items.{item_of, node_item, parent_of, steps_above}
 use Rattle.vp_elab.proofs.Entries.{Entry, Top, Inner, module_at, node_at, object_at, path_at}
 use Rattle.vp_elab.proofs.Found.{found_entry, nothing_named}
-use Rattle.vp_elab.proofs.LastSteps.{last_behind}
+use Rattle.vp_elab.proofs.LastSteps.{last_after}
 use Rattle.vp_elab.proofs.Named.{item_position, module_position, once_in}
 use Rattle.vp_elab.proofs.Parts.{definition_at}
 use Rattle.vp_elab.proofs.Placed.{AllFrom, Good}
@@ -27,10 +27,10 @@ use Rattle.vp_elab.proofs.Unique.{good_at, module_there, path_some}
 use Rattle.vp_elab.specs.laws.Positions.{position_from-same, position_is}
 
 -- the steps above the last one
-pub above_behind : (above : List Step) (s : Step) → steps_above (above ++ s ∷ []) ≡ above
-above_behind [] s = refl
-above_behind (t ∷ []) s = refl
-above_behind (t ∷ t' ∷ above) s = ap (λ (path : List Step). t ∷ path) (above_behind (t' ∷ above) s)
+pub above_after : (above : List Step) (s : Step) → steps_above (above ++ s ∷ []) ≡ above
+above_after [] s = refl
+above_after (t ∷ []) s = refl
+above_after (t ∷ t' ∷ above) s = ap (λ (path : List Step). t ∷ path) (above_after (t' ∷ above) s)
 
 -- a search by what f gives
 pub position_mapped : {X : Type 0} (t : List ℕ → Bool) (f : X → List ℕ) (xs : List X) → position (λ x. t (f x)) xs ≡ position t (map f xs)
@@ -68,7 +68,7 @@ module _ (source : Source) (envelopes : List Envelope) (once : twice_in source [
   inner_item id above p m k i at =
       let role = (good_at source envelopes once all placed id (Inner above p m k i) at).role in
       let there = module_there source envelopes once all placed p role.0 m role.1 role.2 in
-      ap (option_and_then (item_of source)) (last_behind above (item_step source envelopes m i)) ∙ step_item there.0 m k i there.1 role.4
+      ap (option_and_then (item_of source)) (last_after above (item_step source envelopes m i)) ∙ step_item there.0 m k i there.1 role.4
 
   -- the module of an object, by its number
   module_scoped : (id : ℕ) (e : Entry) → slice_get all id ≡ Some e → option_and_then (slice_get source.modules) (object_at source envelopes e).scope ≡ module_at source envelopes e
@@ -108,7 +108,7 @@ module _ (source : Source) (envelopes : List Envelope) (once : twice_in source [
   parent_same id (Inner above p m k i) at =
       let role = (good_at source envelopes once all placed id (Inner above p m k i) at).role in
       sym (found_entry source envelopes once all placed p role.0 (names_of above) role.1 (ap names_of role.3))
-      ∙ ap (λ (path : List Step). find_named nodes (names_of path)) (sym (above_behind above (item_step source envelopes m i)))
+      ∙ ap (λ (path : List Step). find_named nodes (names_of path)) (sym (above_after above (item_step source envelopes m i)))
 
   -- ---- what an instance instantiates
 

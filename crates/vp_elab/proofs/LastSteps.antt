@@ -9,17 +9,17 @@ use Rattle.vp_elab.specs.declared.object.Object.{Object}
 use Rattle.vp_elab.specs.declared.object.ObjectId.{ObjectId}
 use Rattle.vp_elab.specs.Objects.{StandsFor}
 use Rattle.vp_elab.specs.Tree.{Node, Step, Tree, fits_module, last_step, matches, matches_at, matches_node, name_at, node_envelope, path_of, step_named}
-use Rattle.vp_elab.proofs.Sights.{none_at_root}
+use Rattle.vp_elab.proofs.OpenedSteps.{none_at_root}
 
 -- the last step of a path is the one that stands after the others
-pub last_behind : (above : List Step) (s : Step) → last_step (above ++ s ∷ []) ≡ Some s
-last_behind [] s = refl
-last_behind (t ∷ []) s = refl
-last_behind (t ∷ t' ∷ above) s = last_behind (t' ∷ above) s
+pub last_after : (above : List Step) (s : Step) → last_step (above ++ s ∷ []) ≡ Some s
+last_after [] s = refl
+last_after (t ∷ []) s = refl
+last_after (t ∷ t' ∷ above) s = last_after (t' ∷ above) s
 
 module _ (tree : Tree) (id : ℕ) (o : Object) (h : StandsFor tree.nodes id o) where
   last_is : last_step h.node.path ≡ Some h.step
-  last_is = ap last_step h.path ∙ last_behind (path_of tree.nodes (option_map (λ (q : ObjectId). q.0) o.parent)) h.step
+  last_is = ap last_step h.path ∙ last_after (path_of tree.nodes (option_map (λ (q : ObjectId). q.0) o.parent)) h.step
 
   -- the name of an object is that of its step
   pub name_there : name_at tree id ≡ h.step.name

@@ -3,7 +3,7 @@ pub mod Zip
 pub mod Parts
 pub mod Authors
 pub mod Distinct
-pub mod Sights
+pub mod OpenedSteps
 pub mod LastSteps
 pub mod Viewports
 pub mod HierarchyRows

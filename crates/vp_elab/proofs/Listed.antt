@@ -20,8 +20,8 @@ use Rattle.vp_elab.specs.Sizes.{capped, slots_from, slots_in, total, whole_size}
 use Rattle.vp_elab.proofs.Entries.{Entry, Top, Inner, module_at, node_at, path_at}
 use Rattle.vp_elab.proofs.Found.{child_of, found_entry, nothing_named, path_is, root_of}
 use Rattle.vp_elab.proofs.Named.{module_index}
-use Rattle.vp_elab.proofs.Placed.{AllFrom, Good, at_behind, full_size, root_slot, slot, take_front}
-use Rattle.vp_elab.proofs.Rising.{In, filtered_is, passing_at, passing_read, starts, starts_at, starts_behind, starts_read, starts_rise}
+use Rattle.vp_elab.proofs.Placed.{AllFrom, Good, at_after, full_size, root_slot, slot, take_front}
+use Rattle.vp_elab.proofs.Rising.{In, filtered_is, passing_at, passing_read, starts, starts_at, starts_after, starts_read, starts_rise}
 use Rattle.vp_elab.proofs.Scopes.{filter_none, step_last, step_read}
 use Rattle.vp_elab.proofs.Marks.{filter_below_same}
 use Rattle.vp_elab.proofs.Stable.{total-append}
@@ -120,7 +120,7 @@ module _ (source : Source) (envelopes : List Envelope) where
         (slots_start 1 (items_in source m) (λ k i at_i.
         let within = slice_get_within all (id + slot source envelopes m k) _ ((good_at source envelopes once all placed id o at).children m inside k i at_i) in
         omega arith))
-        ∙ starts_behind (full_size source envelopes) id 1 (id + 1) refl (items_in source m)
+        ∙ starts_after (full_size source envelopes) id 1 (id + 1) refl (items_in source m)
 
     nothing_by : (id : ℕ) (o : Entry) (e : ℕ) (b : Bool) → slice_get all id ≡ Some o → module_at source envelopes o ≡ None → listed (names_of (path_at source envelopes o)) e ≡ b → b ≡ false
     nothing_by id o e false at none is = refl
@@ -196,7 +196,7 @@ module _ (source : Source) (envelopes : List Envelope) where
       found_starts : (before ms : List Module) (k n : ℕ) → source.modules ≡ before ++ ms → length before ≡ k → n ≡ total top_size (filter (is_top source) before) → filter_map found ms ≡ starts top_size n (filter (is_top source) ms)
       found_starts before [] k n split long is = refl
       found_starts before (m ∷ ms) k n split long is =
-          let at : slice_get source.modules k ≡ Some m = at_behind k source.modules before m ms split long in
+          let at : slice_get source.modules k ≡ Some m = at_after k source.modules before m ms split long in
           let slot_is : root_slot source envelopes k ≡ n = ap (λ (xs : List Module). total top_size (filter (is_top source) xs)) (ap (take k) split ∙ take_front k before (m ∷ ms) long) ∙ sym is in
           found_by before m ms n (is_top source m) refl is
           (found_at k m (is_top source m) at refl ∙ ap (λ (j : ℕ). cond (is_top source m) (Some j) None) slot_is)

@@ -21,7 +21,7 @@ use Rattle.vp_elab.specs.Tree.{Node, Step, children_named, children_of, find_in,
 use Rattle.vp_elab.specs.Elaboration.{further_limit}
 use Rattle.vp_elab.specs.Objects.{Declared, declared_in, top_of}
 use Rattle.vp_elab.specs.Built.{Elaborated, IsBuilt, design_of}
-use Rattle.vp_elab.proofs.Designed.{long_within, top_behind, top_first, top_nowhere, top_other}
+use Rattle.vp_elab.proofs.Designed.{long_within, top_after, top_first, top_nowhere, top_other}
 use Rattle.vp_elab.proofs.Entries.{Entry, entries_within, module_at, node_at, object_at, path_at, within_nodes, within_objects}
 use Rattle.vp_elab.proofs.Found.{path_is}
 use Rattle.vp_elab.proofs.Listed.{child_back, child_list, child_slots, found, leaf_list, roots_are}
@@ -95,10 +95,10 @@ module _ (source : Source) (protection : Protection) (tables : Tables) (scopes :
   are_in : (id : ℕ) (e : Entry) (m : Option Module) → slice_get all id ≡ Some e → module_at source envelopes e ≡ m → AreChildren id (slots_by m)
   are_in id e None at inside = (sym (children_at id (Some e) at ∙ leaf_list source envelopes once all placed id e at inside), λ k x at_x. absurd cc)
   are_in id e (Some m) at inside =
-      let behind = child_slots source envelopes once all placed id e m few at inside in (
-        behind ∙ sym (children_at id (Some e) at ∙ child_list source envelopes once all placed id e m at inside),
+      let following = child_slots source envelopes once all placed id e m few at inside in (
+        following ∙ sym (children_at id (Some e) at ∙ child_list source envelopes once all placed id e m at inside),
         λ k x at_x.
-            let there = ap (λ (xs : List ℕ). slice_get xs k) (sym behind) ∙ slice_get-map (λ (slot : ℕ). id + slot) (slots_by (Some m)) k ∙ ap (option_map (λ (slot : ℕ). id + slot)) at_x in
+            let there = ap (λ (xs : List ℕ). slice_get xs k) (sym following) ∙ slice_get-map (λ (slot : ℕ). id + slot) (slots_by (Some m)) k ∙ ap (option_map (λ (slot : ℕ). id + slot)) at_x in
             let within = (child_back source envelopes once all placed id e m k (id + x) at inside there).1 in
             let long = length-map all (node_at source envelopes) in
             let most = few in
@@ -143,7 +143,7 @@ module _ (source : Source) (protection : Protection) (tables : Tables) (scopes :
     top_by name number first (Some o) found there object = top_in name number first o o.parent found there object refl
 
     top_at : (name : List ℕ) (number : ℕ) (first : Option ObjectId) → Some number ≡ position (bytes_eq name) ns → first ≡ slice_index_or fs number None → option_map (λ (o : ObjectId). o.0) (top_of os first) ≡ find_in d.tree.nodes None name
-    top_at name number None found there = top_behind source protection tables scopes objects built d view ns fs name number ns_is fs_is found there
+    top_at name number None found there = top_after source protection tables scopes objects built d view ns fs name number ns_is fs_is found there
     top_at name number (Some first) found there = top_by name number first (slice_get os first.0) found there refl
 
     -- the top module of a name

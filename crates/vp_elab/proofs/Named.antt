@@ -14,8 +14,8 @@ use Rattle.vp_source.specs.declared.source.Source.{Source}
 use Rattle.vp_source.specs.declared.source.Module.{Module}
 use Rattle.vp_source.specs.declared.source.Item.{Item}
 use Rattle.vp_source.specs.declared.source.Item.TheVariants as item
-use Rattle.vp_names.specs.declared.fault.ElabError.{ElabError}
-use Rattle.vp_names.specs.declared.fault.ElabError.TheVariants.{Duplicate, UnknownModule, Recursive}
+use Rattle.vp_names.specs.declared.error.ElabError.{ElabError}
+use Rattle.vp_names.specs.declared.error.ElabError.TheVariants.{Duplicate, UnknownModule, Recursive}
 use Rattle.vp_names.specs.Items.{definition_number, definition_of, instantiated, is_among, item_name, item_place, items_in, module_named, module_number}
 use Rattle.vp_names.specs.Refusals.{first_in, first_of_two, refused_at, twice, twice_in}
 use Rattle.vp_modules.specs.Refusals.{missing_module, recursive, refusal_of, refusal_of_instances, refusal_of_uses}

@@ -13,7 +13,7 @@ use Rattle.vp_elab.specs.declared.object.TheConstants.{OBJECT_LIMIT}
 use Rattle.vp_elab.specs.Tree.{Step}
 use Rattle.vp_elab.specs.Elaboration.{further_limit, item_step, root_step}
 use Rattle.vp_elab.specs.Sizes.{item_size, size, total, whole_size}
-use Rattle.vp_elab.specs.laws.Positions.{slice_get_behind}
+use Rattle.vp_elab.specs.laws.Positions.{slice_get_after}
 use Rattle.vp_elab.proofs.Stable.{long_below, long_item, stable, total-append}
 use Rattle.vp_elab.proofs.Entries.{Entry, Top, Inner, entries_below, entries_from, entries_within, item_entries, module_at, path_at, top_entries}
 
@@ -44,8 +44,8 @@ take_front (suc n) [] ys e = absurd (omega arith)
 take_front (suc n) (x ∷ xs) ys e = ap (λ zs. x ∷ zs) (take_front n xs ys (omega arith))
 
 -- what stands after a front of so many
-pub at_behind : {X : Type 0} (n : ℕ) (all xs : List X) (y : X) (ys : List X) → all ≡ xs ++ y ∷ ys → length xs ≡ n → slice_get all n ≡ Some y
-at_behind n all xs y ys e l = ap (λ zs. slice_get zs n) e ∙ ap (slice_get (xs ++ y ∷ ys)) (sym l) ∙ slice_get_behind xs y ys
+pub at_after : {X : Type 0} (n : ℕ) (all xs : List X) (y : X) (ys : List X) → all ≡ xs ++ y ∷ ys → length xs ≡ n → slice_get all n ≡ Some y
+at_after n all xs y ys e l = ap (λ zs. slice_get zs n) e ∙ ap (slice_get (xs ++ y ∷ ys)) (sym l) ∙ slice_get_after xs y ys
 
 here_or_on : (k j : ℕ) → k ≤ j → (k ≡ j) ⊎ (k + 1 ≤ j)
 here_or_on k j l = grind arith
@@ -106,13 +106,13 @@ module _ (source : Source) (envelopes : List Envelope) where
     walk d item less above p m e there own_module own_path done (i ∷ is) k next split long is_next front back split_all long_front few =
         let own : List Entry = item_entries source envelopes (entries_below source envelopes d) above p m k next i in
         let rest : List Entry = entries_from source envelopes (entries_below source envelopes d) above p m (k + 1) (next + length own) is in
-        let at : slice_get (items_in source m) k ≡ Some i = at_behind k (items_in source m) done i is split long in
+        let at : slice_get (items_in source m) k ≡ Some i = at_after k (items_in source m) done i is split long in
         let before : take k (items_in source m) ≡ done = ap (take k) split ∙ take_front k done (i ∷ is) long in
         let is_id : next ≡ p + slot m k = is_next ∙ ap (λ (xs : List Item). p + (1 + total full_size xs)) (sym before) in
         let few_here : item_size source d i ≤ OBJECT_LIMIT = omega arith in
         let split_here : all ≡ front ++ (own ++ (rest ++ back)) = split_all ∙ ap (λ (xs : List Entry). front ++ xs) (append_assoc own rest back) in
         let good_here : AllFrom Good next own = item above p m k next i front (rest ++ back) few_here less split_here long_front (e, there, own_module, own_path, at, is_id) in
-        let first : slice_get all next ≡ Some (Inner above p m k i) = at_behind next all front (Inner above p m k i) _ split_here long_front in
+        let first : slice_get all next ≡ Some (Inner above p m k i) = at_after next all front (Inner above p m k i) _ split_here long_front in
         let long_own : length own ≡ full_size i = long_item source envelopes d above p m k next i few_here ∙ sym (stable source d (suc further_limit) i few_here less) in
         let sum : total full_size (done ++ i ∷ []) ≡ total full_size done + full_size i = total-append full_size done (i ∷ []) ∙ omega arith in
         let next_is : next + length own ≡ p + (1 + total full_size (done ++ i ∷ [])) = omega arith in
@@ -158,7 +158,7 @@ module _ (source : Source) (envelopes : List Envelope) where
         let path : List Step = above ++ item_step source envelopes m i ∷ [] in
         let own : Entry = Inner above p m k i in
         let below : List Entry = entries_below source envelopes (suc d) path next n in
-        let there : slice_get all next ≡ Some own = at_behind next all front own (below ++ back) split long in
+        let there : slice_get all next ≡ Some own = at_after next all front own (below ++ back) split long in
         let longer : length (front ++ own ∷ []) ≡ next + 1 = length-append front (own ∷ []) ∙ omega arith in
         let on = below_good d item less path next n own there is refl (front ++ own ∷ []) back (split ∙ sym (append_assoc front (own ∷ []) (below ++ back))) longer (omega arith) in
         (record { role = role; children = λ x x_is. let same : n ≡ x = cc in subst (HasChildren next path) same on.1 }, on.0)
@@ -189,7 +189,7 @@ module _ (source : Source) (envelopes : List Envelope) where
         let rest : List Entry = entries_within source envelopes (suc further_limit) (k + 1) (next + length (own ∷ below)) ms in
         let few_here : size source further_limit m ≤ OBJECT_LIMIT = omega arith in
         let split_here : all ≡ front ++ ((own ∷ below) ++ (rest ++ back)) = split_all ∙ ap (λ (xs : List Entry). front ++ xs) (append_assoc (own ∷ below) rest back) in
-        let there : slice_get all next ≡ Some own = at_behind next all front own (below ++ (rest ++ back)) split_here long_front in
+        let there : slice_get all next ≡ Some own = at_after next all front own (below ++ (rest ++ back)) split_here long_front in
         let longer : length (front ++ own ∷ []) ≡ next + 1 = length-append front (own ∷ []) ∙ omega arith in
         let under = below_good further_limit (item_good further_limit) (omega arith) path next m own there refl refl (front ++ own ∷ []) (rest ++ back) (split_here ∙ sym (append_assoc front (own ∷ []) (below ++ (rest ++ back)))) longer few_here in
         let long_below_is : length below ≡ whole_size source m = long_below source envelopes further_limit path next m few_here in
@@ -200,7 +200,7 @@ module _ (source : Source) (envelopes : List Envelope) where
         let next_is : next + length (own ∷ below) ≡ total sizes (filter (is_top source) (before ++ m ∷ [])) = omega arith in
         let front_is : length (front ++ (own ∷ below)) ≡ next + length (own ∷ below) = length-append front (own ∷ below) ∙ omega arith in
         let further = on (next + length (own ∷ below)) next_is (front ++ (own ∷ below)) back (split_here ∙ sym (append_assoc front (own ∷ below) (rest ++ back))) front_is (omega arith) in
-        let at : slice_get source.modules k ≡ Some m = at_behind k source.modules before m ms split long in
+        let at : slice_get source.modules k ≡ Some m = at_after k source.modules before m ms split long in
         let number : next ≡ root_slot k = is_next ∙ ap (λ (xs : List Module). total sizes (filter (is_top source) xs)) (sym (ap (take k) split ∙ take_front k before (m ∷ ms) long)) in
         let good : Good next own = record { role = (at, top, number); children = λ x x_is. let same : m ≡ x = cc in subst (HasChildren next path) same under.1 } in
         let whole : AllFrom Good next (own ∷ below) = (good, under.0) in (
@@ -221,7 +221,7 @@ module _ (source : Source) (envelopes : List Envelope) where
         let filtered : filter (is_top source) (before ++ m ∷ []) ≡ filter (is_top source) before =
         filter-append (is_top source) before (m ∷ []) ∙ ap (λ (b : Bool). filter (is_top source) before ++ cond b (m ∷ []) []) top ∙ append-nil (filter (is_top source) before) in
         let further = on next (is_next ∙ ap (total sizes) (sym filtered)) front back split_all long_front few in
-        let at : slice_get source.modules k ≡ Some m = at_behind k source.modules before m ms split long in
+        let at : slice_get source.modules k ≡ Some m = at_after k source.modules before m ms split long in
         (further.0, λ j x from at_j top_j. go j x at_j at further.1 (here_or_on k j from) top_j)
       where
         go :

@@ -14,7 +14,7 @@ same_or_on n m l = grind arith
 rising_at : (n : ℕ) (xs : List ℕ) (j x : ℕ) → Rising n xs → slice_get xs j ≡ Some x → n ≤ x
 rising_at n [] j x up at = absurd cc
 rising_at n (y ∷ xs) zero x up at = let same : y ≡ x = cc in omega (arith, up.0)
-rising_at n (y ∷ xs) (suc j) x up at = let behind = rising_at (y + 1) xs j x up.1 at in omega (arith, up.0)
+rising_at n (y ∷ xs) (suc j) x up at = let following = rising_at (y + 1) xs j x up.1 at in omega (arith, up.0)
 
 -- so many numbers from one on
 abbrev numbers_from : ℕ → ℕ → List ℕ
@@ -38,7 +38,7 @@ abbrev pub In : List ℕ → ℕ → Type 0
 In xs e = (j : ℕ) × (slice_get xs j ≡ Some e)
 
 in_rest : (n x : ℕ) (xs : List ℕ) (e : ℕ) → n ≡ x → n + 1 ≤ e → In (x ∷ xs) e → In xs e
-in_rest n x xs e first behind it = by it.0 it.1
+in_rest n x xs e first following it = by it.0 it.1
   where
     by : (j : ℕ) → slice_get (x ∷ xs) j ≡ Some e → In xs e
     by zero at = let same : x ≡ e = cc in absurd (omega arith)
@@ -49,7 +49,7 @@ first_is n x xs up it = by it.0 it.1
   where
     by : (j : ℕ) → slice_get (x ∷ xs) j ≡ Some n → n ≡ x
     by zero at = let same : x ≡ n = cc in sym same
-    by (suc j) at = let behind = rising_at (x + 1) xs j n up.1 at in absurd (omega (arith, up.0))
+    by (suc j) at = let following = rising_at (x + 1) xs j n up.1 at in absurd (omega (arith, up.0))
 
 module _ (p : ℕ → Bool) where
   -- each number that passes, of so many from one on, is in the list
@@ -119,9 +119,9 @@ module _ {X : Type 0} (size : X → ℕ) where
   starts_read n (suc k) (y ∷ xs) e at = let it = starts_read (n + size y) k xs e at in (it.0, it.1, omega (arith, it.2))
 
   -- so far after a number
-  pub starts_behind : (m n k : ℕ) → k ≡ m + n → (xs : List X) → map (λ s. m + s) (starts n xs) ≡ starts k xs
-  starts_behind m n k is [] = refl
-  starts_behind m n k is (x ∷ xs) = ap (λ (e : ℕ). e ∷ map (λ s. m + s) (starts (n + size x) xs)) (sym is) ∙ ap (λ (es : List ℕ). k ∷ es) (starts_behind m (n + size x) (k + size x) (omega arith) xs)
+  pub starts_after : (m n k : ℕ) → k ≡ m + n → (xs : List X) → map (λ s. m + s) (starts n xs) ≡ starts k xs
+  starts_after m n k is [] = refl
+  starts_after m n k is (x ∷ xs) = ap (λ (e : ℕ). e ∷ map (λ s. m + s) (starts (n + size x) xs)) (sym is) ∙ ap (λ (es : List ℕ). k ∷ es) (starts_after m (n + size x) (k + size x) (omega arith) xs)
 
 -- ---- parts of a list that pass
 

@@ -21,18 +21,18 @@ use Rattle.vp_pragma.specs.Envelopes.{Viewport, envelope_at}
 use Rattle.vp_pragma.specs.Rights.{nothing}
 use Rattle.vp_elab.specs.declared.object.Object.{Object}
 use Rattle.vp_elab.specs.declared.object.ObjectId.{ObjectId}
-use Rattle.vp_elab.specs.Tree.{Node, Step, is_module_of, node_name, path_of, sight_in, sight_of}
+use Rattle.vp_elab.specs.Tree.{Node, Step, is_module_of, node_name, path_of, step_rights_in, step_rights_of}
 use Rattle.vp_elab.specs.Elaboration.{item_node, item_range, item_step, root_node, root_step, width_of}
 use Rattle.vp_elab.specs.Objects.{Declared, StandsFor, declared_in, is_of, module_name_at}
 use Rattle.vp_elab.proofs.Distinct.{bytes_eq-self}
 use Rattle.vp_elab.proofs.Entries.{Entry, Top, Inner, module_at, node_at, object_at}
 use Rattle.vp_elab.proofs.Found.{nat_same, path_is}
-use Rattle.vp_elab.proofs.LastSteps.{last_behind}
+use Rattle.vp_elab.proofs.LastSteps.{last_after}
 use Rattle.vp_elab.proofs.Named.{definition_named, module_index, right_definition, right_once, some_of}
 use Rattle.vp_elab.proofs.Parts.{definition_at, nowhere}
 use Rattle.vp_elab.proofs.Placed.{AllFrom, Good}
 use Rattle.vp_elab.proofs.Scopes.{bool_same, scoped_entry}
-use Rattle.vp_elab.proofs.Sights.{nothing_at_root}
+use Rattle.vp_elab.proofs.OpenedSteps.{nothing_at_root}
 use Rattle.vp_elab.proofs.Unique.{good_at}
 use Rattle.vp_elab.specs.laws.Positions.{position_is}
 
@@ -108,7 +108,7 @@ module _ (source : Source) (envelopes : List Envelope) (right : refusal_of sourc
     place = refl;
     envelope = refl;
     inside = refl;
-    behind = tt;
+    following = tt;
   }
   stands id (Inner above p m k i) at =
       let role = (good_at source envelopes (right_once source right) all placed id (Inner above p m k i) at).role in
@@ -129,7 +129,7 @@ module _ (source : Source) (envelopes : List Envelope) (right : refusal_of sourc
         place = refl;
         envelope = refl;
         inside = inside_is;
-        behind = omega (arith, role.5);
+        following = omega (arith, role.5);
       }
 
   match_by : (id : ℕ) (o : Option Entry) → slice_get all id ≡ o → MatchOption (option_map (object_at source envelopes) o) (slice_get nodes id ≡ None) (λ x. StandsFor nodes id x)
@@ -207,7 +207,7 @@ module _ (source : Source) (envelopes : List Envelope) (right : refusal_of sourc
       ap (λ (n : ℕ). option_and_then (module_at source envelopes) (slice_get all n)) below ∙ ap (option_and_then (module_at source envelopes)) role.1 ∙ role.2 in
       ap (λ (o : Option Module). option_map_or (λ (ns : List (List ℕ)). slice_index_or ns k []) (option_map (scope_in source) o) []) module_is
       ∙ or_mapped (item_name source) (items_in source m) k i [] role.4
-      ∙ sym (ap (λ (s : Option Step). option_map_or (λ (s : Step). s.name) s []) (last_behind above (item_step source envelopes m i)))
+      ∙ sym (ap (λ (s : Option Step). option_map_or (λ (s : Step). s.name) s []) (last_after above (item_step source envelopes m i)))
 
   -- the name of a top module
   pub name_top : (e : Entry) → (object_at source envelopes e).parent ≡ None → word_at source (object_at source envelopes e).place ≡ node_name (node_at source envelopes e)
@@ -215,21 +215,21 @@ module _ (source : Source) (envelopes : List Envelope) (right : refusal_of sourc
   name_top (Inner above p m k i) inside = absurd cc
 
   -- what viewports open of an item, from the table of its module
-  pub sight_inner : (vs : List Viewport) (id : ℕ) (e : Entry) (parent : ObjectId) → slice_get all id ≡ Some e → (object_at source envelopes e).parent ≡ Some parent → option_map_or (λ (d : Declared). slice_index_or d.sights (object_at source envelopes e).index (nothing, None)) (option_map (declared_in source (record { envelopes = envelopes; viewports = vs })) (option_and_then (module_at source envelopes) (slice_get all parent.0))) (nothing, None) ≡ sight_in vs (node_at source envelopes e)
-  sight_inner vs id (Top k m) parent at inside = absurd cc
-  sight_inner vs id (Inner above p m k i) parent at inside =
+  pub step_rights_inner : (vs : List Viewport) (id : ℕ) (e : Entry) (parent : ObjectId) → slice_get all id ≡ Some e → (object_at source envelopes e).parent ≡ Some parent → option_map_or (λ (d : Declared). slice_index_or d.all_step_rights (object_at source envelopes e).index (nothing, None)) (option_map (declared_in source (record { envelopes = envelopes; viewports = vs })) (option_and_then (module_at source envelopes) (slice_get all parent.0))) (nothing, None) ≡ step_rights_in vs (node_at source envelopes e)
+  step_rights_inner vs id (Top k m) parent at inside = absurd cc
+  step_rights_inner vs id (Inner above p m k i) parent at inside =
       let role = (good_at source envelopes (right_once source right) all placed id (Inner above p m k i) at).role in
       let below : parent.0 ≡ p = ap (λ (o : Option ObjectId). option_map_or (λ (q : ObjectId). q.0) o 0) (sym inside) in
       let module_is : option_and_then (module_at source envelopes) (slice_get all parent.0) ≡ Some m =
       ap (λ (n : ℕ). option_and_then (module_at source envelopes) (slice_get all n)) below ∙ ap (option_and_then (module_at source envelopes)) role.1 ∙ role.2 in
-      ap (λ (o : Option Module). option_map_or (λ (d : Declared). slice_index_or d.sights k (nothing, None)) (option_map (declared_in source (record { envelopes = envelopes; viewports = vs })) o) (nothing, None)) module_is
-      ∙ or_mapped (λ i. sight_of vs (item_step source envelopes m i)) (items_in source m) k i (nothing, None) role.4
-      ∙ sym (ap (λ (s : Option Step). option_map_or (sight_of vs) s (nothing, None)) (last_behind above (item_step source envelopes m i)))
+      ap (λ (o : Option Module). option_map_or (λ (d : Declared). slice_index_or d.all_step_rights k (nothing, None)) (option_map (declared_in source (record { envelopes = envelopes; viewports = vs })) o) (nothing, None)) module_is
+      ∙ or_mapped (λ i. step_rights_of vs (item_step source envelopes m i)) (items_in source m) k i (nothing, None) role.4
+      ∙ sym (ap (λ (s : Option Step). option_map_or (step_rights_of vs) s (nothing, None)) (last_after above (item_step source envelopes m i)))
 
   -- they open nothing of a top module
-  pub sight_top : (vs : List Viewport) (e : Entry) → (object_at source envelopes e).parent ≡ None → (nothing, None) ≡ sight_in vs (node_at source envelopes e)
-  sight_top vs (Top k m) inside = sym (nothing_at_root (word_at source m.name) m.name (envelope_at envelopes m.name) vs)
-  sight_top vs (Inner above p m k i) inside = absurd cc
+  pub step_rights_top : (vs : List Viewport) (e : Entry) → (object_at source envelopes e).parent ≡ None → (nothing, None) ≡ step_rights_in vs (node_at source envelopes e)
+  step_rights_top vs (Top k m) inside = sym (nothing_at_root (word_at source m.name) m.name (envelope_at envelopes m.name) vs)
+  step_rights_top vs (Inner above p m k i) inside = absurd cc
 
   -- ---- the first object of a module
 

@@ -11,7 +11,7 @@ use Rattle.vp_source.specs.declared.source.Item.{Item}
 use Rattle.vp_source.specs.declared.source.Module.{Module}
 use Rattle.vp_pragma.specs.declared.envelope.Envelope.{Envelope}
 use Rattle.vp_pragma.specs.Envelopes.{Viewport, envelope_at}
-use Rattle.vp_names.specs.declared.fault.ElabError.TheVariants.{Duplicate}
+use Rattle.vp_names.specs.declared.error.ElabError.TheVariants.{Duplicate}
 use Rattle.vp_names.specs.Items.{is_among, item_name, item_place, items_in}
 use Rattle.vp_names.specs.Refusals.{first_of_two, twice, twice_in}
 use Rattle.vp_names.specs.Tables.{scope_in}

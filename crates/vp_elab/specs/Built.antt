@@ -13,7 +13,7 @@ use Rattle.vp_pragma.specs.Envelopes.{Protection}
 use Rattle.vp_pragma.specs.Rights.{RightSet, set_of}
 use Rattle.vp_elab.specs.declared.design.Objects.{Objects}
 use Rattle.vp_elab.specs.declared.object.TheConstants.{OBJECT_LIMIT}
-use Rattle.vp_elab.specs.declared.sight.Sight.{Sight}
+use Rattle.vp_elab.specs.declared.step_rights.StepRights.{StepRights}
 use Rattle.vp_elab.specs.Items.{node_item}
 use Rattle.vp_elab.specs.Tree.{Node, Tree, definition_at, find_in}
 use Rattle.vp_elab.specs.Elaboration.{further_limit, tops, tree_of}
@@ -52,8 +52,8 @@ ItemsAreFound design =
     → IsFoundAs design id name i
 
 -- what a sight shows: the rights that viewports open, and the number of the first
-abbrev pub shown : Sight → RightSet × Option ℕ
-shown sight = (set_of sight.rights, sight.viewport)
+abbrev pub shown : StepRights → RightSet × Option ℕ
+shown step_rights = (set_of step_rights.rights, step_rights.viewport)
 
 -- the tables and the objects are those of the source, the envelopes and the viewports; the modules hold all of the source's lists,
 -- they are right, and the objects are not too many

@@ -13,7 +13,7 @@ use Rattle.vp_pragma.specs.Rights.{RightSet}
 use Rattle.vp_elab.specs.declared.object.Kind.TheVariants as kind
 use Rattle.vp_elab.specs.declared.object.Object.{Object}
 use Rattle.vp_elab.specs.declared.object.ObjectId.{ObjectId}
-use Rattle.vp_elab.specs.Tree.{Step, Node, below, path_of, sight_of}
+use Rattle.vp_elab.specs.Tree.{Step, Node, below, path_of, step_rights_of}
 use Rattle.vp_elab.specs.Elaboration.{item_kind, item_range, item_step, lowest_of, width_of}
 use Rattle.vp_elab.specs.Sizes.{slots_in}
 
@@ -29,14 +29,14 @@ numbers_of envelopes places =
 pub record Declared : Type 0 where
   pub envelopes : List ℕ
   pub slots : List ℕ
-  pub sights : List (RightSet × Option ℕ)
+  pub all_step_rights : List (RightSet × Option ℕ)
 
 -- what a module declares
 abbrev pub declared_in : Source → Protection → declared.Module → Declared
 declared_in source protection m = record {
   envelopes = numbers_of protection.envelopes (map item_place (items_in source m));
   slots = slots_in source m;
-  sights = map (λ i. sight_of protection.viewports (item_step source protection.envelopes m i)) (items_in source m);
+  all_step_rights = map (λ i. step_rights_of protection.viewports (item_step source protection.envelopes m i)) (items_in source m);
 }
 
 -- the name of the module that has this number in the text
@@ -132,7 +132,7 @@ pub record StandsFor (nodes : List Node) (id : ℕ) (o : Object) : Type 0 where
   pub place : step.place ≡ o.place
   pub envelope : step.envelope ≡ o.envelope
   pub inside : step.in_module ≡ option_and_then (λ p. option_and_then (λ n. n.definition) (slice_get nodes p.0)) o.parent
-  pub behind : IfSome o.parent (λ p. p.0 < id)
+  pub following : IfSome o.parent (λ p. p.0 < id)
 
 -- these objects stand for the nodes: each for that of its number, and none is left out
 abbrev pub AreObjects : List Node → List Object → Type 0

@@ -4,8 +4,8 @@ use Rattle.std.specs.List.{list_any}
 use Rattle.vp_source.specs.declared.source.Source.{Source}
 use Rattle.vp_source.specs.declared.source.Item.{Item}
 use Rattle.vp_source.specs.declared.source.Module as declared
-use Rattle.vp_names.specs.declared.fault.ElabError.{ElabError}
-use Rattle.vp_names.specs.declared.fault.ElabError.TheVariants.{TooManyObjects, ViewportUnknown}
+use Rattle.vp_names.specs.declared.error.ElabError.{ElabError}
+use Rattle.vp_names.specs.declared.error.ElabError.TheVariants.{TooManyObjects, ViewportUnknown}
 use Rattle.vp_names.specs.Items.{items_in}
 use Rattle.vp_names.specs.Refusals.{first_of_two}
 use Rattle.vp_modules.specs.Refusals as modules

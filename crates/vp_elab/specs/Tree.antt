@@ -125,16 +125,16 @@ abbrev pub first_viewport : List Viewport → Step → Option ℕ
 first_viewport viewports s = position (matches s) viewports
 
 -- what the viewports that match a step open, and the number of the first
-abbrev pub sight_of : List Viewport → Step → RightSet × Option ℕ
-sight_of viewports s = (viewed viewports s, first_viewport viewports s)
+abbrev pub step_rights_of : List Viewport → Step → RightSet × Option ℕ
+step_rights_of viewports s = (viewed viewports s, first_viewport viewports s)
 
 -- the same of an object, by the last step of its path
-abbrev pub sight_in : List Viewport → Node → RightSet × Option ℕ
-sight_in viewports node = option_map_or (sight_of viewports) (last_step node.path) (nothing, None)
+abbrev pub step_rights_in : List Viewport → Node → RightSet × Option ℕ
+step_rights_in viewports node = option_map_or (step_rights_of viewports) (last_step node.path) (nothing, None)
 
 -- the same of the object of a number; nothing where no object is
-abbrev pub sight_at : Tree → ℕ → RightSet × Option ℕ
-sight_at tree id = option_map_or (sight_in tree.viewports) (slice_get tree.nodes id) (nothing, None)
+abbrev pub step_rights_at : Tree → ℕ → RightSet × Option ℕ
+step_rights_at tree id = option_map_or (step_rights_in tree.viewports) (slice_get tree.nodes id) (nothing, None)
 
 -- the name of the object of a number; empty where no object is
 abbrev pub name_at : Tree → ℕ → List ℕ

@@ -8,7 +8,7 @@ use std::alloc::{AllocError, Global};
 use vp_list::Sequence;
 
 /// The objects that stand so far after an object. Takes memory.
-pub fn objects_behind(
+pub fn objects_after(
     alloc: Global,
     object: ObjectId,
     slots: &[u32],

@@ -7,17 +7,17 @@ ghost use Rattle.vp_pragma.specs.Envelopes.{object_of};
 ghost use Rattle.vp_pragma.specs.Reading.{viewport_of};
 ghost use Rattle.vp_pragma.specs.Rights.{nothing};
 ghost use Rattle.vp_source.specs.Whole.{AreWhole};
-ghost use Rattle.vp_elab.specs.Tree.{AreAlike, author_in, children_of, declared_envelopes, find_in, first_of, full_name_at, matches_at, name_at, node_envelope, sight_at};
+ghost use Rattle.vp_elab.specs.Tree.{AreAlike, author_in, children_of, declared_envelopes, find_in, first_of, full_name_at, matches_at, name_at, node_envelope, step_rights_at};
 ghost use Rattle.vp_elab.specs.Objects.{AreObjects, StandsFor, module_name_at};
 ghost use Rattle.vp_elab.specs.Built.{IsBuilt, IsElaborated, ItemsAreFound, design_of, shown};
 ghost use Rattle.vp_modules.specs.Refusals as modules;
 ghost use Rattle.vp_elab.specs.Items.{instantiated_at, node_item, parent_of};
 
-use crate::children::{objects_behind, top_at, tops_at};
+use crate::children::{objects_after, top_at, tops_at};
 use crate::object::{Kind, Object, ObjectId};
 use crate::objects::module_at;
 use crate::scope::Scope;
-use crate::sight::{Sight, is_on};
+use crate::step_rights::{StepRights, is_on};
 use std::alloc::{AllocError, Global};
 use std::marker::Model;
 use vp_list::{Sequence, SharedText, Text};
@@ -143,14 +143,14 @@ fn slot_at(objects: &[Object], scopes: &[Scope], id: ObjectId, index: usize) -> 
 }
 
 /// What viewports open of the item of an index in the module of an object.
-fn child_sight(objects: &[Object], scopes: &[Scope], id: ObjectId, index: u32) -> Sight
-    ensures { shown result ≡ option_map_or (λ s. slice_index_or s.sights index (nothing, None))
+fn child_step_rights(objects: &[Object], scopes: &[Scope], id: ObjectId, index: u32) -> StepRights
+    ensures { shown result ≡ option_map_or (λ s. slice_index_or s.all_step_rights index (nothing, None))
         (option_and_then (slice_get scopes.now)
         (option_and_then (λ o. o.scope) (slice_get objects.now id.0))) (nothing, None) }
 {
     match scope_at(objects, scopes, id) {
-        Some(scope) => scope.sight(index as usize),
-        None => Sight::none(),
+        Some(scope) => scope.step_rights(index as usize),
+        None => StepRights::none(),
     }
 }
 
@@ -368,16 +368,21 @@ impl Design {
     }
 
     /// What the viewports that match the object of a number open of it; nothing past the end.
-    pub fn sight(&self, id: ObjectId) -> Sight
-        ensures { shown result ≡ sight_at self.now.tree id.0 }
+    pub fn step_rights(&self, id: ObjectId) -> StepRights
+        ensures { shown result ≡ step_rights_at self.now.tree id.0 }
     {
         let objects = self.objects.all.as_slice();
         let Some(object) = object_at(objects, id) else {
-            return Sight::none();
+            return StepRights::none();
         };
         match object.parent {
-            Some(module) => child_sight(objects, self.scopes.as_slice(), module, object.index),
-            None => Sight::none(),
+            Some(module) => child_step_rights(
+                objects,
+                self.scopes.as_slice(),
+                module,
+                object.index,
+            ),
+            None => StepRights::none(),
         }
     }
 
@@ -472,7 +477,7 @@ impl Design {
     {
         let objects = self.objects.all.as_slice();
         match scope_at(objects, self.scopes.as_slice(), id) {
-            Some(scope) => objects_behind(alloc, id, scope.slots()),
+            Some(scope) => objects_after(alloc, id, scope.slots()),
             None => Ok(Sequence::from_vec(Vec::new(alloc))),
         }
     }

@@ -1,5 +1,5 @@
 ghost use Rattle.vp_list.specs.Refusals.{MayExplain};
-ghost use Rattle.vp_names.specs.declared.fault.ElabError.TheVariants.{NoMemory};
+ghost use Rattle.vp_names.specs.declared.error.ElabError.TheVariants.{NoMemory};
 ghost use Rattle.std.specs.Prelude.{◌≡◌, ◌≤◌, None, suc, length, map, IfErr, IfOk, OnOk};
 ghost use Rattle.vp_source.specs.Whole.{AreWhole};
 ghost use Rattle.vp_names.specs.Items.{definition_number, is_top};
@@ -13,11 +13,11 @@ ghost use Rattle.vp_elab.specs.Refusals.{refusal_of};
 ghost use Rattle.vp_elab.specs.Sizes.{object_count, sizes_in};
 
 use crate::design::{Design, Objects};
-use crate::firsts::firsts_of;
+use crate::first_instances::firsts_of;
 use crate::objects::objects_of;
 use crate::scope::{Scope, root_envelopes_of, scopes_of};
-use crate::sight::check_viewports;
 use crate::sizes::{check_count, sizes_of};
+use crate::step_rights::check_viewports;
 use std::alloc::{AllocError, Global};
 use vp_list::Sequence;
 use vp_modules::{Resolved, check_modules};

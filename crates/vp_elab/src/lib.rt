@@ -4,15 +4,15 @@
 mod children;
 mod design;
 mod elaboration;
-mod firsts;
+mod first_instances;
 mod object;
 mod objects;
 mod scope;
-mod sight;
 mod sizes;
+mod step_rights;
 
 pub use design::Design;
 pub use elaboration::elaborate;
 pub use object::{Kind, OBJECT_LIMIT, Object, ObjectId, range_width};
-pub use sight::Sight;
+pub use step_rights::StepRights;
 pub use vp_names::ElabError;

@@ -76,7 +76,7 @@ fn add_items(
     module: Module,
 ) -> Result<(), AllocError>
     requires definitions { definitions.now ≡ map (definition_number source.now) source.now.items }
-    requires behind { length objects.old.items ≡ parent.0 + 1 }
+    requires following { length objects.old.items ≡ parent.0 + 1 }
     requires few { length objects.old.items + size source.now further «module» ≤ OBJECT_LIMIT }
     ensures { OnOk result (objects.new.items ≡ objects.old.items
         ++ objects_below source.now envelopes.now.envelopes (suc further) parent.0 «module») }

@@ -11,8 +11,8 @@ ghost use Rattle.vp_elab.specs.Objects.{declared_in, numbers_of};
 ghost use Rattle.vp_elab.specs.Sizes.{sizes_in};
 ghost use Rattle.vp_elab.specs.Tree.{below};
 
-use crate::sight::{Sight, sights_of};
 use crate::sizes::{definitions_of, slots_of};
+use crate::step_rights::{StepRights, all_step_rights_of};
 use std::alloc::{AllocError, Global};
 use std::marker::Model;
 use vp_list::Sequence;
@@ -28,7 +28,7 @@ pub struct Scope {
     /// How far each stands after the module's object.
     slots: Sequence<u32>,
     /// What viewports open of each.
-    sights: Sequence<Sight>,
+    all_step_rights: Sequence<StepRights>,
 }
 
 impl Model for Scope {
@@ -41,7 +41,7 @@ impl Model for Scope {
     ghost view = { λ s. record {
       envelopes = s.envelopes;
       slots = s.slots;
-      sights = map shown s.sights;
+      all_step_rights = map shown s.all_step_rights;
     } };
 }
 
@@ -68,12 +68,12 @@ impl Scope {
     }
 
     /// What viewports open of the item of an index; nothing past the end.
-    pub fn sight(&self, index: usize) -> Sight
-        ensures { shown result ≡ slice_index_or self.now.sights index (nothing, None) }
+    pub fn step_rights(&self, index: usize) -> StepRights
+        ensures { shown result ≡ slice_index_or self.now.all_step_rights index (nothing, None) }
     {
-        match self.sights.as_slice().get(index).copied() {
-            Some(sight) => sight,
-            None => Sight::none(),
+        match self.all_step_rights.as_slice().get(index).copied() {
+            Some(step_rights) => step_rights,
+            None => StepRights::none(),
         }
     }
 }
@@ -187,12 +187,12 @@ fn scope_of(
     ensures { IfOk result (λ scope. scope ≡ declared_in source.now envelopes.now «module») }
 {
     let slots = slots_of(alloc, definitions_of(definitions, module), sizes)?;
-    let sights = sights_of(alloc, source, envelopes, names, module)?;
+    let all_step_rights = all_step_rights_of(alloc, source, envelopes, names, module)?;
     let envelopes = item_envelopes_of(alloc, envelopes, items_of(source, module))?;
     Ok(Scope {
         envelopes,
         slots,
-        sights,
+        all_step_rights,
     })
 }
 

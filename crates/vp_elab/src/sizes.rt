@@ -2,7 +2,7 @@
 ghost use Rattle.std.specs.Prelude.{◌≡◌, ◌+◌, ◌≤◌, ◌<◌, false, if◌then◌else◌, length, map, slice_index_or, IfOk, MatchResult};
 ghost use Rattle.vp_modules.specs.Definitions.{definitions_in};
 ghost use Rattle.vp_names.specs.Items.{definition_number, is_top, items_in};
-ghost use Rattle.vp_names.specs.declared.fault.ElabError.TheVariants.{TooManyObjects};
+ghost use Rattle.vp_names.specs.declared.error.ElabError.TheVariants.{TooManyObjects};
 ghost use Rattle.vp_elab.specs.Elaboration.{further_limit};
 ghost use Rattle.vp_elab.specs.declared.object.TheConstants.{OBJECT_LIMIT};
 ghost use Rattle.vp_elab.specs.Sizes.{capped, many, object_count, size_by, sizes_in, slots_by, total};

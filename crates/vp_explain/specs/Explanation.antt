@@ -7,14 +7,14 @@ use Rattle.vp_elab.specs.Tree.{dotted}
 use Rattle.vp_policy.specs.Users.{member_at}
 use Rattle.vp_policy.specs.View.{View, view_of}
 use Rattle.vp_waking.specs.declared.change.Change.{Change}
-use Rattle.vp_audit.specs.SeenRace.{SeenRace}
+use Rattle.vp_audit.specs.ShownRace.{ShownRace}
 use Rattle.vp_audit.specs.Entries.{Entry}
 use Rattle.vp_audit.specs.Worlds.{Opening}
 use Rattle.vp_audit.specs.Seen.{names_seen}
 use Rattle.vp_audit.specs.declared.explaining.Explained.{Explained}
-use Rattle.vp_audit.specs.declared.item.Granted.{Granted}
+use Rattle.vp_audit.specs.declared.item.GrantItem.{GrantItem}
 use Rattle.vp_audit.specs.declared.item.Item.{Item}
-use Rattle.vp_audit.specs.declared.item.Own.{Own}
+use Rattle.vp_audit.specs.declared.item.OwnEvent.{OwnEvent}
 use Rattle.vp_audit.specs.declared.item.Projection.{Projection}
 use Rattle.vp_audit.specs.Explained.{explained_from}
 use Rattle.vp_audit.specs.Projections.{first_part, projection}
@@ -38,20 +38,20 @@ abbrev pub told_line : Explained → List ℕ
 told_line t = decimal t.item ++ (words_text (codes "told" ∷ origin_words t.brought) ++ 32 ∷ line_of t.reply)
 
 -- the line for an event of his own, by what he was told from there on
-abbrev pub own_line : Option Own → List Explained → List ℕ
+abbrev pub own_line : Option OwnEvent → List Explained → List ℕ
 own_line None told = []
-own_line (Some own) [] = []
-own_line (Some own) (t ∷ told) = told_line t
+own_line (Some own_event) [] = []
+own_line (Some own_event) (t ∷ told) = told_line t
 
 -- what he was told after an item
-abbrev pub told_behind : Option Own → List Explained → List Explained
-told_behind None told = told
-told_behind (Some own) told = drop 1 told
+abbrev pub told_after : Option OwnEvent → List Explained → List Explained
+told_after None told = told
+told_after (Some own_event) told = drop 1 told
 
 -- ---- what came to him
 
 -- the line for a change of his grants: the envelope, and what he is granted there
-abbrev pub grant_line : (number : ℕ) → Granted → List ℕ
+abbrev pub grant_line : (number : ℕ) → GrantItem → List ℕ
 grant_line number g = item_line number (codes "grant" ∷ decimal g.envelope ∷ access_text g.access ∷ [])
 
 -- the line for a change: the full name of the object, and its value in binary digits, greatest bit first
@@ -68,7 +68,7 @@ finish_line number true = item_line number (codes "finished" ∷ [])
 finish_line number false = []
 
 -- the line for a race: the full name of its net or reg
-abbrev pub race_line : (number : ℕ) → SeenRace → List ℕ
+abbrev pub race_line : (number : ℕ) → ShownRace → List ℕ
 race_line number race = item_line number (codes "race" ∷ race.name ∷ [])
 
 -- the lines for what came with the item of a number: a change of his grants, a change, the time, $finish, a race
@@ -83,15 +83,15 @@ item_lines v number i =
 -- ---- all of it
 
 -- what he sees after an item
-abbrev pub view_behind : View → Option Granted → View
-view_behind v None = v
-view_behind v (Some g) = g.view
+abbrev pub view_after : View → Option GrantItem → View
+view_after v None = v
+view_after v (Some g) = g.view
 
 -- the lines for items, in turn, from one of a number on, with what he was told by his own events
 abbrev pub explanation_from : (number : ℕ) → View → List Item → List Explained → List ℕ
 explanation_from number v [] told = []
 explanation_from number v (i ∷ items) told =
-    own_line i.own told ++ (item_lines v number i ++ explanation_from (number + 1) (view_behind v i.granted) items (told_behind i.own told))
+    own_line i.own_event told ++ (item_lines v number i ++ explanation_from (number + 1) (view_after v i.granted) items (told_after i.own_event told))
 
 -- what he was told and what came to him, from the first item on
 abbrev pub explanation_of : View → List Item → List Explained → List ℕ

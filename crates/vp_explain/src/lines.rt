@@ -3,10 +3,10 @@ ghost use Rattle.std.specs.Prelude.{◌≡◌, ◌++◌, [], ◌∷◌, codes, d
 ghost use Rattle.std.specs.Option.{option_map_or};
 ghost use Rattle.vp_outline.specs.Outline.{words_text};
 ghost use Rattle.vp_wire.specs.Lines.{line_of};
-ghost use Rattle.vp_explain.specs.Explanation.{change_line, explanation_of, finish_line, grant_line, item_lines, origin_words, own_line, race_line, time_line, told_behind, told_line, view_behind};
+ghost use Rattle.vp_explain.specs.Explanation.{change_line, explanation_of, finish_line, grant_line, item_lines, origin_words, own_line, race_line, time_line, told_after, told_line, view_after};
 
 use std::alloc::{AllocError, Global};
-use vp_audit::{Explained, Granted, Item, Projection, Reply, SeenRace, full_name};
+use vp_audit::{Explained, GrantItem, Item, Projection, Reply, ShownRace, full_name};
 use vp_list::Text;
 use vp_outline::{push_access, push_word};
 use vp_policy::View;
@@ -50,7 +50,7 @@ fn push_grant(
     alloc: Global,
     text: &mut String,
     number: u64,
-    granted: &Granted,
+    granted: &GrantItem,
 ) -> Result<(), AllocError>
     ensures { OnOk result (string_bytes text.new
         ≡ string_bytes text.old ++ grant_line number granted.now) }
@@ -95,7 +95,7 @@ fn push_finish(text: &mut String, number: u64, finished: bool) -> Result<(), All
 }
 
 /// Adds the line for a race.
-fn push_race(text: &mut String, number: u64, race: &SeenRace) -> Result<(), AllocError>
+fn push_race(text: &mut String, number: u64, race: &ShownRace) -> Result<(), AllocError>
     ensures { OnOk result (string_bytes text.new
         ≡ string_bytes text.old ++ race_line number race.now) }
 {
@@ -141,10 +141,10 @@ fn push_own<'a>(
     told: &'a [Explained],
 ) -> Result<&'a [Explained], AllocError>
     ensures text { OnOk result (string_bytes text.new
-        ≡ string_bytes text.old ++ own_line item.now.own told.now) }
-    ensures rest { IfOk result (λ rest. rest.now ≡ told_behind item.now.own told.now) }
+        ≡ string_bytes text.old ++ own_line item.now.own_event told.now) }
+    ensures rest { IfOk result (λ rest. rest.now ≡ told_after item.now.own_event told.now) }
 {
-    if item.own.is_none() {
+    if item.own_event.is_none() {
         return Ok(told);
     }
     match told.split_first() {
@@ -158,7 +158,7 @@ fn push_own<'a>(
 
 /// What the user sees after an item.
 fn view_after<'a>(view: &'a View, item: &'a Item) -> &'a View
-    ensures { result.now ≡ view_behind view.now item.now.granted }
+    ensures { result.now ≡ view_after view.now item.now.granted }
 {
     match &item.granted {
         Some(granted) => &granted.value().view,

@@ -182,8 +182,8 @@ ends = refl
 cut_out : cut_at (laid_of awaits).0 (laid_of awaits).1 7 ≡ change edge.Any 2 ∷ change edge.Any 5 ∷ []
 cut_out = refl
 
-none_behind_the_end : cut_at (laid_of awaits).0 (laid_of awaits).1 11 ≡ []
-none_behind_the_end = refl
+none_after_the_end : cut_at (laid_of awaits).0 (laid_of awaits).1 11 ≡ []
+none_after_the_end = refl
 
 -- ---- what statements read: begin wait (7) 6 = 2; case (1) 5, 3: 6 = 4; default: ; endcase end, by slots
 

@@ -23,17 +23,17 @@ place_from index before (c ∷ cs) = cond (is_blank c.port && (before == index))
 
 -- ---- the place by position
 
-behind_by : (index before : ℕ) (o : Option ℕ) (n : ℕ) (b : Bool) → (before == index) ≡ b → index < before → cond (is_blank o && (before == index)) 0 (1 + n) ≡ 1 + n
-behind_by index before (Some p) n b e l = refl
-behind_by index before None n true e l = let same : before ≡ index = eqb-true before index e in absurd (omega arith)
-behind_by index before None n false e l = ap (λ (x : Bool). cond x 0 (1 + n)) e
+after_by : (index before : ℕ) (o : Option ℕ) (n : ℕ) (b : Bool) → (before == index) ≡ b → index < before → cond (is_blank o && (before == index)) 0 (1 + n) ≡ 1 + n
+after_by index before (Some p) n b e l = refl
+after_by index before None n true e l = let same : before ≡ index = eqb-true before index e in absurd (omega arith)
+after_by index before None n false e l = ap (λ (x : Bool). cond x 0 (1 + n)) e
 
 -- after its index none is
-behind : (index before : ℕ) (cs : List Connection) → index < before → place_from index before cs ≡ length cs
-behind index before [] l = refl
-behind index before (c ∷ cs) l =
-    let rest : place_from index (before + 1) cs ≡ length cs = behind index (before + 1) cs (omega arith) in
-    behind_by index before c.port (place_from index (before + 1) cs) (before == index) refl l ∙ ap (λ (n : ℕ). 1 + n) rest ∙ omega arith
+following : (index before : ℕ) (cs : List Connection) → index < before → place_from index before cs ≡ length cs
+following index before [] l = refl
+following index before (c ∷ cs) l =
+    let rest : place_from index (before + 1) cs ≡ length cs = following index (before + 1) cs (omega arith) in
+    after_by index before c.port (place_from index (before + 1) cs) (before == index) refl l ∙ ap (λ (n : ℕ). 1 + n) rest ∙ omega arith
 
 here_by : (index before : ℕ) (o : Option ℕ) (n m : ℕ) → n ≡ m → (before == index) ≡ true → cond (is_blank o && (before == index)) 0 (1 + n) ≡ option_map_or (λ (p : ℕ). suc m) o 0
 here_by index before None n m e t = ap (λ (b : Bool). cond b 0 (1 + n)) t
@@ -57,7 +57,7 @@ place_is : (index before k : ℕ) (cs : List Connection) → before + k ≡ inde
 place_is index before k [] e = refl
 place_is index before zero (c ∷ cs) e =
     let same : before ≡ index = omega arith in
-    here_by index before c.port (place_from index (before + 1) cs) (length cs) (behind index (before + 1) cs (omega arith)) (eq-eqb before index same)
+    here_by index before c.port (place_from index (before + 1) cs) (length cs) (following index (before + 1) cs (omega arith)) (eq-eqb before index same)
 place_is index before (suc k) (c ∷ cs) e =
     before_by index before k c.port (place_from index (before + 1) cs) (before == index) refl e
     ∙ ap (λ (n : ℕ). 1 + n) (place_is index (before + 1) k cs (omega arith))

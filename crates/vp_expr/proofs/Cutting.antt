@@ -6,7 +6,7 @@ use Rattle.std.specs.List.{flat_map, fold}
 use Rattle.vp_list.specs.Lists.{has_range, range_of}
 use Rattle.vp_elab.specs.Built.{Elaborated}
 use Rattle.vp_expr.specs.declared.awaited.Awaited.{Awaited}
-use Rattle.vp_expr.specs.Awaits.{awaits_of, cut_at, end_at, laid_behind}
+use Rattle.vp_expr.specs.Awaits.{awaits_of, cut_at, end_at, laid_after}
 use Rattle.vp_expr.specs.Tables.{awaited_of, tables_of}
 use Rattle.vp_resolve.specs.Operands.{operands_of}
 use Rattle.vp_resolve.proofs.Gapless.{in_range}
@@ -16,15 +16,15 @@ abbrev all : List (List Awaited) → List Awaited
 all awaits = flat_map (λ changes. changes) awaits
 
 -- where each list of changes ends after others
-abbrev ends_behind : List Awaited → List (List Awaited) → List ℕ
-ends_behind others [] = []
-ends_behind others (changes ∷ awaits) = length (others ++ changes) ∷ ends_behind (others ++ changes) awaits
+abbrev ends_after : List Awaited → List (List Awaited) → List ℕ
+ends_after others [] = []
+ends_after others (changes ∷ awaits) = length (others ++ changes) ∷ ends_after (others ++ changes) awaits
 
-laid_is : (others : List Awaited) (ends : List ℕ) (awaits : List (List Awaited)) → fold laid_behind (others, ends) awaits ≡ (others ++ all awaits, ends ++ ends_behind others awaits)
+laid_is : (others : List Awaited) (ends : List ℕ) (awaits : List (List Awaited)) → fold laid_after (others, ends) awaits ≡ (others ++ all awaits, ends ++ ends_after others awaits)
 laid_is others ends [] = rw (append-nil others, append-nil ends) refl
 laid_is others ends (changes ∷ awaits) =
     laid_is (others ++ changes) (ends ++ length (others ++ changes) ∷ []) awaits
-    ∙ rw (append_assoc others changes (all awaits), append_assoc ends (length (others ++ changes) ∷ []) (ends_behind (others ++ changes) awaits)) refl
+    ∙ rw (append_assoc others changes (all awaits), append_assoc ends (length (others ++ changes) ∷ []) (ends_after (others ++ changes) awaits)) refl
 
 -- nothing stands before the first place
 none : {X : Type 0} (b : Bool) (k : ℕ) (xs : List X) → k ≡ 0 → cond b (take k xs) [] ≡ []
@@ -47,11 +47,11 @@ cut_first others changes rest =
     ∙ ap (λ (i : ℕ). take i (changes ++ rest)) (let same : to - from ≡ length changes = omega arith in same)
     ∙ take-append_seam changes rest
 
-cut_is : (others : List Awaited) (awaits : List (List Awaited)) (place : ℕ) → range_of (others ++ all awaits) (end_at (length others ∷ ends_behind others awaits) place) (end_at (ends_behind others awaits) place) ≡ get_or awaits place []
+cut_is : (others : List Awaited) (awaits : List (List Awaited)) (place : ℕ) → range_of (others ++ all awaits) (end_at (length others ∷ ends_after others awaits) place) (end_at (ends_after others awaits) place) ≡ get_or awaits place []
 cut_is others [] place = none_before (others ++ []) (end_at (length others ∷ []) place)
 cut_is others (changes ∷ awaits) zero = cut_first others changes (all awaits)
 cut_is others (changes ∷ awaits) (suc place) =
-    ap (λ (l : List Awaited). range_of l (end_at (length (others ++ changes) ∷ ends_behind (others ++ changes) awaits) place) (end_at (ends_behind (others ++ changes) awaits) place))
+    ap (λ (l : List Awaited). range_of l (end_at (length (others ++ changes) ∷ ends_after (others ++ changes) awaits) place) (end_at (ends_after (others ++ changes) awaits) place))
     (sym (append_assoc others changes (all awaits)))
     ∙ cut_is (others ++ changes) awaits place
 

@@ -36,7 +36,7 @@ use Rattle.vp_operand.specs.Terms.{Term, value}
 use Rattle.vp_expr.specs.Evaluation.{eval}
 use Rattle.vp_operand.specs.Ids as ids
 use Rattle.vp_operand.proofs.Arenas.{grows_at, length-terms}
-use Rattle.vp_expr.proofs.Wholes.{stand_behind}
+use Rattle.vp_expr.proofs.Wholes.{stand_after}
 
 -- the terms of expressions in a list, by the object of their module; before those of the module stand other operands
 abbrev terms_in : Elaborated → (scope : Option ℕ) → List Operand → List node.Expression → List Term
@@ -178,11 +178,11 @@ mutual
       let l = expr_stands d m os b y.1 k.long in
       let ts = terms_in d m os z.1 in
       let twice = grown_twice (terms_in d m os nodes) (terms_in d m os x.1) (terms_in d m os y.1) h.more k.more h.grown k.grown in
-      let behind = grown_twice (terms_in d m os x.1) (terms_in d m os y.1) ts k.more l.more k.grown l.grown in
+      let following = grown_twice (terms_in d m os x.1) (terms_in d m os y.1) ts k.more l.more k.grown l.grown in
       placed d m os nodes z.1 l.long (h.more ++ k.more ++ l.more) (node_of.Conditional x.0 y.0 z.0) _
       (grown_twice (terms_in d m os nodes) (terms_in d m os y.1) ts (h.more ++ k.more) l.more twice l.grown)
       (choice_made ts x.0 y.0 z.0 (expr_term d m c) (expr_term d m a) (expr_term d m b)
-      (later (terms_in d m os x.1) (k.more ++ l.more) ts x.0 (expr_term d m c) behind h.inside h.is)
+      (later (terms_in d m os x.1) (k.more ++ l.more) ts x.0 (expr_term d m c) following h.inside h.is)
       (later (terms_in d m os y.1) l.more ts y.0 (expr_term d m a) l.grown k.inside k.is)
       l.is)
   expr_stands d m os (Concatenation opening l closing) nodes q = parts_stand d m os opening l nodes q
@@ -241,7 +241,7 @@ term_derived d m place e whole s =
     let there = s.there in
     let from = s.from in
     let to = s.to in
-    let w = stand_behind d m s.number x.1 s.behind whole s.one s.laid (omega arith) (omega arith) in
+    let w = stand_after d m s.number x.1 s.following whole s.one s.laid (omega arith) (omega arith) in
     let first = w.first in
     let h = expr_stands d scope w.os e s.before (omega arith) in
     ap (λ (p : ℕ). term_at (operands_of d) p) s.there

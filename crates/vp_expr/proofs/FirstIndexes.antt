@@ -9,7 +9,7 @@ use Rattle.std.proofs.lemmas.Option.{slice_get-get_or}
 use Rattle.std.proofs.lemmas.Slice.Eq.{bytes_eq-Decides}
 use Rattle.vp_names.specs.Items.{is_among}
 use Rattle.vp_expr.specs.Origins.{by_first, first_index}
-use Rattle.vp_elab.specs.laws.Positions.{or_else, position_from-append, position_is, slice_get_behind}
+use Rattle.vp_elab.specs.laws.Positions.{or_else, position_from-append, position_is, slice_get_after}
 
 last_by : (o : Option ℕ) (b : Bool) (n : ℕ) → or_else o (cond b (Some n) None) ≡ by_first o b n
 last_by None true n = refl
@@ -42,7 +42,7 @@ slice_get_front (x ∷ xs) ys zero l = refl
 slice_get_front (x ∷ xs) ys (suc i) l = slice_get_front xs ys i (omega arith)
 
 new_by : (indexes : List ℕ) (n i : ℕ) (o : Option ℕ) (b : Bool) → n ≡ length indexes → ((k : ℕ) → o ≡ Some k → k < length indexes) → option_and_then (slice_get (indexes ++ i ∷ [])) (by_first o b n) ≡ by_first (option_and_then (slice_get indexes) o) b i
-new_by indexes n i None true e l = ap (slice_get (indexes ++ i ∷ [])) e ∙ slice_get_behind indexes i []
+new_by indexes n i None true e l = ap (slice_get (indexes ++ i ∷ [])) e ∙ slice_get_after indexes i []
 new_by indexes n i None false e l = refl
 new_by indexes n i (Some k) b e l =
     let at : slice_get indexes k ≡ Some (get_or indexes k 0) = slice_get-get_or indexes k 0 (l k refl) in

@@ -17,8 +17,8 @@ use Rattle.vp_source.specs.declared.source.Item.{Item}
 use Rattle.vp_source.specs.declared.source.Module.{Module}
 use Rattle.vp_source.specs.declared.source.Source.{Source}
 use Rattle.vp_source.specs.Places.{earliest, word_at}
-use Rattle.vp_names.specs.declared.fault.ElabError.{ElabError}
-use Rattle.vp_names.specs.declared.fault.ElabError.TheVariants.{Undeclared}
+use Rattle.vp_names.specs.declared.error.ElabError.{ElabError}
+use Rattle.vp_names.specs.declared.error.ElabError.TheVariants.{Undeclared}
 use Rattle.vp_names.specs.Items.{expressions_in, is_operand, is_signal, items_in, named_at, statements_in, terms_in}
 use Rattle.vp_names.specs.Refusals.{assigned_by, first_in, first_of_two, name_in, refused_at, target_of, undeclared, unfit}
 use Rattle.vp_elab.specs.modules as modules
@@ -28,7 +28,7 @@ use Rattle.vp_elab.specs.Tree.{Node, first_of}
 use Rattle.vp_operand.specs.Arena.{is_width}
 use Rattle.vp_operand.specs.Ids.{Sized}
 use Rattle.vp_operand.proofs.Arenas.{each_fits, width_from}
-use Rattle.vp_resolve.specs.declared.fault.ExprError.TheVariants.{BadSelect, SignedCompare, TooWide}
+use Rattle.vp_resolve.specs.declared.error.ExprError.TheVariants.{BadSelect, SignedCompare, TooWide}
 use Rattle.vp_resolve.specs.Checks as checks
 use Rattle.vp_resolve.specs.Checks.{counted_sizes, first_bad, first_signed, first_wide, first_wide_in, is_wide, is_wide_part, place_if, refusal_of, wide_declared, wide_item, wide_target}
 use Rattle.vp_resolve.specs.Names.{lowest_in, object_named, scope_of, slot_in, width_in}

@@ -58,7 +58,7 @@ module _ (d : Elaborated) where
       let up = h.1 in
       let last = gapless_up x.expressions.end (map (λ m. m.expressions) ms) (length es) h.2 in
       let many = held x up last in
-      let behind = b.first in
+      let following = b.first in
       record {
         os = own ++ b.os;
         rest = b.rest;
@@ -69,29 +69,29 @@ module _ (d : Elaborated) where
       }
 
   -- the operands of a design, up to those of some expressions, of which the last are of a module, and the rest
-  pub record StandBehind (m : Module) (nodes : List Expression) : Type 0 where
+  pub record StandAfter (m : Module) (nodes : List Expression) : Type 0 where
     pub os : List Operand
     pub rest : List Operand
     pub first : length os ≡ m.expressions.first
     pub are : operands_of d ≡ (os ++ map (operand_of d (scope_of d m)) (drop (length os) nodes)) ++ rest
 
   -- the expressions of a module, of which some are told
-  told : (m : Module) (nodes behind : List Expression) → es ≡ nodes ++ behind → m.expressions.first ≤ length nodes → length nodes ≤ m.expressions.end → m.expressions.end ≤ length es → expressions_in d.source m ≡ drop m.expressions.first nodes ++ take (m.expressions.end - length nodes) behind
-  told m nodes behind laid from to inside =
+  told : (m : Module) (nodes following : List Expression) → es ≡ nodes ++ following → m.expressions.first ≤ length nodes → length nodes ≤ m.expressions.end → m.expressions.end ≤ length es → expressions_in d.source m ≡ drop m.expressions.first nodes ++ take (m.expressions.end - length nodes) following
+  told m nodes following laid from to inside =
       let a = m.expressions.first in
       let b = m.expressions.end in
       let n : b - a ≡ length (drop a nodes) + (b - length nodes) = (let l = length-drop a nodes in omega arith) in
       in_range es a b (omega arith) inside
       ∙ ap (λ (l : List Expression). slice_range l a b) laid
-      ∙ ap (take (b - a)) (drop-append-le a nodes behind from)
-      ∙ ap (λ (i : ℕ). take i (drop a nodes ++ behind)) n
-      ∙ take-append-add (drop a nodes) behind (b - length nodes)
+      ∙ ap (take (b - a)) (drop-append-le a nodes following from)
+      ∙ ap (λ (i : ℕ). take i (drop a nodes ++ following)) n
+      ∙ take-append-add (drop a nodes) following (b - length nodes)
 
-  pub stand_behind : (m : Module) (number : ℕ) (nodes behind : List Expression) → AreWhole d.source → slice_get d.source.modules number ≡ Some m → es ≡ nodes ++ behind → m.expressions.first ≤ length nodes → length nodes ≤ m.expressions.end → StandBehind m nodes
-  stand_behind m number nodes behind whole one laid from to =
+  pub stand_after : (m : Module) (number : ℕ) (nodes following : List Expression) → AreWhole d.source → slice_get d.source.modules number ≡ Some m → es ≡ nodes ++ following → m.expressions.first ≤ length nodes → length nodes ≤ m.expressions.end → StandAfter m nodes
+  stand_after m number nodes following whole one laid from to =
       let b = among m d.source.modules number 0 whole.expressions one in
       let f = operand_of d (scope_of d m) in
-      let left = take (m.expressions.end - length nodes) behind in
+      let left = take (m.expressions.end - length nodes) following in
       let start : length b.os ≡ m.expressions.first = (let first = b.first in omega arith) in
       let own = map f (drop (length b.os) nodes) in
       record {
@@ -100,7 +100,7 @@ module _ (d : Elaborated) where
         first = start;
         are =
             b.are
-            ∙ ap (λ (l : List Expression). b.os ++ (map f l ++ b.rest)) (told m nodes behind laid from to b.inside)
+            ∙ ap (λ (l : List Expression). b.os ++ (map f l ++ b.rest)) (told m nodes following laid from to b.inside)
             ∙ ap (λ (i : ℕ). b.os ++ (map f (drop i nodes ++ left) ++ b.rest)) (sym start)
             ∙ ap (λ (l : List Operand). b.os ++ (l ++ b.rest)) (map-append f (drop (length b.os) nodes) left)
             ∙ ap (λ (l : List Operand). b.os ++ l) (append_assoc own (map f left) b.rest)

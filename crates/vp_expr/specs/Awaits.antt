@@ -138,12 +138,12 @@ awaits_of design operands = flat_map (awaits_in design operands (reads_of design
 -- ---- as one list
 
 -- the changes of one more statement after those of others, and where they end after where each of the others' do
-abbrev pub laid_behind : List Awaited × List ℕ → List Awaited → List Awaited × List ℕ
-laid_behind laid changes = (laid.0 ++ changes, laid.1 ++ length (laid.0 ++ changes) ∷ [])
+abbrev pub laid_after : List Awaited × List ℕ → List Awaited → List Awaited × List ℕ
+laid_after laid changes = (laid.0 ++ changes, laid.1 ++ length (laid.0 ++ changes) ∷ [])
 
 -- the changes of all statements, one statement's after the other's, and where those of each end
 abbrev pub laid_of : List (List Awaited) → List Awaited × List ℕ
-laid_of awaits = fold laid_behind ([], []) awaits
+laid_of awaits = fold laid_after ([], []) awaits
 
 -- the end at a place; 0 where there is none
 abbrev pub end_at : List ℕ → (place : ℕ) → ℕ

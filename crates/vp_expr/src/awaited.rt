@@ -1,7 +1,7 @@
 // The changes for which statements wait.
 ghost use Rattle.std.specs.Prelude.{◌≡◌, ◌++◌, [], map, option_map, IfOk, OnOk};
 ghost use Rattle.std.specs.List.{filter_map, fold};
-ghost use Rattle.vp_expr.specs.Awaits.{any_change, awaited_by, awaits_in, awaits_of, cut_at, end_at, laid_behind, laid_of, reads_in, statements_of, term_change, terms_at};
+ghost use Rattle.vp_expr.specs.Awaits.{any_change, awaited_by, awaits_in, awaits_of, cut_at, end_at, laid_after, laid_of, reads_in, statements_of, term_change, terms_at};
 ghost use Rattle.vp_resolve.specs.Names.{scope_of};
 
 use crate::statement_reads::add_below;
@@ -124,7 +124,7 @@ fn add_awaits(
 ) -> Result<(), AllocError>
     requires { option_map (λ o. o.0) scope ≡ scope_of design.now «module» }
     ensures { OnOk result ((awaits.new.awaited.items, awaits.new.ends.items)
-        ≡ fold laid_behind (awaits.old.awaited.items, awaits.old.ends.items)
+        ≡ fold laid_after (awaits.old.awaited.items, awaits.old.ends.items)
         (awaits_in design.now operands.now (reads_in design.now.source operands.now statements.now)
         «module»)) }
 {

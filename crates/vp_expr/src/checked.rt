@@ -1,5 +1,5 @@
 ghost use Rattle.vp_list.specs.Refusals.{MayExplain};
-ghost use Rattle.vp_resolve.specs.declared.fault.ExprError.TheVariants.{NoMemory};
+ghost use Rattle.vp_resolve.specs.declared.error.ExprError.TheVariants.{NoMemory};
 ghost use Rattle.std.specs.Prelude.{◌≡◌, ◌≤◌, ℕ, [], slice_index_or, true, length, map, All, None, IfErr, IfOk, OnOk};
 ghost use Rattle.std.specs.List.{list_all};
 ghost use Rattle.vp_expr.specs.Origins.{origins_of};

@@ -10,11 +10,11 @@ use vp_list::{Chunk, SharedList};
 /// A value for each object of a design, as they were at some time: copies of one design's share what did not change between
 /// them. A contract sees their list, by object number.
 #[derive(Drop)]
-pub struct KeptValues {
+pub struct ValuesCheckpoint {
     values: SharedList<Bits>,
 }
 
-impl Model for KeptValues {
+impl Model for ValuesCheckpoint {
     ghost use Rattle.std.specs.Prelude.{List};
     ghost use Rattle.vp_bits.specs.declared.bit.Bit.{Bit};
 
@@ -23,11 +23,11 @@ impl Model for KeptValues {
     ghost view = { λ v. v.values };
 }
 
-impl KeptValues {
-    pub(crate) fn new(values: SharedList<Bits>) -> KeptValues
+impl ValuesCheckpoint {
+    pub(crate) fn new(values: SharedList<Bits>) -> ValuesCheckpoint
         ensures { result ≡ values }
     {
-        KeptValues { values }
+        ValuesCheckpoint { values }
     }
 
     pub(crate) fn list(&self) -> &SharedList<Bits>
@@ -61,7 +61,7 @@ impl KeptValues {
 
     /// Whether two copies are the same: of as many values, each the same. It takes time for each value at most, chunk by chunk, and no
     /// memory.
-    pub fn is_same(&self, other: &KeptValues) -> bool
+    pub fn is_same(&self, other: &ValuesCheckpoint) -> bool
         ensures same { result ≡ true → self.now ≡ other.now }
         ensures differs { self.now ≡ other.now → result ≡ true }
     {

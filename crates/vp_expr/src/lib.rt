@@ -15,6 +15,6 @@ pub use actions::target_width;
 pub use awaited::Awaited;
 pub use checked::{Checked, check};
 pub use evaluation::{add_reads, eval, place_set};
-pub use kept::KeptValues;
+pub use kept::ValuesCheckpoint;
 pub use tables::{Action, Process, Tables, Target};
 pub use values::Values;

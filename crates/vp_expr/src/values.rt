@@ -7,7 +7,7 @@ ghost use Rattle.vp_expr.specs.Start.{start_of, start_value};
 ghost use Rattle.vp_operand.specs.Values.{no_value};
 
 use crate::checked::Checked;
-use crate::kept::KeptValues;
+use crate::kept::ValuesCheckpoint;
 use std::alloc::Global;
 use std::marker::Model;
 use vp_bits::Bits;
@@ -127,19 +127,19 @@ impl Values {
     }
 
     /// A copy of the values to be kept, which shares what was not set since the last one; takes memory (604).
-    pub fn keep(&mut self) -> Result<KeptValues, ExprError>
+    pub fn checkpoint(&mut self) -> Result<ValuesCheckpoint, ExprError>
         ensures copy { IfOk result (λ copy. copy ≡ self.old) }
         ensures same { self.new ≡ self.old }
         ensures err { IsOkUnless result ExprError.NoMemory }
     {
-        match self.values.keep() {
-            Ok(values) => Ok(KeptValues::new(values)),
+        match self.values.checkpoint() {
+            Ok(values) => Ok(ValuesCheckpoint::new(values)),
             Err(_) => Err(ExprError::NoMemory),
         }
     }
 
     /// The values of a copy, to be set; takes memory for all of them (604).
-    pub fn of_kept(alloc: Global, kept: &KeptValues) -> Result<Values, ExprError>
+    pub fn of_kept(alloc: Global, kept: &ValuesCheckpoint) -> Result<Values, ExprError>
         ensures values { IfOk result (λ values. values ≡ kept.now) }
         ensures err { IsOkUnless result ExprError.NoMemory }
     {

@@ -12,7 +12,7 @@ use Rattle.vp_world.specs.contracts.world.World as World
 use Rattle.vp_world.proofs.entry.Entry.TheSendSync as entry
 use Rattle.vp_hub.specs.contracts.desk.Desk as Desk
 use Rattle.vp_hub.specs.contracts.hub.Hub as Hub
-use Rattle.vp_hub.specs.declared.opens.Opens as opens
+use Rattle.vp_hub.specs.declared.opens.NamesOpening as opens
 
 -- a world may be sent
 pub world_send : IsSend World.the_row

@@ -8,12 +8,12 @@ use Rattle.vp_answer.specs.declared.request.Request.TheVariants as request
 use Rattle.vp_world.specs.declared.event.Event.{Event}
 use Rattle.vp_world.specs.declared.event.Event.TheVariants as event
 use Rattle.vp_world.specs.Entries.{Entry}
-use Rattle.vp_world.specs.History.{IsLegal, answered_by, entry_of, state_behind}
-use Rattle.vp_world.specs.Worlds.{Logged, Opening}
-use Rattle.vp_hub.specs.declared.fault.HubError.{HubError}
+use Rattle.vp_world.specs.History.{IsLegal, answered_by, entry_of, state_after}
+use Rattle.vp_world.specs.Worlds.{WorldLog, Opening}
+use Rattle.vp_hub.specs.declared.error.HubError.{HubError}
 use Rattle.vp_hub.specs.declared.receipt.Receipt.{Receipt}
 use Rattle.vp_hub.specs.Calls.{LastStands, Passed, Stands, event_of, last_of}
-use Rattle.vp_hub.specs.Desks.{Calls, Desked, IsMade, receipt_of, starved, with_pass}
+use Rattle.vp_hub.specs.Desks.{Calls, Desked, IsMade, receipt_of, out_of_memory, with_pass}
 use Rattle.vp_hub.specs.Hubs.{IsAnswered, IsOpened, IsReceived, receipt}
 use Rattle.vp_hub.proofs.Calling.{not_receipt}
 use Rattle.vp_hub.proofs.Standing.{call_within, stands_before, stands_last}
@@ -29,7 +29,7 @@ pub received : (opening : Opening) (d next : Desked) (p q : Passed) (r : Request
 received opening d next p q r stood made legal =
     let w = d.world in
     let happens : Event = event_of p.session r in
-    let e : Entry = entry_of w.opening (state_behind w.opening w.log) happens in
+    let e : Entry = entry_of w.opening (state_after w.opening w.log) happens in
     let added : next.world.log ≡ w.log ++ e ∷ [] = ap (λ (x : Desked). x.world.log) made.desk in
     record {
       log = next.world.log;
@@ -55,7 +55,7 @@ answered opening d next p q r (Err e) calls legal = record {
   refused =
       ⊎_elim
       (λ (left : (next ≡ d) × (q ≡ p)). inl left.1)
-      (λ (told : (e ≡ starved) × IsMade d p r next q).
+      (λ (told : (e ≡ out_of_memory) × IsMade d p r next q).
       inr (told.0, answered_by d.world (event_of p.session r), received opening d next p q r (calls.stands (not_receipt e told.0)) told.1 legal))
       calls.left;
 }
@@ -66,8 +66,8 @@ opened opening d next p user token desk told receipts share legal =
     let w = d.world in
     let happens : Event = event.Open user token in
     let r : Request = request.Open user token in
-    let e : Entry = entry_of w.opening (state_behind w.opening w.log) happens in
-    let added : next.world.log ≡ w.log ++ e ∷ [] = ap (λ (x : Logged). x.log) desk.0 in
+    let e : Entry = entry_of w.opening (state_after w.opening w.log) happens in
+    let added : next.world.log ≡ w.log ++ e ∷ [] = ap (λ (x : WorldLog). x.log) desk.0 in
     record {
       log = next.world.log;
       place = length w.log;

@@ -18,12 +18,12 @@ abbrev pub is_own_at : List Entry → SessionId → ℕ → Bool
 is_own_at log id place = option_map_or (is_own id) (slice_get log place) false
 
 -- the places at which the entries of a session stand in a log, rising
-abbrev pub places_of : List Entry → SessionId → List ℕ
-places_of log id = filter (is_own_at log id) (below (length log))
+abbrev pub entry_indexes : List Entry → SessionId → List ℕ
+entry_indexes log id = filter (is_own_at log id) (below (length log))
 
 -- a pass has just the calls of its session in a log: its receipts are of the places of the session's entries, in order, and stand there
 pub record HasAll (log : List Entry) (p : Passed) : Type 0 where
-  pub places : map (λ r. r.place) p.receipts ≡ places_of log p.session
+  pub places : map (λ r. r.place) p.receipts ≡ entry_indexes log p.session
   pub stand : All (Stands log p.session) p.receipts
 
 -- what is left of a hub of an opening to which these passes were handed back: its log is legal, the passes are of different sessions and
@@ -34,4 +34,4 @@ pub record IsClosed (opening : Opening) (passes : List Passed) (closed : Closed)
   pub whole : All (HasAll closed.world.log) passes
   pub apart : AllPairs (λ p q. p.session ≢ q.session) passes
   pub counted : sum_by (λ p. length p.receipts) passes ≡ session_entries closed.world.log
-  pub receipts : closed.receipts ≡ map (λ p. places_of closed.world.log p.session) passes
+  pub receipts : closed.receipts ≡ map (λ p. entry_indexes closed.world.log p.session) passes

@@ -5,23 +5,23 @@ use Rattle.vp_answer.specs.declared.request.Request.{Request}
 use Rattle.vp_list.specs.Refusals.{MayExplain}
 use Rattle.vp_world.specs.declared.event.Event.{Event}
 use Rattle.vp_world.specs.declared.event.Event.TheVariants as event
-use Rattle.vp_world.specs.declared.fault.WorldError.TheVariants as world_error
+use Rattle.vp_world.specs.declared.error.WorldError.TheVariants as world_error
 use Rattle.vp_world.specs.History.{answered_by, refused_by, with_entry}
-use Rattle.vp_world.specs.Worlds.{Logged, Opening}
-use Rattle.vp_hub.specs.declared.fault.HubError.{HubError}
-use Rattle.vp_hub.specs.declared.fault.HubError.TheVariants as hub_error
+use Rattle.vp_world.specs.Worlds.{WorldLog, Opening}
+use Rattle.vp_hub.specs.declared.error.HubError.{HubError}
+use Rattle.vp_hub.specs.declared.error.HubError.TheVariants as hub_error
 use Rattle.vp_hub.specs.declared.receipt.Receipt.{Receipt}
 use Rattle.vp_hub.specs.Calls.{LastStands, Passed, event_of, session_entries, with_receipt}
 
 -- a desk: its world, the total of its ledger, and the parts of it that are left for passes to come
 pub record Desked : Type 0 where
-  pub world : Logged
+  pub world : WorldLog
   pub total : ℕ
   pub parts : ℕ
 
 -- what every desk keeps: its world began as the opening says, the ledger's total is the number of entries of sessions, and a part is left
 -- for each entry that the log may still get, and one more
-pub record IsDesk (opening : Opening) (world : Logged) (total parts amount : ℕ) : Type 0 where
+pub record IsDesk (opening : Opening) (world : WorldLog) (total parts amount : ℕ) : Type 0 where
   pub opened : world.opening ≡ opening
   pub counted : total ≡ session_entries world.log
   pub room : opening.limits.log < parts + length world.log
@@ -55,8 +55,8 @@ abbrev pub refusal_of : Desked → Event → Option HubError
 refusal_of d e = option_map hub_error.World (refused_by d.world e)
 
 -- want of memory
-abbrev pub starved : HubError
-starved = hub_error.World world_error.NoMemory
+abbrev pub out_of_memory : HubError
+out_of_memory = hub_error.World world_error.NoMemory
 
 -- a call of a pass is made: the world accepts its event, the desk has the entry and the pass the receipt
 pub record IsMade (d : Desked) (p : Passed) (r : Request) (next : Desked) (q : Passed) : Type 0 where
@@ -73,5 +73,5 @@ pub record Calls (d : Desked) (p : Passed) (r : Request) (result : Result Reply 
   pub answer : IfOk result (λ a. a ≡ answered_by d.world (event_of p.session r))
   pub stands : IfErr result (λ e. e ≢ hub_error.Receipt → LastStands d.world.log p)
   pub apart : IfErr result (λ e. e ≡ hub_error.Receipt → LastStands d.world.log p → ⊥)
-  pub refused : IfErr result (λ e. e ≢ hub_error.Receipt → MayExplain starved (refusal_of d (event_of p.session r)) e)
-  pub left : IfErr result (λ e. ((next ≡ d) × (q ≡ p)) ⊎ ((e ≡ starved) × IsMade d p r next q))
+  pub refused : IfErr result (λ e. e ≢ hub_error.Receipt → MayExplain out_of_memory (refusal_of d (event_of p.session r)) e)
+  pub left : IfErr result (λ e. ((next ≡ d) × (q ≡ p)) ⊎ ((e ≡ out_of_memory) × IsMade d p r next q))

@@ -3,8 +3,8 @@ use Rattle.std.specs.Prelude.{ℕ}
 use Rattle.vp_answer.specs.declared.reply.Refusal.{Refusal}
 use Rattle.vp_answer.specs.declared.reply.Refusal.TheVariants.{BadReceipt}
 use Rattle.vp_world.specs.Refusals.{refusal_of_error}
-use Rattle.vp_hub.specs.declared.fault.HubError.{HubError}
-use Rattle.vp_hub.specs.declared.fault.HubError.TheVariants.{Receipt, Mismatch, World}
+use Rattle.vp_hub.specs.declared.error.HubError.{HubError}
+use Rattle.vp_hub.specs.declared.error.HubError.TheVariants.{Receipt, Mismatch, World}
 
 -- the number of a refusal (profile)
 abbrev pub code_of : HubError → ℕ

@@ -6,10 +6,10 @@ use Rattle.vp_answer.specs.declared.request.Request.{Request}
 use Rattle.vp_world.specs.Entries.{Entry}
 use Rattle.vp_world.specs.History.{IsLegal}
 use Rattle.vp_world.specs.Worlds.{Opening}
-use Rattle.vp_hub.specs.declared.fault.HubError.{HubError}
+use Rattle.vp_hub.specs.declared.error.HubError.{HubError}
 use Rattle.vp_hub.specs.declared.receipt.Receipt.{Receipt}
 use Rattle.vp_hub.specs.Calls.{LastStands, Passed, Stands, last_of, with_receipt}
-use Rattle.vp_hub.specs.Desks.{starved}
+use Rattle.vp_hub.specs.Desks.{out_of_memory}
 
 -- a receipt of these parts
 abbrev pub receipt : (place : ℕ) → Request → Reply → Receipt
@@ -43,4 +43,4 @@ pub record IsReceived (opening : Opening) (p : Passed) (r : Request) (a : Reply)
 -- shared between the pass and the caller, want of memory is told of a call that was made
 pub record IsAnswered (opening : Opening) (p : Passed) (r : Request) (result : Result Reply HubError) (q : Passed) : Type 0 where
   pub made : IfOk result (λ a. IsReceived opening p r a q)
-  pub refused : IfErr result (λ e. (q ≡ p) ⊎ ((e ≡ starved) × (a : Reply) × IsReceived opening p r a q))
+  pub refused : IfErr result (λ e. (q ≡ p) ⊎ ((e ≡ out_of_memory) × (a : Reply) × IsReceived opening p r a q))

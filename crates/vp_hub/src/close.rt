@@ -3,18 +3,18 @@ ghost use Rattle.vp_world.specs.Entries.{event_in, reply_in};
 ghost use Rattle.vp_world.specs.History.{IsLegal};
 ghost use Rattle.vp_world.specs.Worlds.{same_session};
 ghost use Rattle.vp_hub.specs.Calls.{Passed, Stands, is_of_session, session_entries, session_in};
-ghost use Rattle.vp_hub.specs.Closing.{HasAll, IsClosed, is_own, places_of};
+ghost use Rattle.vp_hub.specs.Closing.{HasAll, IsClosed, is_own, entry_indexes};
 
 use crate::desk::Desk;
 use crate::entries::stands;
-use crate::fault::HubError;
-use crate::opens::Opens;
+use crate::error::HubError;
+use crate::opens::NamesOpening;
 use crate::pass::Pass;
 use crate::receipt::Receipt;
 use std::alloc::{AllocError, Global};
 use vp_answer::SessionId;
 use vp_list::Sequence;
-use vp_world::{Entry, Happening, World};
+use vp_world::{Entry, LoggedEvent, World};
 
 /// What is left of a hub: its world, with the log, and for each pass that was handed back the places of its calls, in order.
 #[derive(Drop)]
@@ -33,12 +33,12 @@ impl Closed {
 }
 
 /// The session of what happened; none where it is of no session.
-pub fn session_of(happening: &Happening) -> Option<SessionId>
+pub fn session_of(happening: &LoggedEvent) -> Option<SessionId>
     ensures { result ≡ session_in (event_in happening.now) (reply_in happening.now) }
 {
     match happening {
-        Happening::Open { session, .. } | Happening::Close { session } => Some(*session),
-        Happening::Ask { asked, .. } | Happening::Put { asked, .. } => Some(asked.session),
+        LoggedEvent::Open { session, .. } | LoggedEvent::Close { session } => Some(*session),
+        LoggedEvent::Ask { asked, .. } | LoggedEvent::Put { asked, .. } => Some(asked.session),
         _ => None,
     }
 }
@@ -61,12 +61,12 @@ fn is_own(entry: &Entry, session: SessionId) -> bool
 }
 
 /// The places of a session's entries in a log, in order. Takes memory.
-fn places_of(
+fn entry_indexes(
     alloc: Global,
     log: &[Entry],
     session: SessionId,
 ) -> Result<Sequence<usize>, AllocError>
-    ensures { IfOk result (λ places. places ≡ places_of log.now session) }
+    ensures { IfOk result (λ places. places ≡ entry_indexes log.now session) }
 {
     let mut places = Vec::new(alloc);
     for place in 0..log.len() {
@@ -119,16 +119,16 @@ fn are_of(receipts: &[Receipt], places: &[usize]) -> bool
 
 /// The places of a pass's calls in a log, in order, if these are those of its session's entries there; else that there are not as many
 /// receipts as entries (1402). Takes memory.
-fn own_places<L: Opens>(
+fn own_places<L: NamesOpening>(
     alloc: Global,
     log: &[Entry],
     pass: &Pass<L>,
 ) -> Result<Sequence<usize>, HubError>
-    ensures places { IfOk result (λ places. places ≡ places_of log.now pass.now.session) }
+    ensures places { IfOk result (λ places. places ≡ entry_indexes log.now pass.now.session) }
     ensures own { OnOk result
-        (map (λ r. r.place) pass.now.receipts ≡ places_of log.now pass.now.session) }
+        (map (λ r. r.place) pass.now.receipts ≡ entry_indexes log.now pass.now.session) }
 {
-    let places = places_of(alloc, log, pass.session())?;
+    let places = entry_indexes(alloc, log, pass.session())?;
     if !are_of(pass.receipts(), places.as_slice()) {
         return Err(HubError::Mismatch);
     }
@@ -136,15 +136,15 @@ fn own_places<L: Opens>(
 }
 
 /// The same of each of these passes.
-fn all_places<L: Opens>(
+fn all_places<L: NamesOpening>(
     alloc: Global,
     log: &[Entry],
     passes: &[Pass<L>],
 ) -> Result<Sequence<Sequence<usize>>, HubError>
     ensures places { IfOk result
-        (λ lists. lists ≡ map (λ p. places_of log.now p.session) passes.now) }
+        (λ lists. lists ≡ map (λ p. entry_indexes log.now p.session) passes.now) }
     ensures own { OnOk result
-        (All (λ p. map (λ r. r.place) p.receipts ≡ places_of log.now p.session) passes.now) }
+        (All (λ p. map (λ r. r.place) p.receipts ≡ entry_indexes log.now p.session) passes.now) }
 {
     let mut lists = Vec::new(alloc);
     for pass in passes {
@@ -154,7 +154,7 @@ fn all_places<L: Opens>(
 }
 
 /// The receipts of these passes are so many.
-fn are_so_many<L: Opens>(passes: &[Pass<L>], count: usize) -> bool
+fn are_so_many<L: NamesOpening>(passes: &[Pass<L>], count: usize) -> bool
     ensures { result ≡ true → sum_by (λ p. length p.receipts) passes.now ≡ count }
 {
     let mut left = count;
@@ -168,7 +168,7 @@ fn are_so_many<L: Opens>(passes: &[Pass<L>], count: usize) -> bool
 }
 
 /// None of these passes is of a session.
-fn is_new<L: Opens>(passes: &[Pass<L>], session: SessionId) -> bool
+fn is_new<L: NamesOpening>(passes: &[Pass<L>], session: SessionId) -> bool
     ensures { result ≡ true → All (λ p. p.session ≢ session) passes.now }
 {
     for pass in passes {
@@ -180,7 +180,7 @@ fn is_new<L: Opens>(passes: &[Pass<L>], session: SessionId) -> bool
 }
 
 /// All receipts of these passes stand in a log, and no two of the passes are of one session; else a receipt is wrong (1401).
-fn check_receipts<L: Opens>(log: &[Entry], passes: &[Pass<L>]) -> Result<(), HubError>
+fn check_receipts<L: NamesOpening>(log: &[Entry], passes: &[Pass<L>]) -> Result<(), HubError>
     ensures stand { OnOk result
         (All (λ p. All (Stands log.now p.session) p.receipts) passes.now) }
     ensures apart { OnOk result (AllPairs (λ p q. p.session ≢ q.session) passes.now) }
@@ -197,7 +197,7 @@ fn check_receipts<L: Opens>(log: &[Entry], passes: &[Pass<L>]) -> Result<(), Hub
     Ok(())
 }
 
-impl<L: Opens> Desk<L> {
+impl<L: NamesOpening> Desk<L> {
     /// Ends with the passes that were handed back. Refused where a receipt does not stand in the log, or two name one place (1401); where
     /// the receipts are not as many as the log's entries of sessions (1402); or for want of memory.
     pub(crate) fn close(self, passes: &[Pass<L>]) -> Result<Closed, HubError>
@@ -223,7 +223,7 @@ impl<L: Opens> Desk<L> {
         ensures counted { OnOk result (sum_by (λ p. length p.receipts) passes.now
             ≡ session_entries self.now.world.log) }
         ensures receipts { IfOk result (λ lists. lists
-            ≡ map (λ p. places_of self.now.world.log p.session) passes.now) }
+            ≡ map (λ p. entry_indexes self.now.world.log p.session) passes.now) }
         ensures legal { IsLegal L.opening [] self.now.world.log }
         ensures opening { self.now.world.opening ≡ L.opening }
     {

@@ -5,15 +5,15 @@ ghost use Rattle.vp_answer.specs.declared.reply.Reply.TheVariants as replies;
 ghost use Rattle.vp_answer.specs.declared.request.Request.TheVariants as requests;
 ghost use Rattle.vp_list.specs.Refusals.{Explains, MayExplain};
 ghost use Rattle.vp_world.specs.declared.event.Event.TheVariants as event;
-ghost use Rattle.vp_world.specs.declared.fault.WorldError.TheVariants.{NoMemory};
+ghost use Rattle.vp_world.specs.declared.error.WorldError.TheVariants.{NoMemory};
 ghost use Rattle.vp_world.specs.Events.{IsWellFormed};
 ghost use Rattle.vp_world.specs.History.{IsLegal, answered_by, refused_by};
 ghost use Rattle.vp_hub.specs.Calls.{IsCall, is_of_session, session_entries};
-ghost use Rattle.vp_hub.specs.Desks.{Calls, IsOther, receipt_of, refusal_of, starved, with_call, with_event, with_pass};
+ghost use Rattle.vp_hub.specs.Desks.{Calls, IsOther, receipt_of, refusal_of, out_of_memory, with_call, with_event, with_pass};
 
 use crate::entries::event_of;
-use crate::fault::HubError;
-use crate::opens::Opens;
+use crate::error::HubError;
+use crate::opens::NamesOpening;
 use crate::pass::Pass;
 use crate::receipt::Receipt;
 use std::alloc::{AllocError, Global};
@@ -28,7 +28,7 @@ use vp_world::{Entry, Event, World, WorldError};
 /// What stands behind the lock of a hub: a world, and the total of the ledger of its sessions' calls. A contract sees both, and how
 /// many parts of the ledger are left for passes to come.
 #[derive(Drop)]
-pub struct Desk<L: Opens> {
+pub struct Desk<L: NamesOpening> {
     alloc: Global,
     world: World,
     /// The number of the log's entries of sessions.
@@ -37,7 +37,7 @@ pub struct Desk<L: Opens> {
     rest: Share<L>,
 }
 
-impl<L: Opens> Model for Desk<L> {
+impl<L: NamesOpening> Model for Desk<L> {
     ghost use Rattle.vp_hub.specs.Desks.{Desked, IsDesk};
 
     ghost Value = { Desked };
@@ -79,7 +79,7 @@ fn receive(
       reply = reply;
     } ∷ [] }
     ensures reply { IfOk result (λ told. told ≡ reply) }
-    ensures starved { IsOkUnless result starved }
+    ensures out_of_memory { IsOkUnless result out_of_memory }
 {
     let told = reply.try_clone();
     receipts.push_reserved(Receipt {
@@ -100,7 +100,7 @@ fn open_request(alloc: Global, user: &Text, token: &Text) -> Result<Request, All
     })
 }
 
-impl<L: Opens> Desk<L> {
+impl<L: NamesOpening> Desk<L> {
     /// A desk with a world in which nothing has happened, and a new ledger with a part for each entry that the log may get, and one
     /// more.
     pub fn new(alloc: Global, blank: Blank, world: World) -> Desk<L>
@@ -165,7 +165,7 @@ impl<L: Opens> Desk<L> {
             receipt_of self.old (event.Open user token) (requests.Open user token) ∷ []) }
         ensures share { IfOk result (λ p. (p.amount ≡ 1) × (p.parts ≡ 1)) }
         ensures refused { IfErr result
-            (MayExplain starved (refusal_of self.old (event.Open user token))) }
+            (MayExplain out_of_memory (refusal_of self.old (event.Open user token))) }
         ensures unchanged { OnErr result (self.new ≡ self.old) }
     {
         let mut receipts = Vec::new(self.alloc);
@@ -237,17 +237,17 @@ impl<L: Opens> Desk<L> {
         ensures accepted { OnOk result (refused_by self.old.world event ≡ None) }
         ensures desk { OnOk result (self.new ≡ with_event self.old event) }
         ensures reply { IfOk result (λ a. a ≡ answered_by self.old.world event) }
-        ensures refused { IfErr result (Explains starved (refusal_of self.old event)) }
+        ensures refused { IfErr result (Explains out_of_memory (refusal_of self.old event)) }
         ensures unchanged { OnErr result (self.new ≡ self.old) }
     {
         Ok(self.world.apply(event)?)
     }
 }
 
-impl<L: Opens> Desk<L> {
+impl<L: NamesOpening> Desk<L> {
     /// Lets the next event of the simulation happen: the first that a step can take, or, where nothing is left to do at the current
     /// time, an advance; else its refusal, which leaves the desk as it was.
-    pub(crate) fn proceed(&mut self) -> Result<(), HubError>
+    pub(crate) fn run_next(&mut self) -> Result<(), HubError>
         ensures { OnErr result (self.new ≡ self.old) }
     {
         match self.event(Event::Step(0)) {
@@ -297,7 +297,7 @@ impl<L: Opens> Desk<L> {
     }
 }
 
-impl<L: Opens> Desk<L> {
+impl<L: NamesOpening> Desk<L> {
     /// Its allocator.
     pub(crate) fn alloc(&self) -> Global {
         self.alloc

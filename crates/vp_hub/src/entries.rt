@@ -13,7 +13,7 @@ ghost use Rattle.vp_hub.specs.Calls.{IsCall, Stands, event_of, is_of_session, se
 use crate::receipt::Receipt;
 use vp_answer::{Reply, Request, SessionId};
 use vp_list::Same;
-use vp_world::{Asked, Entry, Event, Happening, Login};
+use vp_world::{Asked, Entry, Event, LoggedEvent, Login};
 
 /// The event of a request with which a session calls.
 pub fn event_of(session: SessionId, request: Request) -> Event
@@ -67,24 +67,24 @@ fn is_opened(reply: &Reply, session: SessionId) -> bool
 }
 
 /// What happened is an event of a session's request, with this reply.
-fn is_call(happening: &Happening, session: SessionId, request: &Request, reply: &Reply) -> bool
+fn is_call(happening: &LoggedEvent, session: SessionId, request: &Request, reply: &Reply) -> bool
     ensures event { result ≡ true → event_in happening.now ≡ event_of session request.now }
     ensures reply { result ≡ true → reply_in happening.now ≡ reply.now }
     ensures differs { event_in happening.now ≡ event_of session request.now
         → reply_in happening.now ≡ reply.now → result ≡ true }
 {
     match happening {
-        Happening::Open {
+        LoggedEvent::Open {
             login,
             session: opened,
         } => is_login(login, request) && is_opened(reply, *opened),
-        Happening::Ask { asked, reply: told } => {
+        LoggedEvent::Ask { asked, reply: told } => {
             is_asked(asked, session, request) && told.is_same(reply)
         }
-        Happening::Put { asked, .. } => {
+        LoggedEvent::Put { asked, .. } => {
             is_asked(asked, session, request) && matches!(reply, Reply::Done)
         }
-        Happening::Close { session: closed } => {
+        LoggedEvent::Close { session: closed } => {
             *closed == session && matches!(request, Request::Close) && matches!(reply, Reply::Done)
         }
         _ => false,

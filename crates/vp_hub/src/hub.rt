@@ -9,8 +9,8 @@ ghost use Rattle.vp_hub.specs.Hubs.{IsAnswered, IsOpened};
 
 use crate::close::Closed;
 use crate::desk::Desk;
-use crate::fault::HubError;
-use crate::opens::Opens;
+use crate::error::HubError;
+use crate::opens::NamesOpening;
 use crate::pass::Pass;
 use std::alloc::Global;
 use std::collections::VecDeque;
@@ -47,12 +47,12 @@ pub struct Worked {
 /// A world that threads share: a desk behind a lock. Whenever the lock is free, the desk's log is legal for the world that L names,
 /// and the ledger's total is the number of its entries of sessions.
 #[derive(Drop)]
-pub struct Hub<L: Opens> {
+pub struct Hub<L: NamesOpening> {
     alloc: Global,
     desk: Mutex<Desk<L>>,
 }
 
-impl<L: Opens> Hub<L> {
+impl<L: NamesOpening> Hub<L> {
     /// A hub with a desk.
     pub fn new(alloc: Global, desk: Desk<L>) -> Hub<L> {
         Hub {
@@ -100,7 +100,7 @@ impl<L: Opens> Hub<L> {
         ensures idle { IfOk result (λ ran. ran.idle ≡ true → ran.events < most) }
     {
         for events in 0..most {
-            match self.proceed(rt) {
+            match self.run_next(rt) {
                 Ok(()) => {}
                 Err(HubError::World(WorldError::BeyondGoal | WorldError::Sim(_))) => {
                     return Ok(Ran { events, idle: true });
@@ -115,8 +115,8 @@ impl<L: Opens> Hub<L> {
     }
 
     /// Lets the next event of the simulation happen.
-    fn proceed<R: Wait>(&self, rt: &R) -> Result<(), HubError> {
-        self.desk.lock(rt).proceed()
+    fn run_next<R: Wait>(&self, rt: &R) -> Result<(), HubError> {
+        self.desk.lock(rt).run_next()
     }
 
     /// Takes the oldest kept segment that was not handed out, if there is one, searches it for races without the lock, and books them.

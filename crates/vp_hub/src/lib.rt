@@ -4,7 +4,7 @@
 mod close;
 mod desk;
 mod entries;
-mod fault;
+mod error;
 mod hub;
 mod opens;
 mod pass;
@@ -12,9 +12,9 @@ mod receipt;
 
 pub use close::{Closed, session_of};
 pub use desk::Desk;
-pub use fault::HubError;
+pub use error::HubError;
 pub use hub::{Hub, Ran, Worked};
-pub use opens::Opens;
+pub use opens::NamesOpening;
 pub use pass::Pass;
 pub use receipt::Receipt;
 pub use vp_world::{Limits, World};

@@ -5,11 +5,11 @@ use std::marker::Brand;
 use std::sync::ledger::Ledger;
 
 /// Names the world with which a hub opens, and the ledger that counts its sessions' calls.
-pub trait Opens: Ledger {
+pub trait NamesOpening: Ledger {
     /// How the world begins.
     ghost opening: { Opening };
 }
 
-impl Opens for Brand {
+impl NamesOpening for Brand {
     ghost opening = { bare };
 }

@@ -2,7 +2,7 @@ ghost use Rattle.std.specs.Prelude.{◌≡◌, true};
 ghost use Rattle.vp_hub.specs.Calls.{LastStands};
 
 use crate::entries::stands;
-use crate::opens::Opens;
+use crate::opens::NamesOpening;
 use crate::receipt::Receipt;
 use std::marker::Model;
 use std::sync::ledger::Share;
@@ -12,13 +12,13 @@ use vp_world::Entry;
 /// A session of a hub. A contract sees its name, the receipts of its calls in order, of which the first is of its opening, and its share
 /// of the ledger, whose amount is their number.
 #[derive(Drop)]
-pub struct Pass<L: Opens> {
+pub struct Pass<L: NamesOpening> {
     pub(crate) session: SessionId,
     pub(crate) receipts: Vec<Receipt>,
     pub(crate) share: Share<L>,
 }
 
-impl<L: Opens> Model for Pass<L> {
+impl<L: NamesOpening> Model for Pass<L> {
     ghost use Rattle.vp_hub.specs.Calls.{Keeps, Passed};
 
     ghost Value = { Passed };
@@ -33,7 +33,7 @@ impl<L: Opens> Model for Pass<L> {
     ghost invariant = { λ p. Keeps p.session p.receipts.items p.share.amount p.share.parts };
 }
 
-impl<L: Opens> Pass<L> {
+impl<L: NamesOpening> Pass<L> {
     /// The session.
     pub fn session(&self) -> SessionId
         ensures { result ≡ self.now.session }

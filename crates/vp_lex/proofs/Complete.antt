@@ -5,7 +5,7 @@ use Rattle.vp_lex.specs.declared.piece.Fault.{Fault}
 use Rattle.vp_lex.specs.declared.piece.Fault.TheVariants.{BadCharacter, OpenComment, OpenString, UnknownDirective}
 use Rattle.vp_lex.specs.Pieces.{PieceKind, Comment, Piece, is_piece, IsRead, unread}
 use Rattle.vp_lex.specs.Cuts.{Longest, Cut, NoPiece, NotRead, Explains, Refusal}
-use Rattle.vp_lex.specs.Cutting.{kind_in_front, front_of, piece_of, piece_begun, first_piece, on_piece, behind_piece, cut_from, cut_text}
+use Rattle.vp_lex.specs.Cutting.{kind_in_front, front_of, piece_of, piece_begun, first_piece, on_piece, following_piece, cut_from, cut_text}
 use Rattle.vp_lex.proofs.FirstBytes.{begins-from, front_kind, no_empty_piece, ends_decide}
 use Rattle.vp_lex.proofs.Shows.{Shows, shows}
 use Rattle.vp_lex.proofs.CutLaws.{first_piece_found, longest_shown, two_bytes, one_longest, piece_has_byte, no_piece_of_nothing, rest_is, rest_shorter, none_left}
@@ -104,7 +104,7 @@ turns_same (suc turns) zero at (b ∷ bytes) l m = absurd (omega arith)
 turns_same (suc turns) (suc more) at [] l m = refl
 turns_same (suc turns) (suc more) at (b ∷ bytes) l m =
     let text : List ℕ = b ∷ bytes in
-    let next : ℕ → Piece → Result (List Piece) Refusal = λ n piece. behind_piece piece (cut_from n (at + length piece.bytes) (drop (length piece.bytes) text)) in
+    let next : ℕ → Piece → Result (List Piece) Refusal = λ n piece. following_piece piece (cut_from n (at + length piece.bytes) (drop (length piece.bytes) text)) in
     let on : (r : Result Piece Fault) → first_piece text ≡ r → on_piece at r (next turns) ≡ on_piece at r (next more) =
     λ r. elim r as (λ r. first_piece text ≡ r → on_piece at r (next turns) ≡ on_piece at r (next more)) [
       | Err fault ↦ (λ e. refl)
@@ -113,12 +113,12 @@ turns_same (suc turns) (suc more) at (b ∷ bytes) l m =
           let shorter = rest_shorter text piece found.0 found.1 in
           let rest : drop (length piece.bytes) text ≡ found.0 = rest_is text piece found.0 found.1 in
           let remainder : length (drop (length piece.bytes) text) ≡ length found.0 = ap length rest in
-          ap (behind_piece piece) (turns_same turns more (at + length piece.bytes) (drop (length piece.bytes) text) (omega arith) (omega arith)))
+          ap (following_piece piece) (turns_same turns more (at + length piece.bytes) (drop (length piece.bytes) text) (omega arith) (omega arith)))
     ] in
     on (first_piece text) refl
 
-behind_is : (piece : Piece) (r : Result (List Piece) Refusal) (pieces : List Piece) → r ≡ Ok pieces → behind_piece piece r ≡ Ok (piece ∷ pieces)
-behind_is piece r pieces e = ap (behind_piece piece) e
+after_is : (piece : Piece) (r : Result (List Piece) Refusal) (pieces : List Piece) → r ≡ Ok pieces → following_piece piece r ≡ Ok (piece ∷ pieces)
+after_is piece r pieces e = ap (following_piece piece) e
 
 pub cut_from_is : (turns at : ℕ) (text : List ℕ) (pieces : List Piece) → length text ≤ turns → Cut text pieces → cut_from turns at text ≡ Ok pieces
 cut_from_is zero at text [] l h = refl
@@ -128,12 +128,12 @@ cut_from_is (suc turns) at [] (piece ∷ pieces) l h = absurd (no_piece_of_nothi
 cut_from_is (suc turns) at (b ∷ bytes) [] l h = absurd cc
 cut_from_is (suc turns) at (b ∷ bytes) (piece ∷ pieces) l h =
     let text : List ℕ = b ∷ bytes in
-    let next : Piece → Result (List Piece) Refusal = λ piece. behind_piece piece (cut_from turns (at + length piece.bytes) (drop (length piece.bytes) text)) in
+    let next : Piece → Result (List Piece) Refusal = λ piece. following_piece piece (cut_from turns (at + length piece.bytes) (drop (length piece.bytes) text)) in
     let shorter = rest_shorter text piece h.0 h.1 in
     let rest : drop (length piece.bytes) text ≡ h.0 = rest_is text piece h.0 h.1 in
     let more : cut_from turns (at + length piece.bytes) h.0 ≡ Ok pieces = cut_from_is turns (at + length piece.bytes) h.0 pieces (omega arith) h.3 in
     ap (λ (r : Result Piece Fault). on_piece at r next) (first_piece_is text piece h.0 h.1 h.2)
-    ∙ behind_is piece _ pieces (ap (cut_from turns (at + length piece.bytes)) rest ∙ more)
+    ∙ after_is piece _ pieces (ap (cut_from turns (at + length piece.bytes)) rest ∙ more)
 
 -- a cut is what is computed
 pub cut_text_is : (text : List ℕ) (pieces : List Piece) → Cut text pieces → cut_text text ≡ Ok pieces
@@ -144,13 +144,13 @@ pub refused_has_no_cut : (text : List ℕ) (refusal : Refusal) (pieces : List Pi
 refused_has_no_cut text refusal pieces e h = let f = cut_text_is text pieces h in cc
 
 -- what is left after a piece is cut with as many turns as it has bytes
-pub cut_more : (at : ℕ) (text : List ℕ) (piece : Piece) → first_piece text ≡ Ok piece → cut_from (length text) at text ≡ behind_piece piece (cut_from (length (drop (length piece.bytes) text)) (at + length piece.bytes) (drop (length piece.bytes) text))
+pub cut_more : (at : ℕ) (text : List ℕ) (piece : Piece) → first_piece text ≡ Ok piece → cut_from (length text) at text ≡ following_piece piece (cut_from (length (drop (length piece.bytes) text)) (at + length piece.bytes) (drop (length piece.bytes) text))
 cut_more at [] piece e = absurd cc
 cut_more at (b ∷ bytes) piece e =
     let text : List ℕ = b ∷ bytes in
-    let next : Piece → Result (List Piece) Refusal = λ piece. behind_piece piece (cut_from (length bytes) (at + length piece.bytes) (drop (length piece.bytes) text)) in
+    let next : Piece → Result (List Piece) Refusal = λ piece. following_piece piece (cut_from (length bytes) (at + length piece.bytes) (drop (length piece.bytes) text)) in
     let found = first_piece_found text piece e in
     let shorter = rest_shorter text piece found.0 found.1 in
     let remainder : length (drop (length piece.bytes) text) ≡ length found.0 = ap length (rest_is text piece found.0 found.1) in
     ap (λ (r : Result Piece Fault). on_piece at r next) e
-    ∙ ap (behind_piece piece) (turns_same (length bytes) (length (drop (length piece.bytes) text)) (at + length piece.bytes) (drop (length piece.bytes) text) (omega arith) (omega arith))
+    ∙ ap (following_piece piece) (turns_same (length bytes) (length (drop (length piece.bytes) text)) (at + length piece.bytes) (drop (length piece.bytes) text) (omega arith) (omega arith))

@@ -7,7 +7,7 @@ use Rattle.vp_lex.specs.declared.piece.Fault.{Fault}
 use Rattle.vp_lex.specs.Bytes.{is_solidus, is_asterisk}
 use Rattle.vp_lex.specs.Pieces.{PieceKind, Comment, Piece, is_piece, IsPiece, IsRead}
 use Rattle.vp_lex.specs.Cuts.{Longest, Cut, Refusal}
-use Rattle.vp_lex.specs.Cutting.{goes_on_comment, kind_in_front, front_of, piece_of, piece_begun, first_piece, on_piece, behind_piece, cut_from, cut_text}
+use Rattle.vp_lex.specs.Cutting.{goes_on_comment, kind_in_front, front_of, piece_of, piece_begun, first_piece, on_piece, following_piece, cut_from, cut_text}
 use Rattle.vp_lex.proofs.Fronts.{Reaches, reaches_more}
 use Rattle.vp_lex.proofs.FirstBytes.{ends, begins-from, comment_goes_on, kind_at, no_empty_piece, front_kind, ends_decide}
 use Rattle.vp_lex.proofs.Shows.{Shows, shows}
@@ -20,13 +20,13 @@ piece_has_byte kind [] h = absurd (no_empty_piece kind h)
 piece_has_byte kind (b ∷ bytes) h = omega arith
 
 -- the longest piece of the kind that begins there is the longest of any kind
-no_kind_longer : (kind : PieceKind) (b : ℕ) (bytes tail : List ℕ) → kind_in_front b bytes ≡ Some kind → Reaches (is_piece kind) (b ∷ bytes) (b ∷ tail) → (other : Piece) (behind : List ℕ) → IsPiece other → b ∷ bytes ≡ other.bytes ++ behind → length other.bytes ≤ length (b ∷ tail)
-no_kind_longer kind b bytes tail k h other behind is e =
-    elim (front_kind (b ∷ bytes) other.kind other.bytes behind is e) [
+no_kind_longer : (kind : PieceKind) (b : ℕ) (bytes tail : List ℕ) → kind_in_front b bytes ≡ Some kind → Reaches (is_piece kind) (b ∷ bytes) (b ∷ tail) → (other : Piece) (following : List ℕ) → IsPiece other → b ∷ bytes ≡ other.bytes ++ following → length other.bytes ≤ length (b ∷ tail)
+no_kind_longer kind b bytes tail k h other following is e =
+    elim (front_kind (b ∷ bytes) other.kind other.bytes following is e) [
       | inl its ↦
           let both : ◌≡◌ {A = Option PieceKind} (Some other.kind) (Some kind) = sym its ∙ k in
           let same : other.kind ≡ kind = cc in
-          h.longest other.bytes behind e (subst (λ (x : PieceKind). is_piece x other.bytes ≡ true) same is)
+          h.longest other.bytes following e (subst (λ (x : PieceKind). is_piece x other.bytes ≡ true) same is)
       | inr short ↦ omega (arith, short.1)
     ]
 
@@ -72,7 +72,7 @@ same_piece piece other e f =
     ap (λ (k : PieceKind). make k piece.bytes) e ∙ ap (λ (bytes : List ℕ). make other.kind bytes) f
 
 -- where a comment begins, two bytes are one
-pub two_bytes : (text : List ℕ) → kind_at text ≡ Some Comment → (its : List ℕ) × (behind : List ℕ) × (is_piece Comment its ≡ true) × (text ≡ its ++ behind) × (2 ≤ length its)
+pub two_bytes : (text : List ℕ) → kind_at text ≡ Some Comment → (its : List ℕ) × (following : List ℕ) × (is_piece Comment its ≡ true) × (text ≡ its ++ following) × (2 ≤ length its)
 two_bytes [] k = absurd cc
 two_bytes (b ∷ []) k = let none = comment_goes_on b [] k in absurd cc
 two_bytes (b ∷ c ∷ bytes) k =
@@ -97,19 +97,19 @@ longest_kind text piece rest h =
     ]
 
 -- the longest piece in front of a text is one
-pub one_longest : (text : List ℕ) (piece other : Piece) (rest behind : List ℕ) → Longest text piece rest → Longest text other behind → piece ≡ other
-one_longest text piece other rest behind h k =
+pub one_longest : (text : List ℕ) (piece other : Piece) (rest following : List ℕ) → Longest text piece rest → Longest text other following → piece ≡ other
+one_longest text piece other rest following h k =
     let up : length piece.bytes ≤ length other.bytes = k.none_longer piece rest h.is h.splits in
-    let down : length other.bytes ≤ length piece.bytes = h.none_longer other behind k.is k.splits in
-    let bytes : piece.bytes ≡ other.bytes = same_front piece.bytes other.bytes rest behind (sym h.splits ∙ k.splits) (omega arith) in
-    let both : ◌≡◌ {A = Option PieceKind} (Some piece.kind) (Some other.kind) = sym (longest_kind text piece rest h) ∙ longest_kind text other behind k in
+    let down : length other.bytes ≤ length piece.bytes = h.none_longer other following k.is k.splits in
+    let bytes : piece.bytes ≡ other.bytes = same_front piece.bytes other.bytes rest following (sym h.splits ∙ k.splits) (omega arith) in
+    let both : ◌≡◌ {A = Option PieceKind} (Some piece.kind) (Some other.kind) = sym (longest_kind text piece rest h) ∙ longest_kind text other following k in
     same_piece piece other (cc) bytes
 
 -- and so is what is after it
-pub one_rest : (text : List ℕ) (piece other : Piece) (rest behind : List ℕ) → Longest text piece rest → Longest text other behind → rest ≡ behind
-one_rest text piece other rest behind h k =
-    let same = one_longest text piece other rest behind h k in
-    append_cancel_left piece.bytes rest behind (sym h.splits ∙ k.splits ∙ ap (λ (x : Piece). x.bytes ++ behind) (sym same))
+pub one_rest : (text : List ℕ) (piece other : Piece) (rest following : List ℕ) → Longest text piece rest → Longest text other following → rest ≡ following
+one_rest text piece other rest following h k =
+    let same = one_longest text piece other rest following h k in
+    append_cancel_left piece.bytes rest following (sym h.splits ∙ k.splits ∙ ap (λ (x : Piece). x.bytes ++ following) (sym same))
 
 pub no_piece_of_nothing : (text : List ℕ) (piece : Piece) (rest : List ℕ) → text ≡ [] → Longest text piece rest → ⊥
 no_piece_of_nothing text piece rest e h =
@@ -137,9 +137,9 @@ pub rest_shorter : (text : List ℕ) (piece : Piece) (rest : List ℕ) → Longe
 rest_shorter text piece rest h =
     omega (arith, piece_has_byte piece.kind piece.bytes h.is, length-append piece.bytes rest, ap length h.splits)
 
-one_behind : (piece : Piece) (r : Result (List Piece) Refusal) (pieces : List Piece) → behind_piece piece r ≡ Ok pieces → (others : List Piece) × (r ≡ Ok others) × (piece ∷ others ≡ pieces)
-one_behind piece (Err refusal) pieces h = absurd cc
-one_behind piece (Ok others) pieces h = (others, refl, cc)
+one_after : (piece : Piece) (r : Result (List Piece) Refusal) (pieces : List Piece) → following_piece piece r ≡ Ok pieces → (others : List Piece) × (r ≡ Ok others) × (piece ∷ others ≡ pieces)
+one_after piece (Err refusal) pieces h = absurd cc
+one_after piece (Ok others) pieces h = (others, refl, cc)
 
 one_on : (at : ℕ) (r : Result Piece Fault) (next : Piece → Result (List Piece) Refusal) (pieces : List Piece) → on_piece at r next ≡ Ok pieces → (piece : Piece) × (r ≡ Ok piece) × (next piece ≡ Ok pieces)
 one_on at (Err fault) next pieces h = absurd cc
@@ -157,9 +157,9 @@ cut_from_cuts zero at text pieces l h = cut_of_nothing text pieces (none_left te
 cut_from_cuts (suc turns) at [] pieces l h = cut_of_nothing [] pieces refl h
 cut_from_cuts (suc turns) at (b ∷ bytes) pieces l h =
     let text : List ℕ = b ∷ bytes in
-    let next : Piece → Result (List Piece) Refusal = λ piece. behind_piece piece (cut_from turns (at + length piece.bytes) (drop (length piece.bytes) text)) in
+    let next : Piece → Result (List Piece) Refusal = λ piece. following_piece piece (cut_from turns (at + length piece.bytes) (drop (length piece.bytes) text)) in
     let f = one_on at (first_piece text) next pieces h in
-    let g = one_behind f.0 (cut_from turns (at + length f.0.bytes) (drop (length f.0.bytes) text)) pieces f.2 in
+    let g = one_after f.0 (cut_from turns (at + length f.0.bytes) (drop (length f.0.bytes) text)) pieces f.2 in
     let found = first_piece_found text f.0 f.1 in
     let shorter = rest_shorter text f.0 found.0 found.1 in
     let rest = rest_is text f.0 found.0 found.1 in

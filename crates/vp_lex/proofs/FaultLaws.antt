@@ -5,7 +5,7 @@ use Rattle.vp_lex.specs.declared.piece.Fault.{Fault}
 use Rattle.vp_lex.specs.declared.piece.Fault.TheVariants.{BadCharacter, OpenComment, OpenString, UnknownDirective}
 use Rattle.vp_lex.specs.Pieces.{Piece, IsRead, unread}
 use Rattle.vp_lex.specs.Cuts.{Longest, CutTo, NoPiece, NotRead, Explains, Refusal, IsRefused}
-use Rattle.vp_lex.specs.Cutting.{first_piece, on_piece, behind_piece, cut_from, cut_text}
+use Rattle.vp_lex.specs.Cutting.{first_piece, on_piece, following_piece, cut_from, cut_text}
 use Rattle.vp_lex.proofs.CutLaws.{first_piece_found, one_longest, no_piece_of_nothing, rest_is, rest_shorter, none_left}
 use Rattle.vp_lex.proofs.Complete.{first_piece_explains, read_no_fault, first_piece_is}
 
@@ -62,12 +62,12 @@ record RefusedFrom (start : ℕ) (text : List ℕ) (refusal : Refusal) : Type 0 
   why : Explains refusal.fault remainder
 
 -- a refusal after one more piece
-abbrev refusal_behind : Piece → Refusal → Refusal
-refusal_behind piece refusal = record { fault = refusal.fault; at = refusal.at; pieces = piece ∷ refusal.pieces }
+abbrev refusal_after : Piece → Refusal → Refusal
+refusal_after piece refusal = record { fault = refusal.fault; at = refusal.at; pieces = piece ∷ refusal.pieces }
 
-fault_behind_piece : (piece : Piece) (r : Result (List Piece) Refusal) (refusal : Refusal) → behind_piece piece r ≡ Err refusal → (other : Refusal) × (r ≡ Err other) × (refusal_behind piece other ≡ refusal)
-fault_behind_piece piece (Err other) refusal h = (other, refl, cc)
-fault_behind_piece piece (Ok pieces) refusal h = absurd cc
+fault_after_piece : (piece : Piece) (r : Result (List Piece) Refusal) (refusal : Refusal) → following_piece piece r ≡ Err refusal → (other : Refusal) × (r ≡ Err other) × (refusal_after piece other ≡ refusal)
+fault_after_piece piece (Err other) refusal h = (other, refl, cc)
+fault_after_piece piece (Ok pieces) refusal h = absurd cc
 
 refused_here : (at b : ℕ) (bytes : List ℕ) (fault : Fault) (refusal : Refusal) → first_piece (b ∷ bytes) ≡ Err fault → ◌≡◌ {A = Result (List Piece) Refusal} (Err (record { fault = fault; at = at; pieces = [] })) (Err refusal) → RefusedFrom at (b ∷ bytes) refusal
 refused_here at b bytes fault refusal e h =
@@ -76,8 +76,8 @@ refused_here at b bytes fault refusal e h =
     let refused : RefusedFrom at (b ∷ bytes) here = record { remainder = b ∷ bytes; cut = refl; at = refl; more = omega arith; why = first_piece_explains b bytes fault e } in
     subst (λ (x : Refusal). RefusedFrom at (b ∷ bytes) x) same refused
 
-refused_behind : (at : ℕ) (text : List ℕ) (refusal : Refusal) (piece : Piece) (rest : List ℕ) → Longest text piece rest → IsRead piece → RefusedFrom (at + length piece.bytes) rest refusal → RefusedFrom at text (refusal_behind piece refusal)
-refused_behind at text refusal piece rest h known r = record {
+refused_after : (at : ℕ) (text : List ℕ) (refusal : Refusal) (piece : Piece) (rest : List ℕ) → Longest text piece rest → IsRead piece → RefusedFrom (at + length piece.bytes) rest refusal → RefusedFrom at text (refusal_after piece refusal)
+refused_after at text refusal piece rest h known r = record {
   remainder = r.remainder;
   cut = (rest, h, known, r.cut);
   at = omega (arith, r.at, length-append piece.bytes rest, ap length h.splits);
@@ -90,7 +90,7 @@ cut_from_refused zero at text refusal l h = absurd cc
 cut_from_refused (suc turns) at [] refusal l h = absurd cc
 cut_from_refused (suc turns) at (b ∷ bytes) refusal l h =
     let text : List ℕ = b ∷ bytes in
-    let next : Piece → Result (List Piece) Refusal = λ piece. behind_piece piece (cut_from turns (at + length piece.bytes) (drop (length piece.bytes) text)) in
+    let next : Piece → Result (List Piece) Refusal = λ piece. following_piece piece (cut_from turns (at + length piece.bytes) (drop (length piece.bytes) text)) in
     let on : (r : Result Piece Fault) → first_piece text ≡ r → on_piece at r next ≡ Err refusal → RefusedFrom at text refusal =
     λ r. elim r as (λ r. first_piece text ≡ r → on_piece at r next ≡ Err refusal → RefusedFrom at text refusal) [
       | Err fault ↦ (λ e h. refused_here at b bytes fault refusal e h)
@@ -98,10 +98,10 @@ cut_from_refused (suc turns) at (b ∷ bytes) refusal l h =
           let found = first_piece_found text piece e in
           let shorter = rest_shorter text piece found.0 found.1 in
           let rest : drop (length piece.bytes) text ≡ found.0 = rest_is text piece found.0 found.1 in
-          let g = fault_behind_piece piece (cut_from turns (at + length piece.bytes) (drop (length piece.bytes) text)) refusal h in
+          let g = fault_after_piece piece (cut_from turns (at + length piece.bytes) (drop (length piece.bytes) text)) refusal h in
           let remainder : cut_from turns (at + length piece.bytes) found.0 ≡ Err g.0 = ap (cut_from turns (at + length piece.bytes)) (sym rest) ∙ g.1 in
           subst (λ (x : Refusal). RefusedFrom at text x) g.2
-          (refused_behind at text g.0 piece found.0 found.1 found.2 (cut_from_refused turns (at + length piece.bytes) found.0 g.0 (omega arith) remainder)))
+          (refused_after at text g.0 piece found.0 found.1 found.2 (cut_from_refused turns (at + length piece.bytes) found.0 g.0 (omega arith) remainder)))
     ] in
     on (first_piece text) refl h
 
@@ -118,20 +118,20 @@ refused_is (suc turns) at told [] [] remainder fault l h m why e = absurd (omega
 refused_is (suc turns) at told [] (piece ∷ pieces) remainder fault l h m why e = absurd (no_piece_of_nothing [] piece h.0 refl h.1)
 refused_is (suc turns) at told (b ∷ bytes) [] remainder fault l h m why e =
     let text : List ℕ = b ∷ bytes in
-    let next : Piece → Result (List Piece) Refusal = λ piece. behind_piece piece (cut_from turns (at + length piece.bytes) (drop (length piece.bytes) text)) in
+    let next : Piece → Result (List Piece) Refusal = λ piece. following_piece piece (cut_from turns (at + length piece.bytes) (drop (length piece.bytes) text)) in
     let why : Explains fault text = subst (λ (x : List ℕ). Explains fault x) (sym h) why in
     let here : at ≡ told = omega (arith, ap length h) in
     ap (λ (r : Result Piece Fault). on_piece at r next) (first_piece_fault text fault (omega arith) why)
     ∙ ap (λ (n : ℕ). (let r : Result (List Piece) Refusal = Err (record { fault = fault; at = n; pieces = [] }) in r)) here
 refused_is (suc turns) at told (b ∷ bytes) (piece ∷ pieces) remainder fault l h m why e =
     let text : List ℕ = b ∷ bytes in
-    let next : Piece → Result (List Piece) Refusal = λ piece. behind_piece piece (cut_from turns (at + length piece.bytes) (drop (length piece.bytes) text)) in
+    let next : Piece → Result (List Piece) Refusal = λ piece. following_piece piece (cut_from turns (at + length piece.bytes) (drop (length piece.bytes) text)) in
     let shorter = rest_shorter text piece h.0 h.1 in
     let rest : drop (length piece.bytes) text ≡ h.0 = rest_is text piece h.0 h.1 in
     let sum : length text ≡ length piece.bytes + length h.0 = ap length h.1.splits ∙ length-append piece.bytes h.0 in
     let more = refused_is turns (at + length piece.bytes) told h.0 pieces remainder fault (omega arith) h.3 m why (omega arith) in
     ap (λ (r : Result Piece Fault). on_piece at r next) (first_piece_is text piece h.0 h.1 h.2)
-    ∙ ap (behind_piece piece) (ap (cut_from turns (at + length piece.bytes)) rest ∙ more)
+    ∙ ap (following_piece piece) (ap (cut_from turns (at + length piece.bytes)) rest ∙ more)
 
 -- and that fault is told, at that place
 pub refused_is_told : (text : List ℕ) (refusal : Refusal) → IsRefused text refusal → cut_text text ≡ Err refusal

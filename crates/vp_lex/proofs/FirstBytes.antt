@@ -231,41 +231,41 @@ no_solidus kind b k other = false_from_ne_true (is_solidus b) (λ e.
     let both : ◌≡◌ {A = Option PieceKind} (Some kind) (Some Operator) = sym k ∙ solidus_begun b e in
     other cc)
 
-ends_goes_on : (tail behind : List ℕ) → ends_comment tail ≡ true → goes_on_comment (tail ++ behind) ≡ true
-ends_goes_on [] behind h = absurd cc
-ends_goes_on (c ∷ tail) behind h = at (is_solidus c) (is_asterisk c) (list_all is_within_line tail) (ends_block false tail) h
+ends_goes_on : (tail following : List ℕ) → ends_comment tail ≡ true → goes_on_comment (tail ++ following) ≡ true
+ends_goes_on [] following h = absurd cc
+ends_goes_on (c ∷ tail) following h = at (is_solidus c) (is_asterisk c) (list_all is_within_line tail) (ends_block false tail) h
   where
     at : (solidus asterisk line block : Bool) → cond solidus line (asterisk && block) ≡ true → (solidus || asterisk) ≡ true
     at true asterisk line block h = refl
     at false true line block h = refl
     at false false line block h = h
 
-comment_in_front : (b : ℕ) (tail behind its : List ℕ) → is_piece Comment (b ∷ tail) ≡ true → FrontKind Comment its (b ∷ (tail ++ behind))
-comment_in_front b tail behind its h =
+comment_in_front : (b : ℕ) (tail following its : List ℕ) → is_piece Comment (b ∷ tail) ≡ true → FrontKind Comment its (b ∷ (tail ++ following))
+comment_in_front b tail following its h =
     let parts = and_parts (is_solidus b) (ends_comment tail) h in
-    let both : begins_comment b (tail ++ behind) ≡ true = rw (parts.0, ends_goes_on tail behind parts.1) refl in
+    let both : begins_comment b (tail ++ following) ≡ true = rw (parts.0, ends_goes_on tail following parts.1) refl in
     inl (ap (λ (v : Bool). cond v (Some Comment) (kind_begun b)) both)
 
-operator_in_front : (b : ℕ) (tail behind : List ℕ) (test : Bool) → begins_comment b (tail ++ behind) ≡ test → is_symbol (b ∷ tail) ≡ true → (cond test (Some Comment) (kind_begun b) ≡ Some Operator) ⊎ ((cond test (Some Comment) (kind_begun b) ≡ Some Comment) × (length (b ∷ tail) ≤ 1))
-operator_in_front b tail behind true e h = inr (refl, solidus_alone b tail (and_parts (is_solidus b) (goes_on_comment (tail ++ behind)) e).0 h)
-operator_in_front b tail behind false e h = inl (operator_begun b (symbol_begins b tail h))
+operator_in_front : (b : ℕ) (tail following : List ℕ) (test : Bool) → begins_comment b (tail ++ following) ≡ test → is_symbol (b ∷ tail) ≡ true → (cond test (Some Comment) (kind_begun b) ≡ Some Operator) ⊎ ((cond test (Some Comment) (kind_begun b) ≡ Some Comment) × (length (b ∷ tail) ≤ 1))
+operator_in_front b tail following true e h = inr (refl, solidus_alone b tail (and_parts (is_solidus b) (goes_on_comment (tail ++ following)) e).0 h)
+operator_in_front b tail following false e h = inl (operator_begun b (symbol_begins b tail h))
 
 other_in_front : (kind : PieceKind) (b : ℕ) (tail bytes : List ℕ) → (kind ≡ Comment → ⊥) → (kind ≡ Operator → ⊥) → is_piece kind (b ∷ tail) ≡ true → FrontKind kind (b ∷ tail) (b ∷ bytes)
 other_in_front kind b tail bytes comment operator h =
     let begun = begun-from kind b (and_parts (begins kind b) (ends kind b tail) (sym (is_piece-parts kind b tail) ∙ h)).0 comment in
     no_comment_at kind b bytes (b ∷ tail) (no_solidus kind b begun operator) begun
 
-in_front : (kind : PieceKind) (b : ℕ) (tail behind : List ℕ) → is_piece kind (b ∷ tail) ≡ true → FrontKind kind (b ∷ tail) (b ∷ (tail ++ behind))
-in_front WhiteSpace b tail behind h = other_in_front WhiteSpace b tail (tail ++ behind) (λ e. absurd cc) (λ e. absurd cc) h
-in_front Comment b tail behind h = comment_in_front b tail behind (b ∷ tail) h
-in_front Word b tail behind h = other_in_front Word b tail (tail ++ behind) (λ e. absurd cc) (λ e. absurd cc) h
-in_front SystemWord b tail behind h = other_in_front SystemWord b tail (tail ++ behind) (λ e. absurd cc) (λ e. absurd cc) h
-in_front Number b tail behind h = other_in_front Number b tail (tail ++ behind) (λ e. absurd cc) (λ e. absurd cc) h
-in_front BasePart b tail behind h = other_in_front BasePart b tail (tail ++ behind) (λ e. absurd cc) (λ e. absurd cc) h
-in_front Quoted b tail behind h = other_in_front Quoted b tail (tail ++ behind) (λ e. absurd cc) (λ e. absurd cc) h
-in_front Operator b tail behind h = operator_in_front b tail behind (begins_comment b (tail ++ behind)) refl h
-in_front Directive b tail behind h = other_in_front Directive b tail (tail ++ behind) (λ e. absurd cc) (λ e. absurd cc) h
+in_front : (kind : PieceKind) (b : ℕ) (tail following : List ℕ) → is_piece kind (b ∷ tail) ≡ true → FrontKind kind (b ∷ tail) (b ∷ (tail ++ following))
+in_front WhiteSpace b tail following h = other_in_front WhiteSpace b tail (tail ++ following) (λ e. absurd cc) (λ e. absurd cc) h
+in_front Comment b tail following h = comment_in_front b tail following (b ∷ tail) h
+in_front Word b tail following h = other_in_front Word b tail (tail ++ following) (λ e. absurd cc) (λ e. absurd cc) h
+in_front SystemWord b tail following h = other_in_front SystemWord b tail (tail ++ following) (λ e. absurd cc) (λ e. absurd cc) h
+in_front Number b tail following h = other_in_front Number b tail (tail ++ following) (λ e. absurd cc) (λ e. absurd cc) h
+in_front BasePart b tail following h = other_in_front BasePart b tail (tail ++ following) (λ e. absurd cc) (λ e. absurd cc) h
+in_front Quoted b tail following h = other_in_front Quoted b tail (tail ++ following) (λ e. absurd cc) (λ e. absurd cc) h
+in_front Operator b tail following h = operator_in_front b tail following (begins_comment b (tail ++ following)) refl h
+in_front Directive b tail following h = other_in_front Directive b tail (tail ++ following) (λ e. absurd cc) (λ e. absurd cc) h
 
-pub front_kind : (text : List ℕ) (kind : PieceKind) (its behind : List ℕ) → is_piece kind its ≡ true → text ≡ its ++ behind → FrontKind kind its text
-front_kind text kind [] behind h e = absurd (no_empty_piece kind h)
-front_kind text kind (b ∷ tail) behind h e = subst (λ (x : List ℕ). FrontKind kind (b ∷ tail) x) (sym e) (in_front kind b tail behind h)
+pub front_kind : (text : List ℕ) (kind : PieceKind) (its following : List ℕ) → is_piece kind its ≡ true → text ≡ its ++ following → FrontKind kind its text
+front_kind text kind [] following h e = absurd (no_empty_piece kind h)
+front_kind text kind (b ∷ tail) following h e = subst (λ (x : List ℕ). FrontKind kind (b ∷ tail) x) (sym e) (in_front kind b tail following h)

@@ -11,17 +11,17 @@ pub record Reaches (test : List ℕ → Bool) (bytes tail : List ℕ) : Type 0 w
   pub rest : List ℕ
   pub splits : bytes ≡ tail ++ rest
   pub passes : test tail ≡ true
-  pub longest : (other behind : List ℕ) → bytes ≡ other ++ behind → test other ≡ true → length other ≤ length tail
+  pub longest : (other following : List ℕ) → bytes ≡ other ++ following → test other ≡ true → length other ≤ length tail
 
 -- ---- one more byte
 
-longest_more : (test more : List ℕ → Bool) (byte : ℕ) (bytes tail : List ℕ) → ((x : List ℕ) → more (byte ∷ x) ≡ test x) → Reaches test bytes tail → (other behind : List ℕ) → byte ∷ bytes ≡ other ++ behind → more other ≡ true → length other ≤ length (byte ∷ tail)
-longest_more test more byte bytes tail same h [] behind e passes = omega arith
-longest_more test more byte bytes tail same h (b ∷ other) behind e passes =
+longest_more : (test more : List ℕ → Bool) (byte : ℕ) (bytes tail : List ℕ) → ((x : List ℕ) → more (byte ∷ x) ≡ test x) → Reaches test bytes tail → (other following : List ℕ) → byte ∷ bytes ≡ other ++ following → more other ≡ true → length other ≤ length (byte ∷ tail)
+longest_more test more byte bytes tail same h [] following e passes = omega arith
+longest_more test more byte bytes tail same h (b ∷ other) following e passes =
     let first : byte ≡ b = cc in
-    let others : bytes ≡ other ++ behind = cc in
+    let others : bytes ≡ other ++ following = cc in
     let passed : more (byte ∷ other) ≡ true = rw first passes in
-    let le = h.longest other behind others (sym (same other) ∙ passed) in
+    let le = h.longest other following others (sym (same other) ∙ passed) in
     omega arith
 
 -- a byte in front, where the longer test is the shorter one after it
@@ -35,9 +35,9 @@ reaches_more test more byte bytes tail same h = record {
 
 -- ---- nothing
 
-empty_no_longer : (bytes other behind : List ℕ) → bytes ≡ other ++ behind → is_empty other ≡ true → length other ≤ 0
-empty_no_longer bytes [] behind e h = omega arith
-empty_no_longer bytes (b ∷ other) behind e h = absurd cc
+empty_no_longer : (bytes other following : List ℕ) → bytes ≡ other ++ following → is_empty other ≡ true → length other ≤ 0
+empty_no_longer bytes [] following e h = omega arith
+empty_no_longer bytes (b ∷ other) following e h = absurd cc
 
 pub reaches_nothing : (bytes : List ℕ) → Reaches is_empty bytes []
 reaches_nothing bytes = record { rest = bytes; splits = refl; passes = refl; longest = empty_no_longer bytes }
@@ -52,13 +52,13 @@ all_taken p (b ∷ bytes) =
     λ c. elim c as (λ c. p b ≡ c → list_all p (cond c (b ∷ take_while p bytes) []) ≡ true) [ true ↦ (λ e. and_from (p b) (list_all p (take_while p bytes)) e (all_taken p bytes)) | false ↦ (λ e. refl) ] in
     rw (take_while-cons p b bytes) (at (p b) refl)
 
-run_no_longer : (p : ℕ → Bool) (other behind : List ℕ) → list_all p other ≡ true → length other ≤ length (take_while p (other ++ behind))
-run_no_longer p [] behind h = omega arith
-run_no_longer p (b ∷ other) behind h =
+run_no_longer : (p : ℕ → Bool) (other following : List ℕ) → list_all p other ≡ true → length other ≤ length (take_while p (other ++ following))
+run_no_longer p [] following h = omega arith
+run_no_longer p (b ∷ other) following h =
     let parts = and_parts (p b) (list_all p other) h in
     let e : p b ≡ true = parts.0 in
-    let le = run_no_longer p other behind parts.1 in
-    rw (take_while-cons p b (other ++ behind), e) (omega arith)
+    let le = run_no_longer p other following parts.1 in
+    rw (take_while-cons p b (other ++ following), e) (omega arith)
 
 -- the longest run of bytes of a class
 pub reaches_run : (p : ℕ → Bool) (bytes : List ℕ) → Reaches (list_all p) bytes (take_while p bytes)
@@ -66,7 +66,7 @@ reaches_run p bytes = record {
   rest = drop (prefix_len p bytes) bytes;
   splits = sym (take-append-drop (prefix_len p bytes) bytes);
   passes = all_taken p bytes;
-  longest = λ other behind e h. rw e (run_no_longer p other behind h);
+  longest = λ other following e h. rw e (run_no_longer p other following h);
 }
 
 is_run-at : (begins goes_on : ℕ → Bool) (b : ℕ) → begins b ≡ true → (x : List ℕ) → is_run begins goes_on (b ∷ x) ≡ list_all goes_on x

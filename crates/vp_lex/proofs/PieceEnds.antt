@@ -16,7 +16,7 @@ use Rattle.vp_lex.specs.declared.piece.Base.{Base}
 use Rattle.vp_lex.specs.declared.piece.Base.TheVariants.{Binary, Octal, Decimal, Hexadecimal}
 use Rattle.vp_lex.specs.declared.piece.Fault.{Fault}
 use Rattle.vp_lex.specs.declared.piece.Fault.TheVariants.{OpenString}
-use Rattle.vp_lex.specs.Pieces.{PieceKind, WhiteSpace, Comment, Word, SystemWord, Number, BasePart, Quoted, Operator, Directive, is_run, is_piece, is_empty, behind_space, ends_digits, ends_based, ends_base_part, closes, escapes, ends_string, has_string_end, unless, unread}
+use Rattle.vp_lex.specs.Pieces.{PieceKind, WhiteSpace, Comment, Word, SystemWord, Number, BasePart, Quoted, Operator, Directive, is_run, is_piece, is_empty, after_space, ends_digits, ends_based, ends_base_part, closes, escapes, ends_string, has_string_end, unless, unread}
 use Rattle.vp_lex.proofs.FirstBytes.{begins, ends, is_piece-parts, symbol_all}
 
 -- ---- classes of ASCII bytes
@@ -98,12 +98,12 @@ run_ends begins goes_on (b ∷ bytes) low more h =
     let parts = and_parts (begins b) (list_all goes_on bytes) h in
     (any_ends b bytes (low b parts.0) (all_ends goes_on bytes more parts.1), omega arith)
 
-behind_ends : (n : ℕ) (bytes : List ℕ) → 1 ≤ length (drop n bytes) → EndsLow (drop n bytes) → EndsLow bytes
-behind_ends zero bytes l h j e = h j e
-behind_ends (suc n) [] l h j e = absurd (omega arith)
-behind_ends (suc n) (b ∷ bytes) l h j e =
+after_ends : (n : ℕ) (bytes : List ℕ) → 1 ≤ length (drop n bytes) → EndsLow (drop n bytes) → EndsLow bytes
+after_ends zero bytes l h j e = h j e
+after_ends (suc n) [] l h j e = absurd (omega arith)
+after_ends (suc n) (b ∷ bytes) l h j e =
     let some : 1 ≤ length bytes = omega (arith, length-drop n bytes) in
-    more_ends b bytes some (behind_ends n bytes l h) j e
+    more_ends b bytes some (after_ends n bytes l h) j e
 
 empty_long : (bytes : List ℕ) → is_empty bytes ≡ true → length bytes ≡ 0
 empty_long [] h = refl
@@ -127,9 +127,9 @@ string_ends escaped (b ∷ bytes) h c = (
 digits_ends : (o : Option Base) (bytes : List ℕ) → ends_digits o bytes ≡ true → EndsLow bytes × (1 ≤ length bytes)
 digits_ends None bytes h = absurd cc
 digits_ends (Some base) bytes h =
-    let digits = run_ends (is_digit base) (goes_on_digits base) (behind_space bytes) (digit_low base) (digits_low base) h in
+    let digits = run_ends (is_digit base) (goes_on_digits base) (after_space bytes) (digit_low base) (digits_low base) h in
     let some : 1 ≤ length bytes = omega (arith, digits.1, length-drop (prefix_len is_space bytes) bytes) in
-    (behind_ends (prefix_len is_space bytes) bytes digits.1 digits.0, some)
+    (after_ends (prefix_len is_space bytes) bytes digits.1 digits.0, some)
 
 based_ends : (bytes : List ℕ) → ends_based bytes ≡ true → EndsLow bytes × (1 ≤ length bytes)
 based_ends [] h = absurd cc
@@ -176,7 +176,7 @@ piece_ends kind (b ∷ bytes) other h r =
 -- a part of a text that may be cut out
 pub record IsPart (text : List ℕ) (start end : ℕ) : Type 0 where
   pub before : IsCharBoundary text start
-  pub behind : IsCharBoundary text end
+  pub following : IsCharBoundary text end
   pub utf8 : IsUtf8 (slice_range text start end)
 
 -- a piece of a text that is no comment, and is read, may be cut out of it
@@ -192,10 +192,10 @@ piece_part text start end kind utf8 l m other h r =
     let place : start + (end - start - 1) ≡ end - 1 = omega arith in
     subst (λ (n : ℕ). get_or text n 0 < 128) place (subst (λ (n : ℕ). n < 128) (at (end - start - 1) (omega arith)) (low.1 (end - start - 1) (omega arith))) in
     let before = IsCharBoundary-before_ascii text start (omega arith) first in
-    let behind : IsCharBoundary text end =
+    let following : IsCharBoundary text end =
     let place : end - 1 + 1 ≡ end = omega arith in
     subst (λ (n : ℕ). IsCharBoundary text n) place (IsCharBoundary-after_ascii text (end - 1) utf8 (omega arith) last) in
-    record { before = before; behind = behind; utf8 = IsUtf8-between text start end utf8 (omega arith) before behind }
+    record { before = before; following = following; utf8 = IsUtf8-between text start end utf8 (omega arith) before following }
   where
     length_part : (text : List ℕ) (start end : ℕ) → end ≤ length text → length (slice_range text start end) ≡ end - start
     length_part text start end m = omega (arith, length-take (end - start) (drop start text), length-drop start text)

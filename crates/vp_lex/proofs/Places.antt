@@ -8,11 +8,11 @@ use Rattle.std.proofs.lemmas.List.{length-reverse, reverse-append, take_more, le
 use Rattle.std.proofs.lemmas.List.Folds.{prefix_len-append, list_all-append}
 use Rattle.std.proofs.lemmas.List.Sums.{sum_by-append, count_by-le-length}
 use Rattle.vp_lex.specs.Bytes.{is_newline}
-use Rattle.vp_lex.specs.Tokens.{line_behind, column_behind}
+use Rattle.vp_lex.specs.Tokens.{line_after, column_after}
 
 -- each newline is one more line
-pub line_behind-append : (before bytes : List ℕ) → line_behind (before ++ bytes) ≡ line_behind before + count_by is_newline bytes
-line_behind-append before bytes = omega (arith, sum_by-append (λ byte. cond (is_newline byte) 1 0) before bytes)
+pub line_after-append : (before bytes : List ℕ) → line_after (before ++ bytes) ≡ line_after before + count_by is_newline bytes
+line_after-append before bytes = omega (arith, sum_by-append (λ byte. cond (is_newline byte) 1 0) before bytes)
 
 all_one : (p : ℕ → Bool) (b : ℕ) → list_all p (b ∷ []) ≡ p b
 all_one p b = elim (p b) as (λ v. (v && true) ≡ v) [ true ↦ refl | false ↦ refl ]
@@ -50,7 +50,7 @@ suffix_parts : (p : ℕ → Bool) (before bytes : List ℕ) → suffix_len p (be
 suffix_parts p before bytes = ap (prefix_len p) (reverse-append before bytes) ∙ prefix_len-append p (reverse bytes) (reverse before)
 
 -- on the same line, each byte is one more column
-pub column_same_line : (before bytes : List ℕ) → list_all (λ byte. not (is_newline byte)) bytes ≡ true → column_behind (before ++ bytes) ≡ column_behind before + length bytes
+pub column_same_line : (before bytes : List ℕ) → list_all (λ byte. not (is_newline byte)) bytes ≡ true → column_after (before ++ bytes) ≡ column_after before + length bytes
 column_same_line before bytes h =
     let p : ℕ → Bool = λ byte. not (is_newline byte) in
     let whole : prefix_len p (reverse bytes) ≡ length (reverse bytes) = all_long p (reverse bytes) (all_reversed p bytes ∙ h) in
@@ -58,7 +58,7 @@ column_same_line before bytes h =
     omega (arith, parts, length-reverse bytes)
 
 -- after a newline, what stood before it no longer counts
-pub column_new_line : (before bytes : List ℕ) → list_all (λ byte. not (is_newline byte)) bytes ≡ false → column_behind (before ++ bytes) ≡ column_behind bytes
+pub column_new_line : (before bytes : List ℕ) → list_all (λ byte. not (is_newline byte)) bytes ≡ false → column_after (before ++ bytes) ≡ column_after bytes
 column_new_line before bytes h =
     let p : ℕ → Bool = λ byte. not (is_newline byte) in
     let less : prefix_len p (reverse bytes) < length (reverse bytes) = not_all_long p (reverse bytes) (all_reversed p bytes ∙ h) in
@@ -68,34 +68,34 @@ column_new_line before bytes h =
 
 -- ---- one byte more
 
-line_by : (text : List ℕ) (at : ℕ) → at < length text → line_behind (take (at + 1) text) ≡ line_behind (take at text) + (0 + cond (is_newline (get_or text at 0)) 1 0)
-line_by text at l = ap line_behind (take_more text at 0 l) ∙ line_behind-append (take at text) (get_or text at 0 ∷ [])
+line_by : (text : List ℕ) (at : ℕ) → at < length text → line_after (take (at + 1) text) ≡ line_after (take at text) + (0 + cond (is_newline (get_or text at 0)) 1 0)
+line_by text at l = ap line_after (take_more text at 0 l) ∙ line_after-append (take at text) (get_or text at 0 ∷ [])
 
 -- after a newline stands the next line
-pub line_newline : (text : List ℕ) (at : ℕ) → at < length text → is_newline (get_or text at 0) ≡ true → line_behind (take (at + 1) text) ≡ line_behind (take at text) + 1
+pub line_newline : (text : List ℕ) (at : ℕ) → at < length text → is_newline (get_or text at 0) ≡ true → line_after (take (at + 1) text) ≡ line_after (take at text) + 1
 line_newline text at l e = let by = rw e at (line_by text at l) in omega arith
 
 -- after another byte stands the same
-pub line_other : (text : List ℕ) (at : ℕ) → at < length text → is_newline (get_or text at 0) ≡ false → line_behind (take (at + 1) text) ≡ line_behind (take at text)
+pub line_other : (text : List ℕ) (at : ℕ) → at < length text → is_newline (get_or text at 0) ≡ false → line_after (take (at + 1) text) ≡ line_after (take at text)
 line_other text at l e = let by = rw e at (line_by text at l) in omega arith
 
 -- after a newline the columns begin again
-pub column_newline : (text : List ℕ) (at : ℕ) → at < length text → is_newline (get_or text at 0) ≡ true → column_behind (take (at + 1) text) ≡ 1
+pub column_newline : (text : List ℕ) (at : ℕ) → at < length text → is_newline (get_or text at 0) ≡ true → column_after (take (at + 1) text) ≡ 1
 column_newline text at l e =
     let b : ℕ = get_or text at 0 in
     let none : list_all (λ byte. not (is_newline byte)) (b ∷ []) ≡ false = rw e refl in
-    let one : column_behind (b ∷ []) ≡ 1 = rw e refl in
-    ap column_behind (take_more text at 0 l) ∙ column_new_line (take at text) (b ∷ []) none ∙ one
+    let one : column_after (b ∷ []) ≡ 1 = rw e refl in
+    ap column_after (take_more text at 0 l) ∙ column_new_line (take at text) (b ∷ []) none ∙ one
 
 -- after another byte stands the next column
-pub column_other : (text : List ℕ) (at : ℕ) → at < length text → is_newline (get_or text at 0) ≡ false → column_behind (take (at + 1) text) ≡ column_behind (take at text) + 1
+pub column_other : (text : List ℕ) (at : ℕ) → at < length text → is_newline (get_or text at 0) ≡ false → column_after (take (at + 1) text) ≡ column_after (take at text) + 1
 column_other text at l e =
     let b : ℕ = get_or text at 0 in
     let all : list_all (λ byte. not (is_newline byte)) (b ∷ []) ≡ true = rw e refl in
-    ap column_behind (take_more text at 0 l) ∙ column_same_line (take at text) (b ∷ []) all
+    ap column_after (take_more text at 0 l) ∙ column_same_line (take at text) (b ∷ []) all
 
 -- a line has no fewer bytes before it than lines
-pub line_counted : (text : List ℕ) (at : ℕ) → at ≤ length text → line_behind (take at text) ≤ at + 1
+pub line_counted : (text : List ℕ) (at : ℕ) → at ≤ length text → line_after (take at text) ≤ at + 1
 line_counted text at l = omega (arith, count_by-le-length is_newline (take at text), length-take at text)
 
 -- no newline stands in a part and the byte after it

@@ -7,8 +7,8 @@ use Rattle.vp_lex.specs.declared.piece.Base.{Base}
 use Rattle.vp_lex.specs.declared.piece.Fault.{Fault}
 use Rattle.vp_lex.specs.declared.piece.Fault.TheVariants.{BadCharacter}
 use Rattle.vp_lex.specs.Bytes.{is_space, is_sign, base_of, is_digit, goes_on_digits}
-use Rattle.vp_lex.specs.Pieces.{is_run, behind_space, are_digits, ends_digits, ends_based, ends_base_part}
-use Rattle.vp_lex.specs.Cutting.{run_front, or_bad, behind_byte, digits_front, any_digits_front, based_front, base_front}
+use Rattle.vp_lex.specs.Pieces.{is_run, after_space, are_digits, ends_digits, ends_based, ends_base_part}
+use Rattle.vp_lex.specs.Cutting.{run_front, or_bad, after_byte, digits_front, any_digits_front, based_front, base_front}
 use Rattle.vp_lex.proofs.Fronts.{Reaches, reaches_more, reaches_begun}
 
 -- a test that gave true, or false
@@ -31,18 +31,18 @@ reaches_run_front begins goes_on (b ∷ bytes) tail h = run_at begins goes_on b 
 -- ---- base parts
 
 abbrev pub spaced_digits : Base → List ℕ → Bool
-spaced_digits base bytes = are_digits base (behind_space bytes)
+spaced_digits base bytes = are_digits base (after_space bytes)
 
 one_more : (n : ℕ) → 1 + n ≡ suc n
 one_more n = omega arith
 
-pub behind_space-yes : (b : ℕ) (bytes : List ℕ) → is_space b ≡ true → behind_space (b ∷ bytes) ≡ behind_space bytes
-behind_space-yes b bytes e = rw (e, one_more (prefix_len is_space bytes)) refl
+pub after_space-yes : (b : ℕ) (bytes : List ℕ) → is_space b ≡ true → after_space (b ∷ bytes) ≡ after_space bytes
+after_space-yes b bytes e = rw (e, one_more (prefix_len is_space bytes)) refl
 
-pub behind_space-no : (b : ℕ) (bytes : List ℕ) → is_space b ≡ false → behind_space (b ∷ bytes) ≡ b ∷ bytes
-behind_space-no b bytes e = rw e refl
+pub after_space-no : (b : ℕ) (bytes : List ℕ) → is_space b ≡ false → after_space (b ∷ bytes) ≡ b ∷ bytes
+after_space-no b bytes e = rw e refl
 
-pub digits_yes : (base : Base) (b : ℕ) (bytes : List ℕ) → is_space b ≡ true → digits_front base (b ∷ bytes) ≡ option_map (λ digits. b ∷ (take (prefix_len is_space bytes) bytes ++ digits)) (run_front (is_digit base) (goes_on_digits base) (behind_space bytes))
+pub digits_yes : (base : Base) (b : ℕ) (bytes : List ℕ) → is_space b ≡ true → digits_front base (b ∷ bytes) ≡ option_map (λ digits. b ∷ (take (prefix_len is_space bytes) bytes ++ digits)) (run_front (is_digit base) (goes_on_digits base) (after_space bytes))
 digits_yes base b bytes e = rw (e, one_more (prefix_len is_space bytes)) refl
 
 map_own : (o : Option (List ℕ)) → option_map (λ digits. digits) o ≡ o
@@ -57,7 +57,7 @@ one_front b f None tail h = absurd cc
 one_front b f (Some x) tail h = (f x, refl, cc)
 
 digits_nothing : (base : Base) (b : ℕ) (bytes x : List ℕ) → is_space b ≡ false → spaced_digits base (b ∷ x) ≡ are_digits base (b ∷ x)
-digits_nothing base b bytes x e = ap (are_digits base) (behind_space-no b x e)
+digits_nothing base b bytes x e = ap (are_digits base) (after_space-no b x e)
 
 -- the same bytes reach by a test that agrees on what begins with their first byte
 reaches_by : (test other : List ℕ → Bool) (b : ℕ) (bytes tail : List ℕ) → other [] ≡ false → ((x : List ℕ) → other (b ∷ x) ≡ test (b ∷ x)) → Reaches test (b ∷ bytes) (b ∷ tail) → Reaches other (b ∷ bytes) (b ∷ tail)
@@ -65,7 +65,7 @@ reaches_by test other b bytes tail empty same h = reaches_more (λ x. test (b �
   rest = h.rest;
   splits = let e = h.splits in cc;
   passes = h.passes;
-  longest = λ t behind e passes. let le = h.longest (b ∷ t) behind (ap (λ (x : List ℕ). b ∷ x) e) passes in omega arith;
+  longest = λ t following e passes. let le = h.longest (b ∷ t) following (ap (λ (x : List ℕ). b ∷ x) e) passes in omega arith;
 })
 
 digits_begun : (base : Base) (b : ℕ) (bytes tail : List ℕ) (test : Bool) → is_space b ≡ false → is_digit base b ≡ test → cond test (Some (b ∷ take_while (goes_on_digits base) bytes)) None ≡ Some tail → Reaches (spaced_digits base) (b ∷ bytes) tail
@@ -80,14 +80,14 @@ reaches_digits base [] tail h = absurd cc
 reaches_digits base (b ∷ bytes) tail h =
     on_test (Reaches (spaced_digits base) (b ∷ bytes) tail) (is_space b)
     (λ e.
-    let f = one_front b (λ digits. take (prefix_len is_space bytes) bytes ++ digits) (run_front (is_digit base) (goes_on_digits base) (behind_space bytes)) tail (sym (digits_yes base b bytes e) ∙ h) in
+    let f = one_front b (λ digits. take (prefix_len is_space bytes) bytes ++ digits) (run_front (is_digit base) (goes_on_digits base) (after_space bytes)) tail (sym (digits_yes base b bytes e) ∙ h) in
     subst (λ (x : List ℕ). Reaches (spaced_digits base) (b ∷ bytes) x) f.2
-    (reaches_more (spaced_digits base) (spaced_digits base) b bytes f.0 (λ x. ap (are_digits base) (behind_space-yes b x e)) (reaches_digits base bytes f.0 f.1)))
+    (reaches_more (spaced_digits base) (spaced_digits base) b bytes f.0 (λ x. ap (are_digits base) (after_space-yes b x e)) (reaches_digits base bytes f.0 f.1)))
     (λ e. digits_begun base b bytes tail (is_digit base b) e refl (sym (digits_no base b bytes e) ∙ h))
 
-one_behind : (b : ℕ) (r : Result (List ℕ) Fault) (tail : List ℕ) → behind_byte b r ≡ Ok tail → (t : List ℕ) × (r ≡ Ok t) × (b ∷ t ≡ tail)
-one_behind b (Err fault) tail h = absurd cc
-one_behind b (Ok x) tail h = (x, refl, cc)
+one_after : (b : ℕ) (r : Result (List ℕ) Fault) (tail : List ℕ) → after_byte b r ≡ Ok tail → (t : List ℕ) × (r ≡ Ok t) × (b ∷ t ≡ tail)
+one_after b (Err fault) tail h = absurd cc
+one_after b (Ok x) tail h = (x, refl, cc)
 
 any_digits : (o : Option Base) (bytes tail : List ℕ) → any_digits_front o bytes ≡ Ok tail → Reaches (ends_digits o) bytes tail
 any_digits None bytes tail h = absurd cc
@@ -99,7 +99,7 @@ any_digits (Some base) bytes tail h = reaches_digits base bytes tail (found_of (
 
 reaches_based : (b : ℕ) (bytes tail : List ℕ) → based_front (b ∷ bytes) ≡ Ok tail → (t : List ℕ) × (b ∷ t ≡ tail) × Reaches ends_based (b ∷ bytes) (b ∷ t)
 reaches_based b bytes tail h =
-    let f = one_behind b (any_digits_front (base_of b) bytes) tail h in
+    let f = one_after b (any_digits_front (base_of b) bytes) tail h in
     (f.0, f.2, reaches_more (ends_digits (base_of b)) ends_based b bytes f.0 (λ x. refl) (any_digits (base_of b) bytes f.0 f.1))
 
 reaches_signed : (b : ℕ) (bytes t : List ℕ) → is_sign b ≡ true → based_front bytes ≡ Ok t → Reaches ends_base_part (b ∷ bytes) (b ∷ t)
@@ -109,9 +109,9 @@ reaches_signed b (c ∷ bytes) t s h =
     let same : (x : List ℕ) → ends_base_part (b ∷ x) ≡ ends_based x = λ x. ap (λ (v : Bool). cond v (ends_based x) (ends_based (b ∷ x))) s in
     reaches_more ends_based ends_base_part b (c ∷ bytes) t same (subst (λ (x : List ℕ). Reaches ends_based (c ∷ bytes) x) f.1 f.2)
 
-base_at : (b : ℕ) (bytes tail : List ℕ) (test : Bool) → is_sign b ≡ test → cond test (behind_byte b (based_front bytes)) (based_front (b ∷ bytes)) ≡ Ok tail → Reaches ends_base_part (b ∷ bytes) tail
+base_at : (b : ℕ) (bytes tail : List ℕ) (test : Bool) → is_sign b ≡ test → cond test (after_byte b (based_front bytes)) (based_front (b ∷ bytes)) ≡ Ok tail → Reaches ends_base_part (b ∷ bytes) tail
 base_at b bytes tail true s h =
-    let f = one_behind b (based_front bytes) tail h in
+    let f = one_after b (based_front bytes) tail h in
     subst (λ (x : List ℕ). Reaches ends_base_part (b ∷ bytes) x) f.2 (reaches_signed b bytes f.0 s f.1)
 base_at b bytes tail false s h =
     let f = reaches_based b bytes tail h in
@@ -139,11 +139,11 @@ digits_found base [] rest h = absurd cc
 digits_found base (b ∷ tail) rest h =
     on_test ((found : List ℕ) × (digits_front base (b ∷ (tail ++ rest)) ≡ Some found)) (is_space b)
     (λ e.
-    let f = digits_found base tail rest (ap (is_run (is_digit base) (goes_on_digits base)) (sym (behind_space-yes b tail e)) ∙ h) in
+    let f = digits_found base tail rest (ap (is_run (is_digit base) (goes_on_digits base)) (sym (after_space-yes b tail e)) ∙ h) in
     let bytes : List ℕ = tail ++ rest in
-    (b ∷ f.0, digits_yes base b bytes e ∙ map_more b (λ digits. take (prefix_len is_space bytes) bytes ++ digits) (run_front (is_digit base) (goes_on_digits base) (behind_space bytes)) f.0 f.1))
+    (b ∷ f.0, digits_yes base b bytes e ∙ map_more b (λ digits. take (prefix_len is_space bytes) bytes ++ digits) (run_front (is_digit base) (goes_on_digits base) (after_space bytes)) f.0 f.1))
     (λ e.
-    let f = run_found (is_digit base) (goes_on_digits base) (b ∷ tail) rest (ap (is_run (is_digit base) (goes_on_digits base)) (sym (behind_space-no b tail e)) ∙ h) in
+    let f = run_found (is_digit base) (goes_on_digits base) (b ∷ tail) rest (ap (is_run (is_digit base) (goes_on_digits base)) (sym (after_space-no b tail e)) ∙ h) in
     (f.0, digits_no base b (tail ++ rest) e ∙ f.1))
 
 any_digits_there : (o : Option Base) (tail rest : List ℕ) → ends_digits o tail ≡ true → (found : List ℕ) × (any_digits_front o (tail ++ rest) ≡ Ok found)
@@ -152,10 +152,10 @@ any_digits_there (Some base) tail rest h = let f = digits_found base tail rest h
 
 based_there : (tail rest : List ℕ) → ends_based tail ≡ true → (found : List ℕ) × (based_front (tail ++ rest) ≡ Ok found)
 based_there [] rest h = absurd cc
-based_there (b ∷ tail) rest h = let f = any_digits_there (base_of b) tail rest h in (b ∷ f.0, ap (behind_byte b) f.1)
+based_there (b ∷ tail) rest h = let f = any_digits_there (base_of b) tail rest h in (b ∷ f.0, ap (after_byte b) f.1)
 
-base_there_at : (b : ℕ) (tail rest : List ℕ) (test : Bool) → cond test (ends_based tail) (ends_based (b ∷ tail)) ≡ true → (found : List ℕ) × (cond test (behind_byte b (based_front (tail ++ rest))) (based_front (b ∷ (tail ++ rest))) ≡ Ok found)
-base_there_at b tail rest true h = let f = based_there tail rest h in (b ∷ f.0, ap (behind_byte b) f.1)
+base_there_at : (b : ℕ) (tail rest : List ℕ) (test : Bool) → cond test (ends_based tail) (ends_based (b ∷ tail)) ≡ true → (found : List ℕ) × (cond test (after_byte b (based_front (tail ++ rest))) (based_front (b ∷ (tail ++ rest))) ≡ Ok found)
+base_there_at b tail rest true h = let f = based_there tail rest h in (b ∷ f.0, ap (after_byte b) f.1)
 base_there_at b tail rest false h = based_there (b ∷ tail) rest h
 
 pub base_there : (tail rest : List ℕ) → ends_base_part tail ≡ true → (found : List ℕ) × (base_front (tail ++ rest) ≡ Ok found)
@@ -163,9 +163,9 @@ base_there [] rest h = absurd cc
 base_there (b ∷ tail) rest h = base_there_at b tail rest (is_sign b) h
 
 -- the fault of a base part
-fault_behind : (b : ℕ) (r : Result (List ℕ) Fault) (fault : Fault) → behind_byte b r ≡ Err fault → r ≡ Err fault
-fault_behind b (Err other) fault h = h
-fault_behind b (Ok bytes) fault h = absurd cc
+fault_after : (b : ℕ) (r : Result (List ℕ) Fault) (fault : Fault) → after_byte b r ≡ Err fault → r ≡ Err fault
+fault_after b (Err other) fault h = h
+fault_after b (Ok bytes) fault h = absurd cc
 
 digits_fault : (o : Option (List ℕ)) (fault : Fault) → or_bad o ≡ Err fault → fault ≡ BadCharacter
 digits_fault None fault h = let same : BadCharacter ≡ fault = cc in sym same
@@ -177,10 +177,10 @@ any_digits_fault (Some base) bytes fault h = digits_fault (digits_front base byt
 
 based_fault : (bytes : List ℕ) (fault : Fault) → based_front bytes ≡ Err fault → fault ≡ BadCharacter
 based_fault [] fault h = let same : BadCharacter ≡ fault = cc in sym same
-based_fault (b ∷ bytes) fault h = any_digits_fault (base_of b) bytes fault (fault_behind b (any_digits_front (base_of b) bytes) fault h)
+based_fault (b ∷ bytes) fault h = any_digits_fault (base_of b) bytes fault (fault_after b (any_digits_front (base_of b) bytes) fault h)
 
-base_fault_at : (b : ℕ) (bytes : List ℕ) (fault : Fault) (test : Bool) → cond test (behind_byte b (based_front bytes)) (based_front (b ∷ bytes)) ≡ Err fault → fault ≡ BadCharacter
-base_fault_at b bytes fault true h = based_fault bytes fault (fault_behind b (based_front bytes) fault h)
+base_fault_at : (b : ℕ) (bytes : List ℕ) (fault : Fault) (test : Bool) → cond test (after_byte b (based_front bytes)) (based_front (b ∷ bytes)) ≡ Err fault → fault ≡ BadCharacter
+base_fault_at b bytes fault true h = based_fault bytes fault (fault_after b (based_front bytes) fault h)
 base_fault_at b bytes fault false h = based_fault (b ∷ bytes) fault h
 
 pub base_fault : (bytes : List ℕ) (fault : Fault) → base_front bytes ≡ Err fault → fault ≡ BadCharacter

@@ -10,7 +10,7 @@ use Rattle.std.proofs.Math.Seq.{take-append_seam}
 use Rattle.vp_lex.specs.Bytes.{is_newline, is_solidus, is_asterisk, is_sign, base_of, begins_name, goes_on_name}
 use Rattle.vp_lex.proofs.Reaching.{reaches_run_front}
 use Rattle.vp_lex.specs.Pieces.{is_within_line, closes, escapes}
-use Rattle.vp_lex.specs.Cutting.{behind_byte, block_front, comment_front, string_front, any_digits_front, based_front, base_front, run_front, is_known_name, known_directive}
+use Rattle.vp_lex.specs.Cutting.{after_byte, block_front, comment_front, string_front, any_digits_front, based_front, base_front, run_front, is_known_name, known_directive}
 use Rattle.vp_lex.specs.Scanning.{end_of}
 
 -- ---- runs
@@ -41,9 +41,9 @@ taken_end p bytes i l = ap (λ (x : List ℕ). length (take_while p x)) (drop_al
 -- ---- ends
 
 -- a byte in front moves the place by one
-pub end_behind : (start byte : ℕ) (r : Result (List ℕ) Fault) → end_of start (behind_byte byte r) ≡ end_of (start + 1) r
-end_behind start byte (Ok bytes) = ap (λ (n : ℕ). (let r : Result ℕ Fault = Ok n in r)) (omega arith)
-end_behind start byte (Err fault) = refl
+pub end_after : (start byte : ℕ) (r : Result (List ℕ) Fault) → end_of start (after_byte byte r) ≡ end_of (start + 1) r
+end_after start byte (Ok bytes) = ap (λ (n : ℕ). (let r : Result ℕ Fault = Ok n in r)) (omega arith)
+end_after start byte (Err fault) = refl
 
 -- ---- strings
 
@@ -51,10 +51,10 @@ end_behind start byte (Err fault) = refl
 abbrev pub string_next : ℕ → Bool → ℕ → Result ℕ Fault → Result ℕ Fault
 string_next i escaped byte more = cond (closes escaped byte) (Ok (i + 1)) (cond (is_newline byte) (Err OpenString) more)
 
-string_cases : (i byte : ℕ) (r : Result (List ℕ) Fault) (quote newline : Bool) → end_of i (cond quote (Ok (byte ∷ [])) (cond newline (Err OpenString) (behind_byte byte r))) ≡ cond quote (Ok (i + 1)) (cond newline (Err OpenString) (end_of (i + 1) r))
+string_cases : (i byte : ℕ) (r : Result (List ℕ) Fault) (quote newline : Bool) → end_of i (cond quote (Ok (byte ∷ [])) (cond newline (Err OpenString) (after_byte byte r))) ≡ cond quote (Ok (i + 1)) (cond newline (Err OpenString) (end_of (i + 1) r))
 string_cases i byte r true newline = refl
 string_cases i byte r false true = refl
-string_cases i byte r false false = end_behind i byte r
+string_cases i byte r false false = end_after i byte r
 
 pub string_more : (escaped : Bool) (bytes : List ℕ) (i : ℕ) → i < length bytes → end_of i (string_front escaped (drop i bytes)) ≡ string_next i escaped (get_or bytes i 0) (end_of (i + 1) (string_front (escapes escaped (get_or bytes i 0)) (drop (i + 1) bytes)))
 string_more escaped bytes i l =
@@ -67,9 +67,9 @@ string_none escaped bytes i l = ap (λ (x : List ℕ). end_of i (string_front es
 
 -- ---- comments
 
-block_cases : (i byte : ℕ) (r : Result (List ℕ) Fault) (test : Bool) → end_of i (cond test (Ok (byte ∷ [])) (behind_byte byte r)) ≡ cond test (Ok (i + 1)) (end_of (i + 1) r)
+block_cases : (i byte : ℕ) (r : Result (List ℕ) Fault) (test : Bool) → end_of i (cond test (Ok (byte ∷ [])) (after_byte byte r)) ≡ cond test (Ok (i + 1)) (end_of (i + 1) r)
 block_cases i byte r true = refl
-block_cases i byte r false = end_behind i byte r
+block_cases i byte r false = end_after i byte r
 
 pub block_more : (starred : Bool) (bytes : List ℕ) (i : ℕ) → i < length bytes → end_of i (block_front starred (drop i bytes)) ≡ cond (starred && is_solidus (get_or bytes i 0)) (Ok (i + 1)) (end_of (i + 1) (block_front (is_asterisk (get_or bytes i 0)) (drop (i + 1) bytes)))
 block_more starred bytes i l =
@@ -80,9 +80,9 @@ block_more starred bytes i l =
 pub block_none : (starred : Bool) (bytes : List ℕ) (i : ℕ) → length bytes ≤ i → end_of i (block_front starred (drop i bytes)) ≡ Err OpenComment
 block_none starred bytes i l = ap (λ (x : List ℕ). end_of i (block_front starred x)) (drop_all i bytes l)
 
-line_case : (i byte : ℕ) (bytes line : List ℕ) (test : Bool) → end_of i (behind_byte byte (cond test (Ok line) (block_front false bytes))) ≡ cond test (Ok (i + 1 + length line)) (end_of (i + 1) (block_front false bytes))
-line_case i byte bytes line true = end_behind i byte (Ok line)
-line_case i byte bytes line false = end_behind i byte (block_front false bytes)
+line_case : (i byte : ℕ) (bytes line : List ℕ) (test : Bool) → end_of i (after_byte byte (cond test (Ok line) (block_front false bytes))) ≡ cond test (Ok (i + 1 + length line)) (end_of (i + 1) (block_front false bytes))
+line_case i byte bytes line true = end_after i byte (Ok line)
+line_case i byte bytes line false = end_after i byte (block_front false bytes)
 
 pub comment_more : (bytes : List ℕ) (i : ℕ) → i < length bytes → end_of i (comment_front (drop i bytes)) ≡ cond (is_solidus (get_or bytes i 0)) (Ok (i + 1 + length (take_while is_within_line (drop (i + 1) bytes)))) (end_of (i + 1) (block_front false (drop (i + 1) bytes)))
 comment_more bytes i l =
@@ -98,13 +98,13 @@ comment_none bytes i l = ap (λ (x : List ℕ). end_of i (comment_front x)) (dro
 pub based_more : (bytes : List ℕ) (i : ℕ) → i < length bytes → end_of i (based_front (drop i bytes)) ≡ end_of (i + 1) (any_digits_front (base_of (get_or bytes i 0)) (drop (i + 1) bytes))
 based_more bytes i l =
     let b : ℕ = get_or bytes i 0 in
-    ap (λ (x : List ℕ). end_of i (based_front x)) (drop_more bytes i 0 l) ∙ end_behind i b (any_digits_front (base_of b) (drop (i + 1) bytes))
+    ap (λ (x : List ℕ). end_of i (based_front x)) (drop_more bytes i 0 l) ∙ end_after i b (any_digits_front (base_of b) (drop (i + 1) bytes))
 
 pub based_none : (bytes : List ℕ) (i : ℕ) → length bytes ≤ i → end_of i (based_front (drop i bytes)) ≡ Err BadCharacter
 based_none bytes i l = ap (λ (x : List ℕ). end_of i (based_front x)) (drop_all i bytes l)
 
-sign_cases : (i byte : ℕ) (signed other : Result (List ℕ) Fault) (test : Bool) → end_of i (cond test (behind_byte byte signed) other) ≡ cond test (end_of (i + 1) signed) (end_of i other)
-sign_cases i byte signed other true = end_behind i byte signed
+sign_cases : (i byte : ℕ) (signed other : Result (List ℕ) Fault) (test : Bool) → end_of i (cond test (after_byte byte signed) other) ≡ cond test (end_of (i + 1) signed) (end_of i other)
+sign_cases i byte signed other true = end_after i byte signed
 sign_cases i byte signed other false = refl
 
 pub base_more : (bytes : List ℕ) (i : ℕ) → i < length bytes → end_of i (base_front (drop i bytes)) ≡ cond (is_sign (get_or bytes i 0)) (end_of (i + 1) (based_front (drop (i + 1) bytes))) (end_of i (based_front (drop i bytes)))

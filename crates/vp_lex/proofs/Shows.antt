@@ -10,7 +10,7 @@ use Rattle.vp_lex.specs.declared.piece.Fault.TheVariants.{BadCharacter, OpenComm
 use Rattle.vp_lex.specs.Bytes.{is_space, is_newline, begins_name, goes_on_name, goes_on_number, is_solidus, is_asterisk}
 use Rattle.vp_lex.specs.Symbols.{is_symbol}
 use Rattle.vp_lex.specs.Pieces.{PieceKind, WhiteSpace, Comment, Word, SystemWord, Number, BasePart, Quoted, Operator, Directive, is_empty, is_word, is_within_line, ends_block, has_block_end, ends_comment, has_comment_end, closes, escapes, ends_string, has_string_end, unless, is_known, unread}
-use Rattle.vp_lex.specs.Cutting.{run_front, or_bad, behind_byte, base_front, string_front, block_front, comment_front, symbol_front, is_known_name, known_directive, front_of, goes_on_comment, kind_in_front}
+use Rattle.vp_lex.specs.Cutting.{run_front, or_bad, after_byte, base_front, string_front, block_front, comment_front, symbol_front, is_known_name, known_directive, front_of, goes_on_comment, kind_in_front}
 use Rattle.vp_lex.proofs.Fronts.{Reaches, reaches_more, reaches_nothing, reaches_run}
 use Rattle.vp_lex.proofs.FirstBytes.{ends, begins-from, comment_goes_on, symbol_short}
 use Rattle.vp_lex.proofs.Reaching.{reaches_run_front, run_found, reaches_base, base_there, base_fault}
@@ -23,12 +23,12 @@ Shows kind b bytes (Err fault) = (tail : List ℕ) × Reaches (ends kind b) byte
 
 -- ---- nothing more
 
-none_no_longer : (test : List ℕ → Bool) (bytes : List ℕ) → ((b : ℕ) (other behind : List ℕ) → bytes ≡ b ∷ (other ++ behind) → test (b ∷ other) ≡ true → ⊥) → (other behind : List ℕ) → bytes ≡ other ++ behind → test other ≡ true → length other ≤ 0
-none_no_longer test bytes never [] behind e h = omega arith
-none_no_longer test bytes never (b ∷ other) behind e h = absurd (never b other behind e h)
+none_no_longer : (test : List ℕ → Bool) (bytes : List ℕ) → ((b : ℕ) (other following : List ℕ) → bytes ≡ b ∷ (other ++ following) → test (b ∷ other) ≡ true → ⊥) → (other following : List ℕ) → bytes ≡ other ++ following → test other ≡ true → length other ≤ 0
+none_no_longer test bytes never [] following e h = omega arith
+none_no_longer test bytes never (b ∷ other) following e h = absurd (never b other following e h)
 
 -- no byte goes on
-reaches_none : (test : List ℕ → Bool) (bytes : List ℕ) → test [] ≡ true → ((b : ℕ) (other behind : List ℕ) → bytes ≡ b ∷ (other ++ behind) → test (b ∷ other) ≡ true → ⊥) → Reaches test bytes []
+reaches_none : (test : List ℕ → Bool) (bytes : List ℕ) → test [] ≡ true → ((b : ℕ) (other following : List ℕ) → bytes ≡ b ∷ (other ++ following) → test (b ∷ other) ≡ true → ⊥) → Reaches test bytes []
 reaches_none test bytes passes never = record { rest = bytes; splits = refl; passes = passes; longest = none_no_longer test bytes never }
 
 -- ---- strings
@@ -44,7 +44,7 @@ string_closed escaped b bytes c =
 
 string_line : (escaped : Bool) (b : ℕ) (bytes : List ℕ) → closes escaped b ≡ false → is_newline b ≡ true → StringShows escaped (b ∷ bytes) (Err OpenString)
 string_line escaped b bytes c n =
-    let never : (d : ℕ) (other behind : List ℕ) → b ∷ bytes ≡ d ∷ (other ++ behind) → ends_string escaped (d ∷ other) ≡ true → ⊥ = λ d other behind e h.
+    let never : (d : ℕ) (other following : List ℕ) → b ∷ bytes ≡ d ∷ (other ++ following) → ends_string escaped (d ∷ other) ≡ true → ⊥ = λ d other following e h.
     let same : d ≡ b = cc in
     let h : ends_string escaped (b ∷ other) ≡ true = subst (λ (x : ℕ). ends_string escaped (x ∷ other) ≡ true) same h in
     let refused : ends_string escaped (b ∷ other) ≡ false = both_tests (closes escaped b) (is_newline b) (is_empty other) (ends_string (escapes escaped b) other) c n in
@@ -68,12 +68,12 @@ string_next escaped b c n x = both (closes escaped b) (is_newline b) (is_empty x
 string_has : (escaped : Bool) (b : ℕ) (tail : List ℕ) → closes escaped b ≡ false → has_string_end escaped (b ∷ tail) ≡ has_string_end (escapes escaped b) tail
 string_has escaped b tail c = ap (λ (v : Bool). v || has_string_end (escapes escaped b) tail) c
 
-string_more : (escaped : Bool) (b : ℕ) (bytes : List ℕ) (r : Result (List ℕ) Fault) → closes escaped b ≡ false → is_newline b ≡ false → StringShows (escapes escaped b) bytes r → StringShows escaped (b ∷ bytes) (behind_byte b r)
+string_more : (escaped : Bool) (b : ℕ) (bytes : List ℕ) (r : Result (List ℕ) Fault) → closes escaped b ≡ false → is_newline b ≡ false → StringShows (escapes escaped b) bytes r → StringShows escaped (b ∷ bytes) (after_byte b r)
 string_more escaped b bytes (Ok tail) c n h = (reaches_more (ends_string (escapes escaped b)) (ends_string escaped) b bytes tail (string_next escaped b c n) h.0, string_has escaped b tail c ∙ h.1)
 string_more escaped b bytes (Err fault) c n h = (h.0, (b ∷ h.1.0, reaches_more (ends_string (escapes escaped b)) (ends_string escaped) b bytes h.1.0 (string_next escaped b c n) h.1.1, string_has escaped b h.1.0 c ∙ h.1.2))
 
 string_shows : (escaped : Bool) (bytes : List ℕ) → StringShows escaped bytes (string_front escaped bytes)
-string_shows escaped [] = (refl, ([], reaches_none (ends_string escaped) [] refl (λ d other behind e h. absurd cc), refl))
+string_shows escaped [] = (refl, ([], reaches_none (ends_string escaped) [] refl (λ d other following e h. absurd cc), refl))
 string_shows escaped (b ∷ bytes) =
     let P : Result (List ℕ) Fault → Type 0 = StringShows escaped (b ∷ bytes) in
     cond_both (closes escaped b) _ _ P (λ c. string_closed escaped b bytes c)
@@ -104,12 +104,12 @@ block_next starred b c x = ap (λ (v : Bool). cond v (is_empty x) (ends_block (i
 block_has : (starred : Bool) (b : ℕ) (tail : List ℕ) → (starred && is_solidus b) ≡ false → has_block_end starred (b ∷ tail) ≡ has_block_end (is_asterisk b) tail
 block_has starred b tail c = ap (λ (v : Bool). v || has_block_end (is_asterisk b) tail) c
 
-block_more : (starred : Bool) (b : ℕ) (bytes : List ℕ) (r : Result (List ℕ) Fault) → (starred && is_solidus b) ≡ false → BlockShows (is_asterisk b) bytes r → BlockShows starred (b ∷ bytes) (behind_byte b r)
+block_more : (starred : Bool) (b : ℕ) (bytes : List ℕ) (r : Result (List ℕ) Fault) → (starred && is_solidus b) ≡ false → BlockShows (is_asterisk b) bytes r → BlockShows starred (b ∷ bytes) (after_byte b r)
 block_more starred b bytes (Ok tail) c h = (reaches_more (ends_block (is_asterisk b)) (ends_block starred) b bytes tail (block_next starred b c) h.0, block_has starred b tail c ∙ h.1)
 block_more starred b bytes (Err fault) c h = (h.0, (b ∷ h.1.0, reaches_more (ends_block (is_asterisk b)) (ends_block starred) b bytes h.1.0 (block_next starred b c) h.1.1, block_has starred b h.1.0 c ∙ h.1.2))
 
 block_shows : (starred : Bool) (bytes : List ℕ) → BlockShows starred bytes (block_front starred bytes)
-block_shows starred [] = (refl, ([], reaches_none (ends_block starred) [] refl (λ d other behind e h. absurd cc), refl))
+block_shows starred [] = (refl, ([], reaches_none (ends_block starred) [] refl (λ d other following e h. absurd cc), refl))
 block_shows starred (b ∷ bytes) =
     cond_both (starred && is_solidus b) _ _ (BlockShows starred (b ∷ bytes)) (λ c. block_closed starred b bytes c)
     (λ c. block_more starred b bytes (block_front (is_asterisk b) bytes) c (block_shows (is_asterisk b) bytes))
@@ -133,7 +133,7 @@ asterisk_next c s a x = both (is_solidus c) (is_asterisk c) (list_all is_within_
 block_end_told : (c : ℕ) (tail : List ℕ) (ended : Bool) → is_solidus c ≡ false → has_block_end false tail ≡ ended → unless (has_comment_end (c ∷ tail)) OpenComment ≡ unless ended OpenComment
 block_end_told c tail ended s h = ap (λ (v : Bool). unless (v || has_block_end false tail) OpenComment) s ∙ ap (λ (v : Bool). unless v OpenComment) h
 
-block_kind : (b c : ℕ) (bytes : List ℕ) (r : Result (List ℕ) Fault) → is_solidus c ≡ false → is_asterisk c ≡ true → BlockShows false bytes r → Shows Comment b (c ∷ bytes) (behind_byte c r)
+block_kind : (b c : ℕ) (bytes : List ℕ) (r : Result (List ℕ) Fault) → is_solidus c ≡ false → is_asterisk c ≡ true → BlockShows false bytes r → Shows Comment b (c ∷ bytes) (after_byte c r)
 block_kind b c bytes (Ok tail) s a h = (reaches_more (ends_block false) ends_comment c bytes tail (asterisk_next c s a) h.0, block_end_told c tail true s h.1)
 block_kind b c bytes (Err BadCharacter) s a h = absurd cc
 block_kind b c bytes (Err OpenComment) s a h = (c ∷ h.1.0, reaches_more (ends_block false) ends_comment c bytes h.1.0 (asterisk_next c s a) h.1.1, block_end_told c h.1.0 false s h.1.2)
@@ -146,35 +146,35 @@ is_asterisk_then c bytes g s = ap (λ (v : Bool). v || is_asterisk c) (sym s) �
 comment_shows : (b : ℕ) (bytes : List ℕ) → goes_on_comment bytes ≡ true → Shows Comment b bytes (comment_front bytes)
 comment_shows b [] g = absurd cc
 comment_shows b (c ∷ bytes) g =
-    cond_both (is_solidus c) _ _ (λ (r : Result (List ℕ) Fault). Shows Comment b (c ∷ bytes) (behind_byte c r)) (λ s. line_shows b c bytes s)
+    cond_both (is_solidus c) _ _ (λ (r : Result (List ℕ) Fault). Shows Comment b (c ∷ bytes) (after_byte c r)) (λ s. line_shows b c bytes s)
     (λ s. block_kind b c bytes (block_front false bytes) s (is_asterisk_then c bytes g s) (block_shows false bytes))
 
 -- ---- symbols
 
 -- a symbol after its first byte is some of the next two bytes
-symbol_part : (b : ℕ) (bytes other behind : List ℕ) → bytes ≡ other ++ behind → is_symbol (b ∷ other) ≡ true → (length other ≤ 2) × (length other ≤ length bytes) × (take (length other) bytes ≡ other)
-symbol_part b bytes other behind e h = (
+symbol_part : (b : ℕ) (bytes other following : List ℕ) → bytes ≡ other ++ following → is_symbol (b ∷ other) ≡ true → (length other ≤ 2) × (length other ≤ length bytes) × (take (length other) bytes ≡ other)
+symbol_part b bytes other following e h = (
   omega (arith, symbol_short (b ∷ other) h),
-  omega (arith, ap length e, length-append other behind),
-  ap (take (length other)) e ∙ take-append_seam other behind,
+  omega (arith, ap length e, length-append other following),
+  ap (take (length other)) e ∙ take-append_seam other following,
 )
 
 -- it has not this many bytes, where these are no symbol
-no_symbol : (b n : ℕ) (bytes other behind : List ℕ) → bytes ≡ other ++ behind → is_symbol (b ∷ other) ≡ true → is_symbol (b ∷ take n bytes) ≡ false → length other ≡ n → ⊥
-no_symbol b n bytes other behind e h refused l =
-    let part = symbol_part b bytes other behind e h in
+no_symbol : (b n : ℕ) (bytes other following : List ℕ) → bytes ≡ other ++ following → is_symbol (b ∷ other) ≡ true → is_symbol (b ∷ take n bytes) ≡ false → length other ≡ n → ⊥
+no_symbol b n bytes other following e h refused l =
+    let part = symbol_part b bytes other following e h in
     let same : take n bytes ≡ other = ap (λ (k : ℕ). take k bytes) (sym l) ∙ part.2 in
     let both : true ≡ false = sym h ∙ ap (λ (x : List ℕ). is_symbol (b ∷ x)) (sym same) ∙ refused in
     absurd cc
 
-symbol_taken : (b n : ℕ) (bytes : List ℕ) → is_symbol (b ∷ take n bytes) ≡ true → ((other behind : List ℕ) → bytes ≡ other ++ behind → is_symbol (b ∷ other) ≡ true → length other ≤ n) → Reaches (ends Operator b) bytes (take n bytes)
+symbol_taken : (b n : ℕ) (bytes : List ℕ) → is_symbol (b ∷ take n bytes) ≡ true → ((other following : List ℕ) → bytes ≡ other ++ following → is_symbol (b ∷ other) ≡ true → length other ≤ n) → Reaches (ends Operator b) bytes (take n bytes)
 symbol_taken b n bytes h no_more = record {
   rest = drop n bytes;
   splits = sym (take-append-drop n bytes);
   passes = h;
-  longest = λ other behind e passes.
-      let part = symbol_part b bytes other behind e passes in
-      let least = no_more other behind e passes in
+  longest = λ other following e passes.
+      let part = symbol_part b bytes other following e passes in
+      let least = no_more other following e passes in
       omega (arith, length-take n bytes, part.1);
 }
 
@@ -187,11 +187,11 @@ one_or_less n l never = grind arith
 symbol_shows : (b : ℕ) (bytes : List ℕ) → is_symbol (b ∷ []) ≡ true → Reaches (ends Operator b) bytes (symbol_front b bytes)
 symbol_shows b bytes alone =
     let P : List ℕ → Type 0 = Reaches (ends Operator b) bytes in
-    let less : is_symbol (b ∷ take 2 bytes) ≡ false → (other behind : List ℕ) → bytes ≡ other ++ behind → is_symbol (b ∷ other) ≡ true → length other ≤ 1 =
-    λ two other behind e h. two_or_less (length other) (symbol_part b bytes other behind e h).0 (no_symbol b 2 bytes other behind e h two) in
-    cond_both (is_symbol (b ∷ take 2 bytes)) _ _ P (λ two. symbol_taken b 2 bytes two (λ other behind e h. (symbol_part b bytes other behind e h).0))
+    let less : is_symbol (b ∷ take 2 bytes) ≡ false → (other following : List ℕ) → bytes ≡ other ++ following → is_symbol (b ∷ other) ≡ true → length other ≤ 1 =
+    λ two other following e h. two_or_less (length other) (symbol_part b bytes other following e h).0 (no_symbol b 2 bytes other following e h two) in
+    cond_both (is_symbol (b ∷ take 2 bytes)) _ _ P (λ two. symbol_taken b 2 bytes two (λ other following e h. (symbol_part b bytes other following e h).0))
     (λ two. cond_both (is_symbol (b ∷ take 1 bytes)) _ _ P (λ one. symbol_taken b 1 bytes one (less two))
-    (λ one. symbol_taken b 0 bytes alone (λ other behind e h. one_or_less (length other) (less two other behind e h) (no_symbol b 1 bytes other behind e h one))))
+    (λ one. symbol_taken b 0 bytes alone (λ other following e h. one_or_less (length other) (less two other following e h) (no_symbol b 1 bytes other following e h one))))
 
 -- ---- names, and base parts
 

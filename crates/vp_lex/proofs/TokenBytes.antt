@@ -2,12 +2,12 @@
 use Rattle.std.proofs.Common.{◌≡◌, ℕ, ◌+◌, ◌-◌, ◌≤◌, ◌<◌, Bool, false, List, [], ◌∷◌, ◌++◌, length, take, drop, map, Option, Some, None, Ok, inl, inr, refl, sym, ◌∙◌, ap, subst, arith}
 use Rattle.std.proofs.Math.Seq.{take-append_seam, drop-append_seam}
 use Rattle.std.proofs.lemmas.List.{length-append, append_assoc, append-nil}
-use Rattle.vp_lex.specs.declared.fault.LexError.{LexError}
+use Rattle.vp_lex.specs.declared.error.LexError.{LexError}
 use Rattle.vp_lex.specs.declared.token.Token.{Token}
 use Rattle.vp_lex.specs.declared.token.TokenKind.{TokenKind}
 use Rattle.vp_lex.specs.Pieces.{Piece}
 use Rattle.vp_lex.specs.Cuts.{CutTo, Cut, joined}
-use Rattle.vp_lex.specs.Tokens.{is_mark, marks, token_kind, token_at, with_token, with_bytes, tokens_behind, bytes_of, bytes_of_pieces, AreInOrder, Scan, error_at, told, told_fault, AreTokens}
+use Rattle.vp_lex.specs.Tokens.{is_mark, marks, token_kind, token_at, with_token, with_bytes, tokens_following, bytes_of, bytes_of_pieces, AreInOrder, Scan, error_at, told, told_fault, AreTokens}
 use Rattle.vp_lex.proofs.CutLaws.{piece_has_byte}
 
 -- a text is its pieces, one after the other, and what is left
@@ -29,11 +29,11 @@ bytes_with text before bytes rest marked piece (Some kind) tokens others e h =
     ap (λ (x : List ℕ). bytes_of x (token_at before marked piece.bytes kind (is_mark piece.kind))) e ∙ own_bytes before piece.bytes rest marked kind (is_mark piece.kind) in
     ap (λ (x : List ℕ). x ∷ map (bytes_of text) tokens) own ∙ ap (λ (x : List (List ℕ)). piece.bytes ∷ x) h
 
-bytes_behind : (text before : List ℕ) (marked : Bool) (pieces : List Piece) → text ≡ before ++ joined pieces → map (bytes_of text) (tokens_behind before marked pieces) ≡ bytes_of_pieces pieces
-bytes_behind text before marked [] e = refl
-bytes_behind text before marked (piece ∷ pieces) e =
-    bytes_with text before piece.bytes (joined pieces) marked piece (token_kind piece.kind piece.bytes) (tokens_behind (before ++ piece.bytes) (marks marked piece) pieces) (bytes_of_pieces pieces) e
-    (bytes_behind text (before ++ piece.bytes) (marks marked piece) pieces (e ∙ sym (append_assoc before piece.bytes (joined pieces))))
+bytes_after : (text before : List ℕ) (marked : Bool) (pieces : List Piece) → text ≡ before ++ joined pieces → map (bytes_of text) (tokens_following before marked pieces) ≡ bytes_of_pieces pieces
+bytes_after text before marked [] e = refl
+bytes_after text before marked (piece ∷ pieces) e =
+    bytes_with text before piece.bytes (joined pieces) marked piece (token_kind piece.kind piece.bytes) (tokens_following (before ++ piece.bytes) (marks marked piece) pieces) (bytes_of_pieces pieces) e
+    (bytes_after text (before ++ piece.bytes) (marks marked piece) pieces (e ∙ sym (append_assoc before piece.bytes (joined pieces))))
 
 told_of : (o : Option ℕ) (scan : Scan) (tokens : List Token) → told o scan ≡ Ok tokens → (scan.fault ≡ None) × (scan.tokens ≡ tokens)
 told_of (Some line) scan tokens h = absurd cc
@@ -44,7 +44,7 @@ told_of None scan tokens h = at scan.fault h
     at None h = (refl, cc)
 
 -- the tokens of a text are those of the pieces of its cut
-pub of_pieces : (text : List ℕ) (tokens : List Token) → AreTokens text tokens → (pieces : List Piece) × Cut text pieces × (tokens ≡ tokens_behind [] false pieces)
+pub of_pieces : (text : List ℕ) (tokens : List Token) → AreTokens text tokens → (pieces : List Piece) × Cut text pieces × (tokens ≡ tokens_following [] false pieces)
 of_pieces text tokens h =
     let its = told_of _ h.0 tokens h.2 in
     elim h.1 [
@@ -59,7 +59,7 @@ pub token_bytes : (text : List ℕ) (tokens : List Token) (h : AreTokens text to
 token_bytes text tokens h =
     let cut = of_pieces text tokens h in
     ap (map (bytes_of text)) cut.2
-    ∙ bytes_behind text [] false cut.0 (cut_joins text cut.0 [] cut.1 ∙ append-nil (joined cut.0))
+    ∙ bytes_after text [] false cut.0 (cut_joins text cut.0 [] cut.1 ∙ append-nil (joined cut.0))
 
 in_order_from : (start other end : ℕ) (tokens : List Token) → start ≤ other → AreInOrder other end tokens → AreInOrder start end tokens
 in_order_from start other end [] l h = omega arith
@@ -69,13 +69,13 @@ order_with : (before : List ℕ) (marked : Bool) (piece : Piece) (end : ℕ) (ki
 order_with before marked piece end None tokens l h = in_order_from (length before) (length before + length piece.bytes) end tokens (omega arith) h
 order_with before marked piece end (Some kind) tokens l h = (omega arith, omega arith, h)
 
-order_behind : (before : List ℕ) (marked : Bool) (text : List ℕ) (pieces : List Piece) → Cut text pieces → AreInOrder (length before) (length before + length text) (tokens_behind before marked pieces)
-order_behind before marked text [] h = omega arith
-order_behind before marked text (piece ∷ pieces) h =
+order_after : (before : List ℕ) (marked : Bool) (text : List ℕ) (pieces : List Piece) → Cut text pieces → AreInOrder (length before) (length before + length text) (tokens_following before marked pieces)
+order_after before marked text [] h = omega arith
+order_after before marked text (piece ∷ pieces) h =
     let long : length (before ++ piece.bytes) ≡ length before + length piece.bytes = length-append before piece.bytes in
     let all : length text ≡ length piece.bytes + length h.0 = ap length h.1.splits ∙ length-append piece.bytes h.0 in
-    let more = order_behind (before ++ piece.bytes) (marks marked piece) h.0 pieces h.3 in
-    let tokens : List Token = tokens_behind (before ++ piece.bytes) (marks marked piece) pieces in
+    let more = order_after (before ++ piece.bytes) (marks marked piece) h.0 pieces h.3 in
+    let tokens : List Token = tokens_following (before ++ piece.bytes) (marks marked piece) pieces in
     let ends : length (before ++ piece.bytes) + length h.0 ≡ length before + length text = omega arith in
     let more : AreInOrder (length (before ++ piece.bytes)) (length before + length text) tokens = subst (λ (n : ℕ). AreInOrder (length (before ++ piece.bytes)) n tokens) ends more in
     let more : AreInOrder (length before + length piece.bytes) (length before + length text) tokens = subst (λ (n : ℕ). AreInOrder n (length before + length text) tokens) long more in
@@ -86,5 +86,5 @@ pub tokens_in_order : (text : List ℕ) (tokens : List Token) → AreTokens text
 tokens_in_order text tokens h =
     let cut = of_pieces text tokens h in
     let e : 0 + length text ≡ length text = omega arith in
-    let ordered : AreInOrder 0 (length text) (tokens_behind [] false cut.0) = subst (λ (n : ℕ). AreInOrder 0 n (tokens_behind [] false cut.0)) e (order_behind [] false text cut.0 cut.1) in
+    let ordered : AreInOrder 0 (length text) (tokens_following [] false cut.0) = subst (λ (n : ℕ). AreInOrder 0 n (tokens_following [] false cut.0)) e (order_after [] false text cut.0 cut.1) in
     subst (λ (x : List Token). AreInOrder 0 (length text) x) (sym cut.2) ordered

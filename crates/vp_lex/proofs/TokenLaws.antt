@@ -1,6 +1,6 @@
 -- What is computed are the tokens of a text, or its error, and there are no others.
 use Rattle.std.proofs.Common.{◌≡◌, ℕ, false, inl, inr, List, [], Result, Ok, Err, refl, sym, ◌∙◌, ap}
-use Rattle.vp_lex.specs.declared.fault.LexError.{LexError}
+use Rattle.vp_lex.specs.declared.error.LexError.{LexError}
 use Rattle.vp_lex.specs.declared.token.Token.{Token}
 use Rattle.vp_lex.specs.Pieces.{Piece}
 use Rattle.vp_lex.specs.Cuts.{Refusal}

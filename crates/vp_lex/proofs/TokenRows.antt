@@ -3,7 +3,7 @@ use Rattle.std.proofs.Common.{◌≡◌, true, false, [], ◌∷◌, ◌++◌, O
 use Rattle.std.specs.Prelude.{codes}
 use Rattle.std.specs.Str.{is_utf8, chars}
 use lib.Utf8.{encode}
-use Rattle.vp_lex.specs.declared.fault.LexError.TheVariants.{BadCharacter, OpenComment, OpenString, UnknownDirective, TimescaleDiffers}
+use Rattle.vp_lex.specs.declared.error.LexError.TheVariants.{BadCharacter, OpenComment, OpenString, UnknownDirective, TimescaleDiffers}
 use Rattle.vp_lex.specs.declared.keyword.Keyword.TheVariants as keyword
 use Rattle.vp_lex.specs.declared.token.Punctuator.TheVariants.{ArithmeticShiftLeft, LessOrEqual, Equals, Comma, Semicolon}
 use Rattle.vp_lex.specs.declared.token.TokenKind.TheVariants as token

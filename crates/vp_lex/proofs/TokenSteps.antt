@@ -8,8 +8,8 @@ use Rattle.vp_lex.specs.declared.token.Token.{Token}
 use Rattle.vp_lex.specs.declared.token.TokenKind.{TokenKind}
 use Rattle.vp_lex.specs.Pieces.{PieceKind, Piece, is_piece}
 use Rattle.vp_lex.specs.Cuts.{Refusal}
-use Rattle.vp_lex.specs.Cutting.{first_piece, on_piece, behind_piece, cut_from}
-use Rattle.vp_lex.specs.Tokens.{error_of, line_behind, is_mark, marks, token_kind, token_at, with_token, Scan, scanned, scan_of}
+use Rattle.vp_lex.specs.Cutting.{first_piece, on_piece, following_piece, cut_from}
+use Rattle.vp_lex.specs.Tokens.{error_of, line_after, is_mark, marks, token_kind, token_at, with_token, Scan, scanned, scan_of}
 use Rattle.vp_lex.proofs.CutLaws.{first_piece_found}
 use Rattle.vp_lex.proofs.Complete.{cut_more}
 
@@ -29,17 +29,17 @@ all_left text = refl
 pub none_left : (text : List ℕ) (at : ℕ) (marked : Bool) → drop at text ≡ [] → scan_left text at marked ≡ record { tokens = []; fault = None }
 none_left text at marked e = ap (λ (x : List ℕ). scanned text (take at text) marked (cut_from (length x) at x)) e
 
-on_fault : (text : List ℕ) (at : ℕ) (marked : Bool) (rest before : List ℕ) (fault : Fault) → 1 ≤ length rest → first_piece rest ≡ Err fault → scanned text before marked (cut_from (length rest) at rest) ≡ record { tokens = []; fault = Some (error_of fault (line_behind (take at text))) }
+on_fault : (text : List ℕ) (at : ℕ) (marked : Bool) (rest before : List ℕ) (fault : Fault) → 1 ≤ length rest → first_piece rest ≡ Err fault → scanned text before marked (cut_from (length rest) at rest) ≡ record { tokens = []; fault = Some (error_of fault (line_after (take at text))) }
 on_fault text at marked [] before fault l e = absurd (omega arith)
 on_fault text at marked (b ∷ bytes) before fault l e =
-    let next : Piece → Result (List Piece) Refusal = λ piece. behind_piece piece (cut_from (length bytes) (at + length piece.bytes) (drop (length piece.bytes) (b ∷ bytes))) in
+    let next : Piece → Result (List Piece) Refusal = λ piece. following_piece piece (cut_from (length bytes) (at + length piece.bytes) (drop (length piece.bytes) (b ∷ bytes))) in
     ap (λ (r : Result Piece Fault). scanned text before marked (on_piece at r next)) e
 
 -- where no piece is read, its fault is told, by the line
-pub fault_left : (text : List ℕ) (at : ℕ) (marked : Bool) (fault : Fault) → 1 ≤ length (drop at text) → first_piece (drop at text) ≡ Err fault → scan_left text at marked ≡ record { tokens = []; fault = Some (error_of fault (line_behind (take at text))) }
+pub fault_left : (text : List ℕ) (at : ℕ) (marked : Bool) (fault : Fault) → 1 ≤ length (drop at text) → first_piece (drop at text) ≡ Err fault → scan_left text at marked ≡ record { tokens = []; fault = Some (error_of fault (line_after (take at text))) }
 fault_left text at marked fault l e = on_fault text at marked (drop at text) (take at text) fault l e
 
-after_piece : (text before : List ℕ) (marked : Bool) (piece : Piece) (r : Result (List Piece) Refusal) → scanned text before marked (behind_piece piece r) ≡ on_tokens (with_token before marked piece (token_kind piece.kind piece.bytes)) (scanned text (before ++ piece.bytes) (marks marked piece) r)
+after_piece : (text before : List ℕ) (marked : Bool) (piece : Piece) (r : Result (List Piece) Refusal) → scanned text before marked (following_piece piece r) ≡ on_tokens (with_token before marked piece (token_kind piece.kind piece.bytes)) (scanned text (before ++ piece.bytes) (marks marked piece) r)
 after_piece text before marked piece (Ok pieces) = refl
 after_piece text before marked piece (Err refusal) = refl
 
@@ -49,12 +49,12 @@ piece_left text at marked piece e =
     let found = first_piece_found (drop at text) piece e in
     let bytes : take (length piece.bytes) (drop at text) ≡ piece.bytes = ap (take (length piece.bytes)) found.1.splits ∙ take-append_seam piece.bytes found.0 in
     let before : take at text ++ piece.bytes ≡ take (at + length piece.bytes) text = ap (λ (x : List ℕ). take at text ++ x) (sym bytes) ∙ sym (take-add at (length piece.bytes) text) in
-    let behind : drop (length piece.bytes) (drop at text) ≡ drop (at + length piece.bytes) text = drop-drop (length piece.bytes) at text in
+    let following : drop (length piece.bytes) (drop at text) ≡ drop (at + length piece.bytes) text = drop-drop (length piece.bytes) at text in
     let more : List Token → List Token = with_token (take at text) marked piece (token_kind piece.kind piece.bytes) in
     ap (scanned text (take at text) marked) (cut_more at (drop at text) piece e)
     ∙ after_piece text (take at text) marked piece _
     ∙ ap (λ (x : List ℕ). on_tokens more (scanned text x (marks marked piece) (cut_from (length (drop (length piece.bytes) (drop at text))) (at + length piece.bytes) (drop (length piece.bytes) (drop at text))))) before
-    ∙ ap (λ (x : List ℕ). on_tokens more (scanned text (take (at + length piece.bytes) text) (marks marked piece) (cut_from (length x) (at + length piece.bytes) x))) behind
+    ∙ ap (λ (x : List ℕ). on_tokens more (scanned text (take (at + length piece.bytes) text) (marks marked piece) (cut_from (length x) (at + length piece.bytes) x))) following
 
 more_tokens : (before : List ℕ) (marked : Bool) (piece : Piece) (o : Option TokenKind) (items : List Token) (scan : Scan) → on_tokens (λ more. items ++ more) (on_tokens (with_token before marked piece o) scan) ≡ on_tokens (λ more. (items ++ option_to_list (option_map (λ its. token_at before marked piece.bytes its (is_mark piece.kind)) o)) ++ more) scan
 more_tokens before marked piece None items scan = ap (λ (x : List Token). (let s : Scan = record { tokens = x ++ scan.tokens; fault = scan.fault } in s)) (sym (append-nil items))

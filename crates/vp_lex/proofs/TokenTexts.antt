@@ -8,7 +8,7 @@ use Rattle.vp_lex.specs.declared.token.TokenKind.{TokenKind}
 use Rattle.vp_lex.specs.Pieces.{PieceKind, Comment, Piece, is_piece, IsRead, unread}
 use Rattle.vp_lex.specs.Cuts.{Cut}
 use Rattle.vp_lex.specs.Texts.{text_of}
-use Rattle.vp_lex.specs.Tokens.{is_mark, marks, token_kind, token_at, with_token, tokens_behind, bytes_of, AreTokens}
+use Rattle.vp_lex.specs.Tokens.{is_mark, marks, token_kind, token_at, with_token, tokens_following, bytes_of, AreTokens}
 use Rattle.vp_lex.proofs.CutLaws.{piece_has_byte}
 use Rattle.vp_lex.proofs.Parts.{part_there}
 use Rattle.vp_lex.proofs.PieceEnds.{piece_part}
@@ -36,15 +36,15 @@ texts_with : (text before : List ℕ) (marked : Bool) (piece : Piece) (kind : Op
 texts_with text before marked piece None tokens one h = h
 texts_with text before marked piece (Some its) tokens one h = All-cons (IsItsBytes text) (token_at before marked piece.bytes its (is_mark piece.kind)) tokens (one its refl) h
 
-texts_behind : (text before rest : List ℕ) (marked : Bool) (pieces : List Piece) → IsUtf8 text → text ≡ before ++ rest → Cut rest pieces → All (IsItsBytes text) (tokens_behind before marked pieces)
-texts_behind text before rest marked [] utf8 e h = All-nil (IsItsBytes text)
-texts_behind text before rest marked (piece ∷ pieces) utf8 e h =
+texts_after : (text before rest : List ℕ) (marked : Bool) (pieces : List Piece) → IsUtf8 text → text ≡ before ++ rest → Cut rest pieces → All (IsItsBytes text) (tokens_following before marked pieces)
+texts_after text before rest marked [] utf8 e h = All-nil (IsItsBytes text)
+texts_after text before rest marked (piece ∷ pieces) utf8 e h =
     let splits : text ≡ before ++ (piece.bytes ++ h.0) = e ∙ ap (λ (x : List ℕ). before ++ x) h.1.splits in
-    let more = texts_behind text (before ++ piece.bytes) h.0 (marks marked piece) pieces utf8 (splits ∙ sym (append_assoc before piece.bytes h.0)) h.3 in
-    texts_with text before marked piece (token_kind piece.kind piece.bytes) (tokens_behind (before ++ piece.bytes) (marks marked piece) pieces) (λ its k. one_text text before h.0 marked piece its utf8 splits (no_comment piece.kind piece.bytes its k) h.1.is h.2) more
+    let more = texts_after text (before ++ piece.bytes) h.0 (marks marked piece) pieces utf8 (splits ∙ sym (append_assoc before piece.bytes h.0)) h.3 in
+    texts_with text before marked piece (token_kind piece.kind piece.bytes) (tokens_following (before ++ piece.bytes) (marks marked piece) pieces) (λ its k. one_text text before h.0 marked piece its utf8 splits (no_comment piece.kind piece.bytes its k) h.1.is h.2) more
 
 -- the text of each of the tokens is its bytes
 pub token_texts : (text : List ℕ) (tokens : List Token) → IsUtf8 text → AreTokens text tokens → All (λ token. text_of text token ≡ bytes_of text token) tokens
 token_texts text tokens utf8 h =
     let cut = of_pieces text tokens h in
-    All-same (IsItsBytes text) tokens (tokens_behind [] false cut.0) cut.2 (texts_behind text [] text false cut.0 utf8 refl cut.1)
+    All-same (IsItsBytes text) tokens (tokens_following [] false cut.0) cut.2 (texts_after text [] text false cut.0 utf8 refl cut.1)

@@ -8,7 +8,7 @@ use Rattle.vp_lex.specs.Pieces.{Piece, IsPiece, IsRead, unread}
 pub record Longest (text : List ℕ) (piece : Piece) (rest : List ℕ) : Type 0 where
   pub splits : text ≡ piece.bytes ++ rest
   pub is : IsPiece piece
-  pub none_longer : (other : Piece) (behind : List ℕ) → IsPiece other → text ≡ other.bytes ++ behind → length other.bytes ≤ length piece.bytes
+  pub none_longer : (other : Piece) (following : List ℕ) → IsPiece other → text ≡ other.bytes ++ following → length other.bytes ≤ length piece.bytes
 
 -- the text is these pieces, one after the other, and then what is left; each is the longest that begins where it does, and is read (IEEE Std 1364-2005, 3.1; profile)
 abbrev pub CutTo : List ℕ → List Piece → List ℕ → Type 0

@@ -6,7 +6,7 @@ use Rattle.vp_lex.specs.declared.piece.Fault.{Fault}
 use Rattle.vp_lex.specs.declared.piece.Fault.TheVariants.{BadCharacter, OpenComment, OpenString, UnknownDirective}
 use Rattle.vp_lex.specs.Bytes.{is_space, is_newline, begins_name, goes_on_name, is_decimal, goes_on_number, is_apostrophe, is_sign, base_of, is_digit, goes_on_digits, is_quote, is_solidus, is_asterisk, is_dollar, is_accent}
 use Rattle.vp_lex.specs.Symbols.{is_symbol}
-use Rattle.vp_lex.specs.Pieces.{PieceKind, WhiteSpace, Comment, Word, SystemWord, Number, BasePart, Quoted, Operator, Directive, Piece, behind_space, is_within_line, closes, escapes}
+use Rattle.vp_lex.specs.Pieces.{PieceKind, WhiteSpace, Comment, Word, SystemWord, Number, BasePart, Quoted, Operator, Directive, Piece, after_space, is_within_line, closes, escapes}
 use Rattle.vp_lex.specs.Cuts.{Refusal}
 
 -- the longest run in front: a byte that begins, and the bytes that go on
@@ -46,14 +46,14 @@ or_bad None = Err BadCharacter
 or_bad (Some bytes) = Ok bytes
 
 -- with one more byte in front
-abbrev pub behind_byte : ℕ → Result (List ℕ) Fault → Result (List ℕ) Fault
-behind_byte byte (Err fault) = Err fault
-behind_byte byte (Ok bytes) = Ok (byte ∷ bytes)
+abbrev pub after_byte : ℕ → Result (List ℕ) Fault → Result (List ℕ) Fault
+after_byte byte (Err fault) = Err fault
+after_byte byte (Ok bytes) = Ok (byte ∷ bytes)
 
 -- any white space in front, and the longest run of digits of a base after it (IEEE Std 1364-2005, 3.5.1)
 abbrev pub digits_front : Base → List ℕ → Option (List ℕ)
 digits_front base bytes =
-    option_map (λ digits. take (prefix_len is_space bytes) bytes ++ digits) (run_front (is_digit base) (goes_on_digits base) (behind_space bytes))
+    option_map (λ digits. take (prefix_len is_space bytes) bytes ++ digits) (run_front (is_digit base) (goes_on_digits base) (after_space bytes))
 
 -- the same of a base, if there is one (IEEE Std 1364-2005, 3.5.1)
 abbrev pub any_digits_front : Option Base → List ℕ → Result (List ℕ) Fault
@@ -63,12 +63,12 @@ any_digits_front (Some base) bytes = or_bad (digits_front base bytes)
 -- a letter that names a base, any white space, and the longest run of digits (IEEE Std 1364-2005, 3.5.1)
 abbrev pub based_front : List ℕ → Result (List ℕ) Fault
 based_front [] = Err BadCharacter
-based_front (letter ∷ bytes) = behind_byte letter (any_digits_front (base_of letter) bytes)
+based_front (letter ∷ bytes) = after_byte letter (any_digits_front (base_of letter) bytes)
 
 -- what ends a base part, after its apostrophe (IEEE Std 1364-2005, 3.5.1)
 abbrev pub base_front : List ℕ → Result (List ℕ) Fault
 base_front [] = Err BadCharacter
-base_front (byte ∷ bytes) = if is_sign byte then behind_byte byte (based_front bytes) else based_front (byte ∷ bytes)
+base_front (byte ∷ bytes) = if is_sign byte then after_byte byte (based_front bytes) else based_front (byte ∷ bytes)
 
 -- what ends a string, after its opening quotation mark, and after a backslash that escapes or not (IEEE Std 1364-2005, 3.6; profile)
 abbrev pub string_front : Bool → List ℕ → Result (List ℕ) Fault
@@ -76,19 +76,19 @@ string_front escaped [] = Err OpenString
 string_front escaped (byte ∷ bytes) =
     (if closes escaped byte then Ok (byte ∷ []) else
     (if is_newline byte then Err OpenString else
-    behind_byte byte (string_front (escapes escaped byte) bytes)))
+    after_byte byte (string_front (escapes escaped byte) bytes)))
 
 -- what ends a block comment, after its first two bytes, and after an asterisk or not (IEEE Std 1364-2005, 3.3)
 abbrev pub block_front : Bool → List ℕ → Result (List ℕ) Fault
 block_front starred [] = Err OpenComment
 block_front starred (byte ∷ bytes) =
-    if starred && is_solidus byte then Ok (byte ∷ []) else behind_byte byte (block_front (is_asterisk byte) bytes)
+    if starred && is_solidus byte then Ok (byte ∷ []) else after_byte byte (block_front (is_asterisk byte) bytes)
 
 -- what ends a comment, after its first solidus (IEEE Std 1364-2005, 3.3)
 abbrev pub comment_front : List ℕ → Result (List ℕ) Fault
 comment_front [] = Err BadCharacter
 comment_front (byte ∷ bytes) =
-    behind_byte byte (if is_solidus byte then Ok (take_while is_within_line bytes) else block_front false bytes)
+    after_byte byte (if is_solidus byte then Ok (take_while is_within_line bytes) else block_front false bytes)
 
 -- what goes on the longest symbol after its first byte (IEEE Std 1364-2005, 3.4)
 abbrev pub symbol_front : ℕ → List ℕ → List ℕ
@@ -139,9 +139,9 @@ on_piece at (Err fault) next = Err (record { fault = fault; at = at; pieces = []
 on_piece at (Ok piece) next = next piece
 
 -- with one more piece in front
-abbrev pub behind_piece : Piece → Result (List Piece) Refusal → Result (List Piece) Refusal
-behind_piece piece (Err refusal) = Err (record { fault = refusal.fault; at = refusal.at; pieces = piece ∷ refusal.pieces })
-behind_piece piece (Ok pieces) = Ok (piece ∷ pieces)
+abbrev pub following_piece : Piece → Result (List Piece) Refusal → Result (List Piece) Refusal
+following_piece piece (Err refusal) = Err (record { fault = refusal.fault; at = refusal.at; pieces = piece ∷ refusal.pieces })
+following_piece piece (Ok pieces) = Ok (piece ∷ pieces)
 
 -- the pieces of what is left of a text after so many bytes, at most so many pieces
 abbrev pub cut_from : ℕ → ℕ → List ℕ → Result (List Piece) Refusal
@@ -149,7 +149,7 @@ cut_from zero at text = Ok []
 cut_from (suc turns) at [] = Ok []
 cut_from (suc turns) at (byte ∷ bytes) =
     on_piece at (first_piece (byte ∷ bytes))
-    (λ piece. behind_piece piece (cut_from turns (at + length piece.bytes) (drop (length piece.bytes) (byte ∷ bytes))))
+    (λ piece. following_piece piece (cut_from turns (at + length piece.bytes) (drop (length piece.bytes) (byte ∷ bytes))))
 
 -- the pieces of a text, of which there are no more than bytes; or its first fault in the order of the text
 abbrev pub cut_text : List ℕ → Result (List Piece) Refusal

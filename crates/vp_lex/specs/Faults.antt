@@ -1,7 +1,7 @@
 -- The numbers and the lines of the faults of a text's tokens.
 use Rattle.std.specs.Prelude.{ℕ}
-use Rattle.vp_lex.specs.declared.fault.LexError.{LexError}
-use Rattle.vp_lex.specs.declared.fault.LexError.TheVariants.{BadCharacter, OpenComment, OpenString, UnknownDirective, TimescaleDiffers, NoMemory}
+use Rattle.vp_lex.specs.declared.error.LexError.{LexError}
+use Rattle.vp_lex.specs.declared.error.LexError.TheVariants.{BadCharacter, OpenComment, OpenString, UnknownDirective, TimescaleDiffers, NoMemory}
 
 -- the number of a refusal (profile)
 abbrev pub code_of : LexError → ℕ

@@ -30,8 +30,8 @@ is_run begins goes_on [] = false
 is_run begins goes_on (byte ∷ bytes) = begins byte && list_all goes_on bytes
 
 -- what is left after the white space in front
-abbrev pub behind_space : List ℕ → List ℕ
-behind_space bytes = drop (prefix_len is_space bytes) bytes
+abbrev pub after_space : List ℕ → List ℕ
+after_space bytes = drop (prefix_len is_space bytes) bytes
 
 -- nothing is left
 abbrev pub is_empty : List ℕ → Bool
@@ -92,7 +92,7 @@ are_digits base bytes = is_run (is_digit base) (goes_on_digits base) bytes
 -- any white space, and digits of the base, if there is one (IEEE Std 1364-2005, 3.5.1)
 abbrev pub ends_digits : Option Base → List ℕ → Bool
 ends_digits None bytes = false
-ends_digits (Some base) bytes = are_digits base (behind_space bytes)
+ends_digits (Some base) bytes = are_digits base (after_space bytes)
 
 -- a letter that names a base, any white space, and digits of the base (IEEE Std 1364-2005, 3.5.1)
 abbrev pub ends_based : List ℕ → Bool

@@ -45,12 +45,12 @@ element character characters =
     if is_backslash character then octal_escape (octal_digits characters) characters else (character, 0)
 
 -- the characters that characters stand for, after so many that are taken (IEEE Std 1364-2005, 3.6)
-abbrev pub value_behind : ℕ → List ℕ → List ℕ
-value_behind taken [] = []
-value_behind zero (character ∷ characters) =
-    (element character characters).0 ∷ value_behind (element character characters).1 characters
-value_behind (suc taken) (character ∷ characters) = value_behind taken characters
+abbrev pub value_after : ℕ → List ℕ → List ℕ
+value_after taken [] = []
+value_after zero (character ∷ characters) =
+    (element character characters).0 ∷ value_after (element character characters).1 characters
+value_after (suc taken) (character ∷ characters) = value_after taken characters
 
 -- the value of a string with its quotation marks: what stands between them, its escapes undone; nothing where they are not there (IEEE Std 1364-2005, 3.6)
 abbrev pub string_value : List ℕ → List ℕ
-string_value text = encode_utf8_all (value_behind 0 (between_quotes (chars text)))
+string_value text = encode_utf8_all (value_after 0 (between_quotes (chars text)))

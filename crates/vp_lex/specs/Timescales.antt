@@ -31,16 +31,16 @@ with_timescale text token tokens others =
     if is_timescale text token then record { line = token.line; texts = texts_on text token.line tokens } ∷ others else others
 
 -- the timescales among tokens, in order, where the last line of directives before them is this one, or 0
-abbrev pub timescales_behind : List ℕ → ℕ → List Token → List Timescale
-timescales_behind text line [] = []
-timescales_behind text line (token ∷ tokens) =
+abbrev pub timescales_after : List ℕ → ℕ → List Token → List Timescale
+timescales_after text line [] = []
+timescales_after text line (token ∷ tokens) =
     if begins_line line token
-    then with_timescale text token tokens (timescales_behind text token.line tokens)
-    else timescales_behind text line tokens
+    then with_timescale text token tokens (timescales_after text token.line tokens)
+    else timescales_after text line tokens
 
 -- the timescales among the tokens of a text, in order
 abbrev pub timescales : List ℕ → List Token → List Timescale
-timescales text tokens = timescales_behind text 0 tokens
+timescales text tokens = timescales_after text 0 tokens
 
 -- the line stands before another, if there is one
 abbrev pub is_before : Option ℕ → ℕ → Bool

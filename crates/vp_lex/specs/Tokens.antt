@@ -1,8 +1,8 @@
 -- The tokens of a text.
 use Rattle.std.specs.Prelude.{◌≡◌, ℕ, ◌+◌, ◌-◌, ◌≤◌, ◌<◌, ◌&&◌, ◌||◌, ◌⊎◌, Bool, true, false, not, List, [], ◌∷◌, ◌++◌, length, take, drop, Option, Some, None, option_map, Result, Ok, Err, count_by}
 use Rattle.std.specs.List.{list_all, suffix_len}
-use Rattle.vp_lex.specs.declared.fault.LexError.{LexError}
-use Rattle.vp_lex.specs.declared.fault.LexError.TheVariants as error
+use Rattle.vp_lex.specs.declared.error.LexError.{LexError}
+use Rattle.vp_lex.specs.declared.error.LexError.TheVariants as error
 use Rattle.vp_lex.specs.declared.keyword.Keyword.{Keyword}
 use Rattle.vp_lex.specs.declared.piece.Fault.{Fault}
 use Rattle.vp_lex.specs.declared.piece.Fault.TheVariants.{BadCharacter, OpenComment, OpenString, UnknownDirective}
@@ -40,12 +40,12 @@ token_kind Directive bytes = Some token.Directive
 -- ---- where a token stands
 
 -- the line after these bytes: 1, and one more for each newline (profile)
-abbrev pub line_behind : List ℕ → ℕ
-line_behind before = count_by is_newline before + 1
+abbrev pub line_after : List ℕ → ℕ
+line_after before = count_by is_newline before + 1
 
 -- the column after these bytes: 1, and one more for each byte since the last newline (profile)
-abbrev pub column_behind : List ℕ → ℕ
-column_behind before = suffix_len (λ byte. not (is_newline byte)) before + 1
+abbrev pub column_after : List ℕ → ℕ
+column_after before = suffix_len (λ byte. not (is_newline byte)) before + 1
 
 -- the piece is a directive
 abbrev pub is_mark : PieceKind → Bool
@@ -62,8 +62,8 @@ token_at before marked bytes kind mark = record {
   kind = kind;
   start = length before;
   end = length before + length bytes;
-  line = line_behind before;
-  column = column_behind before;
+  line = line_after before;
+  column = column_after before;
   directive = mark || marked;
 }
 
@@ -82,11 +82,11 @@ with_token before marked piece None tokens = tokens
 with_token before marked piece (Some kind) tokens = token_at before marked piece.bytes kind (is_mark piece.kind) ∷ tokens
 
 -- the tokens of pieces after these bytes, on a line with a directive before them or not
-abbrev pub tokens_behind : List ℕ → Bool → List Piece → List Token
-tokens_behind before marked [] = []
-tokens_behind before marked (piece ∷ pieces) =
+abbrev pub tokens_following : List ℕ → Bool → List Piece → List Token
+tokens_following before marked [] = []
+tokens_following before marked (piece ∷ pieces) =
     with_token before marked piece (token_kind piece.kind piece.bytes)
-    (tokens_behind (before ++ piece.bytes) (marks marked piece) pieces)
+    (tokens_following (before ++ piece.bytes) (marks marked piece) pieces)
 
 -- the bytes of a piece in front of others, if it is a token
 abbrev pub with_bytes : List ℕ → Option TokenKind → List (List ℕ) → List (List ℕ)
@@ -109,7 +109,7 @@ error_of UnknownDirective line = error.UnknownDirective line
 
 -- the error of a refusal of a text, by the line of its place (profile)
 abbrev pub error_at : List ℕ → Refusal → LexError
-error_at text refusal = error_of refusal.fault (line_behind (take refusal.at text))
+error_at text refusal = error_of refusal.fault (line_after (take refusal.at text))
 
 -- what is read of a text: the tokens before its first fault, and its error, if it has one
 pub record Scan : Type 0 where
@@ -119,8 +119,8 @@ pub record Scan : Type 0 where
 -- this is what is read of the text: the tokens of the pieces of its cut; or those before its first fault, and the error of that (IEEE Std 1364-2005, 3; profile)
 abbrev pub IsScan : List ℕ → Scan → Type 0
 IsScan text scan =
-    ((pieces : List Piece) × Cut text pieces × (scan ≡ record { tokens = tokens_behind [] false pieces; fault = None }))
-    ⊎ ((refusal : Refusal) × IsRefused text refusal × (scan ≡ record { tokens = tokens_behind [] false refusal.pieces; fault = Some (error_at text refusal) }))
+    ((pieces : List Piece) × Cut text pieces × (scan ≡ record { tokens = tokens_following [] false pieces; fault = None }))
+    ⊎ ((refusal : Refusal) × IsRefused text refusal × (scan ≡ record { tokens = tokens_following [] false refusal.pieces; fault = Some (error_at text refusal) }))
 
 -- the fault, or else the tokens
 abbrev pub told_fault : Option LexError → List Token → Result (List Token) LexError
@@ -152,8 +152,8 @@ IsFaultOf text e = (e ≡ error.NoMemory) ⊎ IsError text e
 
 -- what is read of a text after these bytes, on a line with a directive before it or not, where this is its cut
 abbrev pub scanned : List ℕ → List ℕ → Bool → Result (List Piece) Refusal → Scan
-scanned text before marked (Ok pieces) = record { tokens = tokens_behind before marked pieces; fault = None }
-scanned text before marked (Err refusal) = record { tokens = tokens_behind before marked refusal.pieces; fault = Some (error_at text refusal) }
+scanned text before marked (Ok pieces) = record { tokens = tokens_following before marked pieces; fault = None }
+scanned text before marked (Err refusal) = record { tokens = tokens_following before marked refusal.pieces; fault = Some (error_at text refusal) }
 
 -- what is read of a text
 abbrev pub scan_of : List ℕ → Scan

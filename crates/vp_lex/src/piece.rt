@@ -332,17 +332,17 @@ fn piece_end(bytes: &[u8], start: usize, kind: Kind) -> Result<usize, Fault>
     ensures { result ≡ end_of (start + 1)
         (front_of (kind_of kind) (slice_index bytes.now start) (drop (start + 1) bytes.now)) }
 {
-    let behind = start + 1;
+    let following = start + 1;
     match kind {
-        Kind::Space => Ok(run_end(bytes, behind, Class::Space)),
-        Kind::Comment => comment_end(bytes, behind),
-        Kind::Word => Ok(run_end(bytes, behind, Class::Name)),
-        Kind::SystemWord => system_end(bytes, behind),
-        Kind::Number => Ok(run_end(bytes, behind, Class::Decimal)),
-        Kind::Base => base_end(bytes, behind),
-        Kind::String => string_end(bytes, behind),
+        Kind::Space => Ok(run_end(bytes, following, Class::Space)),
+        Kind::Comment => comment_end(bytes, following),
+        Kind::Word => Ok(run_end(bytes, following, Class::Name)),
+        Kind::SystemWord => system_end(bytes, following),
+        Kind::Number => Ok(run_end(bytes, following, Class::Decimal)),
+        Kind::Base => base_end(bytes, following),
+        Kind::String => string_end(bytes, following),
         Kind::Operator => Ok(symbol_end(bytes, start)),
-        Kind::Directive => directive_end(bytes, behind),
+        Kind::Directive => directive_end(bytes, following),
     }
 }
 

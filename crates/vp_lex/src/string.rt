@@ -86,10 +86,10 @@ fn element(characters: &[char]) -> (char, usize)
     if characters[0] != '\\' {
         return (characters[0], 0);
     }
-    let behind = &characters[1..];
-    let digits = octal_digits(behind);
+    let following = &characters[1..];
+    let digits = octal_digits(following);
     if digits.is_empty() {
-        named_escape(behind)
+        named_escape(following)
     } else {
         (octal_character(digits), digits.len())
     }

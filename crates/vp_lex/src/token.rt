@@ -2,7 +2,7 @@ ghost use Rattle.std.specs.Prelude.{◌≡◌, ◌⊎◌, ◌<◌, ◌≤◌, �
 ghost use Rattle.vp_lex.specs.Texts.{part_of};
 ghost use Rattle.vp_lex.specs.Tokens.{AreTokens, IsFaultOf, scan_of};
 
-use crate::fault::LexError;
+use crate::error::LexError;
 use crate::keyword::Keyword;
 use crate::piece::{Kind, piece_at, token_kind};
 use crate::timescale::differing_line;
@@ -165,7 +165,7 @@ impl Position {
     }
 
     /// The place after a piece from here to this end.
-    fn behind(self, bytes: &[u8], end: usize, kind: Kind) -> Position
+    fn moved_on(self, bytes: &[u8], end: usize, kind: Kind) -> Position
         requires within { (self.at ≤ end) × (end ≤ length bytes.now) }
         requires place { IsPlace bytes.now self }
         ensures at { result.at ≡ end }
@@ -179,13 +179,13 @@ impl Position {
             ..self
         };
         while here.at < end {
-            here = here.behind_byte(bytes);
+            here = here.after_byte(bytes);
         }
         here
     }
 
     /// The place after the next byte. A newline begins a line, on which no directive stands yet.
-    fn behind_byte(self, bytes: &[u8]) -> Position
+    fn after_byte(self, bytes: &[u8]) -> Position
         requires within { self.at < length bytes.now }
         requires place { IsPlace bytes.now self }
         ensures at { result.at ≡ self.at + 1 }
@@ -240,7 +240,7 @@ fn scan(alloc: Global, text: &str) -> Result<ScannedText, AllocError>
         if let Some(token) = here.token(text, end, kind) {
             tokens.push(token)?;
         }
-        here = here.behind(bytes, end, kind);
+        here = here.moved_on(bytes, end, kind);
     }
     let fault = None;
     Ok(ScannedText { tokens, fault })

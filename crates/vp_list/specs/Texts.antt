@@ -13,6 +13,6 @@ parts separator (byte ∷ bytes) =
     if byte == separator then [] ∷ parts separator bytes else begun byte (parts separator bytes)
 
 -- a part in front of those of what follows its separating byte, if one does
-abbrev pub behind_part : ℕ → List ℕ → Option (List ℕ) → List (List ℕ)
-behind_part separator part None = part ∷ []
-behind_part separator part (Some rest) = part ∷ parts separator rest
+abbrev pub part_and_rest : ℕ → List ℕ → Option (List ℕ) → List (List ℕ)
+part_and_rest separator part None = part ∷ []
+part_and_rest separator part (Some rest) = part ∷ parts separator rest

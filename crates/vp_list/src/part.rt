@@ -1,13 +1,13 @@
 ghost use Rattle.std.specs.Prelude.{◌≡◌, ◌<◌, ◌≤◌, ◌==◌, length, option_map, ◌++◌, ◌∷◌, slice_index, IfSome, IsUtf8, MatchOption};
 ghost use Rattle.std.specs.List.{position_or_len};
-ghost use Rattle.vp_list.specs.Texts.{behind_part, parts};
+ghost use Rattle.vp_list.specs.Texts.{part_and_rest, parts};
 
 /// The part of a text before the first of an ASCII character that separates its parts, and what follows that
 /// character; the whole text where there is none.
 pub fn first_part(text: &str, separator: char) -> (&str, Option<&str>)
     requires { separator < 128 }
     ensures parts { parts separator text.now
-        ≡ behind_part separator result.0.now (option_map (λ r. r.now) result.1) }
+        ≡ part_and_rest separator result.0.now (option_map (λ r. r.now) result.1) }
     ensures text { IfSome result.1 (λ r. IsUtf8 r.now) }
     ensures shorter { IfSome result.1 (λ r. length r.now < length text.now) }
 {
@@ -35,7 +35,7 @@ fn first_place(bytes: &[u8], byte: u8) -> usize
 /// where there is none.
 pub fn first_piece(bytes: &[u8], separator: u8) -> (&[u8], Option<&[u8]>)
     ensures parts { parts separator bytes.now
-        ≡ behind_part separator result.0.now (option_map (λ r. r.now) result.1) }
+        ≡ part_and_rest separator result.0.now (option_map (λ r. r.now) result.1) }
     ensures whole { MatchOption result.1 (bytes.now ≡ result.0.now)
         (λ r. bytes.now ≡ result.0.now ++ separator ∷ r.now) }
 {

@@ -91,12 +91,17 @@ impl<T: Copy + Drop + Same> TrackedList<T> {
             return;
         }
         self.items[place] = item;
-        self.is_complete = remember(self.is_complete, &mut self.changed, &mut self.marks, place);
+        self.is_complete = mark_written(
+            self.is_complete,
+            &mut self.changed,
+            &mut self.marks,
+            place,
+        );
     }
 
     /// A copy to be kept, which shares the chunks that were not written since the last one; or an error where there is no memory, or the
     /// holders can't be counted.
-    pub fn keep(&mut self) -> Result<SharedList<T>, AllocError>
+    pub fn checkpoint(&mut self) -> Result<SharedList<T>, AllocError>
         ensures copy { IfOk result (λ copy. copy ≡ self.old) }
         ensures same { self.new ≡ self.old }
     {
@@ -115,7 +120,7 @@ impl<T: Copy + Drop + Same> TrackedList<T> {
 }
 
 /// Remembers that a place is written, where all others are, and tells so; but not where there is no memory for that.
-fn remember(
+fn mark_written(
     is_complete: bool,
     changed: &mut Vec<usize>,
     marks: &mut Vec<Written>,

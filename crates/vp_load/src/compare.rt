@@ -18,7 +18,7 @@ use vp_expr::Checked;
 use vp_hub::session_of;
 use vp_list::Same;
 use vp_wire::{reply_line, request};
-use vp_world::{Entry, Event, Happening, Limits, World};
+use vp_world::{Entry, Event, Limits, LoggedEvent, World};
 
 /// What a world answers to the event of the entry at a place of a log; or by which number it refuses it.
 fn answer(world: &mut World, place: usize, event: Event) -> Result<Reply, Difference>
@@ -170,7 +170,7 @@ fn compare_grants(alloc: Global, orders: &[Order], log: &[Entry]) -> Result<(), 
     let changes = changes_of(alloc, orders)?;
     let mut next = 0usize;
     for (place, entry) in log.iter().enumerate() {
-        if let Happening::Grant { change } = &entry.happening {
+        if let LoggedEvent::Grant { change } = &entry.happening {
             match changes.get(next) {
                 Some((_, own)) if own.is_same(change) => next = next.saturating_add(1),
                 _ => return Err(Difference::Grant { place }),

@@ -2,7 +2,7 @@ use crate::kinds::Kind;
 use std::alloc::AllocError;
 use std::io;
 use thiserror::Error;
-use vp_serve::ServerFault;
+use vp_serve::ServerError;
 use vp_wire::WireError;
 
 /// What first differs, or why nothing was compared. Places in the log count from 0, users and orders from 1.
@@ -15,7 +15,7 @@ pub enum Difference {
     #[error("the port can't be listened on")]
     NoListener,
     #[error("the server: {0}")]
-    Server(#[from] ServerFault),
+    Server(#[from] ServerError),
     #[error("a client, or standard error: {0}")]
     Input(#[from] io::Error),
     #[error("no memory")]

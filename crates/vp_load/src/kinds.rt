@@ -1,6 +1,6 @@
 //! What can happen, by its kind.
 use std::fmt;
-use vp_world::{Entry, Happening};
+use vp_world::{Entry, LoggedEvent};
 
 /// The kind of what happened.
 #[derive(Clone, Copy, Debug, PartialEq, Eq)]
@@ -57,17 +57,17 @@ impl fmt::Display for Kind {
 }
 
 /// The kind of what happened.
-fn kind_of(happening: &Happening) -> Kind {
+fn kind_of(happening: &LoggedEvent) -> Kind {
     match happening {
-        Happening::Open { .. } => Kind::Open,
-        Happening::Ask { .. } => Kind::Ask,
-        Happening::Put { .. } => Kind::Put,
-        Happening::Close { .. } => Kind::Close,
-        Happening::Grant { .. } => Kind::Grant,
-        Happening::Step { .. } | Happening::StepWithChange { .. } => Kind::Step,
-        Happening::Advance => Kind::Advance,
-        Happening::TakeJob { .. } => Kind::TakeJob,
-        Happening::Book { .. } => Kind::Book,
+        LoggedEvent::Open { .. } => Kind::Open,
+        LoggedEvent::Ask { .. } => Kind::Ask,
+        LoggedEvent::Put { .. } => Kind::Put,
+        LoggedEvent::Close { .. } => Kind::Close,
+        LoggedEvent::Grant { .. } => Kind::Grant,
+        LoggedEvent::Step { .. } | LoggedEvent::StepWithChange { .. } => Kind::Step,
+        LoggedEvent::Advance => Kind::Advance,
+        LoggedEvent::TakeJob { .. } => Kind::TakeJob,
+        LoggedEvent::Book { .. } => Kind::Book,
     }
 }
 

@@ -15,7 +15,7 @@ use vp_answer::{Reply, Request, SessionId};
 use vp_expr::Checked;
 use vp_list::Text;
 use vp_policy::UserId;
-use vp_world::{Asked, Entry, Happening, Limits, Login};
+use vp_world::{Asked, Entry, Limits, LoggedEvent, Login};
 
 /// What first differs between a log and what was told.
 fn first_difference(alloc: Global, log: &[Entry], transcripts: &Transcripts) -> Option<Difference> {
@@ -68,7 +68,7 @@ fn are_orders_found(alloc: Global, log: &[Entry], transcripts: &mut Transcripts)
 /// That a log lacks its first entry is found: a grant by what the operator ordered, another by what a user was told.
 fn is_lack_found(alloc: Global, log: &[Entry], transcripts: &Transcripts) -> Option<bool> {
     let difference = first_difference(alloc, log.get(1..)?, transcripts)?;
-    let is_grant = matches!(&log.first()?.happening, Happening::Grant { .. });
+    let is_grant = matches!(&log.first()?.happening, LoggedEvent::Grant { .. });
     Some(match difference {
         Difference::Transcript { .. } => !is_grant,
         Difference::Grant { .. } | Difference::LostOrder { .. } => is_grant,
@@ -100,12 +100,12 @@ fn short_log(alloc: Global, reply: Reply, time: u64) -> Result<Vec<Entry>, Alloc
     )?;
     let mut log = Vec::new(alloc);
     log.push(Entry {
-        happening: Happening::Open { login, session },
+        happening: LoggedEvent::Open { login, session },
         time: 0,
         finished: false,
     })?;
     log.push(Entry {
-        happening: Happening::Ask { asked, reply },
+        happening: LoggedEvent::Ask { asked, reply },
         time,
         finished: false,
     })?;

@@ -15,7 +15,7 @@ use Rattle.vp_source.specs.Places.{word_at}
 use Rattle.vp_source.specs.declared.source.Source.{Source}
 use Rattle.vp_source.specs.declared.source.Module.{Module}
 use Rattle.vp_source.specs.declared.source.Item.{Item}
-use Rattle.vp_names.specs.declared.fault.ElabError.{ElabError}
+use Rattle.vp_names.specs.declared.error.ElabError.{ElabError}
 use Rattle.vp_modules.specs.Definitions.{is_number}
 use Rattle.vp_names.specs.Items.{definition_number, instantiated, instantiates, is_among, is_top, module_number}
 use Rattle.vp_names.specs.Refusals.{first_of_two, twice_in}

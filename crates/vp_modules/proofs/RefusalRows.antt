@@ -4,7 +4,7 @@ use Rattle.std.specs.Prelude.{codes}
 use Rattle.std.specs.Fmt.{digits}
 use Rattle.std.specs.Str.{chars, is_utf8}
 use Rattle.std.specs.Char.{encode_utf8}
-use Rattle.vp_lex.specs.declared.fault.LexError.{LexError}
+use Rattle.vp_lex.specs.declared.error.LexError.{LexError}
 use Rattle.vp_lex.specs.declared.token.Token.{Token}
 use Rattle.vp_lex.specs.Tokens.{tokens_of}
 use Rattle.vp_source.specs.declared.expression.Expression.{Expression}
@@ -22,7 +22,7 @@ use Rattle.vp_source.specs.declared.source.Source.{Source}
 use Rattle.vp_source.specs.declared.source.Module.{Module}
 use Rattle.vp_source.specs.declared.source.Item.{Item}
 use Rattle.vp_source.specs.declared.source.Item.TheVariants as item
-use Rattle.vp_names.specs.declared.fault.ElabError.TheVariants.{Duplicate, UnknownModule, Recursive, Undeclared, BadTarget, BadConnection, MultipleDrivers}
+use Rattle.vp_names.specs.declared.error.ElabError.TheVariants.{Duplicate, UnknownModule, Recursive, Undeclared, BadTarget, BadConnection, MultipleDrivers}
 use Rattle.vp_names.specs.Items.{definition_number, is_top}
 use Rattle.vp_modules.specs.Refusals.{recursive, refusal_of}
 

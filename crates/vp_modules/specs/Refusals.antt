@@ -10,8 +10,8 @@ use Rattle.vp_source.specs.declared.source.Source.{Source}
 use Rattle.vp_source.specs.declared.source.Module as declared
 use Rattle.vp_source.specs.declared.source.Item.{Item}
 use Rattle.vp_source.specs.declared.source.Item.TheVariants as item
-use Rattle.vp_names.specs.declared.fault.ElabError.{ElabError}
-use Rattle.vp_names.specs.declared.fault.ElabError.TheVariants.{UnknownModule, Recursive, Undeclared, BadTarget, BadConnection, MultipleDrivers}
+use Rattle.vp_names.specs.declared.error.ElabError.{ElabError}
+use Rattle.vp_names.specs.declared.error.ElabError.TheVariants.{UnknownModule, Recursive, Undeclared, BadTarget, BadConnection, MultipleDrivers}
 use Rattle.vp_names.specs.Refusals.{bad_connection, bad_target, first_in, first_of_two, port_of, refused_at, twice_in, undeclared}
 use Rattle.vp_names.specs.Items.{connections_of, definition_of, instantiated, is_among, is_input, items_in, module_named}
 

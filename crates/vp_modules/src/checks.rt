@@ -2,7 +2,7 @@ ghost use Rattle.std.specs.Prelude.{◌≡◌, map, IfErr, IfOk};
 ghost use Rattle.vp_names.specs.Refusals.{bad_connection, bad_target, first_in, undeclared};
 ghost use Rattle.vp_modules.specs.Refusals.{driven_twice};
 ghost use Rattle.vp_names.specs.Tables.{scope_in, tables_in};
-ghost use Rattle.vp_names.specs.declared.fault.ElabError.TheVariants.{NoMemory};
+ghost use Rattle.vp_names.specs.declared.error.ElabError.TheVariants.{NoMemory};
 
 use crate::drivers::driven_twice;
 use std::alloc::Global;

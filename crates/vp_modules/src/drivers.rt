@@ -1,6 +1,6 @@
 ghost use Rattle.std.specs.Prelude.{◌≡◌, [], ◌∷◌, ◌++◌, IfErr, IfOk, IfSome, OnOk};
 ghost use Rattle.std.specs.List.{flat_map};
-ghost use Rattle.vp_names.specs.declared.fault.ElabError.TheVariants.{NoMemory};
+ghost use Rattle.vp_names.specs.declared.error.ElabError.TheVariants.{NoMemory};
 ghost use Rattle.vp_names.specs.Items.{items_in};
 ghost use Rattle.vp_modules.specs.Refusals.{driven_by, driven_from, driven_through, driven_twice, repeated};
 ghost use Rattle.vp_names.specs.Tables.{scope_in, tables_in};

@@ -5,7 +5,7 @@ mod checks;
 mod definitions;
 mod drivers;
 mod instances;
-mod reached;
+mod reachable;
 mod recursion;
 mod resolved;
 

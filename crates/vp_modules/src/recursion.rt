@@ -5,9 +5,9 @@ ghost use Rattle.vp_modules.specs.Definitions.{AreSuspects, definitions_in, is_m
 ghost use Rattle.vp_names.specs.Items.{definition_number};
 ghost use Rattle.vp_names.specs.Refusals.{first_in, twice_in};
 ghost use Rattle.vp_modules.specs.Refusals.{leads, recursive};
-ghost use Rattle.vp_names.specs.declared.fault.ElabError.TheVariants.{NoMemory};
+ghost use Rattle.vp_names.specs.declared.error.ElabError.TheVariants.{NoMemory};
 
-use crate::reached::Reached;
+use crate::reachable::Reached;
 use std::alloc::{AllocError, Global};
 use vp_names::ElabError;
 use vp_source::{Module, Source};

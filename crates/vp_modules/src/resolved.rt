@@ -1,5 +1,5 @@
 ghost use Rattle.vp_list.specs.Refusals.{MayExplain};
-ghost use Rattle.vp_names.specs.declared.fault.ElabError.TheVariants.{NoMemory};
+ghost use Rattle.vp_names.specs.declared.error.ElabError.TheVariants.{NoMemory};
 ghost use Rattle.std.specs.Prelude.{◌≡◌, [], None, map, IfErr, IfOk, OnOk};
 ghost use Rattle.vp_names.specs.Items.{definition_number, is_top};
 ghost use Rattle.vp_names.specs.Refusals.{twice_in};

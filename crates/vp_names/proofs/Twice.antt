@@ -5,17 +5,17 @@ use Rattle.vp_list.specs.Refusals.{MayExplain}
 use Rattle.vp_source.specs.Places.{line_at, word_at}
 use Rattle.vp_source.specs.declared.source.Source.{Source}
 use Rattle.vp_source.specs.declared.source.Module.{Module}
-use Rattle.vp_names.specs.declared.fault.ElabError.{ElabError}
-use Rattle.vp_names.specs.declared.fault.ElabError.TheVariants.{Duplicate, NoMemory}
+use Rattle.vp_names.specs.declared.error.ElabError.{ElabError}
+use Rattle.vp_names.specs.declared.error.ElabError.TheVariants.{Duplicate, NoMemory}
 use Rattle.vp_names.specs.Items.{is_among, items_in}
 use Rattle.vp_names.specs.Refusals.{first_of_two, twice, twice_in}
 
 -- after a module whose names are new and declared once, the modules go on
-pub twice_behind :
+pub twice_after :
     (source : Source) (names : List (List ℕ)) (m : Module) (ms : List Module)
     → is_among names (word_at source m.name) ≡ false → twice source [] (items_in source m) ≡ None
     → twice_in source names (m ∷ ms) ≡ twice_in source (names ++ word_at source m.name ∷ []) ms
-twice_behind source names m ms new once =
+twice_after source names m ms new once =
     ap (λ (b : Bool). cond b (Some (Duplicate (line_at source m.name))) (first_of_two (twice source [] (items_in source m)) (twice_in source (names ++ word_at source m.name ∷ []) ms))) new
     ∙ ap (λ (e : Option ElabError). first_of_two e (twice_in source (names ++ word_at source m.name ∷ []) ms)) once
 
@@ -27,7 +27,7 @@ pub twice_next :
 twice_next source names ms i d in_list new once =
     let m : Module = get_or ms i d in
     let next : suc i ≡ i + 1 = omega arith in
-    ap (twice_in source names) (drop-cons ms i d in_list) ∙ twice_behind source names m (drop (suc i) ms) new once
+    ap (twice_in source names) (drop-cons ms i d in_list) ∙ twice_after source names m (drop (suc i) ms) new once
     ∙ ap (λ (n : ℕ). twice_in source (names ++ word_at source m.name ∷ []) (drop n ms)) next
 
 -- a refusal by a module and those after it is that of the text, where those before it are in order

@@ -1,7 +1,7 @@
 -- The numbers and the lines of the faults of a source.
 use Rattle.std.specs.Prelude.{ℕ}
-use Rattle.vp_names.specs.declared.fault.ElabError.{ElabError}
-use Rattle.vp_names.specs.declared.fault.ElabError.TheVariants.{Duplicate, UnknownModule, Recursive, Undeclared, BadTarget, BadConnection, MultipleDrivers, TooManyObjects, ViewportUnknown, NoMemory}
+use Rattle.vp_names.specs.declared.error.ElabError.{ElabError}
+use Rattle.vp_names.specs.declared.error.ElabError.TheVariants.{Duplicate, UnknownModule, Recursive, Undeclared, BadTarget, BadConnection, MultipleDrivers, TooManyObjects, ViewportUnknown, NoMemory}
 
 -- the number of a refusal (profile)
 abbrev pub code_of : ElabError → ℕ

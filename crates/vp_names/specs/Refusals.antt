@@ -15,8 +15,8 @@ use Rattle.vp_source.specs.declared.source.Source.{Source}
 use Rattle.vp_source.specs.declared.source.Module as declared
 use Rattle.vp_source.specs.declared.source.Item.{Item}
 use Rattle.vp_source.specs.declared.source.Item.TheVariants as item
-use Rattle.vp_names.specs.declared.fault.ElabError.{ElabError}
-use Rattle.vp_names.specs.declared.fault.ElabError.TheVariants.{Duplicate, UnknownModule, Recursive, Undeclared, BadTarget, BadConnection, MultipleDrivers, TooManyObjects, ViewportUnknown}
+use Rattle.vp_names.specs.declared.error.ElabError.{ElabError}
+use Rattle.vp_names.specs.declared.error.ElabError.TheVariants.{Duplicate, UnknownModule, Recursive, Undeclared, BadTarget, BadConnection, MultipleDrivers, TooManyObjects, ViewportUnknown}
 use Rattle.vp_names.specs.Items.{connections_of, definition_of, expressions_in, instantiated, is_among, is_input, is_net, is_operand, is_reg, is_signal, item_name, item_place, items_in, module_named, named_at, ports_in, statements_in, terms_in}
 
 -- the first of two refusals that holds

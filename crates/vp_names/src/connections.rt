@@ -2,10 +2,10 @@ ghost use Rattle.std.specs.Prelude.{◌≡◌, [], false, map, slice_get, option
 ghost use Rattle.std.specs.Option.{option_map_or};
 ghost use Rattle.vp_names.specs.Refusals.{connection_fault, if_port, is_named_in, connections_fault, instance_fault, bad_connection, is_whole_net, port_of, suits, with_port};
 ghost use Rattle.vp_names.specs.Items.{connections_of, definition_of, items_in, module_named};
-ghost use Rattle.vp_names.specs.declared.fault.ElabError.TheVariants.{NoMemory};
+ghost use Rattle.vp_names.specs.declared.error.ElabError.TheVariants.{NoMemory};
 ghost use Rattle.vp_names.specs.Tables.{scope_in, tables_in};
 
-use crate::fault::ElabError;
+use crate::error::ElabError;
 use crate::items::{connections_of, is_input, is_net, items_of, ports_of};
 use crate::lookup::named_at;
 use crate::names::Names;

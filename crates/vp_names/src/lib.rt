@@ -2,7 +2,7 @@
 #![tactic(auto)]
 
 mod connections;
-mod fault;
+mod error;
 mod items;
 mod lookup;
 mod names;
@@ -10,7 +10,7 @@ mod operands;
 mod tables;
 
 pub use connections::{Scope, bad_connection, definition_of, port_of};
-pub use fault::ElabError;
+pub use error::ElabError;
 pub use items::{
     connections_of, expressions_of, is_input, items_of, name_of, place_of, ports_of, statements_of,
     terms_of,

@@ -1,12 +1,12 @@
 ghost use Rattle.vp_list.specs.Refusals.{MayExplain};
-ghost use Rattle.vp_names.specs.declared.fault.ElabError.TheVariants.{NoMemory};
+ghost use Rattle.vp_names.specs.declared.error.ElabError.TheVariants.{NoMemory};
 ghost use Rattle.std.specs.Prelude.{◌≡◌, false, List, [], ◌∷◌, ◌++◌, map, None, IfErr, IfOk, OnOk};
 ghost use Rattle.vp_source.specs.Places.{word_at};
 ghost use Rattle.vp_names.specs.Items.{is_among, item_name, items_in};
 ghost use Rattle.vp_names.specs.Tables.{module_names, scope_in, tables_in};
 ghost use Rattle.vp_names.specs.Refusals.{twice, twice_in};
 
-use crate::fault::ElabError;
+use crate::error::ElabError;
 use crate::items::{items_of, name_of, place_of};
 use crate::names::Names;
 use std::alloc::Global;

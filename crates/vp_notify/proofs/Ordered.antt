@@ -6,7 +6,7 @@ use Rattle.std.proofs.lemmas.Bool.{cases_eq, cases_lt, leb-true, leb-false, le-l
 use Rattle.std.proofs.lemmas.List.Elements.{filter_agree}
 use Rattle.std.proofs.lemmas.List.Sorted.{IsNonDecreasingBy-insert}
 use Rattle.vp_notify.specs.declared.registry.Callback.{Callback}
-use Rattle.vp_notify.specs.Registry.{AreOrdered, is_below, is_beyond, is_by, is_on, with_callback}
+use Rattle.vp_notify.specs.Registry.{AreOrdered, is_below, is_past_goal, is_by, is_on, with_callback}
 
 -- ---- what a place parts
 
@@ -14,15 +14,15 @@ use Rattle.vp_notify.specs.Registry.{AreOrdered, is_below, is_beyond, is_by, is_
 parts : {X : Type 0} (p : X → Bool) (xs : List X) (i : ℕ) → IsPartitionPoint (λ y. p y ≡ true) (λ y. p y ≡ false) xs i → i ≤ length xs → (take i xs ≡ filter p xs) × (drop i xs ≡ filter (λ y. not (p y)) xs)
 parts p [] zero parted within = (refl, refl)
 parts p [] (suc i) parted within = absurd (omega arith)
-parts p (x ∷ xs) zero (before, behind) within =
-    let here : p x ≡ false = behind 0 x (omega arith) (omega arith) in
-    let rest = parts p xs zero (λ k d low high. absurd (omega arith), λ k d low high. behind (suc k) d (omega arith) (omega arith)) (omega arith) in (
+parts p (x ∷ xs) zero (before, following) within =
+    let here : p x ≡ false = following 0 x (omega arith) (omega arith) in
+    let rest = parts p xs zero (λ k d low high. absurd (omega arith), λ k d low high. following (suc k) d (omega arith) (omega arith)) (omega arith) in (
       rest.0 ∙ ap (λ b. cond b (x ∷ filter p xs) (filter p xs)) (sym here),
       ap (λ ys. x ∷ ys) rest.1 ∙ ap (λ b. cond (not b) (x ∷ filter (λ y. not (p y)) xs) (filter (λ y. not (p y)) xs)) (sym here),
     )
-parts p (x ∷ xs) (suc i) (before, behind) within =
+parts p (x ∷ xs) (suc i) (before, following) within =
     let here : p x ≡ true = before 0 x (omega arith) (omega arith) in
-    let rest = parts p xs i (λ k d low high. before (suc k) d (omega arith) (omega arith), λ k d low high. behind (suc k) d (omega arith) (omega arith)) (omega arith) in (
+    let rest = parts p xs i (λ k d low high. before (suc k) d (omega arith) (omega arith), λ k d low high. following (suc k) d (omega arith) (omega arith)) (omega arith) in (
       ap (λ ys. x ∷ ys) rest.0 ∙ ap (λ b. cond b (x ∷ filter p xs) (filter p xs)) (sym here),
       rest.1 ∙ ap (λ b. cond (not b) (x ∷ filter (λ y. not (p y)) xs) (filter (λ y. not (p y)) xs)) (sym here),
     )
@@ -81,7 +81,7 @@ pub with_callback_at : (callbacks : List Callback) (i : ℕ) (new : Callback) �
 with_callback_at callbacks i new parted within =
     let split = parts (is_by new.object.0) callbacks i parted within in
     ap (λ (cs : List Callback). cs ++ new ∷ drop i callbacks) split.0
-    ∙ ap (λ (cs : List Callback). filter (is_by new.object.0) callbacks ++ new ∷ cs) (split.1 ∙ filter_agree (λ c. not (is_by new.object.0 c)) (is_beyond new.object.0) (λ c. not_by c.object.0 new.object.0) callbacks)
+    ∙ ap (λ (cs : List Callback). filter (is_by new.object.0) callbacks ++ new ∷ cs) (split.1 ∙ filter_agree (λ c. not (is_by new.object.0 c)) (is_past_goal new.object.0) (λ c. not_by c.object.0 new.object.0) callbacks)
 
 -- callbacks stay by object with it
 pub ordered_with : (callbacks : List Callback) (i : ℕ) (new : Callback) → AreOrdered callbacks → i ≤ length callbacks → IsPartitionPoint (λ c. is_by new.object.0 c ≡ true) (λ c. is_by new.object.0 c ≡ false) callbacks i → AreOrdered (insert callbacks i new)

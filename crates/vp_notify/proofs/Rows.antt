@@ -76,8 +76,8 @@ no_change : due three None 5 ≡ three
 no_change = refl
 
 -- a later change waits after
-behind : (due (due three (Some (change 2)) 5) (Some (change 1)) 7).waiting ≡ told 1 2 5 ∷ told 3 2 5 ∷ told 2 1 7 ∷ []
-behind = refl
+following : (due (due three (Some (change 2)) 5) (Some (change 1)) 7).waiting ≡ told 1 2 5 ∷ told 3 2 5 ∷ told 2 1 7 ∷ []
+following = refl
 
 -- without callback 1 only 3 is told, and what waited stays
 removed_between : (due (without (due three (Some (change 2)) 5) 1) (Some (change 2)) 6).waiting ≡ told 1 2 5 ∷ told 3 2 5 ∷ told 3 2 6 ∷ []

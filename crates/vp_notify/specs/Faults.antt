@@ -1,7 +1,7 @@
 -- The numbers of the refusals of a registry.
 use Rattle.std.specs.Prelude.{ℕ}
-use Rattle.vp_notify.specs.declared.fault.NotifyError.{NotifyError}
-use Rattle.vp_notify.specs.declared.fault.NotifyError.TheVariants.{TooManyCallbacks, NoSuchCallback, NoMemory}
+use Rattle.vp_notify.specs.declared.error.NotifyError.{NotifyError}
+use Rattle.vp_notify.specs.declared.error.NotifyError.TheVariants.{TooManyCallbacks, NoSuchCallback, NoMemory}
 
 -- the number of a refusal (profile)
 abbrev pub code_of : NotifyError → ℕ

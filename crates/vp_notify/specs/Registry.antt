@@ -34,8 +34,8 @@ abbrev pub is_below : (object : ℕ) → Callback → Bool
 is_below object callback = nat_lt callback.object.0 object
 
 -- a callback is on a higher object
-abbrev pub is_beyond : (object : ℕ) → Callback → Bool
-is_beyond object callback = nat_lt object callback.object.0
+abbrev pub is_past_goal : (object : ℕ) → Callback → Bool
+is_past_goal object callback = nat_lt object callback.object.0
 
 -- a callback has a number
 abbrev pub is_numbered : (number : ℕ) → Callback → Bool
@@ -55,7 +55,7 @@ is_full r = not (nat_lt (length r.callbacks) 1024) || (r.given == 2 ^ 32 - 1)
 
 -- a callback of an object stands after those of the object and of lower ones, and before those of higher ones (profile)
 abbrev pub with_callback : List Callback → Callback → List Callback
-with_callback callbacks new = filter (is_by new.object.0) callbacks ++ new ∷ filter (is_beyond new.object.0) callbacks
+with_callback callbacks new = filter (is_by new.object.0) callbacks ++ new ∷ filter (is_past_goal new.object.0) callbacks
 
 -- a callback on an object is added, with the next number (clause 27.33)
 abbrev pub registered : RegistryState → (object : ℕ) → RegistryState
@@ -105,8 +105,8 @@ drained r = record r { waiting = []; lost = 0 }
 -- ---- rights that end
 
 -- these rights, by object, lack the right to watch an object; none lacks it where no object is
-abbrev pub lacks_watch : List Rights → (object : ℕ) → Bool
-lacks_watch rights object = option_map_or (λ his. not (has right.Watch (set_of his))) (slice_get rights object) false
+abbrev pub is_unwatchable : List Rights → (object : ℕ) → Bool
+is_unwatchable rights object = option_map_or (λ his. not (has right.Watch (set_of his))) (slice_get rights object) false
 
 -- the callbacks on objects of which a test holds go, and so do the notices of these objects that wait, whoever they are for; numbers
 -- and the lost count stay (profile)

@@ -4,13 +4,13 @@
 //! it is drained. It holds so many callbacks and so many notices and no more; a notice for which there is no room is lost, and counted.
 #![tactic(auto)]
 
-mod fault;
+mod error;
 mod notice;
 mod order;
 mod registry;
 mod renumbering;
 
-pub use fault::NotifyError;
+pub use error::NotifyError;
 pub use notice::{Notice, Notices, PolledNotice};
 pub use registry::{CALLBACK_LIMIT, Callback, NOTICE_LIMIT, Registry};
 pub use renumbering::{number_now, rises};

@@ -1,10 +1,10 @@
 ghost use Rattle.std.specs.Prelude.{◌≡◌, ◌+◌, ◌-◌, ◌^◌, ◌≤◌, ◌↔◌, ◌∷◌, ◌++◌, [], filter, length, map, min, not, nat_lt, false, true, if◌then◌else◌, option_copied, IfErr, IfOk, IsOk, OnErr, OnOk};
 ghost use Rattle.std.specs.List.{list_all, list_any};
-ghost use Rattle.vp_notify.specs.declared.fault.NotifyError.TheVariants.{NoMemory, NoSuchCallback, TooManyCallbacks};
-ghost use Rattle.vp_notify.specs.Registry.{AreOrdered, drained, due, empty_registry, has_number, is_full, is_numbered, lacks_watch, notice_of, polled_notice, registered, retired, watches, without};
+ghost use Rattle.vp_notify.specs.declared.error.NotifyError.TheVariants.{NoMemory, NoSuchCallback, TooManyCallbacks};
+ghost use Rattle.vp_notify.specs.Registry.{AreOrdered, drained, due, empty_registry, has_number, is_full, is_numbered, is_unwatchable, notice_of, polled_notice, registered, retired, watches, without};
 ghost use Rattle.vp_notify.specs.Renumbered.{is_callback_within, is_notice_within, is_within, moved_callback, moved_notice, moved_registry, number_now, rises};
 
-use crate::fault::NotifyError;
+use crate::error::NotifyError;
 use crate::notice::{Notice, Notices, PolledNotice};
 use crate::order::{count_by, on_object};
 use crate::renumbering::number_now;
@@ -91,8 +91,8 @@ fn hold(waiting: &mut HeapCircularBuffer<Notice>, lost: &mut u64, notice: Notice
 }
 
 /// These rights, by object, lack the right to watch an object.
-fn lacks_watch(rights: &[Rights], object: ObjectId) -> bool
-    ensures { result ≡ lacks_watch rights.now object.0 }
+fn is_unwatchable(rights: &[Rights], object: ObjectId) -> bool
+    ensures { result ≡ is_unwatchable rights.now object.0 }
 {
     match rights.get(object.0 as usize) {
         Some(his) => !his.has(Right::Watch),
@@ -103,12 +103,12 @@ fn lacks_watch(rights: &[Rights], object: ObjectId) -> bool
 /// Takes the notices of objects that these rights do not let be watched out of those that wait. The others stay in their order.
 fn retire_notices(waiting: &mut HeapCircularBuffer<Notice>, rights: &[Rights])
     ensures waiting { waiting.new.items
-        ≡ filter (λ n. not (lacks_watch rights.now n.object.0)) waiting.old.items }
+        ≡ filter (λ n. not (is_unwatchable rights.now n.object.0)) waiting.old.items }
     ensures capacity { waiting.new.capacity ≡ waiting.old.capacity }
 {
     for _turn in 0..waiting.len() {
         if let Some(notice) = waiting.pop_front() {
-            if !lacks_watch(rights, notice.object) {
+            if !is_unwatchable(rights, notice.object) {
                 waiting.push_back(notice);
             }
         }
@@ -241,10 +241,10 @@ impl Registry {
     /// Takes out the callbacks on objects that these rights, by object, do not let be watched, and the notices of these objects that
     /// wait; numbers and the lost count stay. One pass over the callbacks and the notices, which takes no memory.
     pub fn retire(&mut self, rights: &[Rights])
-        ensures { self.new ≡ retired (lacks_watch rights.now) self.old }
+        ensures { self.new ≡ retired (is_unwatchable rights.now) self.old }
     {
         self.callbacks
-            .retain(|callback| !lacks_watch(rights, callback.object));
+            .retain(|callback| !is_unwatchable(rights, callback.object));
         retire_notices(&mut self.waiting, rights);
     }
 

@@ -36,5 +36,5 @@ braces = refl
 part_not_before : value_at operands [] 6 2 ≡ Unknown ∷ Zero ∷ []
 part_not_before = refl
 
-behind_the_end : value_at operands [] 7 1 ≡ Unknown ∷ []
-behind_the_end = refl
+after_the_end : value_at operands [] 7 1 ≡ Unknown ∷ []
+after_the_end = refl

@@ -178,8 +178,8 @@ pub size_before : (os : List Operand) (sizes : List ℕ) (end place : ℕ) → I
 size_before os sizes end place sized h =
     size_there os sizes place sized ∙ ap size (sym (part_before (terms_of os) end place h))
 
-pub size_behind : (os : List Operand) (end place : ℕ) → end ≤ place → 1 ≡ size (term_below os end place)
-size_behind os end place h = ap size (sym (part_past (terms_of os) end place h))
+pub size_after : (os : List Operand) (end place : ℕ) → end ≤ place → 1 ≡ size (term_below os end place)
+size_after os end place h = ap size (sym (part_past (terms_of os) end place h))
 
 pub size_fits : (os : List Operand) (sizes : List ℕ) (place : ℕ) → IsSized os sizes → IsWidth (get_or sizes place 1)
 size_fits os sizes place sized = width_from (get_or sizes place 1) (each_fits sizes place sized.fit)

@@ -39,5 +39,5 @@ slots_at_a_place = refl
 slots_of_a_part : map slot_at (reads (term_at operands 2)) ≡ slot_at 5 ∷ []
 slots_of_a_part = refl
 
-none_behind_the_end : map slot_at (reads (term_at operands 7)) ≡ []
-none_behind_the_end = refl
+none_after_the_end : map slot_at (reads (term_at operands 7)) ≡ []
+none_after_the_end = refl

@@ -10,7 +10,7 @@ use Rattle.vp_pragma.specs.declared.rights.Right.{Right}
 use Rattle.vp_pragma.specs.Rights.{RightSet, has, name_of}
 use Rattle.vp_policy.specs.declared.view.SeenEnvelope.{SeenEnvelope}
 use Rattle.vp_policy.specs.declared.view.SeenObject.{SeenObject}
-use Rattle.vp_policy.specs.SeenObjects.{envelope_shown, node_behind, nodes_from, own_step, path_to}
+use Rattle.vp_policy.specs.SeenObjects.{envelope_shown, node_after, nodes_from, own_step, path_to}
 use Rattle.vp_policy.specs.View.{SeenNode, SeenStep}
 use Rattle.vp_outline.specs.Objects.{object_line, steps_above, steps_to}
 use Rattle.vp_outline.specs.Outline.{envelope_line, every_right, line_at, line_of, node_line, node_words, words_text}
@@ -70,15 +70,15 @@ steps_are nodes None = refl
 steps_are nodes (Some n) = steps_there nodes n
 
 -- the line for an object after these
-line_behind : (nodes : List SeenNode) (o : SeenObject) → node_line (node_behind nodes o) ≡ object_line (steps_above (steps_to nodes) o.parent) o
-line_behind nodes o =
-    line_at-append (node_behind nodes o) (path_to nodes o.parent) (own_step o)
+line_after : (nodes : List SeenNode) (o : SeenObject) → node_line (node_after nodes o) ≡ object_line (steps_above (steps_to nodes) o.parent) o
+line_after nodes o =
+    line_at-append (node_after nodes o) (path_to nodes o.parent) (own_step o)
     ∙ ap (λ (n : ℕ). object_line n o) (sym (steps_are nodes o.parent))
 
 -- one object more
-nodes_from-append : (nodes : List SeenNode) (os : List SeenObject) (o : SeenObject) → nodes_from nodes (os ++ o ∷ []) ≡ nodes_from nodes os ++ node_behind (nodes_from nodes os) o ∷ []
+nodes_from-append : (nodes : List SeenNode) (os : List SeenObject) (o : SeenObject) → nodes_from nodes (os ++ o ∷ []) ≡ nodes_from nodes os ++ node_after (nodes_from nodes os) o ∷ []
 nodes_from-append nodes [] o = refl
-nodes_from-append nodes (x ∷ os) o = nodes_from-append (nodes ++ node_behind nodes x ∷ []) os o
+nodes_from-append nodes (x ∷ os) o = nodes_from-append (nodes ++ node_after nodes x ∷ []) os o
 
 -- after a text the lines for these objects are written, and so many steps lead to each, at most one for each of so many objects
 pub record IsWritten (os : List SeenObject) (before text : List ℕ) (steps : List ℕ) (count : ℕ) : Type 0 where
@@ -105,7 +105,7 @@ module _ (os : List SeenObject) (o : SeenObject) (i above : ℕ) (within : i < l
 
   -- that of this turn
   abbrev node : SeenNode
-  node = node_behind so_far o
+  node = node_after so_far o
 
   nodes_more : nodes_from [] (take (i + 1) os) ≡ so_far ++ node ∷ []
   nodes_more =
@@ -129,7 +129,7 @@ module _ (os : List SeenObject) (o : SeenObject) (i above : ℕ) (within : i < l
   pub written_more : (before was now steps : List ℕ) → IsWritten (take i os) before was steps i → above ≡ steps_above steps o.parent → now ≡ was ++ object_line above o → IsWritten (take (i + 1) os) before now (steps ++ (above + 1) ∷ []) (i + 1)
   written_more before was now steps w is pushed =
       let above_is : above ≡ steps_above (steps_to so_far) o.parent = is ∙ ap (λ (s : List ℕ). steps_above s o.parent) w.steps_are in
-      let own : object_line above o ≡ node_line node = ap (λ (n : ℕ). object_line n o) above_is ∙ sym (line_behind so_far o) in
+      let own : object_line above o ≡ node_line node = ap (λ (n : ℕ). object_line n o) above_is ∙ sym (line_after so_far o) in
       let high = few_above steps o.parent i w.few in
       record {
         written =
@@ -142,8 +142,8 @@ module _ (os : List SeenObject) (o : SeenObject) (i above : ℕ) (within : i < l
 -- ---- one line
 
 -- texts after one another
-behind : (b i n t w d a e c z : List ℕ) → ((((((((b ++ i) ++ n) ++ t) ++ w) ++ d) ++ a) ++ e) ++ c) ++ z ≡ b ++ (i ++ (n ++ ((t ++ (w ++ (d ++ (a ++ (e ++ c))))) ++ z)))
-behind b i n t w d a e c z = simp append_assoc refl
+following : (b i n t w d a e c z : List ℕ) → ((((((((b ++ i) ++ n) ++ t) ++ w) ++ d) ++ a) ++ e) ++ c) ++ z ≡ b ++ (i ++ (n ++ ((t ++ (w ++ (d ++ (a ++ (e ++ c))))) ++ z)))
+following b i n t w d a e c z = simp append_assoc refl
 
 -- the texts when one after the other is added: an indentation, the words of an object, and a newline
 pub record AddsWords (before indentation name type access : List ℕ) (width definition envelope closed : List (List ℕ)) (text : List ℕ) : Type 0 where
@@ -185,7 +185,7 @@ line_written before indentation name type access width definition envelope close
     ∙ ap (λ (x : List ℕ). x ++ words_text width) (h.types
     ∙ ap (λ (x : List ℕ). x ++ 32 ∷ type) (h.names
     ∙ ap (λ (x : List ℕ). x ++ name) h.indents)))))))
-    ∙ behind before indentation name (32 ∷ type) (words_text width) (words_text definition) (32 ∷ access) (words_text envelope) (words_text closed) (10 ∷ [])
+    ∙ following before indentation name (32 ∷ type) (words_text width) (words_text definition) (32 ∷ access) (words_text envelope) (words_text closed) (10 ∷ [])
     ∙ ap (λ (x : List ℕ). before ++ (indentation ++ (name ++ ((32 ∷ type ++ x) ++ 10 ∷ [])))) (sym words)
 
 -- ---- rights

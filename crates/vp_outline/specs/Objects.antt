@@ -3,13 +3,13 @@ use Rattle.std.specs.Prelude.{ℕ, List, [], ◌++◌, codes, length, map, slice
 use Rattle.std.specs.List.{repeat}
 use Rattle.std.specs.Option.{option_map_or}
 use Rattle.vp_policy.specs.declared.view.SeenObject.{SeenObject}
-use Rattle.vp_policy.specs.SeenObjects.{node_behind, own_step}
+use Rattle.vp_policy.specs.SeenObjects.{node_after, own_step}
 use Rattle.vp_policy.specs.View.{SeenNode}
 use Rattle.vp_outline.specs.Outline.{line_of, node_words}
 
 -- the words for an object
 abbrev pub object_words : SeenObject → List (List ℕ)
-object_words o = node_words (node_behind [] o) (own_step o)
+object_words o = node_words (node_after [] o) (own_step o)
 
 -- the line for an object that has so many steps above it
 abbrev pub object_line : ℕ → SeenObject → List ℕ

@@ -164,9 +164,9 @@ module _ (limit : ℕ) where
       → connected_at limit (is_named c) (connection_text c (further_text connection_text fs rest)) ≡ Ok (Connected c fs, rest)
   unfolding connected_at
   connected_again c fs rest is are fits last e =
-      let behind = further_text connection_text fs rest in
+      let following = further_text connection_text fs rest in
       let ends = further_ends connection_text (IsAlike (is_named c)) connection_height limit (connection_at limit (is_named c)) Ends (connection_again (is_named c)) connection_longer ends_comma fs rest e in
-      let h = connection_again (is_named c) c behind (is, refl) (omega arith) ends in
+      let h = connection_again (is_named c) c following (is, refl) (omega arith) ends in
       let k = further_connections_again (is_named c) fs rest are (omega arith) last e in
       rw h (rw k refl)
 
@@ -193,10 +193,10 @@ module _ (limit : ℕ) where
   unfolding connections_at
   connections_again Unconnected closing rest are fits = refl
   connections_again (Connected c fs) closing rest are fits =
-      let behind = symbol_at right_kind closing ∷ rest in
+      let following = symbol_at right_kind closing ∷ rest in
       let parts = first_is c fs are in
-      let h = connected_again c fs behind parts.0 parts.1 fits refl (record { stops = record { no_operator = refl; no_choice = refl; no_bracket = refl; no_base = refl }; no_value = refl; is_end = refl }) in
-      rw (first_no_right c fs behind are) (rw (first_named c fs behind are) h)
+      let h = connected_again c fs following parts.0 parts.1 fits refl (record { stops = record { no_operator = refl; no_choice = refl; no_bracket = refl; no_base = refl }; no_value = refl; is_end = refl }) in
+      rw (first_no_right c fs following are) (rw (first_named c fs following are) h)
 
 connections_longer : (cs : Connections) (rest : List Symbol) → length rest ≤ length (connections_text cs rest)
 connections_longer Unconnected rest = omega arith
@@ -247,11 +247,11 @@ module _ (limit : ℕ) where
       → declarators_at limit d (declarator_text x (further_text declarator_text fs (symbol_at (symbol.Punctuator punctuator.Semicolon) semicolon ∷ rest))) ≡ Ok (Declares d x fs semicolon, rest)
   unfolding declarators_at terminal
   declarators_again d x fs semicolon rest is are fits =
-      let behind = symbol_at (symbol.Punctuator punctuator.Semicolon) semicolon ∷ rest in
-      let last : EndsDeclarator behind = record { stops = record { no_operator = refl; no_choice = refl; no_bracket = refl; no_base = refl }; no_value = refl } in
-      let ends = further_ends declarator_text (IsDeclarator d) declarator_height limit (declarator_at limit d) EndsDeclarator (declarator_again d) loose declarator_comma fs behind last in
-      let h = declarator_again d x (further_text declarator_text fs behind) is (omega arith) ends in
-      let k = further_again declarator_text (IsDeclarator d) declarator_height limit (declarator_at limit d) EndsDeclarator (declarator_again d) loose declarator_comma (length (further_text declarator_text fs behind)) fs behind are (omega arith) (omega arith) refl last in
+      let following = symbol_at (symbol.Punctuator punctuator.Semicolon) semicolon ∷ rest in
+      let last : EndsDeclarator following = record { stops = record { no_operator = refl; no_choice = refl; no_bracket = refl; no_base = refl }; no_value = refl } in
+      let ends = further_ends declarator_text (IsDeclarator d) declarator_height limit (declarator_at limit d) EndsDeclarator (declarator_again d) loose declarator_comma fs following last in
+      let h = declarator_again d x (further_text declarator_text fs following) is (omega arith) ends in
+      let k = further_again declarator_text (IsDeclarator d) declarator_height limit (declarator_at limit d) EndsDeclarator (declarator_again d) loose declarator_comma (length (further_text declarator_text fs following)) fs following are (omega arith) (omega arith) refl last in
       rw h (rw k refl)
 
 -- ---- items
@@ -285,10 +285,10 @@ declarators_further (f ∷ fs) rest = let h = declarators_further fs rest in let
 
 item_longer : (i : Item) (rest : List Symbol) → length rest < length (item_text i rest)
 item_longer (Declares d x fs semicolon) rest =
-    let behind = symbol_at (symbol.Punctuator punctuator.Semicolon) semicolon ∷ rest in
-    let h = declarators_further fs behind in
-    let k = declarator_longer x (further_text declarator_text fs behind) in
-    let l = declared_longer d (declarator_text x (further_text declarator_text fs behind)) in
+    let following = symbol_at (symbol.Punctuator punctuator.Semicolon) semicolon ∷ rest in
+    let h = declarators_further fs following in
+    let k = declarator_longer x (further_text declarator_text fs following) in
+    let l = declared_longer d (declarator_text x (further_text declarator_text fs following)) in
     omega arith
 item_longer (Initial place body) rest = let h = stmt_longer body rest in omega arith
 item_longer (Always place body) rest = let h = stmt_longer body rest in omega arith
@@ -416,10 +416,10 @@ listed_some : (first : Port) (further : List (Further Port)) (closing : ℕ) (re
 unfolding listed_at ports_at
 listed_some (Bare name) further closing rest are = absurd cc
 listed_some (Declared d range name) further closing rest are =
-    let behind = symbol_at right_kind closing ∷ rest in
-    let h = declared_again d range name (further_text port_text further behind) are.1 in
-    let k = further_again port_text IsPort (λ p. 0) 0 port_at Anything (λ p rest is fits any. port_again p rest is) port_longer (λ place rest. tt) (length (further_text port_text further behind)) further behind are.2 (flat_further further) (omega arith) refl tt in
-    rw (direction_no_right d (width_text range (symbol_at symbol.Name name ∷ further_text port_text further behind)), h) (rw k refl)
+    let following = symbol_at right_kind closing ∷ rest in
+    let h = declared_again d range name (further_text port_text further following) are.1 in
+    let k = further_again port_text IsPort (λ p. 0) 0 port_at Anything (λ p rest is fits any. port_again p rest is) port_longer (λ place rest. tt) (length (further_text port_text further following)) further following are.2 (flat_further further) (omega arith) refl tt in
+    rw (direction_no_right d (width_text range (symbol_at symbol.Name name ∷ further_text port_text further following)), h) (rw k refl)
 
 listed_again : (ports : Option PortList) (closing : ℕ) (rest : List Symbol) → ArePorts ports → listed_at (ports_text ports (symbol_at right_kind closing ∷ rest)) ≡ Ok (ports, symbol_at right_kind closing ∷ rest)
 unfolding listed_at
@@ -435,9 +435,9 @@ header_longer : (h : Header) (rest : List Symbol) → length rest ≤ length (he
 header_longer NoHeader rest = omega arith
 header_longer (Ports opening None closing) rest = omega arith
 header_longer (Ports opening (Some ports) closing) rest =
-    let behind = symbol_at right_kind closing ∷ rest in
-    let h = further_longer port_text IsPort (λ p. 0) 0 port_at Anything (λ p rest is fits any. port_again p rest is) port_longer (λ place rest. tt) ports.further behind in
-    let k = port_longer ports.first (further_text port_text ports.further behind) in
+    let following = symbol_at right_kind closing ∷ rest in
+    let h = further_longer port_text IsPort (λ p. 0) 0 port_at Anything (λ p rest is fits any. port_again p rest is) port_longer (λ place rest. tt) ports.further following in
+    let k = port_longer ports.first (further_text port_text ports.further following) in
     omega arith
 
 -- ---- modules
@@ -452,9 +452,9 @@ module_longer m rest =
 module_again : (limit : ℕ) (m : Module) (rest : List Symbol) → IsModule m → items_height m.items ≤ limit → items_depth m.items ≤ limit → module_at limit (module_text m rest) ≡ Ok (m, rest)
 unfolding module_at terminal
 module_again limit m rest is shallow fits =
-    let behind = symbol_at (symbol.Keyword keyword.Endmodule) m.endmodule ∷ rest in
-    let k = header_again m.header m.semicolon (items_text m.items behind) is.0 in
-    let h = items_again limit limit (stmt_at limit limit) (stmt_again limit limit) (length (items_text m.items behind)) m.items behind is.1 shallow fits (omega arith) refl refl in
+    let following = symbol_at (symbol.Keyword keyword.Endmodule) m.endmodule ∷ rest in
+    let k = header_again m.header m.semicolon (items_text m.items following) is.0 in
+    let h = items_again limit limit (stmt_at limit limit) (stmt_again limit limit) (length (items_text m.items following)) m.items following is.1 shallow fits (omega arith) refl refl in
     rw k (rw h refl)
 
 modules_again : (limit m : ℕ) (d : Derivation) → IsSource d → source_height d ≤ limit → source_depth d ≤ limit → length (source_text d) ≤ m → modules_at limit m (source_text d) ≡ Ok d

@@ -2,8 +2,8 @@
 use Rattle.std.proofs.Common.{◌≡◌, ℕ, ◌<◌, List, [], length, arith, ◌⊎◌, inl, inr, Result, Ok, Err, refl, sym, ap, ◌∙◌}
 use Rattle.std.specs.Prelude.{IfOk}
 use Rattle.vp_lex.specs.declared.token.Token.{Token}
-use Rattle.vp_parse.specs.declared.fault.ParseError.{ParseError}
-use Rattle.vp_parse.specs.declared.fault.ParseError.TheVariants as error
+use Rattle.vp_parse.specs.declared.error.ParseError.{ParseError}
+use Rattle.vp_parse.specs.declared.error.ParseError.TheVariants as error
 use Rattle.vp_parse_expr.specs.declared.reading.Stop as stop
 use Rattle.vp_parse_expr.specs.declared.reading.Stop.TheVariants as stop_of
 use Rattle.vp_source.specs.declared.source.TheConstants.{DEPTH_LIMIT}

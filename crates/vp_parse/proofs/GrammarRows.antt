@@ -270,9 +270,9 @@ unfolding read_kinds
 row_no_comma = refl
 
 -- module m; endmodule ;
-row_behind : read_kinds (head ++ endmodule ∷ semicolon ∷ []) ≡ Err (Unexpected 1)
+row_after : read_kinds (head ++ endmodule ∷ semicolon ∷ []) ≡ Err (Unexpected 1)
 unfolding read_kinds
-row_behind = refl
+row_after = refl
 
 -- module m;
 row_no_endmodule : read_kinds head ≡ Err (Unexpected 0)

@@ -3,7 +3,7 @@ use Rattle.std.proofs.Common.{◌≡◌, ℕ, ◌+◌, List, Result, Ok, Err, le
 use Rattle.vp_source.specs.declared.symbol.Symbol.{Symbol}
 use Rattle.vp_parse_expr.specs.Stopping.{Stop, Unexpected, left_of}
 use Rattle.vp_parse_expr.specs.laws.Takes.{Holds}
-use Rattle.vp_parse_expr.specs.laws.Raise.{OrDeep}
+use Rattle.vp_parse_expr.specs.laws.Raise.{OrTooDeep}
 use Rattle.vp_source.specs.Grammar.{Derivation, source_text, IsSource, source_depth, source_height, Derives}
 use Rattle.vp_parse.specs.Reading.{source_at}
 use Rattle.vp_parse.proofs.Takes.{source_takes}
@@ -42,7 +42,7 @@ unexpected_has_none limit symbols d left e is spelled =
     let high = limit + source_depth d + source_height d in
     let again = derived_read high symbols d (record { spelled = spelled; is = is; fits = omega arith; shallow = omega arith }) in
     let raised = source_raise limit high symbols (omega arith) in
-    let same : ◌≡◌ {A = Result Derivation Stop} (Err (Unexpected left)) (source_at high symbols) = subst (λ (r : Result Derivation Stop). OrDeep r (source_at high symbols)) e raised in
+    let same : ◌≡◌ {A = Result Derivation Stop} (Err (Unexpected left)) (source_at high symbols) = subst (λ (r : Result Derivation Stop). OrTooDeep r (source_at high symbols)) e raised in
     let off : ◌≡◌ {A = Result Derivation Stop} (Err (Unexpected left)) (Ok d) = same ∙ again in
     absurd cc
 

@@ -9,7 +9,7 @@ use Rattle.vp_source.specs.declared.source.Module as module_of
 use Rattle.vp_source.specs.declared.symbol.Symbol.{Symbol}
 use Rattle.vp_source.specs.declared.symbol.SymbolKind.{SymbolKind}
 use Rattle.vp_source.specs.declared.symbol.SymbolKind.TheVariants as symbol
-use Rattle.vp_parse_expr.specs.Stopping.{Stop, is_next, behind, Fails}
+use Rattle.vp_parse_expr.specs.Stopping.{Stop, is_next, following, Fails}
 use Rattle.vp_parse_stmt.specs.Placing.{Placer}
 use Rattle.vp_source.specs.Layout.{Lists, PortType}
 use Rattle.vp_parse.specs.Placing.{Kept, Keeper, Made, further_into, item_into, items_into, next_type_into, port_into, ports_into, module_into, modules_into}
@@ -19,8 +19,8 @@ abbrev comma : List Symbol → Bool
 comma ts = is_next (symbol.Punctuator punctuator.Comma) ts
 
 -- what is after the next comma
-abbrev behind_comma : List Symbol → Result (List Symbol) Stop
-behind_comma ts = behind (symbol.Punctuator punctuator.Comma) ts
+abbrev after_comma : List Symbol → Result (List Symbol) Stop
+after_comma ts = following (symbol.Punctuator punctuator.Comma) ts
 
 is_next_longer : (kind : SymbolKind) (rest : List Symbol) → is_next kind rest ≡ true → 0 < length rest
 is_next_longer kind [] h = absurd cc
@@ -35,34 +35,34 @@ pub record FurtherGoesOn (part : Keeper) (lists : Lists) (rest : List Symbol) (w
   pub same_end : further_into part turns lists rest ≡ whole
 
 module _ (part : Keeper) (lists : Lists) (rest : List Symbol) (whole : Result Kept Stop) where
-  further_turn_by : (after : List Symbol) (e : Kept) (m : ℕ) → comma rest ≡ true → behind_comma rest ≡ Ok after → part lists after ≡ Ok e → length e.1 < length rest → length rest ≤ m → further_into part m lists rest ≡ whole → FurtherGoesOn part e.0 e.1 whole
+  further_turn_by : (after : List Symbol) (e : Kept) (m : ℕ) → comma rest ≡ true → after_comma rest ≡ Ok after → part lists after ≡ Ok e → length e.1 < length rest → length rest ≤ m → further_into part m lists rest ≡ whole → FurtherGoesOn part e.0 e.1 whole
   unfolding further_into
   further_turn_by after e zero b h k lt le p = absurd (omega arith)
   further_turn_by after e (suc m) b h k lt le p = record { turns = m; enough = omega arith; same_end = sym (rw (b, h) (rw k refl)) ∙ p }
 
   -- one more part
-  pub further_turn : (after : List Symbol) (e : Kept) → comma rest ≡ true → behind_comma rest ≡ Ok after → part lists after ≡ Ok e → length e.1 < length rest → FurtherGoesOn part lists rest whole → FurtherGoesOn part e.0 e.1 whole
+  pub further_turn : (after : List Symbol) (e : Kept) → comma rest ≡ true → after_comma rest ≡ Ok after → part lists after ≡ Ok e → length e.1 < length rest → FurtherGoesOn part lists rest whole → FurtherGoesOn part e.0 e.1 whole
   further_turn after e b h k lt g = further_turn_by after e g.turns b h k lt g.enough g.same_end
 
-  no_comma_by : (s : Stop) (m : ℕ) → comma rest ≡ true → behind_comma rest ≡ Err s → length rest ≤ m → further_into part m lists rest ≡ whole → whole ≡ Err s
+  no_comma_by : (s : Stop) (m : ℕ) → comma rest ≡ true → after_comma rest ≡ Err s → length rest ≤ m → further_into part m lists rest ≡ whole → whole ≡ Err s
   unfolding further_into
   no_comma_by s zero b h le p = let lt = is_next_longer (symbol.Punctuator punctuator.Comma) rest b in absurd (omega arith)
   no_comma_by s (suc m) b h le p = sym p ∙ rw (b, h) refl
 
   -- no comma is next
-  pub no_comma : (e : stop.Stop) → comma rest ≡ true → Fails e (behind_comma rest) → FurtherGoesOn part lists rest whole → Fails e whole
+  pub no_comma : (e : stop.Stop) → comma rest ≡ true → Fails e (after_comma rest) → FurtherGoesOn part lists rest whole → Fails e whole
   no_comma (stop_of.Syntax n) b h g = no_comma_by _ g.turns b h g.enough g.same_end
   no_comma (stop_of.LeftOut n) b h g = no_comma_by _ g.turns b h g.enough g.same_end
   no_comma (stop_of.TooDeep n) b h g = no_comma_by _ g.turns b h g.enough g.same_end
   no_comma stop_of.NoMemory b h g = tt
 
-  no_part_by : (after : List Symbol) (s : Stop) (m : ℕ) → comma rest ≡ true → behind_comma rest ≡ Ok after → part lists after ≡ Err s → length rest ≤ m → further_into part m lists rest ≡ whole → whole ≡ Err s
+  no_part_by : (after : List Symbol) (s : Stop) (m : ℕ) → comma rest ≡ true → after_comma rest ≡ Ok after → part lists after ≡ Err s → length rest ≤ m → further_into part m lists rest ≡ whole → whole ≡ Err s
   unfolding further_into
   no_part_by after s zero b h k le p = let lt = is_next_longer (symbol.Punctuator punctuator.Comma) rest b in absurd (omega arith)
   no_part_by after s (suc m) b h k le p = sym p ∙ rw (b, h) (rw k refl)
 
   -- no part follows the comma
-  pub no_part : (after : List Symbol) (e : stop.Stop) → comma rest ≡ true → behind_comma rest ≡ Ok after → Fails e (part lists after) → FurtherGoesOn part lists rest whole → Fails e whole
+  pub no_part : (after : List Symbol) (e : stop.Stop) → comma rest ≡ true → after_comma rest ≡ Ok after → Fails e (part lists after) → FurtherGoesOn part lists rest whole → Fails e whole
   no_part after (stop_of.Syntax n) b h k g = no_part_by after _ g.turns b h k g.enough g.same_end
   no_part after (stop_of.LeftOut n) b h k g = no_part_by after _ g.turns b h k g.enough g.same_end
   no_part after (stop_of.TooDeep n) b h k g = no_part_by after _ g.turns b h k g.enough g.same_end
@@ -130,46 +130,46 @@ pub record PortsGoOn (before : PortType) (lists : Lists) (rest : List Symbol) (w
   pub same_end : ports_into before turns lists rest ≡ whole
 
 module _ (before : PortType) (lists : Lists) (rest : List Symbol) (whole : Result Kept Stop) where
-  port_turn_by : (after : List Symbol) (t : PortType × List Symbol) (e : Kept) (m : ℕ) → comma rest ≡ true → behind_comma rest ≡ Ok after → next_type_into before after ≡ Ok t → port_into t.0 lists t.1 ≡ Ok e → length e.1 < length rest → length rest ≤ m → ports_into before m lists rest ≡ whole → PortsGoOn t.0 e.0 e.1 whole
+  port_turn_by : (after : List Symbol) (t : PortType × List Symbol) (e : Kept) (m : ℕ) → comma rest ≡ true → after_comma rest ≡ Ok after → next_type_into before after ≡ Ok t → port_into t.0 lists t.1 ≡ Ok e → length e.1 < length rest → length rest ≤ m → ports_into before m lists rest ≡ whole → PortsGoOn t.0 e.0 e.1 whole
   unfolding ports_into
   port_turn_by after t e zero b h k l lt le p = absurd (omega arith)
   port_turn_by after t e (suc m) b h k l lt le p = record { turns = m; enough = omega arith; same_end = sym (rw (b, h) (rw k (rw l refl))) ∙ p }
 
   -- one more port
-  pub port_turn : (after : List Symbol) (t : PortType × List Symbol) (e : Kept) → comma rest ≡ true → behind_comma rest ≡ Ok after → next_type_into before after ≡ Ok t → port_into t.0 lists t.1 ≡ Ok e → length e.1 < length rest → PortsGoOn before lists rest whole → PortsGoOn t.0 e.0 e.1 whole
+  pub port_turn : (after : List Symbol) (t : PortType × List Symbol) (e : Kept) → comma rest ≡ true → after_comma rest ≡ Ok after → next_type_into before after ≡ Ok t → port_into t.0 lists t.1 ≡ Ok e → length e.1 < length rest → PortsGoOn before lists rest whole → PortsGoOn t.0 e.0 e.1 whole
   port_turn after t e b h k l lt g = port_turn_by after t e g.turns b h k l lt g.enough g.same_end
 
-  ports_stop_by : (s : Stop) (m : ℕ) → comma rest ≡ true → behind_comma rest ≡ Err s → length rest ≤ m → ports_into before m lists rest ≡ whole → whole ≡ Err s
+  ports_stop_by : (s : Stop) (m : ℕ) → comma rest ≡ true → after_comma rest ≡ Err s → length rest ≤ m → ports_into before m lists rest ≡ whole → whole ≡ Err s
   unfolding ports_into
   ports_stop_by s zero b h le p = let lt = is_next_longer (symbol.Punctuator punctuator.Comma) rest b in absurd (omega arith)
   ports_stop_by s (suc m) b h le p = sym p ∙ rw (b, h) refl
 
   -- no comma is next
-  pub ports_stop : (e : stop.Stop) → comma rest ≡ true → Fails e (behind_comma rest) → PortsGoOn before lists rest whole → Fails e whole
+  pub ports_stop : (e : stop.Stop) → comma rest ≡ true → Fails e (after_comma rest) → PortsGoOn before lists rest whole → Fails e whole
   ports_stop (stop_of.Syntax n) b h g = ports_stop_by _ g.turns b h g.enough g.same_end
   ports_stop (stop_of.LeftOut n) b h g = ports_stop_by _ g.turns b h g.enough g.same_end
   ports_stop (stop_of.TooDeep n) b h g = ports_stop_by _ g.turns b h g.enough g.same_end
   ports_stop stop_of.NoMemory b h g = tt
 
-  no_type_by : (after : List Symbol) (s : Stop) (m : ℕ) → comma rest ≡ true → behind_comma rest ≡ Ok after → next_type_into before after ≡ Err s → length rest ≤ m → ports_into before m lists rest ≡ whole → whole ≡ Err s
+  no_type_by : (after : List Symbol) (s : Stop) (m : ℕ) → comma rest ≡ true → after_comma rest ≡ Ok after → next_type_into before after ≡ Err s → length rest ≤ m → ports_into before m lists rest ≡ whole → whole ≡ Err s
   unfolding ports_into
   no_type_by after s zero b h k le p = let lt = is_next_longer (symbol.Punctuator punctuator.Comma) rest b in absurd (omega arith)
   no_type_by after s (suc m) b h k le p = sym p ∙ rw (b, h) (rw k refl)
 
   -- no direction follows the comma
-  pub no_type : (after : List Symbol) (e : stop.Stop) → comma rest ≡ true → behind_comma rest ≡ Ok after → Fails e (next_type_into before after) → PortsGoOn before lists rest whole → Fails e whole
+  pub no_type : (after : List Symbol) (e : stop.Stop) → comma rest ≡ true → after_comma rest ≡ Ok after → Fails e (next_type_into before after) → PortsGoOn before lists rest whole → Fails e whole
   no_type after (stop_of.Syntax n) b h k g = no_type_by after _ g.turns b h k g.enough g.same_end
   no_type after (stop_of.LeftOut n) b h k g = no_type_by after _ g.turns b h k g.enough g.same_end
   no_type after (stop_of.TooDeep n) b h k g = no_type_by after _ g.turns b h k g.enough g.same_end
   no_type after stop_of.NoMemory b h k g = tt
 
-  no_port_by : (after : List Symbol) (t : PortType × List Symbol) (s : Stop) (m : ℕ) → comma rest ≡ true → behind_comma rest ≡ Ok after → next_type_into before after ≡ Ok t → port_into t.0 lists t.1 ≡ Err s → length rest ≤ m → ports_into before m lists rest ≡ whole → whole ≡ Err s
+  no_port_by : (after : List Symbol) (t : PortType × List Symbol) (s : Stop) (m : ℕ) → comma rest ≡ true → after_comma rest ≡ Ok after → next_type_into before after ≡ Ok t → port_into t.0 lists t.1 ≡ Err s → length rest ≤ m → ports_into before m lists rest ≡ whole → whole ≡ Err s
   unfolding ports_into
   no_port_by after t s zero b h k l le p = let lt = is_next_longer (symbol.Punctuator punctuator.Comma) rest b in absurd (omega arith)
   no_port_by after t s (suc m) b h k l le p = sym p ∙ rw (b, h) (rw k (rw l refl))
 
   -- no name follows the direction
-  pub no_port : (after : List Symbol) (t : PortType × List Symbol) (e : stop.Stop) → comma rest ≡ true → behind_comma rest ≡ Ok after → next_type_into before after ≡ Ok t → Fails e (port_into t.0 lists t.1) → PortsGoOn before lists rest whole → Fails e whole
+  pub no_port : (after : List Symbol) (t : PortType × List Symbol) (e : stop.Stop) → comma rest ≡ true → after_comma rest ≡ Ok after → next_type_into before after ≡ Ok t → Fails e (port_into t.0 lists t.1) → PortsGoOn before lists rest whole → Fails e whole
   no_port after t (stop_of.Syntax n) b h k l g = no_port_by after t _ g.turns b h k l g.enough g.same_end
   no_port after t (stop_of.LeftOut n) b h k l g = no_port_by after t _ g.turns b h k l g.enough g.same_end
   no_port after t (stop_of.TooDeep n) b h k l g = no_port_by after t _ g.turns b h k l g.enough g.same_end

@@ -20,10 +20,10 @@ use Rattle.vp_source.specs.Kinds.{same_kind, symbol_at}
 use Rattle.vp_source.specs.Operators.{binary_sign}
 use Rattle.vp_source.specs.ExprGrammar.{Expr, Name, Sized, Based, Number, Group, Unary, Binary, Conditional, Concatenation, Replication, Range, IsExpr, expr_text, range_text}
 use Rattle.vp_parse_expr.specs.laws.Takes.{Holds, IsTerminal, terminal_takes, IsRangeTaken, range_takes}
-use Rattle.vp_parse_expr.specs.Stopping.{Stop, ◌>>=◌, Reader, is_next, terminal, behind}
+use Rattle.vp_parse_expr.specs.Stopping.{Stop, ◌>>=◌, Reader, is_next, terminal, following}
 use Rattle.vp_parse_expr.specs.Reading.{expr_at, range_at, literal_at}
 use Rattle.vp_parse_expr.specs.Placing.{Made as Placed, literal_into, range_into}
-use Rattle.vp_parse_expr.specs.laws.Placed.{seen, bind_seen, last_seen, all_seen, if_seen, left, behind_seen, made as made_expr, literal_seen, made_range as kept_range, range_seen}
+use Rattle.vp_parse_expr.specs.laws.Placed.{seen, bind_seen, last_seen, all_seen, if_seen, left, after_seen, made as made_expr, literal_seen, made_range as kept_range, range_seen}
 use Rattle.vp_source.specs.StmtGrammar.{Stmt}
 use Rattle.vp_source.specs.StmtLayout as layout
 use Rattle.vp_source.specs.StmtLayout.{put_stmt, put_value}
@@ -149,11 +149,11 @@ module _ (limit : ℕ) where
   unfolding named_into named_at
   named_seen lists ts =
       let all = kept (put_at ts) lists in
-      bind_seen left all (behind (symbol.Punctuator punctuator.Period) ts) (terminal (symbol.Punctuator punctuator.Period) ts) _ _ (behind_seen (symbol.Punctuator punctuator.Period) ts)
+      bind_seen left all (following (symbol.Punctuator punctuator.Period) ts) (terminal (symbol.Punctuator punctuator.Period) ts) _ _ (after_seen (symbol.Punctuator punctuator.Period) ts)
       (λ d. bind_seen (λ (n : ℕ × List Symbol). n) all (terminal symbol.Name d.1) (terminal symbol.Name d.1) _ _ (all_seen (terminal symbol.Name d.1))
-      (λ p. bind_seen left all (behind (symbol.Punctuator punctuator.LeftParenthesis) p.1) (terminal (symbol.Punctuator punctuator.LeftParenthesis) p.1) _ _ (behind_seen (symbol.Punctuator punctuator.LeftParenthesis) p.1)
+      (λ p. bind_seen left all (following (symbol.Punctuator punctuator.LeftParenthesis) p.1) (terminal (symbol.Punctuator punctuator.LeftParenthesis) p.1) _ _ (after_seen (symbol.Punctuator punctuator.LeftParenthesis) p.1)
       (λ o. bind_known (IsRead value_text (λ (v : Option Expr). IfSome v IsExpr) value_height limit o.1) (optional_made lists) all (optional_into limit lists o.1) (value_at limit o.1) _ _ (value_takes limit o.1) (optional_seen limit lists o.1)
-      (λ v t. bind_known (IsTerminal (symbol.Punctuator punctuator.RightParenthesis) v.1) left all (behind (symbol.Punctuator punctuator.RightParenthesis) v.1) (terminal (symbol.Punctuator punctuator.RightParenthesis) v.1) _ _ (terminal_takes (symbol.Punctuator punctuator.RightParenthesis) v.1) (behind_seen (symbol.Punctuator punctuator.RightParenthesis) v.1)
+      (λ v t. bind_known (IsTerminal (symbol.Punctuator punctuator.RightParenthesis) v.1) left all (following (symbol.Punctuator punctuator.RightParenthesis) v.1) (terminal (symbol.Punctuator punctuator.RightParenthesis) v.1) _ _ (terminal_takes (symbol.Punctuator punctuator.RightParenthesis) v.1) (after_seen (symbol.Punctuator punctuator.RightParenthesis) v.1)
       (λ z e. ap (λ (l : Lists). (let r : Result Kept Stop = Ok (l, z.1) in r))
       (put_by (first_place o.1) (Some p.0) v.0 lists
       ∙ ap (λ (place : ℕ). put_connection_by place (Some p.0) v.0 lists) (ap first_place (t.text ∙ ap (value_text v.0) e) ∙ value_first v.0 (symbol_at (symbol.Punctuator punctuator.RightParenthesis) z.0) z.1)))))))
@@ -176,7 +176,7 @@ module _ (limit : ℕ) where
   further_seen named zero lists ts = refl
   further_seen named (suc m) lists ts =
       if_seen (rest_kept lists) (is_next (symbol.Punctuator punctuator.Comma) ts) _ _ _ _
-      (bind_seen left (rest_kept lists) (behind (symbol.Punctuator punctuator.Comma) ts) (terminal (symbol.Punctuator punctuator.Comma) ts) _ _ (behind_seen (symbol.Punctuator punctuator.Comma) ts)
+      (bind_seen left (rest_kept lists) (following (symbol.Punctuator punctuator.Comma) ts) (terminal (symbol.Punctuator punctuator.Comma) ts) _ _ (after_seen (symbol.Punctuator punctuator.Comma) ts)
       (λ c. bind_known (IsRead connection_text (IsAlike named) connection_height limit c.1) (kept (put_at c.1) lists) (rest_kept lists) (connection_into limit named lists c.1) (connection_at limit named c.1) _ _ (connection_takes limit named c.1) (connection_seen named lists c.1)
       (λ p t.
       further_seen named m (put_at c.1 p.0 lists) p.1
@@ -254,8 +254,8 @@ assigned_seen : (d : Declaration) (name : ℕ) (f : ℕ → Lists → Lists) (pl
 unfolding valued_into valued_at
 assigned_seen d name f placer reader places same lists ts =
     let all = kept (put_declarator d) lists in
-    bind_assoc (behind (symbol.Punctuator punctuator.Equals) ts) (λ rest. part_into placer lists rest) (λ v. Ok (f v.0 v.1, v.2))
-    ∙ bind_seen left all (behind (symbol.Punctuator punctuator.Equals) ts) (terminal (symbol.Punctuator punctuator.Equals) ts) _ _ (behind_seen (symbol.Punctuator punctuator.Equals) ts)
+    bind_assoc (following (symbol.Punctuator punctuator.Equals) ts) (λ rest. part_into placer lists rest) (λ v. Ok (f v.0 v.1, v.2))
+    ∙ bind_seen left all (following (symbol.Punctuator punctuator.Equals) ts) (terminal (symbol.Punctuator punctuator.Equals) ts) _ _ (after_seen (symbol.Punctuator punctuator.Equals) ts)
     (λ q. bind_seen (part_made put_value lists) all (part_into placer lists q.1) (reader q.1) _ _ (part_seen put_value placer reader places lists q.1)
     (λ v. ap (λ (l : Lists). (let r : Result Kept Stop = Ok (l, v.1) in r)) (same q.0 v.0 lists)))
 
@@ -272,9 +272,9 @@ module _ (limit : ℕ) where
   instance_seen definition name lists ts =
       let right_kind = symbol.Punctuator punctuator.RightParenthesis in
       let all = kept (put_declarator (Instances definition)) lists in
-      bind_seen left all (behind (symbol.Punctuator punctuator.LeftParenthesis) ts) (terminal (symbol.Punctuator punctuator.LeftParenthesis) ts) _ _ (behind_seen (symbol.Punctuator punctuator.LeftParenthesis) ts)
+      bind_seen left all (following (symbol.Punctuator punctuator.LeftParenthesis) ts) (terminal (symbol.Punctuator punctuator.LeftParenthesis) ts) _ _ (after_seen (symbol.Punctuator punctuator.LeftParenthesis) ts)
       (λ o. bind_seen (spelled_kept limit lists) all (connections_into limit lists o.1) (connections_at limit o.1) _ _ (connections_seen limit lists o.1)
-      (λ c. bind_known (IsTerminal right_kind c.1) left all (behind right_kind c.1) (terminal right_kind c.1) _ _ (terminal_takes right_kind c.1) (behind_seen right_kind c.1)
+      (λ c. bind_known (IsTerminal right_kind c.1) left all (following right_kind c.1) (terminal right_kind c.1) _ _ (terminal_takes right_kind c.1) (after_seen right_kind c.1)
       (λ z e. ap (λ (l : Lists). (let r : Result Kept Stop = Ok (with_item (item_of.Instance name definition (length lists.connections) (length l.connections)) l, z.1) in r))
       (ap (λ (r : List Symbol). put_spelled limit r c.0 lists) e ∙ put_spelled_is limit z.0 z.1 c.0 lists))))
 
@@ -297,7 +297,7 @@ module _ (limit : ℕ) where
   declarators_further d zero lists ts = refl
   declarators_further d (suc m) lists ts =
       if_seen (kept (put_further d) lists) (is_next (symbol.Punctuator punctuator.Comma) ts) _ _ _ _
-      (bind_seen left (kept (put_further d) lists) (behind (symbol.Punctuator punctuator.Comma) ts) (terminal (symbol.Punctuator punctuator.Comma) ts) _ _ (behind_seen (symbol.Punctuator punctuator.Comma) ts)
+      (bind_seen left (kept (put_further d) lists) (following (symbol.Punctuator punctuator.Comma) ts) (terminal (symbol.Punctuator punctuator.Comma) ts) _ _ (after_seen (symbol.Punctuator punctuator.Comma) ts)
       (λ c. bind_seen (kept (put_declarator d) lists) (kept (put_further d) lists) (declarator_into limit (declaration_shown d) lists c.1) (declarator_at limit d c.1) _ _ (declarator_seen d lists c.1)
       (λ p.
       declarators_further d m (put_declarator d p.0 lists) p.1
@@ -309,7 +309,7 @@ module _ (limit : ℕ) where
   declarators_seen d lists ts =
       bind_seen (kept (put_declarator d) lists) (kept put_item lists) (declarator_into limit (declaration_shown d) lists ts) (declarator_at limit d ts) _ _ (declarator_seen d lists ts)
       (λ f. bind_seen (kept (put_further d) (put_declarator d f.0 lists)) (kept put_item lists) (further_into (declarator_into limit (declaration_shown d)) (length f.1) (put_declarator d f.0 lists) f.1) (further_at (declarator_at limit d) (length f.1) f.1) _ _ (declarators_further d (length f.1) (put_declarator d f.0 lists) f.1)
-      (λ l. bind_seen left (kept put_item lists) (behind (symbol.Punctuator punctuator.Semicolon) l.1) (terminal (symbol.Punctuator punctuator.Semicolon) l.1) _ _ (behind_seen (symbol.Punctuator punctuator.Semicolon) l.1)
+      (λ l. bind_seen left (kept put_item lists) (following (symbol.Punctuator punctuator.Semicolon) l.1) (terminal (symbol.Punctuator punctuator.Semicolon) l.1) _ _ (after_seen (symbol.Punctuator punctuator.Semicolon) l.1)
       (λ s. refl)))
 
   -- ---- items
@@ -365,7 +365,7 @@ wire_seen : (ts : List Symbol) → wire_into ts ≡ seen unwired (wire_at ts)
 unfolding wire_into wire_at
 wire_seen ts =
     if_seen unwired (is_next (symbol.Keyword keyword.Wire) ts) _ _ _ _
-    (behind_seen (symbol.Keyword keyword.Wire) ts ∙ last_seen (λ (w : ℕ × List Symbol). (let x : Option ℕ × List Symbol = (Some w.0, w.1) in x)) unwired (terminal (symbol.Keyword keyword.Wire) ts))
+    (after_seen (symbol.Keyword keyword.Wire) ts ∙ last_seen (λ (w : ℕ × List Symbol). (let x : Option ℕ × List Symbol = (Some w.0, w.1) in x)) unwired (terminal (symbol.Keyword keyword.Wire) ts))
     refl
 
 -- a direction as the lists have it, and what is left
@@ -376,7 +376,7 @@ output_seen : (place : ℕ) (ts : List Symbol) → output_into ts ≡ seen direc
 unfolding output_into output_at
 output_seen place ts =
     if_seen directed (is_next (symbol.Keyword keyword.Reg) ts) _ _ _ _
-    (bind_seen left directed (behind (symbol.Keyword keyword.Reg) ts) (terminal (symbol.Keyword keyword.Reg) ts) _ _ (behind_seen (symbol.Keyword keyword.Reg) ts) (λ r. refl))
+    (bind_seen left directed (following (symbol.Keyword keyword.Reg) ts) (terminal (symbol.Keyword keyword.Reg) ts) _ _ (after_seen (symbol.Keyword keyword.Reg) ts) (λ r. refl))
     (bind_seen unwired directed (wire_into ts) (wire_at ts) _ _ (wire_seen ts) (λ w. refl))
 
 direction_by_seen : (kind : SymbolKind) (place : ℕ) (ts : List Symbol) → direction_by_into kind ts ≡ seen directed (direction_by kind place ts)
@@ -439,7 +439,7 @@ ports_further zero before lists ts = refl
 ports_further (suc m) before lists ts =
     let all = kept (put_ports before) lists in
     if_seen all (is_next (symbol.Punctuator punctuator.Comma) ts) _ _ _ _
-    (bind_seen left all (behind (symbol.Punctuator punctuator.Comma) ts) (terminal (symbol.Punctuator punctuator.Comma) ts) _ _ (behind_seen (symbol.Punctuator punctuator.Comma) ts)
+    (bind_seen left all (following (symbol.Punctuator punctuator.Comma) ts) (terminal (symbol.Punctuator punctuator.Comma) ts) _ _ (after_seen (symbol.Punctuator punctuator.Comma) ts)
     (λ c.
     sym (bind_step (next_type_into before c.1) lists (λ t p. ports_into t m p.0 p.1))
     ∙ bind_seen (port_made before lists) all (next_into before lists c.1) (port_at c.1) _ _ (next_seen before lists c.1)
@@ -475,9 +475,9 @@ unfolding header_into header_at parentheses_into parentheses_at
 header_seen lists ts =
     let all = kept put_header lists in
     if_seen all (is_next (symbol.Punctuator punctuator.LeftParenthesis) ts) _ _ _ _
-    (bind_seen left all (behind (symbol.Punctuator punctuator.LeftParenthesis) ts) (terminal (symbol.Punctuator punctuator.LeftParenthesis) ts) _ _ (behind_seen (symbol.Punctuator punctuator.LeftParenthesis) ts)
+    (bind_seen left all (following (symbol.Punctuator punctuator.LeftParenthesis) ts) (terminal (symbol.Punctuator punctuator.LeftParenthesis) ts) _ _ (after_seen (symbol.Punctuator punctuator.LeftParenthesis) ts)
     (λ o. bind_seen (kept put_listed lists) all (listed_into lists o.1) (listed_at o.1) _ _ (listed_seen lists o.1)
-    (λ p. bind_seen left all (behind (symbol.Punctuator punctuator.RightParenthesis) p.1) (terminal (symbol.Punctuator punctuator.RightParenthesis) p.1) _ _ (behind_seen (symbol.Punctuator punctuator.RightParenthesis) p.1)
+    (λ p. bind_seen left all (following (symbol.Punctuator punctuator.RightParenthesis) p.1) (terminal (symbol.Punctuator punctuator.RightParenthesis) p.1) _ _ (after_seen (symbol.Punctuator punctuator.RightParenthesis) p.1)
     (λ z. ap (λ (l : Lists). (let r : Result Kept Stop = Ok (l, z.1) in r)) (put_header_is o.0 p.0 z.0 lists)))))
     refl
 
@@ -491,12 +491,12 @@ module_seen : (limit : ℕ) (lists : Lists) (ts : List Symbol) → module_into l
 unfolding module_into module_at
 module_seen limit lists ts =
     let all = module_made lists in
-    bind_seen left all (behind (symbol.Keyword keyword.Module) ts) (terminal (symbol.Keyword keyword.Module) ts) _ _ (behind_seen (symbol.Keyword keyword.Module) ts)
+    bind_seen left all (following (symbol.Keyword keyword.Module) ts) (terminal (symbol.Keyword keyword.Module) ts) _ _ (after_seen (symbol.Keyword keyword.Module) ts)
     (λ k. bind_seen (λ (n : ℕ × List Symbol). n) all (terminal symbol.Name k.1) (terminal symbol.Name k.1) _ _ (all_seen (terminal symbol.Name k.1))
     (λ n. bind_seen (kept put_header lists) all (header_into lists n.1) (header_at n.1) _ _ (header_seen lists n.1)
-    (λ h. bind_seen left all (behind (symbol.Punctuator punctuator.Semicolon) h.1) (terminal (symbol.Punctuator punctuator.Semicolon) h.1) _ _ (behind_seen (symbol.Punctuator punctuator.Semicolon) h.1)
+    (λ h. bind_seen left all (following (symbol.Punctuator punctuator.Semicolon) h.1) (terminal (symbol.Punctuator punctuator.Semicolon) h.1) _ _ (after_seen (symbol.Punctuator punctuator.Semicolon) h.1)
     (λ s. bind_seen (kept put_items (put_header h.0 lists)) all (items_into limit (stmt_into limit limit) (length s.1) (put_header h.0 lists) s.1) (items_at limit (stmt_at limit limit) (length s.1) s.1) _ _ (items_seen limit (stmt_into limit limit) (stmt_at limit limit) (stmt_seen limit limit) (length s.1) (put_header h.0 lists) s.1)
-    (λ l. bind_seen left all (behind (symbol.Keyword keyword.Endmodule) l.1) (terminal (symbol.Keyword keyword.Endmodule) l.1) _ _ (behind_seen (symbol.Keyword keyword.Endmodule) l.1)
+    (λ l. bind_seen left all (following (symbol.Keyword keyword.Endmodule) l.1) (terminal (symbol.Keyword keyword.Endmodule) l.1) _ _ (after_seen (symbol.Keyword keyword.Endmodule) l.1)
     (λ z. refl))))))
 
 -- modules after these, and the lists with their parts

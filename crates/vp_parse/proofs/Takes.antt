@@ -178,9 +178,9 @@ module _ (limit : ℕ) where
   longer_on (s ∷ rest) e = omega arith
 
   -- after a connection without symbols there is a further one
-  behind_blank : (named : Bool) (c : Connection) (rest ts : List Symbol) → is_next (symbol.Punctuator punctuator.RightParenthesis) ts ≡ false → (is_blank c ≡ true → (rest ≡ ts) × (is_end ts ≡ true))
+  after_blank : (named : Bool) (c : Connection) (rest ts : List Symbol) → is_next (symbol.Punctuator punctuator.RightParenthesis) ts ≡ false → (is_blank c ≡ true → (rest ≡ ts) × (is_end ts ≡ true))
       → Holds (λ (l : List (Further Connection) × List Symbol). is_blank c ≡ true → l.0 ≡ [] → ⊥) (further_at (connection_at limit named) (length rest) rest)
-  behind_blank named c rest ts unclosed ends =
+  after_blank named c rest ts unclosed ends =
       Holds-later (λ (l : List (Further Connection) × List Symbol). l.0 ≡ [] → ⊥) (further_at (connection_at limit named) (length rest) rest)
       (λ b.
       let h = ends b in
@@ -197,7 +197,7 @@ module _ (limit : ℕ) where
       (λ c t. Holds-bind (λ l. IsRead (further_text connection_text) (AreFurther (IsAlike named)) (further_height connection_height) limit c.1 l × (is_blank c.0 ≡ true → l.0 ≡ [] → ⊥)) all (further_at (connection_at limit named) (length c.1) c.1) _
       (Holds-both (IsRead (further_text connection_text) (AreFurther (IsAlike named)) (further_height connection_height) limit c.1) (λ l. is_blank c.0 ≡ true → l.0 ≡ [] → ⊥) (further_at (connection_at limit named) (length c.1) c.1)
       (further_takes connection_text (IsAlike named) connection_height limit (connection_at limit named) (connection_takes named) (length c.1) c.1)
-      (behind_blank named c.0 c.1 ts unclosed t.1))
+      (after_blank named c.0 c.1 ts unclosed t.1))
       (λ l u. record {
         text = t.0.text ∙ ap (connection_text c.0) u.0.text;
         is = connections_of c.0 l.0 t.0.is.0 (subst (λ (n : Bool). AreFurther (IsAlike n) l.0) (sym t.0.is.1) u.0.is) (λ none b. u.1 b none);

@@ -1,7 +1,7 @@
 -- The numbers and the lines of the faults of a text's grammar.
 use Rattle.std.specs.Prelude.{ℕ}
-use Rattle.vp_parse.specs.declared.fault.ParseError.{ParseError}
-use Rattle.vp_parse.specs.declared.fault.ParseError.TheVariants.{Syntax, LeftOut, TooDeep, NoMemory}
+use Rattle.vp_parse.specs.declared.error.ParseError.{ParseError}
+use Rattle.vp_parse.specs.declared.error.ParseError.TheVariants.{Syntax, LeftOut, TooDeep, NoMemory}
 
 -- the number of a refusal (profile)
 abbrev pub code_of : ParseError → ℕ

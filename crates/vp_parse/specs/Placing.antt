@@ -6,7 +6,7 @@ use Rattle.vp_source.specs.declared.symbol.Symbol.{Symbol}
 use Rattle.vp_source.specs.declared.symbol.SymbolKind.{SymbolKind}
 use Rattle.vp_source.specs.declared.symbol.SymbolKind.TheVariants as symbol
 use Rattle.vp_source.specs.Kinds.{same_kind}
-use Rattle.vp_parse_expr.specs.Stopping.{Stop, Unexpected, ◌>>=◌, refused, is_next, terminal, behind}
+use Rattle.vp_parse_expr.specs.Stopping.{Stop, Unexpected, ◌>>=◌, refused, is_next, terminal, following}
 use Rattle.vp_parse_expr.specs.Placing.{range_into, literal_into}
 use Rattle.vp_parse_stmt.specs.Placing.{Placer, lists_in as parts_in, stmt_into, value_into}
 use Rattle.vp_parse.specs.declared.arena.Arena.{Arena}
@@ -41,7 +41,7 @@ unfoldable pub further_into : Keeper → ℕ → Keeper
 further_into part zero lists ts = Ok (lists, ts)
 further_into part (suc m) lists ts =
     if is_next (symbol.Punctuator punctuator.Comma) ts
-    then (behind (symbol.Punctuator punctuator.Comma) ts >>= λ rest. part lists rest >>= λ p. further_into part m p.0 p.1)
+    then (following (symbol.Punctuator punctuator.Comma) ts >>= λ rest. part lists rest >>= λ p. further_into part m p.0 p.1)
     else Ok (lists, ts)
 
 -- the range of a declaration, if one is next (4.3.1)
@@ -75,11 +75,11 @@ ordered_into limit lists ts =
 -- a connection by name (12.3.6)
 unfoldable pub named_into : (limit : ℕ) → Keeper
 named_into limit lists ts = do
-  rest ← behind (symbol.Punctuator punctuator.Period) ts
+  rest ← following (symbol.Punctuator punctuator.Period) ts
   port ← terminal symbol.Name rest
-  rest ← behind (symbol.Punctuator punctuator.LeftParenthesis) port.1
+  rest ← following (symbol.Punctuator punctuator.LeftParenthesis) port.1
   value ← optional_into limit lists rest
-  after ← behind (symbol.Punctuator punctuator.RightParenthesis) value.2
+  after ← following (symbol.Punctuator punctuator.RightParenthesis) value.2
   Ok (with_connection (record { place = first_place rest; port = Some port.0; value = value.0 }) value.1, after)
 
 -- a connection, by name or by position
@@ -102,7 +102,7 @@ connections_into limit lists ts =
 
 -- a value, from after a name (6.1.2)
 unfoldable pub valued_into : Placer → Lists → List Symbol → Result (Made ℕ) Stop
-valued_into value lists ts = behind (symbol.Punctuator punctuator.Equals) ts >>= λ rest. part_into value lists rest
+valued_into value lists ts = following (symbol.Punctuator punctuator.Equals) ts >>= λ rest. part_into value lists rest
 
 -- a net, from after its name (6.1.1)
 unfoldable pub net_into : (limit : ℕ) → Option DeclaredRange → (name : ℕ) → Keeper
@@ -114,9 +114,9 @@ net_into limit range name lists ts =
 -- an instance of a module, from after its name (12.1.2)
 unfoldable pub instance_into : (limit definition name : ℕ) → Keeper
 instance_into limit definition name lists ts = do
-  rest ← behind (symbol.Punctuator punctuator.LeftParenthesis) ts
+  rest ← following (symbol.Punctuator punctuator.LeftParenthesis) ts
   connections ← connections_into limit lists rest
-  rest ← behind (symbol.Punctuator punctuator.RightParenthesis) connections.1
+  rest ← following (symbol.Punctuator punctuator.RightParenthesis) connections.1
   Ok (with_item (item_of.Instance name definition (length lists.connections) (length connections.0.connections)) connections.0, rest)
 
 -- a literal with a size (3.5.1)
@@ -142,7 +142,7 @@ unfoldable pub declarators_into : (limit : ℕ) → declaration.Declaration → 
 declarators_into limit declaration lists ts = do
   first ← declarator_into limit declaration lists ts
   further ← further_into (declarator_into limit declaration) (length first.1) first.0 first.1
-  rest ← behind (symbol.Punctuator punctuator.Semicolon) further.1
+  rest ← following (symbol.Punctuator punctuator.Semicolon) further.1
   Ok (further.0, rest)
 
 -- ---- items
@@ -182,13 +182,13 @@ items_into limit statement (suc m) lists ts =
 
 -- what is left after the keyword `wire`, if it is next (12.3.3)
 unfoldable pub wire_into : List Symbol → Result (List Symbol) Stop
-wire_into ts = if is_next (symbol.Keyword keyword.Wire) ts then behind (symbol.Keyword keyword.Wire) ts else Ok ts
+wire_into ts = if is_next (symbol.Keyword keyword.Wire) ts then following (symbol.Keyword keyword.Wire) ts else Ok ts
 
 -- an output, from after its keyword (12.3.3)
 unfoldable pub output_into : List Symbol → Result (direction.Direction × List Symbol) Stop
 output_into ts =
     if is_next (symbol.Keyword keyword.Reg) ts
-    then (behind (symbol.Keyword keyword.Reg) ts >>= λ rest. Ok (direction_of.OutputReg, rest))
+    then (following (symbol.Keyword keyword.Reg) ts >>= λ rest. Ok (direction_of.OutputReg, rest))
     else (wire_into ts >>= λ rest. Ok (direction_of.Output, rest))
 
 -- a direction, by its keyword (12.3.3)
@@ -226,7 +226,7 @@ unfoldable pub ports_into : PortType → ℕ → Keeper
 ports_into before zero lists ts = Ok (lists, ts)
 ports_into before (suc m) lists ts =
     if is_next (symbol.Punctuator punctuator.Comma) ts
-    then (behind (symbol.Punctuator punctuator.Comma) ts >>= λ rest. next_type_into before rest >>= λ t.
+    then (following (symbol.Punctuator punctuator.Comma) ts >>= λ rest. next_type_into before rest >>= λ t.
     port_into t.0 lists t.1 >>= λ p. ports_into t.0 m p.0 p.1)
     else Ok (lists, ts)
 
@@ -240,9 +240,9 @@ listed_into lists ts =
 -- the parentheses of a module, with its ports (12.3.1)
 unfoldable pub parentheses_into : Keeper
 parentheses_into lists ts = do
-  rest ← behind (symbol.Punctuator punctuator.LeftParenthesis) ts
+  rest ← following (symbol.Punctuator punctuator.LeftParenthesis) ts
   ports ← listed_into lists rest
-  rest ← behind (symbol.Punctuator punctuator.RightParenthesis) ports.1
+  rest ← following (symbol.Punctuator punctuator.RightParenthesis) ports.1
   Ok (ports.0, rest)
 
 -- what stands after the name of a module (12.3.1)
@@ -255,12 +255,12 @@ header_into lists ts =
 -- a module, whose statements and expressions nest at most so deep (12.1)
 unfoldable pub module_into : ℕ → Lists → List Symbol → Result (Made module_of.Module) Stop
 module_into limit lists ts = do
-  rest ← behind (symbol.Keyword keyword.Module) ts
+  rest ← following (symbol.Keyword keyword.Module) ts
   name ← terminal symbol.Name rest
   ports ← header_into lists name.1
-  rest ← behind (symbol.Punctuator punctuator.Semicolon) ports.1
+  rest ← following (symbol.Punctuator punctuator.Semicolon) ports.1
   items ← items_into limit (stmt_into limit limit) (length rest) ports.0 rest
-  rest ← behind (symbol.Keyword keyword.Endmodule) items.1
+  rest ← following (symbol.Keyword keyword.Endmodule) items.1
   Ok (
     record {
       name = name.0;

@@ -2,8 +2,8 @@
 use Rattle.std.specs.Prelude.{◌≡◌, ℕ, ◌-◌, max, List, length, Option, slice_get, Result, Err}
 use Rattle.std.specs.Option.{option_and_then, option_map_or}
 use Rattle.vp_lex.specs.declared.token.Token.{Token}
-use Rattle.vp_parse.specs.declared.fault.ParseError.{ParseError}
-use Rattle.vp_parse.specs.declared.fault.ParseError.TheVariants as error
+use Rattle.vp_parse.specs.declared.error.ParseError.{ParseError}
+use Rattle.vp_parse.specs.declared.error.ParseError.TheVariants as error
 use Rattle.vp_source.specs.declared.symbol.Symbol.{Symbol}
 use Rattle.vp_source.specs.Grammar.{Derivation, IsDerivation, IsSource, source_text}
 use Rattle.vp_parse_expr.specs.Stopping.{Stop, Unexpected, TooDeep}

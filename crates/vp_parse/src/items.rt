@@ -2,7 +2,7 @@
 ghost use Rattle.std.specs.Prelude.{◌≡◌, ◌<◌, ◌≤◌, ◌+◌, ◌^◌, length, IfOk};
 ghost use Rattle.vp_lex.specs.declared.token.Punctuator.TheVariants as punctuator;
 ghost use Rattle.vp_source.specs.declared.symbol.SymbolKind.TheVariants as symbol;
-ghost use Rattle.vp_parse_expr.specs.Stopping.{Gives, behind, terminal};
+ghost use Rattle.vp_parse_expr.specs.Stopping.{Gives, following, terminal};
 ghost use Rattle.vp_parse_stmt.specs.Placing.{stmt_into, value_into};
 ghost use Rattle.vp_source.specs.declared.source.Item.TheVariants as item_of;
 ghost use Rattle.vp_source.specs.Layout.{first_place};
@@ -295,7 +295,7 @@ fn instance<'a>(
 
 /// A declarator of a declaration, from after its name.
 #[tactic(auto, unfolding(crate::specs::Placing::declarator_by_into))]
-fn declarator_behind<'a>(
+fn declarator_after<'a>(
     arena: &mut Arena,
     limit: u32,
     declaration: Declaration,
@@ -358,7 +358,7 @@ fn declarator<'a>(
     ensures shorter { IfOk result (λ rest. length rest.now < length symbols.now) }
 {
     let (name, rest) = declared(declaration, symbols)?;
-    declarator_behind(arena, limit, declaration, name, rest)
+    declarator_after(arena, limit, declaration, name, rest)
 }
 
 /// Further declarators of a declaration, each after a comma.
@@ -385,10 +385,10 @@ fn further_declarators<'a>(
 }
 
 /// What follows a declaration's semicolon. A value of a reg is left out.
-#[tactic(auto, unfolding(vp_parse_expr::specs::Stopping::behind))]
+#[tactic(auto, unfolding(vp_parse_expr::specs::Stopping::following))]
 fn declaration_end(declaration: Declaration, symbols: &[Symbol]) -> Result<&[Symbol], Stop>
     ensures read { Gives (λ rest. rest.now) result
-        (behind (symbol.Punctuator punctuator.Semicolon) symbols.now) }
+        (following (symbol.Punctuator punctuator.Semicolon) symbols.now) }
     ensures shorter { IfOk result (λ rest. length rest.now + 1 ≡ length symbols.now) }
 {
     match (declaration, symbols) {

@@ -2,10 +2,10 @@
 #![tactic(auto)]
 
 mod arena;
-mod fault;
+mod error;
 mod items;
 mod parsing;
 mod ports;
 
-pub use fault::ParseError;
+pub use error::ParseError;
 pub use parsing::parse;

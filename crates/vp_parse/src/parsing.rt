@@ -8,13 +8,13 @@ ghost use Rattle.vp_source.specs.Layout.{IsSourceOf, lists_of};
 ghost use Rattle.vp_parse.specs.Placing.{lists_in, module_into, modules_into};
 ghost use Rattle.vp_parse.specs.Reading.{read};
 ghost use Rattle.vp_source.specs.Standing.{ItemsStand};
-ghost use Rattle.vp_parse.specs.declared.fault.ParseError.TheVariants as error;
+ghost use Rattle.vp_parse.specs.declared.error.ParseError.TheVariants as error;
 ghost use Rattle.vp_parse.specs.Told.{IsUnderivable, Tells, stopped_at as stop_at, place_told, line_told};
 ghost use Rattle.vp_parse.specs.Weight.{weight};
 ghost use Rattle.vp_source.specs.Whole.{AreWhole};
 
 use crate::arena::Arena;
-use crate::fault::ParseError;
+use crate::error::ParseError;
 use crate::items::items;
 use crate::ports::header;
 use std::alloc::Global;

@@ -13,7 +13,7 @@ use Rattle.vp_source.specs.declared.symbol.SymbolKind.{SymbolKind}
 use Rattle.vp_source.specs.declared.symbol.SymbolKind.TheVariants as symbol
 use Rattle.vp_source.specs.declared.symbol.TheConstants.{NUMBER_LIMIT}
 use Rattle.vp_source.specs.Operators.{unary_of, level, binds}
-use Rattle.vp_parse_expr.specs.Stopping.{Stop, Unexpected, TooDeep, ◌>>=◌, refused, is_next, terminal, behind}
+use Rattle.vp_parse_expr.specs.Stopping.{Stop, Unexpected, TooDeep, ◌>>=◌, refused, is_next, terminal, following}
 use Rattle.vp_parse_expr.specs.Reading.{is_base_next, is_number_before, is_part, is_bare, is_size_of, on_operator, is_choice}
 
 -- ---- what is read into a list
@@ -53,11 +53,11 @@ bound_into greatest (s ∷ ts) = bound_by_into greatest s.kind ts
 -- a range (4.3.1)
 unfoldable pub range_into : List Symbol → Result (range.Range × List Symbol) Stop
 range_into ts = do
-  rest ← behind (symbol.Punctuator punctuator.LeftBracket) ts
+  rest ← following (symbol.Punctuator punctuator.LeftBracket) ts
   msb ← bound_into 65535 rest
-  rest ← behind (symbol.Punctuator punctuator.Colon) msb.1
+  rest ← following (symbol.Punctuator punctuator.Colon) msb.1
   lsb ← bound_into msb.0 rest
-  rest ← behind (symbol.Punctuator punctuator.RightBracket) lsb.1
+  rest ← following (symbol.Punctuator punctuator.RightBracket) lsb.1
   Ok (record { msb = msb.0; lsb = lsb.0 }, rest)
 
 -- a literal with a size, from after its size (3.5.1)
@@ -93,9 +93,9 @@ based_into digits nodes ts = Ok (made (node_of.Based digits) 1 nodes ts)
 -- a bit of a named object, with the reader of its index (5.2.1)
 unfoldable pub bit_into : Placer → Selector
 bit_into index nodes ts = do
-  rest ← behind (symbol.Punctuator punctuator.LeftBracket) ts
+  rest ← following (symbol.Punctuator punctuator.LeftBracket) ts
   value ← index nodes rest
-  rest ← behind (symbol.Punctuator punctuator.RightBracket) value.3
+  rest ← following (symbol.Punctuator punctuator.RightBracket) value.3
   Ok (selection_of.Bit value.0, value.1, value.2, rest)
 
 -- a part of a named object (5.2.1)
@@ -123,7 +123,7 @@ name_into next place nodes ts = do
 unfoldable pub group_into : (ℕ → Placer) → Placer
 group_into next nodes ts = do
   value ← next 0 nodes ts
-  rest ← behind (symbol.Punctuator punctuator.RightParenthesis) value.3
+  rest ← following (symbol.Punctuator punctuator.RightParenthesis) value.3
   Ok (value.0, value.1 + 1, value.2, rest)
 
 -- an operator, if there is one, and its only operand, from after the operator (5.1)
@@ -138,7 +138,7 @@ part_into next nodes ts = next 0 nodes ts >>= λ e. if is_bare ts e.3 then refus
 -- one more expression in braces, with the comma before it (5.1.14)
 unfoldable pub further_part_into : (ℕ → Placer) → (opening list depth : ℕ) → Placer
 further_part_into next opening list depth nodes ts = do
-  rest ← behind (symbol.Punctuator punctuator.Comma) ts
+  rest ← following (symbol.Punctuator punctuator.Comma) ts
   part ← part_into next nodes rest
   Ok (made (node_of.Appended opening list part.0) (max depth part.1) part.2 part.3)
 
@@ -165,7 +165,7 @@ parts_into next opening nodes ts =
 unfoldable pub concatenation_into : (ℕ → Placer) → (opening : ℕ) → Placer
 concatenation_into next opening nodes ts = do
   parts ← parts_into next opening nodes ts
-  rest ← behind (symbol.Punctuator punctuator.RightBrace) parts.3
+  rest ← following (symbol.Punctuator punctuator.RightBrace) parts.3
   Ok (parts.0, parts.1 + 1, parts.2, rest)
 
 -- a replication, from after its brace (5.1.14)
@@ -174,7 +174,7 @@ replication_into next opening nodes ts = do
   count ← bound_into (NUMBER_LIMIT - 1) ts
   inner ← terminal (symbol.Punctuator punctuator.LeftBrace) count.1
   list ← concatenation_into next inner.0 nodes inner.1
-  rest ← behind (symbol.Punctuator punctuator.RightBrace) list.3
+  rest ← following (symbol.Punctuator punctuator.RightBrace) list.3
   Ok (made (node_of.Replication opening count.0 list.0) list.1 list.2 rest)
 
 -- a concatenation or a replication, from after its brace (5.1.14)
@@ -221,8 +221,8 @@ more_into next limit (suc m) least left depth nodes ts =
 unfoldable pub conditional_into : (ℕ → Placer) → (limit condition depth : ℕ) → Placer
 conditional_into next limit condition depth nodes ts =
     if nat_le depth limit
-    then (behind (symbol.Punctuator punctuator.Conditional) ts >>= λ r. next 0 nodes r >>= λ a.
-    behind (symbol.Punctuator punctuator.Colon) a.3 >>= λ r. next 0 a.2 r >>= λ b.
+    then (following (symbol.Punctuator punctuator.Conditional) ts >>= λ r. next 0 nodes r >>= λ a.
+    following (symbol.Punctuator punctuator.Colon) a.3 >>= λ r. next 0 a.2 r >>= λ b.
     Ok (made (node_of.Conditional condition a.0 b.0) (max depth (max a.1 b.1) + 1) b.2 b.3))
     else Err (TooDeep (length ts))
 

@@ -41,9 +41,9 @@ terminal kind [] = refused []
 terminal kind (s ∷ ts) = if same_kind kind s.kind then Ok (s.place, ts) else refused (s ∷ ts)
 
 -- what is left after the next symbol, which is of this kind
-unfoldable pub behind : SymbolKind → List Symbol → Result (List Symbol) Stop
-behind kind [] = refused []
-behind kind (s ∷ ts) = if same_kind kind s.kind then Ok ts else refused (s ∷ ts)
+unfoldable pub following : SymbolKind → List Symbol → Result (List Symbol) Stop
+following kind [] = refused []
+following kind (s ∷ ts) = if same_kind kind s.kind then Ok ts else refused (s ∷ ts)
 
 -- the stop that the code tells; none for want of memory
 abbrev pub stop_told : stop.Stop → Option Stop

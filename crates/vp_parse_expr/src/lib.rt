@@ -1,9 +1,9 @@
 //! What the grammar sees of a text's tokens, and the expressions among them, in a flat list.
 #![tactic(auto)]
 
-mod ahead;
 mod arena;
 mod bounds;
+mod lookahead;
 mod operator;
 mod parsing;
 mod reading;

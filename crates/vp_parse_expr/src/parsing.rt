@@ -6,12 +6,12 @@ ghost use Rattle.vp_parse_expr.specs.Meaning.{IsExpressionOf, NoExpression, IsLi
 ghost use Rattle.vp_parse_expr.specs.Placing.{made, literal_into, sized_into, number_into, bit_into, part_select_into, select_into, selection_into, name_into, based_into, group_into, unary_into, part_into, further_part_into, further_parts_into, first_part_into, parts_into, concatenation_into, replication_into, braces_into, operand_into, binary_into, more_into, conditional_into, choice_into, chain_into, expr_into};
 ghost use Rattle.vp_parse_expr.specs.Stopping.{Gives};
 
-use crate::ahead::{
+use crate::arena::add_expression;
+use crate::bounds::{bound, bounds};
+use crate::lookahead::{
     binding, index_stop, is_bare, is_base_next, is_choice, is_number_before, is_part, is_size_of,
     no_operand,
 };
-use crate::arena::add_expression;
-use crate::bounds::{bound, bounds};
 use crate::operator::{level, unary_of};
 use crate::reading::{Stop, is_next, skip, terminal, unexpected};
 use vp_lex::Punctuator;

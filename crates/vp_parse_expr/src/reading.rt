@@ -3,7 +3,7 @@ ghost use Rattle.vp_parse_expr.specs.declared.reading.Stop.TheVariants.{NoMemory
 ghost use Rattle.vp_source.specs.declared.symbol.SymbolKind.TheVariants.{Name};
 ghost use Rattle.vp_source.specs.Kinds.{same_kind, symbol_at};
 ghost use Rattle.vp_parse_expr.specs.Meaning.{NoTerminal};
-ghost use Rattle.vp_parse_expr.specs.Stopping.{Unexpected, Gives, stop_told, is_next as next_is, terminal as terminal_at, behind};
+ghost use Rattle.vp_parse_expr.specs.Stopping.{Unexpected, Gives, stop_told, is_next as next_is, terminal as terminal_at, following};
 
 use std::alloc::{AllocError, AllocFailed};
 use vp_lex::{Keyword, Punctuator};
@@ -77,9 +77,9 @@ pub fn is_next(expected: SymbolKind, symbols: &[Symbol]) -> bool
 }
 
 /// What follows the symbol that is expected.
-#[tactic(auto, using(crate::proofs::Told::told_stop), unfolding(crate::specs::Stopping::behind))]
+#[tactic(auto, using(crate::proofs::Told::told_stop), unfolding(crate::specs::Stopping::following))]
 pub fn skip(expected: SymbolKind, symbols: &[Symbol]) -> Result<&[Symbol], Stop>
-    ensures read { Gives (λ rest. rest.now) result (behind expected symbols.now) }
+    ensures read { Gives (λ rest. rest.now) result (following expected symbols.now) }
     ensures told { IfErr result (λ stop. stop ≢ NoMemory) }
     ensures shorter { IfOk result (λ rest. length rest.now + 1 ≡ length symbols.now) }
 {

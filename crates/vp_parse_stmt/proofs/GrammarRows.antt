@@ -140,9 +140,9 @@ choices_in_order : (put_stmt (grammar.Case grammar.Wild 0 1 (at 2) 3 two_items 1
 choices_in_order = refl
 
 -- a case after the statements of its items, with all its choices
-case_behind_items : (put_stmt (grammar.Case grammar.Wild 0 1 (at 2) 3 two_items 11) no_parts).1.statements
+case_after_items : (put_stmt (grammar.Case grammar.Wild 0 1 (at 2) 3 two_items 11) no_parts).1.statements
     ≡ statement_of.Null ∷ statement_of.Null ∷ statement_of.Case true 0 (record { first = 0; end = 3 }) ∷ []
-case_behind_items = refl
+case_after_items = refl
 
 -- a case in the first of two items of another, where two choices lie before
 abbrev nested : Lists

@@ -12,7 +12,7 @@ use Rattle.vp_source.specs.declared.symbol.SymbolKind.{SymbolKind}
 use Rattle.vp_source.specs.declared.symbol.SymbolKind.TheVariants as symbol
 use Rattle.vp_source.specs.declared.expression.Selection as selection
 use Rattle.vp_source.specs.declared.symbol.TheConstants.{NUMBER_LIMIT}
-use Rattle.vp_parse_expr.specs.Stopping.{Stop, Unexpected, TooDeep, ◌>>=◌, refused, is_next, behind, terminal}
+use Rattle.vp_parse_expr.specs.Stopping.{Stop, Unexpected, TooDeep, ◌>>=◌, refused, is_next, following, terminal}
 use Rattle.vp_parse_expr.specs.Placing.{expr_into, selection_into}
 use Rattle.vp_parse_stmt.specs.declared.arena.Arena.{Arena}
 use Rattle.vp_source.specs.declared.statement.Statement as statement
@@ -57,9 +57,9 @@ amount_into (s ∷ ts) = amount_by_into s.kind ts
 -- a number in parentheses (9.7.1)
 unfoldable pub grouped_delay_into : List Symbol → Result (ℕ × List Symbol) Stop
 grouped_delay_into ts = do
-  rest ← behind (symbol.Punctuator punctuator.LeftParenthesis) ts
+  rest ← following (symbol.Punctuator punctuator.LeftParenthesis) ts
   amount ← amount_into rest
-  rest ← behind (symbol.Punctuator punctuator.RightParenthesis) amount.1
+  rest ← following (symbol.Punctuator punctuator.RightParenthesis) amount.1
   Ok (amount.0, rest)
 
 -- a delay, from after its # (9.7.1)
@@ -69,7 +69,7 @@ delay_into ts = if is_next (symbol.Punctuator punctuator.LeftParenthesis) ts the
 -- a # and a delay (9.2.2)
 unfoldable pub later_into : List Symbol → Result (Option ℕ × List Symbol) Stop
 later_into ts = do
-  rest ← behind (symbol.Punctuator punctuator.Hash) ts
+  rest ← following (symbol.Punctuator punctuator.Hash) ts
   delay ← delay_into rest
   Ok (Some delay.0, delay.1)
 
@@ -82,7 +82,7 @@ hold_into ts = if is_next (symbol.Punctuator punctuator.Hash) ts then later_into
 -- what a target is to have, from after what is selected of it, by an expression that nests at most so deep (9.2.1)
 unfoldable pub blocking_into : (limit target : ℕ) → selection.Selection → Placer
 blocking_into limit target selected lists ts = do
-  rest ← behind (symbol.Punctuator punctuator.Equals) ts
+  rest ← following (symbol.Punctuator punctuator.Equals) ts
   value ← value_into limit lists rest
   Ok (made_statement (statement_of.Assign target selected value.0) value.1 value.2)
 
@@ -90,16 +90,16 @@ blocking_into limit target selected lists ts = do
 unfoldable pub assign_into : (limit target : ℕ) → selection.Selection → Placer
 assign_into limit target selected lists ts = do
   blocking ← blocking_into limit target selected lists ts
-  rest ← behind (symbol.Punctuator punctuator.Semicolon) blocking.2
+  rest ← following (symbol.Punctuator punctuator.Semicolon) blocking.2
   Ok (blocking.0, blocking.1, rest)
 
 -- a nonblocking assignment, from after what is selected of its target, by an expression that nests at most so deep (9.2.2)
 unfoldable pub nonblocking_into : (limit target : ℕ) → selection.Selection → Placer
 nonblocking_into limit target selected lists ts = do
-  rest ← behind (symbol.Punctuator punctuator.LessOrEqual) ts
+  rest ← following (symbol.Punctuator punctuator.LessOrEqual) ts
   hold ← hold_into rest
   value ← value_into limit lists hold.1
-  rest ← behind (symbol.Punctuator punctuator.Semicolon) value.2
+  rest ← following (symbol.Punctuator punctuator.Semicolon) value.2
   Ok (made_statement (statement_of.Nonblocking target selected value.0 hold.0) value.1 rest)
 
 -- an assignment, from after what is selected of its target (9.2)
@@ -130,7 +130,7 @@ stmts_into next lists ts = chain_into next (length ts) (length lists.statements)
 unfoldable pub block_into : Placer → Placer
 block_into next lists ts = do
   body ← stmts_into next lists ts
-  rest ← behind (symbol.Keyword keyword.End) body.2
+  rest ← following (symbol.Keyword keyword.End) body.2
   Ok (body.0, body.1, rest)
 
 -- ---- events
@@ -138,7 +138,7 @@ block_into next lists ts = do
 -- an edge, which is of this kind, and a name (9.7.2)
 unfoldable pub edged_into : edge.Edge → SymbolKind → List Symbol → Result (term.EventTerm × List Symbol) Stop
 edged_into edge kind ts = do
-  rest ← behind kind ts
+  rest ← following kind ts
   name ← terminal symbol.Name rest
   Ok (record { edge = edge; name = name.0 }, name.1)
 
@@ -153,8 +153,8 @@ term_into ts =
 unfoldable pub separator_into : List Symbol → Result (List Symbol) Stop
 separator_into ts =
     if is_next (symbol.Punctuator punctuator.Comma) ts
-    then behind (symbol.Punctuator punctuator.Comma) ts
-    else behind (symbol.Keyword keyword.Or) ts
+    then following (symbol.Punctuator punctuator.Comma) ts
+    else following (symbol.Keyword keyword.Or) ts
 
 -- terms, and the symbols that are left
 abbrev pub MadeTerms : Type 0
@@ -191,14 +191,14 @@ made_event terms after ts = (Some (record { first = length terms; end = length a
 unfoldable pub terms_event_into : List term.EventTerm → List Symbol → Result MadeEvent Stop
 terms_event_into terms ts = do
   after ← terms_into terms ts
-  rest ← behind (symbol.Punctuator punctuator.RightParenthesis) after.1
+  rest ← following (symbol.Punctuator punctuator.RightParenthesis) after.1
   Ok (made_event terms after.0 rest)
 
 -- a star, from after the parenthesis before it (9.7.5)
 unfoldable pub star_event_into : List term.EventTerm → List Symbol → Result MadeEvent Stop
 star_event_into terms ts = do
-  rest ← behind (symbol.Punctuator punctuator.Asterisk) ts
-  rest ← behind (symbol.Punctuator punctuator.RightParenthesis) rest
+  rest ← following (symbol.Punctuator punctuator.Asterisk) ts
+  rest ← following (symbol.Punctuator punctuator.RightParenthesis) rest
   Ok (None, terms, rest)
 
 -- an event, from after its first symbol, by that symbol's kind and place (9.7.2 to 9.7.5)
@@ -233,9 +233,9 @@ delayed_into next lists ts = do
 -- an expression in parentheses, which nests at most so deep (9.4 to 9.7)
 unfoldable pub condition_into : (limit : ℕ) → Placer
 condition_into limit lists ts = do
-  rest ← behind (symbol.Punctuator punctuator.LeftParenthesis) ts
+  rest ← following (symbol.Punctuator punctuator.LeftParenthesis) ts
   value ← value_into limit lists rest
-  rest ← behind (symbol.Punctuator punctuator.RightParenthesis) value.2
+  rest ← following (symbol.Punctuator punctuator.RightParenthesis) value.2
   Ok (value.0, value.1, rest)
 
 -- the places of an expression and of a statement, the lists with them, and the symbols that are left
@@ -270,7 +270,7 @@ forever_into next lists ts = do
 -- an else and its statement (9.4)
 unfoldable pub second_into : Placer → (condition first : ℕ) → Placer
 second_into next condition first lists ts = do
-  rest ← behind (symbol.Keyword keyword.Else) ts
+  rest ← following (symbol.Keyword keyword.Else) ts
   second ← next lists rest
   Ok (made_statement (statement_of.If condition first (Some second.0)) second.1 second.2)
 
@@ -299,13 +299,13 @@ MadeHeading = ℕ × ℕ × ℕ × Lists × List Symbol
 -- what stands in the parentheses of a for, with expressions that nest at most so deep (9.6)
 unfoldable pub heading_into : (limit : ℕ) → Lists → List Symbol → Result MadeHeading Stop
 heading_into limit lists ts = do
-  rest ← behind (symbol.Punctuator punctuator.LeftParenthesis) ts
+  rest ← following (symbol.Punctuator punctuator.LeftParenthesis) ts
   start ← named_blocking_into limit lists rest
-  rest ← behind (symbol.Punctuator punctuator.Semicolon) start.2
+  rest ← following (symbol.Punctuator punctuator.Semicolon) start.2
   condition ← value_into limit start.1 rest
-  rest ← behind (symbol.Punctuator punctuator.Semicolon) condition.2
+  rest ← following (symbol.Punctuator punctuator.Semicolon) condition.2
   step ← named_blocking_into limit condition.1 rest
-  rest ← behind (symbol.Punctuator punctuator.RightParenthesis) step.2
+  rest ← following (symbol.Punctuator punctuator.RightParenthesis) step.2
   Ok (start.0, condition.0, step.0, step.1, rest)
 
 -- a loop whose turns end with a step, and after it the whole of a start and the loop (9.6)
@@ -325,9 +325,9 @@ for_into limit next lists ts = do
 -- what is left after an argument (17.4.1)
 unfoldable pub given_into : List Symbol → Result (List Symbol) Stop
 given_into ts = do
-  rest ← behind (symbol.Punctuator punctuator.LeftParenthesis) ts
+  rest ← following (symbol.Punctuator punctuator.LeftParenthesis) ts
   number ← amount_into rest
-  behind (symbol.Punctuator punctuator.RightParenthesis) number.1
+  following (symbol.Punctuator punctuator.RightParenthesis) number.1
 
 -- what is left after an argument, if it is next (17.4.1)
 unfoldable pub argument_into : List Symbol → Result (List Symbol) Stop
@@ -337,7 +337,7 @@ argument_into ts = if is_next (symbol.Punctuator punctuator.LeftParenthesis) ts 
 unfoldable pub finish_into : Placer
 finish_into lists ts = do
   rest ← argument_into ts
-  rest ← behind (symbol.Punctuator punctuator.Semicolon) rest
+  rest ← following (symbol.Punctuator punctuator.Semicolon) rest
   Ok (made_statement statement_of.Finish lists rest)
 
 -- ---- cases
@@ -349,7 +349,7 @@ MadeLabels = List ℕ × Lists × List Symbol
 -- a label, from the comma before it on (9.5)
 unfoldable pub further_label_into : (limit : ℕ) → List ℕ → Lists → List Symbol → Result MadeLabels Stop
 further_label_into limit labels lists ts = do
-  rest ← behind (symbol.Punctuator punctuator.Comma) ts
+  rest ← following (symbol.Punctuator punctuator.Comma) ts
   value ← value_into limit lists rest
   Ok (labels ++ value.0 ∷ [], value.1, value.2)
 
@@ -379,19 +379,19 @@ ItemPlacer = List choice.Choice → Lists → List Symbol → Result MadeItems S
 unfoldable pub labels_item_into : (limit : ℕ) → Placer → ItemPlacer
 labels_item_into limit next choices lists ts = do
   labels ← labels_into limit lists ts
-  rest ← behind (symbol.Punctuator punctuator.Colon) labels.2
+  rest ← following (symbol.Punctuator punctuator.Colon) labels.2
   body ← next labels.1 rest
   Ok (choices ++ choices_of labels.0 body.0, body.1, body.2)
 
 -- what is left after a colon, if it is next (9.5)
 unfoldable pub colon_into : List Symbol → Result (List Symbol) Stop
 colon_into ts =
-    if is_next (symbol.Punctuator punctuator.Colon) ts then behind (symbol.Punctuator punctuator.Colon) ts else Ok ts
+    if is_next (symbol.Punctuator punctuator.Colon) ts then following (symbol.Punctuator punctuator.Colon) ts else Ok ts
 
 -- an item for anything else, after other choices (9.5)
 unfoldable pub default_item_into : Placer → ItemPlacer
 default_item_into next choices lists ts = do
-  rest ← behind (symbol.Keyword keyword.Default) ts
+  rest ← following (symbol.Keyword keyword.Default) ts
   rest ← colon_into rest
   body ← next lists rest
   Ok (choices ++ record { label = None; body = body.0 } ∷ [], body.1, body.2)
@@ -425,7 +425,7 @@ unfoldable pub case_into : (limit : ℕ) → Placer → (is_wild : Bool) → Pla
 case_into limit next is_wild lists ts = do
   selector ← condition_into limit lists ts
   items ← items_into limit next selector.1 selector.2
-  rest ← behind (symbol.Keyword keyword.Endcase) items.2
+  rest ← following (symbol.Keyword keyword.Endcase) items.2
   Ok (made_case is_wild selector.0 items.0 items.1 rest)
 
 -- a statement, from after its first symbol, by that symbol's kind and place (A.6.4)

@@ -1,5 +1,5 @@
 ghost use Rattle.std.specs.Prelude.{◌≡◌, [], ◌∷◌, ◌++◌, length, ◌+◌, ◌<◌, ◌^◌, IfOk, OnOk, vec_len};
-ghost use Rattle.vp_source.specs.StmtLayout.{span_behind};
+ghost use Rattle.vp_source.specs.StmtLayout.{span_after};
 
 use std::alloc::{AllocError, Global};
 use vp_source::{Choice, EventTerm, Expression, Span, Statement};
@@ -52,7 +52,7 @@ pub fn add_statement(
 /// Choices of a case after those of others, and where they lie.
 pub fn lay_choices(choices: &mut Vec<Choice>, mut found: Vec<Choice>) -> Result<Span, AllocError>
     requires { vec_len choices.old + vec_len found < 2 ^ 32 }
-    ensures span { IfOk result (λ span. span ≡ span_behind choices.old.items found.items) }
+    ensures span { IfOk result (λ span. span ≡ span_after choices.old.items found.items) }
     ensures added { OnOk result (choices.new.items ≡ choices.old.items ++ found.items) }
     ensures len { OnOk result (vec_len choices.new ≡ vec_len choices.old + vec_len found) }
 {

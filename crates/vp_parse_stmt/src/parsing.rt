@@ -525,7 +525,7 @@ fn conditional<'a>(
 
 /// What follows an argument, if it is next.
 #[tactic(auto, unfolding(crate::specs::Placing::argument_into, crate::specs::Placing::given_into))]
-fn behind_argument(symbols: &[Symbol]) -> Result<&[Symbol], Stop>
+fn after_argument(symbols: &[Symbol]) -> Result<&[Symbol], Stop>
     ensures read { Gives (λ rest. rest.now) result (argument_into symbols.now) }
     ensures no_longer { IfOk result (λ rest. length rest.now ≤ length symbols.now) }
 {
@@ -547,7 +547,7 @@ fn finish<'a>(arena: &mut Arena, symbols: &'a [Symbol]) -> Result<(u32, &'a [Sym
         < weight arena.old symbols.now) }
     ensures shorter { IfOk result (λ found. length found.1.now < length symbols.now) }
 {
-    let rest = behind_argument(symbols)?;
+    let rest = after_argument(symbols)?;
     let rest = skip(SymbolKind::Punctuator(Punctuator::Semicolon), rest)?;
     Ok((
         add_statement(&mut arena.statements, Statement::Finish)?,
@@ -582,7 +582,7 @@ fn labels_item<'a>(
 
 /// What follows a colon, if it is next.
 #[tactic(auto, unfolding(crate::specs::Placing::colon_into))]
-fn behind_colon(symbols: &[Symbol]) -> Result<&[Symbol], Stop>
+fn after_colon(symbols: &[Symbol]) -> Result<&[Symbol], Stop>
     ensures read { Gives (λ rest. rest.now) result (colon_into symbols.now) }
     ensures no_longer { IfOk result (λ rest. length rest.now ≤ length symbols.now) }
 {
@@ -612,7 +612,7 @@ fn default_item<'a>(
     ensures shorter { IfOk result (λ rest. length rest.now < length symbols.now) }
 {
     let rest = skip(SymbolKind::Keyword(Keyword::Default), symbols)?;
-    let rest = behind_colon(rest)?;
+    let rest = after_colon(rest)?;
     let (body, rest) = statement_at(arena, limit, depth, rest)?;
     choices.push(Choice { label: None, body })?;
     Ok(rest)

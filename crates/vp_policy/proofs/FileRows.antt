@@ -4,8 +4,8 @@ use Rattle.std.specs.Prelude.{None, Some, Result, Ok, Err, codes}
 use Rattle.std.specs.Str.{is_utf8, chars}
 use Rattle.serde_json.proofs.OnLiterals.{serde_json_on_literals}
 use Rattle.vp_pragma.specs.Rights.{RightSet, nothing}
-use Rattle.vp_policy.specs.declared.fault.PolicyError.{PolicyError}
-use Rattle.vp_policy.specs.declared.fault.PolicyError.TheVariants.{BadPolicy, DuplicateUser, NoSuchEnvelope, TooManyUsers}
+use Rattle.vp_policy.specs.declared.error.PolicyError.{PolicyError}
+use Rattle.vp_policy.specs.declared.error.PolicyError.TheVariants.{BadPolicy, DuplicateUser, NoSuchEnvelope, TooManyUsers}
 use Rattle.vp_policy.specs.File.{PolicyFile, accepted, file_of, member}
 use Rattle.vp_policy.specs.Users.{Member, granted, granted_by}
 

@@ -5,7 +5,7 @@ use Rattle.std.specs.Str.{IsUtf8, is_utf8}
 use Rattle.std.proofs.lemmas.Str.{IsUtf8-from_is_utf8, is_utf8-from_IsUtf8}
 use Rattle.serde_json.specs.Data.{Data}
 use Rattle.serde_json.specs.Read.{read}
-use Rattle.vp_policy.specs.declared.fault.PolicyError.TheVariants.{BadPolicy}
+use Rattle.vp_policy.specs.declared.error.PolicyError.TheVariants.{BadPolicy}
 use Rattle.vp_policy.specs.File.{file_of, policy_of}
 
 -- a file of which a JSON value is read gives what the value gives

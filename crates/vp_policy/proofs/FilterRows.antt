@@ -6,8 +6,8 @@ use Rattle.vp_pragma.specs.Rights.{RightSet, nothing, everything, with_right}
 use Rattle.vp_elab.specs.declared.object.Kind.{Kind}
 use Rattle.vp_elab.specs.declared.object.Kind.TheVariants.{Module, Net, Reg, Always, Initial}
 use Rattle.vp_elab.specs.Tree.{Step, Node, Tree}
-use Rattle.vp_policy.specs.declared.denial.Barrier.TheVariants as barrier
-use Rattle.vp_policy.specs.declared.denial.By.TheVariants as by
+use Rattle.vp_policy.specs.declared.denial.ShownBarrier.TheVariants as barrier
+use Rattle.vp_policy.specs.declared.denial.DeniedBy.TheVariants as by
 use Rattle.vp_policy.specs.declared.denial.Look.{Look}
 use Rattle.vp_policy.specs.declared.denial.Look.TheVariants as look
 use Rattle.vp_policy.specs.Users.{Member, login_of}

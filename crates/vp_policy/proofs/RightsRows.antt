@@ -82,9 +82,9 @@ granted_nobody (suc e) = refl
 
 -- to a user who is not there nothing is granted
 pub none_granted : (members : List Member) (n : ℕ) (none : Rights) → length members ≤ n → set_of none ≡ nothing → AreGranted (member_at members n) (replicate 256 none)
-none_granted members n none behind is e d within =
+none_granted members n none following is e d within =
     ap (λ (r : Rights). set_of r) (get_or-replicate 256 e none d within) ∙ is
-    ∙ sym (granted_nobody e) ∙ ap (λ (u : Member). granted u e) (sym (get_or_past members n nobody behind))
+    ∙ sym (granted_nobody e) ∙ ap (λ (u : Member). granted u e) (sym (get_or_past members n nobody following))
 
 -- ---- the tables of all users
 

@@ -22,7 +22,7 @@ use Rattle.vp_policy.specs.declared.view.SeenObject.{SeenObject}
 use Rattle.vp_policy.specs.Users.{Member, has_entry}
 use Rattle.vp_policy.specs.Filter.{closed, is_closed, is_listed, is_listed_at, rights, rights_at}
 use Rattle.vp_policy.specs.View.{HasScope, HoldScopes, SeenNode, SeenStep, SeenViewport, View, is_value_seen, known_nodes, known_view, listed_marks, marked, seen_envelopes, seen_node, seen_path, seen_step, seen_value, seen_viewport, view_of}
-use Rattle.vp_policy.specs.SeenObjects.{node_behind, nodes_from, number_in, numbers_from, own_step, path_to, viewport_shown}
+use Rattle.vp_policy.specs.SeenObjects.{node_after, nodes_from, number_in, numbers_from, own_step, path_to, viewport_shown}
 use Rattle.vp_policy.proofs.Laws.{right_above}
 use Rattle.vp_policy.proofs.Walks.{closed_is, there_before}
 
@@ -167,18 +167,18 @@ module _ (design : Elaborated) (u : Member) (id : ℕ) (object : Object) (h : St
       → o.definition ≡ option_and_then (λ (n : Node). n.definition) (slice_get design.tree.nodes id)
       → o.value ≡ (if is_value_seen object.kind object.width (set_of o.rights) then Some (constant_at design id object.width) else None)
       → o.closed ≡ filter (is_closed u) (declared_envelopes design.tree (Some id))
-      → IfSome (slice_get design.tree.nodes id) (λ node. node_behind (known_nodes design u (map is_some numbers) (take id design.tree.nodes)) o ≡ seen_node design u node)
+      → IfSome (slice_get design.tree.nodes id) (λ node. node_after (known_nodes design u (map is_some numbers) (take id design.tree.nodes)) o ≡ seen_node design u node)
   seen_is o numbers long are scopes parent name envelope rights_are viewports kind_is width line definition value closed_is_filter =
       let marks : List Bool = map is_some numbers in
       let done : List SeenNode = known_nodes design u marks (take id design.tree.nodes) in
       let scope : HasScope design.tree.nodes marks h.node = subst (λ (x : Option Node). IfSome x (HasScope design.tree.nodes marks)) h.there scopes in
       let path : path_to done o.parent ++ own_step o ∷ [] ≡ seen_path design.tree u [] h.node.path =
       ap (λ (x : Option ℕ). path_to done x ++ own_step o ∷ []) (parent ∙ ap (λ (ns : List (Option ℕ)). number_in ns (option_map (λ (p : ObjectId). p.0) object.parent)) are)
-      ∙ ap (λ (p : List SeenStep). p ++ own_step o ∷ []) (above_by marks (length-map numbers is_some ∙ long) scope object.parent h.behind h.path)
+      ∙ ap (λ (p : List SeenStep). p ++ own_step o ∷ []) (above_by marks (length-map numbers is_some ∙ long) scope object.parent h.following h.path)
       ∙ ap (λ (s : SeenStep). seen_path design.tree u [] above ++ s ∷ []) (own_is o name envelope rights_are viewports)
       ∙ sym (seen_path-append design.tree u [] above h.step) ∙ ap (seen_path design.tree u []) (sym h.path) in
       let closed_here = closed_is design.tree u (Some id) (names_of h.node.path) (ap (option_map (λ (n : Node). names_of n.path)) h.there) in
-      subst (λ (x : Option Node). IfSome x (λ node. node_behind done o ≡ seen_node design u node)) (sym h.there)
+      subst (λ (x : Option Node). IfSome x (λ node. node_after done o ≡ seen_node design u node)) (sym h.there)
       (same_nodes _ _ _ _ _ _ _ _ _ _ _ _ _ _ path (kind_is ∙ h.kind) (width ∙ h.width)
       (line ∙ ap (λ (x : Option Node). option_map_or (λ (n : Node). n.line) x 0) h.there)
       (definition ∙ ap (option_and_then (λ (n : Node). n.definition)) h.there)
@@ -187,15 +187,15 @@ module _ (design : Elaborated) (u : Member) (id : ℕ) (object : Object) (h : St
 -- ---- one turn of the loop
 
 -- one object more
-nodes_from-append : (nodes : List SeenNode) (os : List SeenObject) (o : SeenObject) → nodes_from nodes (os ++ o ∷ []) ≡ nodes_from nodes os ++ node_behind (nodes_from nodes os) o ∷ []
+nodes_from-append : (nodes : List SeenNode) (os : List SeenObject) (o : SeenObject) → nodes_from nodes (os ++ o ∷ []) ≡ nodes_from nodes os ++ node_after (nodes_from nodes os) o ∷ []
 nodes_from-append nodes [] o = refl
-nodes_from-append nodes (x ∷ os) o = nodes_from-append (nodes ++ node_behind nodes x ∷ []) os o
+nodes_from-append nodes (x ∷ os) o = nodes_from-append (nodes ++ node_after nodes x ∷ []) os o
 
 nodes_from-length : (nodes : List SeenNode) (os : List SeenObject) → length (nodes_from nodes os) ≡ length nodes + length os
 nodes_from-length nodes [] = omega arith
 nodes_from-length nodes (o ∷ os) =
-    let more = nodes_from-length (nodes ++ node_behind nodes o ∷ []) os in
-    let one = length-append nodes (node_behind nodes o ∷ []) in
+    let more = nodes_from-length (nodes ++ node_after nodes o ∷ []) os in
+    let one = length-append nodes (node_after nodes o ∷ []) in
     omega arith
 
 number_last : (b : Bool) (n : ℕ) → ◌≡◌ {A = List (Option ℕ)} (if b then Some n ∷ [] else None ∷ []) ((if b then Some (n + 0) else None) ∷ [])
@@ -290,14 +290,14 @@ module _ (design : Elaborated) (u : Member) (known : List Bool) (n : ℕ) (withi
   pub nodes_marked :
       (os : List SeenObject) (o : SeenObject) (numbers : List (Option ℕ)) → unwrap_or (slice_get known n) false ≡ true → nodes_from [] os ≡ known_nodes design u marks so_far
       → numbers ≡ numbers_from 0 marks
-      → IfSome (slice_get design.tree.nodes n) (λ node. node_behind (known_nodes design u (map is_some numbers) so_far) o ≡ seen_node design u node)
+      → IfSome (slice_get design.tree.nodes n) (λ node. node_after (known_nodes design u (map is_some numbers) so_far) o ≡ seen_node design u node)
       → nodes_from [] (os ++ o ∷ []) ≡ known_nodes design u (take (n + 1) known) (take (n + 1) design.tree.nodes)
   nodes_marked os o numbers set nodes are node =
-      let by_numbers : node_behind (known_nodes design u (map is_some numbers) so_far) o ≡ seen_node design u here =
-      subst (λ (x : Option Node). IfSome x (λ node. node_behind (known_nodes design u (map is_some numbers) so_far) o ≡ seen_node design u node)) there node in
-      let own : node_behind (known_nodes design u marks so_far) o ≡ seen_node design u here =
-      ap (λ (ms : List Bool). node_behind (known_nodes design u ms so_far) o) (sym (marks_before numbers are)) ∙ by_numbers in
-      nodes_from-append [] os o ∙ ap (λ (ns : List SeenNode). ns ++ node_behind ns o ∷ []) nodes
+      let by_numbers : node_after (known_nodes design u (map is_some numbers) so_far) o ≡ seen_node design u here =
+      subst (λ (x : Option Node). IfSome x (λ node. node_after (known_nodes design u (map is_some numbers) so_far) o ≡ seen_node design u node)) there node in
+      let own : node_after (known_nodes design u marks so_far) o ≡ seen_node design u here =
+      ap (λ (ms : List Bool). node_after (known_nodes design u ms so_far) o) (sym (marks_before numbers are)) ∙ by_numbers in
+      nodes_from-append [] os o ∙ ap (λ (ns : List SeenNode). ns ++ node_after ns o ∷ []) nodes
       ∙ ap (λ (x : SeenNode). known_nodes design u marks so_far ++ x ∷ []) own ∙ sym (nodes_more true set)
 
   pub numbers_marked :
@@ -381,6 +381,6 @@ envelopes_more u authors n seen author granted l are is own =
 pub nodes_count : (nodes : List SeenNode) (objects : List SeenObject) → length (nodes_from nodes objects) ≡ length nodes + length objects
 nodes_count nodes [] = omega arith
 nodes_count nodes (o ∷ objects) =
-    let rest = nodes_count (nodes ++ node_behind nodes o ∷ []) objects in
-    let more = length-append nodes (node_behind nodes o ∷ []) in
+    let rest = nodes_count (nodes ++ node_after nodes o ∷ []) objects in
+    let more = length-append nodes (node_after nodes o ∷ []) in
     omega (arith, rest, more)

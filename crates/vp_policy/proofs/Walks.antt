@@ -7,15 +7,15 @@ use Rattle.std.proofs.lemmas.Slice.Eq.{bytes_eq-Decides}
 use Rattle.std.proofs.lemmas.Bool.{and_parts}
 use Rattle.std.proofs.lemmas.List.Quantifiers.{position-Some}
 use Rattle.std.proofs.Math.Bool.{and-true}
-use Rattle.vp_list.specs.Texts.{behind_part, begun, parts}
+use Rattle.vp_list.specs.Texts.{part_and_rest, begun, parts}
 use Rattle.vp_pragma.specs.declared.rights.Right.{Right}
 use Rattle.vp_pragma.specs.Rights.{RightSet, both, either, everything, has, nothing}
 use Rattle.vp_elab.specs.declared.object.Kind.TheVariants as kind
 use Rattle.vp_elab.specs.declared.object.Object.{Object}
 use Rattle.vp_elab.specs.declared.object.ObjectId.{ObjectId}
 use Rattle.vp_elab.specs.Objects.{StandsFor}
-use Rattle.vp_elab.specs.Tree.{Step, Node, Tree, declared_envelopes, envelopes_in, find_in, find_named, is_named, last_step, names_of, path_of, scope_names, sight_at, sight_in, sight_of, viewed}
-use Rattle.vp_elab.proofs.LastSteps.{last_behind}
+use Rattle.vp_elab.specs.Tree.{Step, Node, Tree, declared_envelopes, envelopes_in, find_in, find_named, is_named, last_step, names_of, path_of, scope_names, step_rights_at, step_rights_in, step_rights_of, viewed}
+use Rattle.vp_elab.proofs.LastSteps.{last_after}
 use Rattle.vp_policy.specs.declared.denial.Denial.{Denial}
 use Rattle.vp_policy.specs.declared.denial.Look.{Look}
 use Rattle.vp_policy.specs.declared.denial.Look.TheVariants as look
@@ -51,18 +51,18 @@ both-swap : (a b c : RightSet) → both (both a b) c ≡ both a (both c b)
 both-swap a b c = same_sets _ _ (and_swap a.list b.list c.list) (and_swap a.read b.read c.read) (and_swap a.watch b.watch c.watch) (and_swap a.put b.put c.put) (and_swap a.race b.race c.race)
 
 -- what viewports open of an object is what they open at the last step of its path
-sight_is : (tree : Tree) (id : ℕ) (o : Object) (h : StandsFor tree.nodes id o) → sight_at tree id ≡ sight_of tree.viewports h.step
-sight_is tree id o h =
-    ap (λ (x : Option Node). option_map_or (sight_in tree.viewports) x (nothing, None)) h.there
-    ∙ ap (λ (p : List Step). option_map_or (sight_of tree.viewports) (last_step p) (nothing, None)) h.path
-    ∙ ap (λ (x : Option Step). option_map_or (sight_of tree.viewports) x (nothing, None)) (last_behind (path_of tree.nodes (option_map (λ q. q.0) o.parent)) h.step)
+step_rights_is : (tree : Tree) (id : ℕ) (o : Object) (h : StandsFor tree.nodes id o) → step_rights_at tree id ≡ step_rights_of tree.viewports h.step
+step_rights_is tree id o h =
+    ap (λ (x : Option Node). option_map_or (step_rights_in tree.viewports) x (nothing, None)) h.there
+    ∙ ap (λ (p : List Step). option_map_or (step_rights_of tree.viewports) (last_step p) (nothing, None)) h.path
+    ∙ ap (λ (x : Option Step). option_map_or (step_rights_of tree.viewports) x (nothing, None)) (last_after (path_of tree.nodes (option_map (λ q. q.0) o.parent)) h.step)
 
 -- what is opened at the step to an object
 abbrev pub opened_at : Member → ℕ → RightSet × Option ℕ → RightSet
-opened_at u envelope sight = either (granted u envelope) sight.0
+opened_at u envelope step_rights = either (granted u envelope) step_rights.0
 
-opened_is : (tree : Tree) (u : Member) (id : ℕ) (o : Object) (h : StandsFor tree.nodes id o) → opened tree u h.step ≡ opened_at u o.envelope (sight_at tree id)
-opened_is tree u id o h = ap (λ (e : ℕ). either (granted u e) (viewed tree.viewports h.step)) h.envelope ∙ ap (opened_at u o.envelope) (sym (sight_is tree id o h))
+opened_is : (tree : Tree) (u : Member) (id : ℕ) (o : Object) (h : StandsFor tree.nodes id o) → opened tree u h.step ≡ opened_at u o.envelope (step_rights_at tree id)
+opened_is tree u id o h = ap (λ (e : ℕ). either (granted u e) (viewed tree.viewports h.step)) h.envelope ∙ ap (opened_at u o.envelope) (sym (step_rights_is tree id o h))
 
 -- ---- the rights on a path, from its end
 
@@ -90,18 +90,18 @@ left_is tree u i n (Some q) h l =
     ∙ sym (ap (λ (o : Option Node). rights tree u (option_map_or (λ (x : Node). x.path) o [])) m.1)
 
 -- the rights on an object are what is granted for its envelope, and the rights on its parent
-pub rights_step : (tree : Tree) (u : Member) (id : ℕ) (o : Object) (r g : RightSet) → StandsFor tree.nodes id o → g ≡ opened_at u o.envelope (sight_at tree id) → both (both r g) (rights_left tree u o.parent) ≡ both r (rights_at tree u id)
+pub rights_step : (tree : Tree) (u : Member) (id : ℕ) (o : Object) (r g : RightSet) → StandsFor tree.nodes id o → g ≡ opened_at u o.envelope (step_rights_at tree id) → both (both r g) (rights_left tree u o.parent) ≡ both r (rights_at tree u id)
 rights_step tree u id o r g h is =
     let above : List Step = path_of tree.nodes (option_map (λ q. q.0) o.parent) in
     let own : opened tree u h.step ≡ g = opened_is tree u id o h ∙ sym is in
     let here : rights_at tree u id ≡ both (rights tree u above) g =
     ap (λ (x : Option Node). option_map_or (λ (x : Node). rights tree u x.path) x nothing) h.there ∙ ap (rights tree u) h.path
     ∙ rights-append tree u above h.step ∙ ap (both (rights tree u above)) own in
-    ap (both (both r g)) (left_is tree u id h.node o.parent h.there h.behind)
+    ap (both (both r g)) (left_is tree u id h.node o.parent h.there h.following)
     ∙ both-swap r g (rights tree u above) ∙ ap (both r) (sym here)
 
 -- the rights on an object, by those on the module in which it is declared
-pub rights_own : (tree : Tree) (u : Member) (id : ℕ) (o : Object) (g : RightSet) → StandsFor tree.nodes id o → g ≡ opened_at u o.envelope (sight_at tree id) → both g (rights_left tree u o.parent) ≡ rights_at tree u id
+pub rights_own : (tree : Tree) (u : Member) (id : ℕ) (o : Object) (g : RightSet) → StandsFor tree.nodes id o → g ≡ opened_at u o.envelope (step_rights_at tree id) → both g (rights_left tree u o.parent) ≡ rights_at tree u id
 rights_own tree u id o g h is = rights_step tree u id o everything g h is
 
 -- ---- denials, from the end of a path
@@ -133,24 +133,24 @@ denial_left tree u r (Some id) = denial_at tree u r id.0
 
 -- a denial at the step to an object
 abbrev pub denied_at : Member → Right → ℕ → RightSet × Option ℕ → Denial
-denied_at u r envelope sight = record { by = by_first u envelope sight.1; envelope = envelope; right = r }
+denied_at u r envelope step_rights = record { by = by_first u envelope step_rights.1; envelope = envelope; right = r }
 
 -- the denial at one step
 abbrev pub denial_here : Member → Right → ℕ → RightSet × Option ℕ → Option Denial
-denial_here u r envelope sight = if has r (opened_at u envelope sight) then None else Some (denied_at u r envelope sight)
+denial_here u r envelope step_rights = if has r (opened_at u envelope step_rights) then None else Some (denied_at u r envelope step_rights)
 
-here_is : (tree : Tree) (u : Member) (r : Right) (id : ℕ) (o : Object) (h : StandsFor tree.nodes id o) → denial tree u r (h.step ∷ []) ≡ denial_here u r o.envelope (sight_at tree id)
-here_is tree u r id o h = ap (λ (e : ℕ). denial_here u r e (sight_of tree.viewports h.step)) h.envelope ∙ ap (denial_here u r o.envelope) (sym (sight_is tree id o h))
+here_is : (tree : Tree) (u : Member) (r : Right) (id : ℕ) (o : Object) (h : StandsFor tree.nodes id o) → denial tree u r (h.step ∷ []) ≡ denial_here u r o.envelope (step_rights_at tree id)
+here_is tree u r id o h = ap (λ (e : ℕ). denial_here u r e (step_rights_of tree.viewports h.step)) h.envelope ∙ ap (denial_here u r o.envelope) (sym (step_rights_is tree id o h))
 
 above_is : (tree : Tree) (u : Member) (r : Right) (p : Option ObjectId) → denial tree u r (path_of tree.nodes (option_map (λ q. q.0) p)) ≡ denial_left tree u r p
 above_is tree u r None = refl
 above_is tree u r (Some q) = refl
 
 -- a right on an object is denied as it is on its parent, else at its own step
-pub denial_step : (tree : Tree) (u : Member) (r : Right) (id : ℕ) (o : Object) (found : Option Denial) → StandsFor tree.nodes id o → first_denial (denial_left tree u r o.parent) (first_denial (denial_here u r o.envelope (sight_at tree id)) found) ≡ first_denial (denial_at tree u r id) found
+pub denial_step : (tree : Tree) (u : Member) (r : Right) (id : ℕ) (o : Object) (found : Option Denial) → StandsFor tree.nodes id o → first_denial (denial_left tree u r o.parent) (first_denial (denial_here u r o.envelope (step_rights_at tree id)) found) ≡ first_denial (denial_at tree u r id) found
 denial_step tree u r id o found h =
     let above : List Step = path_of tree.nodes (option_map (λ q. q.0) o.parent) in
-    let own : Option Denial = denial_here u r o.envelope (sight_at tree id) in
+    let own : Option Denial = denial_here u r o.envelope (step_rights_at tree id) in
     let here : denial_at tree u r id ≡ first_denial (denial_left tree u r o.parent) own =
     ap (λ (x : Option Node). denial tree u r (option_map_or (λ (x : Node). x.path) x [])) h.there ∙ ap (denial tree u r) h.path
     ∙ denial-append tree u r above h.step ∙ ap (first_denial (denial tree u r above)) (here_is tree u r id o h)
@@ -205,20 +205,20 @@ listed_found tree u None o h = absurd cc
 listed_found tree u (Some p) o h = listed_by (is_listed_at tree u p) p o h
 
 -- the walk of a name after which others follow
-parts_behind : (text : List ℕ) → (first : List ℕ) × (others : List (List ℕ)) × (parts 46 text ≡ first ∷ others)
-parts_behind [] = ([], [], refl)
-parts_behind (b ∷ bytes) = begun_part b (parts_behind bytes).0 (parts_behind bytes).1 (parts 46 bytes) (parts_behind bytes).2 (b == 46)
+parts_after : (text : List ℕ) → (first : List ℕ) × (others : List (List ℕ)) × (parts 46 text ≡ first ∷ others)
+parts_after [] = ([], [], refl)
+parts_after (b ∷ bytes) = begun_part b (parts_after bytes).0 (parts_after bytes).1 (parts 46 bytes) (parts_after bytes).2 (b == 46)
 
 -- where a walk stands makes no difference to what follows a name
 walk_here : (tree : Tree) (u : Member) (here there : Look) (scope : List (List ℕ)) (text : List ℕ) → walk tree u here scope (parts 46 text) ≡ walk tree u there scope (parts 46 text)
 walk_here tree u here there scope text =
-    let p = parts_behind text in
+    let p = parts_after text in
     ap (walk tree u here scope) p.2 ∙ sym (ap (walk tree u there scope) p.2)
 
 -- a name that is listed, with others after it
 walk_next :
     (tree : Tree) (u : Member) (scope : Option ℕ) (names : List (List ℕ)) (text part further : List ℕ) (o : ℕ)
-    → scope_names tree.nodes scope ≡ Some names → parts 46 text ≡ behind_part 46 part (Some further) → Some o ≡ listed_in tree u (find_in tree.nodes scope part)
+    → scope_names tree.nodes scope ≡ Some names → parts 46 text ≡ part_and_rest 46 part (Some further) → Some o ≡ listed_in tree u (find_in tree.nodes scope part)
     → walk tree u look.Absent (names ++ part ∷ []) (parts 46 further) ≡ walk tree u look.Absent names (parts 46 text)
 walk_next tree u scope names text part further o named split found =
     let next : ℕ → Look = λ o. walk tree u (look.Found (record { 0 = o })) (names ++ part ∷ []) (parts 46 further) in
@@ -238,7 +238,7 @@ scope_next tree u scope names part o named found =
 
 next_by :
     (tree : Tree) (u : Member) (scope : Option ℕ) (above : Option (List (List ℕ))) (text part further : List ℕ) (o : ℕ)
-    → scope_names tree.nodes scope ≡ above → parts 46 text ≡ behind_part 46 part (Some further) → Some o ≡ listed_in tree u (find_in tree.nodes scope part)
+    → scope_names tree.nodes scope ≡ above → parts 46 text ≡ part_and_rest 46 part (Some further) → Some o ≡ listed_in tree u (find_in tree.nodes scope part)
     → look_in tree u (Some o) (parts 46 further) ≡ look_in tree u scope (parts 46 text)
 next_by tree u scope None text part further o named split found =
     let nothing_there : find_in tree.nodes scope part ≡ None =
@@ -253,7 +253,7 @@ next_by tree u scope (Some names) text part further o named split found =
 -- a name that is listed, with others after it
 pub look_next :
     (tree : Tree) (u : Member) (scope : Option ℕ) (text part further : List ℕ) (o : ℕ)
-    → parts 46 text ≡ behind_part 46 part (Some further) → Some o ≡ listed_in tree u (find_in tree.nodes scope part)
+    → parts 46 text ≡ part_and_rest 46 part (Some further) → Some o ≡ listed_in tree u (find_in tree.nodes scope part)
     → look_in tree u (Some o) (parts 46 further) ≡ look_in tree u scope (parts 46 text)
 look_next tree u scope text part further o split found =
     next_by tree u scope (scope_names tree.nodes scope) text part further o refl split found
@@ -261,16 +261,16 @@ look_next tree u scope text part further o split found =
 -- ---- one turn of each walk
 
 -- a step at which the right is lacking
-pub lacking_step : (tree : Tree) (u : Member) (r : Right) (id : ℕ) (o : Object) (found : Option Denial) (d : Denial) → StandsFor tree.nodes id o → has r (opened_at u o.envelope (sight_at tree id)) ≡ false → d ≡ denied_at u r o.envelope (sight_at tree id) → first_denial (denial_left tree u r o.parent) (Some d) ≡ first_denial (denial_at tree u r id) found
-lacking_step tree u r id o found d h lacks is =
-    let own : Denial = denied_at u r o.envelope (sight_at tree id) in
+pub missing_step : (tree : Tree) (u : Member) (r : Right) (id : ℕ) (o : Object) (found : Option Denial) (d : Denial) → StandsFor tree.nodes id o → has r (opened_at u o.envelope (step_rights_at tree id)) ≡ false → d ≡ denied_at u r o.envelope (step_rights_at tree id) → first_denial (denial_left tree u r o.parent) (Some d) ≡ first_denial (denial_at tree u r id) found
+missing_step tree u r id o found d h lacks is =
+    let own : Denial = denied_at u r o.envelope (step_rights_at tree id) in
     ap (λ (x : Denial). first_denial (denial_left tree u r o.parent) (Some x)) is
     ∙ sym (ap (λ (b : Bool). first_denial (denial_left tree u r o.parent) (first_denial (if b then None else Some own) found)) lacks)
     ∙ denial_step tree u r id o found h
 
 -- a step at which it is his
-pub having_step : (tree : Tree) (u : Member) (r : Right) (id : ℕ) (o : Object) (found : Option Denial) → StandsFor tree.nodes id o → has r (opened_at u o.envelope (sight_at tree id)) ≡ true → first_denial (denial_left tree u r o.parent) found ≡ first_denial (denial_at tree u r id) found
+pub having_step : (tree : Tree) (u : Member) (r : Right) (id : ℕ) (o : Object) (found : Option Denial) → StandsFor tree.nodes id o → has r (opened_at u o.envelope (step_rights_at tree id)) ≡ true → first_denial (denial_left tree u r o.parent) found ≡ first_denial (denial_at tree u r id) found
 having_step tree u r id o found h his =
-    let own : Denial = denied_at u r o.envelope (sight_at tree id) in
+    let own : Denial = denied_at u r o.envelope (step_rights_at tree id) in
     sym (ap (λ (b : Bool). first_denial (denial_left tree u r o.parent) (first_denial (if b then None else Some own) found)) his)
     ∙ denial_step tree u r id o found h

@@ -1,7 +1,7 @@
 -- The numbers of the refusals of a policy file.
 use Rattle.std.specs.Prelude.{ℕ}
-use Rattle.vp_policy.specs.declared.fault.PolicyError.{PolicyError}
-use Rattle.vp_policy.specs.declared.fault.PolicyError.TheVariants.{BadPolicy, DuplicateUser, NoSuchEnvelope, TooManyUsers, NoMemory}
+use Rattle.vp_policy.specs.declared.error.PolicyError.{PolicyError}
+use Rattle.vp_policy.specs.declared.error.PolicyError.TheVariants.{BadPolicy, DuplicateUser, NoSuchEnvelope, TooManyUsers, NoMemory}
 
 -- the number of a refusal (profile)
 abbrev pub code_of : PolicyError → ℕ

@@ -10,8 +10,8 @@ use Rattle.serde_json.specs.Read.{read}
 use Rattle.vp_json.specs.Keys.{has_keys}
 use Rattle.vp_pragma.specs.Access.{access_of}
 use Rattle.vp_pragma.specs.Rights.{RightSet, nothing}
-use Rattle.vp_policy.specs.declared.fault.PolicyError.{PolicyError}
-use Rattle.vp_policy.specs.declared.fault.PolicyError.TheVariants.{BadPolicy, DuplicateUser, NoSuchEnvelope, TooManyUsers}
+use Rattle.vp_policy.specs.declared.error.PolicyError.{PolicyError}
+use Rattle.vp_policy.specs.declared.error.PolicyError.TheVariants.{BadPolicy, DuplicateUser, NoSuchEnvelope, TooManyUsers}
 use Rattle.vp_policy.specs.declared.reading.TheConstants.{USER_LIMIT}
 use Rattle.vp_policy.specs.PolicyState.{PolicyState}
 use Rattle.vp_policy.specs.Users.{Member}

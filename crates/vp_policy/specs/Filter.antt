@@ -6,14 +6,14 @@ use Rattle.vp_pragma.specs.declared.rights.Right.TheVariants as right
 use Rattle.vp_pragma.specs.Rights.{RightSet, has, nothing, everything, both, either}
 use Rattle.vp_pragma.specs.Envelopes.{Viewport, object_of}
 use Rattle.vp_elab.specs.Tree.{Step, Node, Tree, author_in, children_of, declared_envelopes, envelopes_in, find_named, first_viewport, path_of, scope_names, viewed}
-use Rattle.vp_policy.specs.declared.denial.By.{By}
-use Rattle.vp_policy.specs.declared.denial.By.TheVariants as by
-use Rattle.vp_policy.specs.declared.denial.Barrier.{Barrier}
-use Rattle.vp_policy.specs.declared.denial.Barrier.TheVariants as barrier
+use Rattle.vp_policy.specs.declared.denial.DeniedBy.{DeniedBy}
+use Rattle.vp_policy.specs.declared.denial.DeniedBy.TheVariants as by
+use Rattle.vp_policy.specs.declared.denial.ShownBarrier.{ShownBarrier}
+use Rattle.vp_policy.specs.declared.denial.ShownBarrier.TheVariants as barrier
 use Rattle.vp_policy.specs.declared.denial.Denial.{Denial}
 use Rattle.vp_policy.specs.declared.denial.Look.{Look}
 use Rattle.vp_policy.specs.declared.denial.Look.TheVariants as look
-use Rattle.vp_policy.specs.Denials.{DenialWords}
+use Rattle.vp_policy.specs.Denials.{DenialText}
 use Rattle.vp_policy.specs.Users.{Member, granted, has_entry}
 
 -- ---- rights
@@ -52,17 +52,17 @@ closed_in tree u scope = filter (is_closed u) (declared_envelopes tree scope)
 -- ---- denials
 
 -- what keeps a user out of an envelope: his grant, if it is the open text or he has an entry for it, else the envelope (profile)
-abbrev pub by_grant : Member → ℕ → By
+abbrev pub by_grant : Member → ℕ → DeniedBy
 by_grant u envelope = if (envelope == 0) || has_entry u envelope then by.Grant else by.Envelope
 
 -- what keeps a user out where this viewport, or none, is the first that matches: the viewport, else what keeps him out of
 -- the envelope (profile)
-abbrev pub by_first : Member → (envelope : ℕ) → Option ℕ → By
+abbrev pub by_first : Member → (envelope : ℕ) → Option ℕ → DeniedBy
 by_first u envelope None = by_grant u envelope
 by_first u envelope (Some viewport) = by.Viewport viewport
 
 -- what keeps a user out at a step
-abbrev pub by_step : Tree → Member → Step → By
+abbrev pub by_step : Tree → Member → Step → DeniedBy
 by_step tree u s = by_first u s.envelope (first_viewport tree.viewports s)
 
 -- why a right on the object with this path is denied: by the first step at which it is not opened; none if it is his
@@ -78,20 +78,20 @@ abbrev pub denial_at : Tree → Member → Right → ℕ → Option Denial
 denial_at tree u r o = denial tree u r (path_of tree.nodes (Some o))
 
 -- the object that the viewport which keeps a user out names; none where no viewport does
-abbrev pub viewport_object : List Viewport → By → Option (List ℕ)
+abbrev pub viewport_object : List Viewport → DeniedBy → Option (List ℕ)
 viewport_object viewports (by.Viewport n) = option_map object_of (slice_get viewports n)
 viewport_object viewports by.Envelope = None
 viewport_object viewports by.Grant = None
 
 -- what keeps a user out, in words: a viewport's number is none of them, since it counts viewports that he can't see (profile)
-abbrev pub barrier_of : By → Barrier
+abbrev pub barrier_of : DeniedBy → ShownBarrier
 barrier_of (by.Viewport n) = barrier.Viewport
 barrier_of by.Envelope = barrier.Envelope
 barrier_of by.Grant = barrier.Grant
 
 -- a denial in the words that its user is told: with the author of its envelope, and the object of the viewport that keeps him
 -- out, if one does (profile)
-abbrev pub words_of : Tree → Denial → DenialWords
+abbrev pub words_of : Tree → Denial → DenialText
 words_of tree d = record {
   by = barrier_of d.by;
   envelope = d.envelope;
@@ -102,11 +102,11 @@ words_of tree d = record {
 
 -- what keeps a user from running the design, the number of the envelope, and the word of the right: his grant for the open text
 -- (profile)
-abbrev pub run_denied : Barrier × ℕ × List ℕ
+abbrev pub run_denied : ShownBarrier × ℕ × List ℕ
 run_denied = (barrier.Grant, 0, codes "run")
 
 -- why a user may not run the design; none if his run flag is set (profile)
-abbrev pub run_denial : Member → Option (Barrier × ℕ × List ℕ)
+abbrev pub run_denial : Member → Option (ShownBarrier × ℕ × List ℕ)
 run_denial u = if u.run then None else Some run_denied
 
 -- ---- names

@@ -26,8 +26,8 @@ own_step o = record {
 }
 
 -- the node of an object after these nodes: its step stands after the path to the object in which it is declared
-abbrev pub node_behind : List SeenNode → SeenObject → SeenNode
-node_behind nodes o = record {
+abbrev pub node_after : List SeenNode → SeenObject → SeenNode
+node_after nodes o = record {
   path = path_to nodes o.parent ++ own_step o ∷ [];
   kind = o.kind;
   width = o.width;
@@ -40,7 +40,7 @@ node_behind nodes o = record {
 -- these nodes, and after them those of objects, one after the other
 abbrev pub nodes_from : List SeenNode → List SeenObject → List SeenNode
 nodes_from nodes [] = nodes
-nodes_from nodes (o ∷ objects) = nodes_from (nodes ++ node_behind nodes o ∷ []) objects
+nodes_from nodes (o ∷ objects) = nodes_from (nodes ++ node_after nodes o ∷ []) objects
 
 -- the author of an envelope, and whether the user has a grant entry for it
 abbrev pub envelope_shown : SeenEnvelope → List ℕ × Bool

@@ -11,7 +11,7 @@ use vp_pragma::Right;
 
 /// What keeps a user out.
 #[derive(Clone, Copy, Debug, PartialEq, Eq)]
-pub enum By {
+pub enum DeniedBy {
     /// A viewport matches the step, and what is opened there lacks the right; the first that matches, by its number
     /// in the order of the text, from 0.
     Viewport(usize),
@@ -24,7 +24,7 @@ pub enum By {
 /// Why something is denied: what keeps the user out of which envelope, and the right that he lacks.
 #[derive(Clone, Copy, Debug, PartialEq, Eq)]
 pub struct Denial {
-    pub by: By,
+    pub by: DeniedBy,
     /// The number of the envelope; 0 for the open text.
     pub envelope: u8,
     pub right: Right,
@@ -32,7 +32,7 @@ pub struct Denial {
 
 /// What keeps a user out, in words.
 #[derive(Clone, Copy, Debug, PartialEq, Eq)]
-pub enum Barrier {
+pub enum ShownBarrier {
     /// A viewport matches the step, and what is opened there lacks the right.
     Viewport,
     /// He has no grant for the envelope.
@@ -44,7 +44,7 @@ pub enum Barrier {
 /// The words of a denial.
 #[derive(Drop)]
 pub struct Words {
-    by: Barrier,
+    by: ShownBarrier,
     envelope: u8,
     right: Right,
     author: SharedText,
@@ -54,51 +54,51 @@ pub struct Words {
 /// A denial in the words that its user is told, which several may hold at once. A viewport is named by its object: its number
 /// would count viewports that he can't see. A contract sees the words.
 #[derive(Drop)]
-pub struct DenialWords {
+pub struct DenialText {
     words: Arc<Words>,
 }
 
-impl Model for DenialWords {
+impl Model for DenialText {
     ghost use Rattle.std.specs.Arc.{arc_value};
-    ghost use Rattle.vp_policy.specs.Denials.{DenialWords, words_shown};
+    ghost use Rattle.vp_policy.specs.Denials.{DenialText, words_shown};
 
-    ghost Value = { DenialWords };
+    ghost Value = { DenialText };
 
     ghost view = { λ w. words_shown (arc_value w.words) };
 }
 
-impl By {
+impl DeniedBy {
     /// The same in words.
-    fn barrier(self) -> Barrier
+    fn barrier(self) -> ShownBarrier
         ensures { result ≡ barrier_of self }
     {
         match self {
-            By::Viewport(_) => Barrier::Viewport,
-            By::Envelope => Barrier::Envelope,
-            By::Grant => Barrier::Grant,
+            DeniedBy::Viewport(_) => ShownBarrier::Viewport,
+            DeniedBy::Envelope => ShownBarrier::Envelope,
+            DeniedBy::Grant => ShownBarrier::Grant,
         }
     }
 }
 
 /// The object that the viewport names which keeps a user out, if one does.
-fn viewport_object(design: &Design, by: By) -> Result<Option<SharedText>, AllocError>
+fn viewport_object(design: &Design, by: DeniedBy) -> Result<Option<SharedText>, AllocError>
     ensures { IfOk result (λ object. object ≡ viewport_object design.now.tree.viewports by) }
 {
     match by {
-        By::Viewport(number) => design.viewport_object(number),
-        By::Envelope | By::Grant => Ok(None),
+        DeniedBy::Viewport(number) => design.viewport_object(number),
+        DeniedBy::Envelope | DeniedBy::Grant => Ok(None),
     }
 }
 
 impl Denial {
     /// The denial in words, whose texts are the design's own. Takes memory.
-    pub fn words(self, alloc: Global, design: &Design) -> Result<DenialWords, AllocError>
+    pub fn words(self, alloc: Global, design: &Design) -> Result<DenialText, AllocError>
         ensures { IfOk result (λ words. words ≡ words_of design.now.tree self) }
     {
         let envelope = self.envelope;
         let author = design.shared_author(envelope)?;
         let object = viewport_object(design, self.by)?;
-        DenialWords::new(
+        DenialText::new(
             alloc,
             self.by.barrier(),
             envelope,
@@ -109,17 +109,17 @@ impl Denial {
     }
 }
 
-impl DenialWords {
+impl DenialText {
     /// The words of a denial: what keeps the user out of which envelope, the right that he lacks, the envelope's author, and the object
     /// of a viewport that keeps him out. Takes memory.
     pub fn new(
         alloc: Global,
-        by: Barrier,
+        by: ShownBarrier,
         envelope: u8,
         right: Right,
         author: SharedText,
         object: Option<SharedText>,
-    ) -> Result<DenialWords, AllocError>
+    ) -> Result<DenialText, AllocError>
         ensures { IfOk result (λ w. w ≡ record {
           by = by;
           envelope = envelope;
@@ -136,16 +136,16 @@ impl DenialWords {
             object,
         };
         match Arc::new(alloc, words) {
-            Ok(words) => Ok(DenialWords { words }),
+            Ok(words) => Ok(DenialText { words }),
             Err(_) => Err(AllocError),
         }
     }
 
     /// The same words for one holder more; or an error where the holders can't be counted.
-    pub fn try_clone(&self) -> Result<DenialWords, AllocError>
+    pub fn try_clone(&self) -> Result<DenialText, AllocError>
         ensures { IfOk result (λ words. words ≡ self.now) }
     {
-        Ok(DenialWords {
+        Ok(DenialText {
             words: Arc::try_clone(&self.words)?,
         })
     }
@@ -158,7 +158,7 @@ impl DenialWords {
     }
 
     /// What keeps the user out.
-    pub fn by(&self) -> Barrier
+    pub fn by(&self) -> ShownBarrier
         ensures { result ≡ self.now.by }
     {
         self.held().by
@@ -196,8 +196,8 @@ impl DenialWords {
     }
 }
 
-impl Same for DenialWords {
-    fn is_same(&self, other: &DenialWords) -> bool {
+impl Same for DenialText {
+    fn is_same(&self, other: &DenialText) -> bool {
         self.by() == other.by()
             && self.envelope() == other.envelope()
             && self.right() == other.right()

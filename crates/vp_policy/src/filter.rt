@@ -7,48 +7,48 @@ ghost use Rattle.vp_policy.specs.Filter.{IsAnsweredAlike, by_first, by_grant, cl
 ghost use Rattle.vp_policy.specs.PolicyState.{Fits};
 ghost use Rattle.vp_policy.specs.Users.{granted, has_entry, member_at};
 
-use crate::denial::{By, Denial, Look};
-use crate::fault::PolicyError;
+use crate::denial::{Denial, DeniedBy, Look};
+use crate::error::PolicyError;
 use crate::policy::{Policy, UserId};
 use crate::rights_tables::entry_of;
 use std::alloc::Global;
-use vp_elab::{Design, ObjectId, Sight};
+use vp_elab::{Design, ObjectId, StepRights};
 use vp_list::{Sequence, first_part};
 use vp_pragma::{Right, Rights};
 
 impl Policy {
     /// What keeps a user out of an envelope: his grant, if it is the open text or he has an entry for it, else the
     /// envelope.
-    fn by_grant(&self, user: UserId, envelope: u8) -> By
+    fn by_grant(&self, user: UserId, envelope: u8) -> DeniedBy
         ensures { result ≡ by_grant (member_at self.now.members user.0) envelope }
     {
         if envelope == 0 || self.has_entry(user, envelope) {
-            By::Grant
+            DeniedBy::Grant
         } else {
-            By::Envelope
+            DeniedBy::Envelope
         }
     }
 
     /// What is opened to a user at the step to an object: what is granted to him in its envelope, and what viewports
     /// open.
-    fn opened(&self, user: UserId, envelope: u8, sight: Sight) -> Rights
+    fn opened(&self, user: UserId, envelope: u8, step_rights: StepRights) -> Rights
         ensures { set_of result ≡ either (granted (member_at self.now.members user.0) envelope)
-            (set_of sight.rights) }
+            (set_of step_rights.rights) }
     {
-        self.granted(user, envelope).either(sight.rights)
+        self.granted(user, envelope).either(step_rights.rights)
     }
 
     /// A denial of a right at the step to an object: by the first viewport that matches it, else by the user's grant
     /// or by the envelope.
-    fn denial(&self, user: UserId, envelope: u8, sight: Sight, right: Right) -> Denial
+    fn denial(&self, user: UserId, envelope: u8, step_rights: StepRights, right: Right) -> Denial
         ensures { result ≡ record {
-          by = by_first (member_at self.now.members user.0) envelope sight.viewport;
+          by = by_first (member_at self.now.members user.0) envelope step_rights.viewport;
           envelope = envelope;
           right = right;
         } }
     {
-        let by = match sight.viewport {
-            Some(viewport) => By::Viewport(viewport),
+        let by = match step_rights.viewport {
+            Some(viewport) => DeniedBy::Viewport(viewport),
             None => self.by_grant(user, envelope),
         };
         Denial {
@@ -70,7 +70,7 @@ impl Policy {
     }
 
     /// Why a right on an object is denied, found step by step from the object up. None if it is his, and where no object is.
-    fn first_lacking(
+    fn first_missing_step(
         &self,
         design: &Design,
         user: UserId,
@@ -86,9 +86,9 @@ impl Policy {
             let Some(here) = design.object(id) else {
                 break;
             };
-            let sight = design.sight(id);
-            if !self.opened(user, here.envelope, sight).has(right) {
-                found = Some(self.denial(user, here.envelope, sight, right));
+            let step_rights = design.step_rights(id);
+            if !self.opened(user, here.envelope, step_rights).has(right) {
+                found = Some(self.denial(user, here.envelope, step_rights, right));
             }
             step = here.parent;
         }
@@ -97,7 +97,7 @@ impl Policy {
 
     /// Why a right on an object is denied: by the first step of its path at which the right is not opened. None if
     /// it is his, and where no object is.
-    pub fn lacking(
+    pub fn missing_right(
         &self,
         design: &Design,
         user: UserId,
@@ -110,7 +110,7 @@ impl Policy {
     {
         // Only a denial asks for the step.
         if self.is_denied(user, object, right) {
-            self.first_lacking(design, user, object, right)
+            self.first_missing_step(design, user, object, right)
         } else {
             None
         }
@@ -124,7 +124,7 @@ impl Policy {
         ensures { denial_at design.now.tree (member_at self.now.members user.0) right object.0
             ≡ Some result }
     {
-        match self.lacking(design, user, object, right) {
+        match self.missing_right(design, user, object, right) {
             Some(denial) => denial,
             None => unreachable!(),
         }
@@ -233,11 +233,11 @@ impl Policy {
         let mut scope = scope;
         let mut rest = name;
         loop {
-            let (part, behind) = first_part(rest, '.');
+            let (part, following) = first_part(rest, '.');
             let Some(object) = self.find_listed(design, user, scope, part) else {
                 return self.unlisted(user, scope);
             };
-            match behind {
+            match following {
                 Some(further) => rest = further,
                 None => return Look::Found(object),
             }

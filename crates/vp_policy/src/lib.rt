@@ -4,7 +4,7 @@
 mod access;
 mod copying;
 mod denial;
-mod fault;
+mod error;
 mod filter;
 mod grant;
 mod policy;
@@ -15,8 +15,8 @@ mod scope_lists;
 mod view;
 
 pub use access::Access;
-pub use denial::{Barrier, By, Denial, DenialWords, Look};
-pub use fault::PolicyError;
+pub use denial::{Denial, DenialText, DeniedBy, Look, ShownBarrier};
+pub use error::PolicyError;
 pub use grant::Grant;
 pub use policy::{Policy, User, UserId};
 pub use reading::{USER_LIMIT, read_policy};

@@ -10,7 +10,7 @@ ghost use Rattle.vp_policy.specs.RightsTables.{AreTables};
 ghost use Rattle.vp_policy.specs.Users.{granted, has_entry, login_of, member_at, user_of};
 
 use crate::copying::{copied, copied_users};
-use crate::fault::PolicyError;
+use crate::error::PolicyError;
 use crate::grant::{Grant, has_grant};
 use crate::regrant::{regranted, set_tables, set_user};
 use crate::rights_tables::{

@@ -2,7 +2,7 @@
 ghost use Rattle.std.specs.Prelude.{◌≡◌, ◌⊎◌, [], None, Ok, Some, length, map, option_and_then, option_map, IfErr, IfOk, IsErrOf};
 ghost use Rattle.std.specs.List.{list_all};
 ghost use Rattle.std.specs.Result.{result_err};
-ghost use Rattle.vp_policy.specs.declared.fault.PolicyError.TheVariants.{NoMemory};
+ghost use Rattle.vp_policy.specs.declared.error.PolicyError.TheVariants.{NoMemory};
 ghost use Rattle.vp_list.specs.Refusals.{MayExplain};
 ghost use Rattle.serde_json.specs.View.{items_view, view};
 ghost use Rattle.vp_pragma.specs.Rights.{set_of};
@@ -12,7 +12,7 @@ ghost use Rattle.vp_policy.specs.Listing.{IsListed};
 ghost use Rattle.vp_policy.specs.PolicyState.{Fits};
 
 use crate::copying::copied;
-use crate::fault::PolicyError;
+use crate::error::PolicyError;
 use crate::grant::Grant;
 use crate::policy::{Policy, User};
 use indexmap::IndexMap;

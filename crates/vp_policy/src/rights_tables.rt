@@ -102,7 +102,7 @@ fn next_rights(
     let Some(here) = design.object(object) else {
         return Rights::none();
     };
-    let opened = granted[here.envelope as usize].either(design.sight(object).rights);
+    let opened = granted[here.envelope as usize].either(design.step_rights(object).rights);
     match here.parent {
         Some(module) => opened.both(rights_among(before, module)),
         None => opened,

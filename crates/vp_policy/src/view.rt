@@ -4,12 +4,12 @@ ghost use Rattle.vp_elab.specs.Tree.{Node, matches_at};
 ghost use Rattle.vp_pragma.specs.Rights.{set_of};
 ghost use Rattle.vp_resolve.specs.Constants.{constant_at};
 ghost use Rattle.vp_policy.specs.PolicyState.{Fits};
-ghost use Rattle.vp_policy.specs.SeenObjects.{envelope_shown, node_behind, nodes_from, number_in, numbers_from, view_shown, viewport_shown};
+ghost use Rattle.vp_policy.specs.SeenObjects.{envelope_shown, node_after, nodes_from, number_in, numbers_from, view_shown, viewport_shown};
 ghost use Rattle.vp_policy.specs.Users.{Member, member_at};
 ghost use Rattle.vp_policy.specs.View.{HasScope, HoldScopes, is_parameter, is_value_seen, known_nodes, known_view, listed_marks, seen_envelopes, seen_node, seen_viewport, view_of};
 
 use crate::copying::copied;
-use crate::fault::PolicyError;
+use crate::error::PolicyError;
 use crate::policy::{Policy, UserId};
 use std::alloc::Global;
 use std::marker::Model;
@@ -197,7 +197,7 @@ impl Policy {
         ensures node { let user : Member = member_at self.now.members user.0 in
             let before : List Node = take id.0 design.now.tree.nodes in
             IfOk result (λ o. IfSome (slice_get design.now.tree.nodes id.0)
-            (λ node. node_behind (known_nodes design.now user (map is_some numbers.now) before) o
+            (λ node. node_after (known_nodes design.now user (map is_some numbers.now) before) o
             ≡ seen_node design.now user node)) }
         ensures err { IsOkUnless result PolicyError.NoMemory }
     {

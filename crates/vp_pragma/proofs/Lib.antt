@@ -1,5 +1,5 @@
 pub mod Holding
-pub mod Behind
+pub mod After
 pub mod Refusals
 pub mod Turns
 pub mod RightBits

@@ -3,12 +3,12 @@ use Rattle.std.proofs.Common.{◌≡◌, ℕ, List, [], ◌∷◌, Some, None, R
 use Rattle.std.specs.Prelude.{codes}
 use Rattle.std.specs.Str.{chars, is_utf8}
 use Rattle.std.specs.Char.{encode_utf8}
-use Rattle.vp_lex.specs.declared.fault.LexError.{LexError}
+use Rattle.vp_lex.specs.declared.error.LexError.{LexError}
 use Rattle.vp_lex.specs.declared.token.Token.{Token}
 use Rattle.vp_lex.specs.Tokens.{tokens_of}
 use Rattle.vp_pragma.specs.declared.envelope.Envelope.{Envelope}
-use Rattle.vp_pragma.specs.declared.fault.PragmaError.{PragmaError}
-use Rattle.vp_pragma.specs.declared.fault.PragmaError.TheVariants as error
+use Rattle.vp_pragma.specs.declared.error.PragmaError.{PragmaError}
+use Rattle.vp_pragma.specs.declared.error.PragmaError.TheVariants as error
 use Rattle.vp_pragma.specs.Rights.{with_right, nothing}
 use Rattle.vp_pragma.specs.declared.rights.Right.TheVariants as right
 use Rattle.vp_pragma.specs.Access.{access_of}
@@ -101,9 +101,9 @@ unfolding is_utf8 chars encode_utf8 scan
 in_a_brace = refl
 
 -- a closing parenthesis without an opening one counts nothing
-behind_a_stray_parenthesis : envelopes_in (codes ") (;\n`pragma protect begin\n") ≡ Err (error.Unbalanced 2)
+after_a_stray_parenthesis : envelopes_in (codes ") (;\n`pragma protect begin\n") ≡ Err (error.Unbalanced 2)
 unfolding is_utf8 chars encode_utf8 scan
-behind_a_stray_parenthesis = refl
+after_a_stray_parenthesis = refl
 
 -- each kind is counted by itself
 closed_by_another_kind : envelopes_in (codes "( ];\n`pragma protect begin\n") ≡ Err (error.Unbalanced 2)
@@ -111,9 +111,9 @@ unfolding is_utf8 chars encode_utf8 scan
 closed_by_another_kind = refl
 
 -- what a pragma's line opens does not count
-behind_a_list : envelopes_in (codes "`pragma other (\n`pragma protect begin, end") ≡ only (envelope 5 7 [] ∷ [])
+after_a_list : envelopes_in (codes "`pragma other (\n`pragma protect begin, end") ≡ only (envelope 5 7 [] ∷ [])
 unfolding is_utf8 chars encode_utf8 scan
-behind_a_list = refl
+after_a_list = refl
 
 over_a_module : envelopes_in (codes "`pragma protect begin\nmodule m;\n`pragma protect end\n") ≡ Err (error.Unbalanced 3)
 unfolding is_utf8 chars encode_utf8 scan

@@ -1,7 +1,7 @@
 -- Rights as bits.
 use Rattle.std.proofs.Common.{◌≡◌, ℕ, zero, suc, ◌*◌, ◌^◌, ◌<◌, ◌≤◌, ◌==◌, Bool, true, false, ◌&&◌, ◌||◌, refl, sym, ap, ◌∙◌, arith}
 use Rattle.std.specs.Prelude.{min, max, List, [], option_and_then, option_map, Option, Some, None}
-use Rattle.vp_list.specs.Texts.{behind_part, parts}
+use Rattle.vp_list.specs.Texts.{part_and_rest, parts}
 use Rattle.vp_pragma.specs.Access.{right_of, rights_named}
 use Rattle.std.specs.Int.{bit_at}
 use Rattle.std.specs.Int.RustNames.{bit_and, bit_or}
@@ -83,7 +83,7 @@ access_more a r (Some s) = ap (λ (x : RightSet). (let o : Option RightSet = Som
 
 -- one more name is read, and more follow
 pub access_next :
-    (a b : RightSet) (text part further : List ℕ) (r : Right) → parts 43 text ≡ behind_part 43 part (Some further) → Some r ≡ right_of part → b ≡ either a (only r)
+    (a b : RightSet) (text part further : List ℕ) (r : Right) → parts 43 text ≡ part_and_rest 43 part (Some further) → Some r ≡ right_of part → b ≡ either a (only r)
     → option_map (either b) (rights_named (parts 43 further)) ≡ option_map (either a) (rights_named (parts 43 text))
 access_next a b text part further r split named more =
     ap (λ (x : RightSet). option_map (either x) (rights_named (parts 43 further))) more ∙ sym (access_more a r (rights_named (parts 43 further)))
@@ -92,7 +92,7 @@ access_next a b text part further r split named more =
 
 -- the last name is read
 pub access_last :
-    (a b e : RightSet) (text part : List ℕ) (r : Right) → parts 43 text ≡ behind_part 43 part None → Some r ≡ right_of part → b ≡ either a (only r) → e ≡ either b (only right.List)
+    (a b e : RightSet) (text part : List ℕ) (r : Right) → parts 43 text ≡ part_and_rest 43 part None → Some r ≡ right_of part → b ≡ either a (only r) → e ≡ either b (only right.List)
     → Some e ≡ option_map (either a) (rights_named (parts 43 text))
 access_last a b e text part r split named more last =
     ap (λ (x : RightSet). (let o : Option RightSet = Some x in o)) (last ∙ ap (λ (x : RightSet). either x (only right.List)) more ∙ sym (either_right r a (only right.List)))
@@ -101,7 +101,7 @@ access_last a b e text part r split named more last =
 
 -- a name that is no right's
 pub access_none :
-    (a : RightSet) (text part : List ℕ) (further : Option (List ℕ)) → parts 43 text ≡ behind_part 43 part further → None ≡ right_of part
+    (a : RightSet) (text part : List ℕ) (further : Option (List ℕ)) → parts 43 text ≡ part_and_rest 43 part further → None ≡ right_of part
     → None ≡ option_map (either a) (rights_named (parts 43 text))
 access_none a text part None split named =
     ap (λ (x : Option Right). option_map (either a) (option_and_then (λ r. option_map (with_right r) (rights_named [])) x)) named

@@ -9,12 +9,12 @@ use Rattle.vp_pragma.specs.declared.line.Expression.TheVariants.{Only}
 use Rattle.vp_pragma.specs.declared.line.Value.{Value}
 use Rattle.vp_pragma.specs.declared.line.Value.TheVariants as value
 use Rattle.vp_pragma.specs.declared.lists.Due.TheVariants as due
-use Rattle.vp_pragma.specs.declared.sign.Sign.{Sign}
-use Rattle.vp_pragma.specs.declared.sign.Sign.TheVariants as sign
+use Rattle.vp_pragma.specs.declared.token_class.TokenClass.{TokenClass}
+use Rattle.vp_pragma.specs.declared.token_class.TokenClass.TheVariants as token_class
 use Rattle.vp_pragma.specs.Lists.{scan}
-use Rattle.vp_pragma.specs.LineReading.{expression_at, keyword_text, pair_of, pair_with, value_at, value_by}
+use Rattle.vp_pragma.specs.LineReading.{expression_at, keyword_text, pair_of, pair_with, pragma_value, value_by}
 use Rattle.vp_pragma.specs.PragmaGrammar.{PragmaValue, Text, Number, Sized, Unsized, Word, Listed, PragmaExpression, Keyword, Assigned, Alone, PragmaList, Last, More, value_text, expression_text, list_text, Has, is_word_value, IsValue, IsExpression, IsList, text_assigned, pair_said, list_said, value_said, expression_said, EndsValue, EndsExpression, Begins}
-use Rattle.vp_pragma.specs.Signs.{Placed, begins_with, is_base, is_equals, is_word, rest_of, same_sign, sign_of}
+use Rattle.vp_pragma.specs.TokenClasses.{Placed, begins_with, is_base, is_equals, is_word, rest_of, same_class, class_of}
 use Rattle.vp_pragma.proofs.Scanned.{list_found, list_scan}
 
 -- ---- two keywords with strings
@@ -48,13 +48,13 @@ abbrev paired : Option (Token × Token × List Placed) → Value
 paired first = option_map_or (λ p. value.Pairs p) (option_and_then pair_with first) value.Other
 
 -- after one keyword with a string that ends a list
-one_alone : (first : Option (Token × Token)) (closing : Placed) (rest : List Placed) → Has sign.Closing closing → paired (named first (closing ∷ rest)) ≡ value.Other
+one_alone : (first : Option (Token × Token)) (closing : Placed) (rest : List Placed) → Has token_class.Closing closing → paired (named first (closing ∷ rest)) ≡ value.Other
 one_alone None closing rest h = refl
 one_alone (Some k) closing rest h = rw h refl
 
 -- after two keywords with strings that end a list
 two_alone :
-    (first second : Option (Token × Token)) (comma closing : Placed) (next rest : List Placed) → Has sign.Comma comma → Has sign.Closing closing
+    (first second : Option (Token × Token)) (comma closing : Placed) (next rest : List Placed) → Has token_class.Comma comma → Has token_class.Closing closing
     → keyword_text next ≡ named second (closing ∷ rest)
     → paired (named first (comma ∷ next)) ≡ pair_said first second
 two_alone None second comma closing next rest h k is = refl
@@ -63,47 +63,47 @@ two_alone (Some a) (Some b) comma closing next rest h k is = rw (h, is, k) refl
 
 -- after two keywords with strings, and more
 three_alone :
-    (first second : Option (Token × Token)) (comma more : Placed) (next rest : List Placed) → Has sign.Comma comma → Has sign.Comma more
+    (first second : Option (Token × Token)) (comma more : Placed) (next rest : List Placed) → Has token_class.Comma comma → Has token_class.Comma more
     → keyword_text next ≡ named second (more ∷ rest)
     → paired (named first (comma ∷ next)) ≡ value.Other
 three_alone None second comma more next rest h k is = refl
 three_alone (Some a) None comma more next rest h k is = rw (h, is) refl
 three_alone (Some a) (Some b) comma more next rest h k is = rw (h, is, k) refl
 
-comma_no_equals : (p : Placed) (ps : List Placed) → Has sign.Comma p → no_equals (p ∷ ps)
+comma_no_equals : (p : Placed) (ps : List Placed) → Has token_class.Comma p → no_equals (p ∷ ps)
 comma_no_equals p ps h = rw h refl
 
-closing_no_equals : (p : Placed) (ps : List Placed) → Has sign.Closing p → no_equals (p ∷ ps)
+closing_no_equals : (p : Placed) (ps : List Placed) → Has token_class.Closing p → no_equals (p ∷ ps)
 closing_no_equals p ps h = rw h refl
 
 -- what is read of a list is what it says
-pub list_read : (l : PragmaList) (closing : Placed) (rest : List Placed) → IsList l → Has sign.Closing closing → pair_of (list_text l (closing ∷ rest)) ≡ list_said l
+pub list_read : (l : PragmaList) (closing : Placed) (rest : List Placed) → IsList l → Has token_class.Closing closing → pair_of (list_text l (closing ∷ rest)) ≡ list_said l
 list_read (Last e) c rest h is =
     ap paired (keyword_read e (c ∷ rest) h (closing_no_equals c rest is)) ∙ one_alone (text_assigned e) c rest is
 list_read (More e comma (Last f)) c rest h is =
     ap paired (keyword_read e (comma ∷ expression_text f (c ∷ rest)) h.0 (comma_no_equals comma (expression_text f (c ∷ rest)) h.1))
     ∙ two_alone (text_assigned e) (text_assigned f) comma c (expression_text f (c ∷ rest)) rest h.1 is (keyword_read f (c ∷ rest) h.2 (closing_no_equals c rest is))
 list_read (More e comma (More f more l)) c rest h is =
-    let behind = list_text l (c ∷ rest) in
-    ap paired (keyword_read e (comma ∷ expression_text f (more ∷ behind)) h.0 (comma_no_equals comma (expression_text f (more ∷ behind)) h.1))
-    ∙ three_alone (text_assigned e) (text_assigned f) comma more (expression_text f (more ∷ behind)) behind h.1 h.2.1 (keyword_read f (more ∷ behind) h.2.0 (comma_no_equals more behind h.2.1))
+    let remainder = list_text l (c ∷ rest) in
+    ap paired (keyword_read e (comma ∷ expression_text f (more ∷ remainder)) h.0 (comma_no_equals comma (expression_text f (more ∷ remainder)) h.1))
+    ∙ three_alone (text_assigned e) (text_assigned f) comma more (expression_text f (more ∷ remainder)) remainder h.1 h.2.1 (keyword_read f (more ∷ remainder) h.2.0 (comma_no_equals more remainder h.2.1))
 
 -- ---- what is derived is read
 
 -- a value is read as what it says
-value_read : (v : PragmaValue) (rest : List Placed) → IsValue v → EndsValue v rest → value_at (value_text v rest) ≡ Some (value_said v, rest)
+value_read : (v : PragmaValue) (rest : List Placed) → IsValue v → EndsValue v rest → pragma_value (value_text v rest) ≡ Some (value_said v, rest)
 value_read (Text s) rest h ends = rw h refl
 value_read (Number n) rest h ends = rw (h, ends) refl
 value_read (Sized n b) rest h ends = rw (h.0, h.1) refl
 value_read (Unsized b) rest h ends = rw h refl
 value_read (Word w) rest h ends = rw h refl
 value_read (Listed o l c) rest h ends =
-    ap (λ (s : Sign). value_by s o (list_text l (c ∷ rest))) h.0
+    ap (λ (s : TokenClass). value_by s o (list_text l (c ∷ rest))) h.0
     ∙ ap (option_map (λ (r : List Placed). (pair_of (list_text l (c ∷ rest)), r))) (list_scan l 0 c rest h.1 h.2)
     ∙ ap (λ (v : Value). Some (v, rest)) (list_read l c rest h.1 h.2)
 
 -- where no word is first, a value is read
-no_word_read : (ps : List Placed) → begins_with is_word ps ≡ false → expression_at ps ≡ option_map (λ v. (Only, v.1)) (value_at ps)
+no_word_read : (ps : List Placed) → begins_with is_word ps ≡ false → expression_at ps ≡ option_map (λ v. (Only, v.1)) (pragma_value ps)
 no_word_read [] h = refl
 no_word_read (p ∷ ps) h = rw h refl
 
@@ -127,16 +127,16 @@ expression_read (Alone v) rest h ends =
 -- ---- what is read is derived
 
 -- signs that are the same
-same_signs : (s t : Sign) → same_sign s t ≡ true → t ≡ s
-same_signs sign.Word sign.Word h = refl
-same_signs sign.Text sign.Text h = refl
-same_signs sign.Number sign.Number h = refl
-same_signs sign.Base sign.Base h = refl
-same_signs sign.Equals sign.Equals h = refl
-same_signs sign.Comma sign.Comma h = refl
-same_signs sign.Opening sign.Opening h = refl
-same_signs sign.Closing sign.Closing h = refl
-same_signs sign.Other sign.Other h = refl
+same_signs : (s t : TokenClass) → same_class s t ≡ true → t ≡ s
+same_signs token_class.Word token_class.Word h = refl
+same_signs token_class.Text token_class.Text h = refl
+same_signs token_class.Number token_class.Number h = refl
+same_signs token_class.Base token_class.Base h = refl
+same_signs token_class.Equals token_class.Equals h = refl
+same_signs token_class.Comma token_class.Comma h = refl
+same_signs token_class.Opening token_class.Opening h = refl
+same_signs token_class.Closing token_class.Closing h = refl
+same_signs token_class.Other token_class.Other h = refl
 same_signs s t h = absurd cc
 
 -- what follows what was read
@@ -167,19 +167,19 @@ record IsRead (ps rest : List Placed) : Type 0 where
   spelled : ps ≡ value_text v rest
 
 -- after a number
-number_derived : (p : Placed) (ps rest : List Placed) → Has sign.Number p → (if begins_with is_base ps then rest_of ps else ps) ≡ rest → IsRead (p ∷ ps) rest
+number_derived : (p : Placed) (ps rest : List Placed) → Has token_class.Number p → (if begins_with is_base ps then rest_of ps else ps) ≡ rest → IsRead (p ∷ ps) rest
 number_derived p [] rest h is = record {
   v = Number p;
   is = h;
   ends = subst (λ (r : List Placed). begins_with is_base r ≡ false) is refl;
   spelled = ap (λ (r : List Placed). p ∷ r) is;
 }
-number_derived p (q ∷ ps) rest h is = by_base (same_sign sign.Base (sign_of q.1.kind)) refl is
+number_derived p (q ∷ ps) rest h is = by_base (same_class token_class.Base (class_of q.1.kind)) refl is
   where
-    by_base : (b : Bool) → same_sign sign.Base (sign_of q.1.kind) ≡ b → cond b ps (q ∷ ps) ≡ rest → IsRead (p ∷ q ∷ ps) rest
+    by_base : (b : Bool) → same_class token_class.Base (class_of q.1.kind) ≡ b → cond b ps (q ∷ ps) ≡ rest → IsRead (p ∷ q ∷ ps) rest
     by_base true based is = record {
       v = Sized p q;
-      is = (h, same_signs sign.Base (sign_of q.1.kind) based);
+      is = (h, same_signs token_class.Base (class_of q.1.kind) based);
       ends = tt;
       spelled = ap (λ (r : List Placed). p ∷ q ∷ r) is;
     }
@@ -191,7 +191,7 @@ number_derived p (q ∷ ps) rest h is = by_base (same_sign sign.Base (sign_of q.
     }
 
 -- a list that is read
-list_derived : (p : Placed) (ps rest : List Placed) (v : Value) (o : Option (List Placed)) → Has sign.Opening p → scan due.Expression 0 ps ≡ o → option_map (as_list ps) o ≡ Some (v, rest) → IsRead (p ∷ ps) rest
+list_derived : (p : Placed) (ps rest : List Placed) (v : Value) (o : Option (List Placed)) → Has token_class.Opening p → scan due.Expression 0 ps ≡ o → option_map (as_list ps) o ≡ Some (v, rest) → IsRead (p ∷ ps) rest
 list_derived p ps rest v None h is read = absurd cc
 list_derived p ps rest v (Some r) h is read =
     let same : r ≡ rest = rests (as_list ps r) (v, rest) read in
@@ -204,24 +204,24 @@ list_derived p ps rest v (Some r) h is read =
     }
 
 -- a value that is read is derived, by the sign of its first token
-value_derived_by : (s : Sign) (p : Placed) (ps rest : List Placed) (v : Value) → Has s p → value_by s p ps ≡ Some (v, rest) → IsRead (p ∷ ps) rest
-value_derived_by sign.Text p ps rest v h is = record { v = Text p; is = h; ends = tt; spelled = ap (λ (q : List Placed). p ∷ q) (rests (value.Text p.1, ps) (v, rest) is) }
-value_derived_by sign.Number p ps rest v h is = number_derived p ps rest h (rests (value.Other, if begins_with is_base ps then rest_of ps else ps) (v, rest) is)
-value_derived_by sign.Base p ps rest v h is = record { v = Unsized p; is = h; ends = tt; spelled = ap (λ (q : List Placed). p ∷ q) (rests (value.Other, ps) (v, rest) is) }
-value_derived_by sign.Word p ps rest v h is = record { v = Word p; is = h; ends = tt; spelled = ap (λ (q : List Placed). p ∷ q) (rests (value.Other, ps) (v, rest) is) }
-value_derived_by sign.Opening p ps rest v h is = list_derived p ps rest v (scan due.Expression 0 ps) h refl is
-value_derived_by sign.Equals p ps rest v h is = absurd cc
-value_derived_by sign.Comma p ps rest v h is = absurd cc
-value_derived_by sign.Closing p ps rest v h is = absurd cc
-value_derived_by sign.Other p ps rest v h is = absurd cc
+value_derived_by : (s : TokenClass) (p : Placed) (ps rest : List Placed) (v : Value) → Has s p → value_by s p ps ≡ Some (v, rest) → IsRead (p ∷ ps) rest
+value_derived_by token_class.Text p ps rest v h is = record { v = Text p; is = h; ends = tt; spelled = ap (λ (q : List Placed). p ∷ q) (rests (value.Text p.1, ps) (v, rest) is) }
+value_derived_by token_class.Number p ps rest v h is = number_derived p ps rest h (rests (value.Other, if begins_with is_base ps then rest_of ps else ps) (v, rest) is)
+value_derived_by token_class.Base p ps rest v h is = record { v = Unsized p; is = h; ends = tt; spelled = ap (λ (q : List Placed). p ∷ q) (rests (value.Other, ps) (v, rest) is) }
+value_derived_by token_class.Word p ps rest v h is = record { v = Word p; is = h; ends = tt; spelled = ap (λ (q : List Placed). p ∷ q) (rests (value.Other, ps) (v, rest) is) }
+value_derived_by token_class.Opening p ps rest v h is = list_derived p ps rest v (scan due.Expression 0 ps) h refl is
+value_derived_by token_class.Equals p ps rest v h is = absurd cc
+value_derived_by token_class.Comma p ps rest v h is = absurd cc
+value_derived_by token_class.Closing p ps rest v h is = absurd cc
+value_derived_by token_class.Other p ps rest v h is = absurd cc
 
 -- a value that is read is derived
-value_derived : (ps rest : List Placed) (v : Value) → value_at ps ≡ Some (v, rest) → IsRead ps rest
+value_derived : (ps rest : List Placed) (v : Value) → pragma_value ps ≡ Some (v, rest) → IsRead ps rest
 value_derived [] rest v is = absurd cc
-value_derived (p ∷ ps) rest v is = value_derived_by (sign_of p.1.kind) p ps rest v refl is
+value_derived (p ∷ ps) rest v is = value_derived_by (class_of p.1.kind) p ps rest v refl is
 
 -- a keyword with a value
-assigned_derived : (w q : Placed) (ps rest : List Placed) (x : Expression) (o : Option (Value × List Placed)) → Has sign.Word w → Has sign.Equals q → value_at ps ≡ o → option_map (as_assigned w) o ≡ Some (x, rest) → (e : PragmaExpression) × Begins (w ∷ q ∷ ps) e rest
+assigned_derived : (w q : Placed) (ps rest : List Placed) (x : Expression) (o : Option (Value × List Placed)) → Has token_class.Word w → Has token_class.Equals q → pragma_value ps ≡ o → option_map (as_assigned w) o ≡ Some (x, rest) → (e : PragmaExpression) × Begins (w ∷ q ∷ ps) e rest
 assigned_derived w q ps rest x None h k is read = absurd cc
 assigned_derived w q ps rest x (Some v) h k is read =
     let same : v.1 ≡ rest = rests (as_assigned w v) (x, rest) read in
@@ -230,7 +230,7 @@ assigned_derived w q ps rest x (Some v) h k is read =
 
 -- a word is no other value's first token
 word_no_other : (v : PragmaValue) (rest : List Placed) → begins_with is_word (value_text v rest) ≡ false → IsValue v → is_word_value v ≡ false
-word_no_other (Word w) rest h is = let word : same_sign sign.Word (sign_of w.1.kind) ≡ true = ap (same_sign sign.Word) is in absurd cc
+word_no_other (Word w) rest h is = let word : same_class token_class.Word (class_of w.1.kind) ≡ true = ap (same_class token_class.Word) is in absurd cc
 word_no_other (Text s) rest h is = refl
 word_no_other (Number n) rest h is = refl
 word_no_other (Sized n b) rest h is = refl
@@ -238,7 +238,7 @@ word_no_other (Unsized b) rest h is = refl
 word_no_other (Listed o l c) rest h is = refl
 
 -- a value alone
-alone_derived : (ps rest : List Placed) (x : Expression) (o : Option (Value × List Placed)) → begins_with is_word ps ≡ false → value_at ps ≡ o → option_map as_only o ≡ Some (x, rest) → (e : PragmaExpression) × Begins ps e rest
+alone_derived : (ps rest : List Placed) (x : Expression) (o : Option (Value × List Placed)) → begins_with is_word ps ≡ false → pragma_value ps ≡ o → option_map as_only o ≡ Some (x, rest) → (e : PragmaExpression) × Begins ps e rest
 alone_derived ps rest x None no_word is read = absurd cc
 alone_derived ps rest x (Some v) no_word is read =
     let same : v.1 ≡ rest = rests (as_only v) (x, rest) read in
@@ -247,14 +247,14 @@ alone_derived ps rest x (Some v) no_word is read =
     (Alone r.v, record { spelled = r.spelled; is = (plain, r.is); ends = r.ends })
 
 -- after a word
-word_derived : (w : Placed) (ps rest : List Placed) (x : Expression) → Has sign.Word w → (if begins_with is_equals ps then option_map (as_assigned w) (value_at (rest_of ps)) else Some (as_alone w ps)) ≡ Some (x, rest) → (e : PragmaExpression) × Begins (w ∷ ps) e rest
+word_derived : (w : Placed) (ps rest : List Placed) (x : Expression) → Has token_class.Word w → (if begins_with is_equals ps then option_map (as_assigned w) (pragma_value (rest_of ps)) else Some (as_alone w ps)) ≡ Some (x, rest) → (e : PragmaExpression) × Begins (w ∷ ps) e rest
 word_derived w [] rest x h is =
     let same : [] ≡ rest = rests (as_alone w []) (x, rest) is in
     (Keyword w, record { spelled = ap (λ (r : List Placed). w ∷ r) same; is = h; ends = subst (λ (r : List Placed). begins_with is_equals r ≡ false) same refl })
-word_derived w (q ∷ ps) rest x h is = by_equals (same_sign sign.Equals (sign_of q.1.kind)) refl is
+word_derived w (q ∷ ps) rest x h is = by_equals (same_class token_class.Equals (class_of q.1.kind)) refl is
   where
-    by_equals : (b : Bool) → same_sign sign.Equals (sign_of q.1.kind) ≡ b → cond b (option_map (as_assigned w) (value_at ps)) (Some (as_alone w (q ∷ ps))) ≡ Some (x, rest) → (e : PragmaExpression) × Begins (w ∷ q ∷ ps) e rest
-    by_equals true equals is = assigned_derived w q ps rest x (value_at ps) h (same_signs sign.Equals (sign_of q.1.kind) equals) refl is
+    by_equals : (b : Bool) → same_class token_class.Equals (class_of q.1.kind) ≡ b → cond b (option_map (as_assigned w) (pragma_value ps)) (Some (as_alone w (q ∷ ps))) ≡ Some (x, rest) → (e : PragmaExpression) × Begins (w ∷ q ∷ ps) e rest
+    by_equals true equals is = assigned_derived w q ps rest x (pragma_value ps) h (same_signs token_class.Equals (class_of q.1.kind) equals) refl is
     by_equals false equals is =
         let same : q ∷ ps ≡ rest = rests (as_alone w (q ∷ ps)) (x, rest) is in
         (Keyword w, record { spelled = ap (λ (r : List Placed). w ∷ r) same; is = h; ends = subst (λ (r : List Placed). begins_with is_equals r ≡ false) same equals })
@@ -262,13 +262,13 @@ word_derived w (q ∷ ps) rest x h is = by_equals (same_sign sign.Equals (sign_o
 -- an expression that is read is derived
 pub expression_derived : (ps rest : List Placed) (x : Expression) → expression_at ps ≡ Some (x, rest) → (e : PragmaExpression) × Begins ps e rest
 expression_derived [] rest x is = absurd cc
-expression_derived (p ∷ ps) rest x is = by_word (same_sign sign.Word (sign_of p.1.kind)) refl is
+expression_derived (p ∷ ps) rest x is = by_word (same_class token_class.Word (class_of p.1.kind)) refl is
   where
     by_word :
-        (b : Bool) → same_sign sign.Word (sign_of p.1.kind) ≡ b
-        → cond (not b) (option_map as_only (value_at (p ∷ ps)))
-        (if begins_with is_equals ps then option_map (as_assigned p) (value_at (rest_of ps)) else Some (as_alone p ps))
+        (b : Bool) → same_class token_class.Word (class_of p.1.kind) ≡ b
+        → cond (not b) (option_map as_only (pragma_value (p ∷ ps)))
+        (if begins_with is_equals ps then option_map (as_assigned p) (pragma_value (rest_of ps)) else Some (as_alone p ps))
         ≡ Some (x, rest)
         → (e : PragmaExpression) × Begins (p ∷ ps) e rest
-    by_word true word is = word_derived p ps rest x (same_signs sign.Word (sign_of p.1.kind) word) is
-    by_word false word is = alone_derived (p ∷ ps) rest x (value_at (p ∷ ps)) word refl is
+    by_word true word is = word_derived p ps rest x (same_signs token_class.Word (class_of p.1.kind) word) is
+    by_word false word is = alone_derived (p ∷ ps) rest x (pragma_value (p ∷ ps)) word refl is

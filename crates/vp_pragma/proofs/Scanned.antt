@@ -4,94 +4,94 @@ use Rattle.vp_pragma.specs.declared.lists.Due.{Due}
 use Rattle.vp_pragma.specs.declared.lists.Due.TheVariants as due
 use Rattle.vp_pragma.specs.declared.lists.Move.{Move}
 use Rattle.vp_pragma.specs.declared.lists.Move.TheVariants.{To, Opens, Closes}
-use Rattle.vp_pragma.specs.declared.sign.Sign.{Sign}
-use Rattle.vp_pragma.specs.declared.sign.Sign.TheVariants as sign
+use Rattle.vp_pragma.specs.declared.token_class.TokenClass.{TokenClass}
+use Rattle.vp_pragma.specs.declared.token_class.TokenClass.TheVariants as token_class
 use Rattle.vp_pragma.specs.Lists.{moved, next, scan}
 use Rattle.vp_pragma.specs.PragmaGrammar.{PragmaValue, Text, Number, Sized, Unsized, Word, Listed, PragmaExpression, Keyword, Assigned, Alone, PragmaList, Last, More, value_text, expression_text, list_text, Has, is_word_value, IsValue, IsExpression, IsList}
-use Rattle.vp_pragma.specs.Signs.{Placed, sign_of}
+use Rattle.vp_pragma.specs.TokenClasses.{Placed, class_of}
 
 -- ---- what is derived is scanned
 
 -- one token
-step : (d : Due) (depth : ℕ) (p : Placed) (ps : List Placed) (s : Sign) → Has s p → scan d depth (p ∷ ps) ≡ moved depth ps (λ e n. scan e n ps) (next d s)
+step : (d : Due) (depth : ℕ) (p : Placed) (ps : List Placed) (s : TokenClass) → Has s p → scan d depth (p ∷ ps) ≡ moved depth ps (λ e n. scan e n ps) (next d s)
 unfolding scan
-step d depth p ps s h = ap (λ (t : Sign). moved depth ps (λ (e : Due) (n : ℕ). scan e n ps) (next d t)) h
+step d depth p ps s h = ap (λ (t : TokenClass). moved depth ps (λ (e : Due) (n : ℕ). scan e n ps) (next d t)) h
 
 -- what follows a list that lies within so many others, past its end
 abbrev pub closes : ℕ → List Placed → Option (List Placed)
 closes zero rest = Some rest
-closes (suc depth) rest = scan due.Behind depth rest
+closes (suc depth) rest = scan due.After depth rest
 
 -- what is due after a value
-abbrev due_behind : PragmaValue → Due
-due_behind (Number number) = due.BehindNumber
-due_behind _ = due.Behind
+abbrev due_following : PragmaValue → Due
+due_following (Number number) = due.AfterNumber
+due_following _ = due.After
 
 -- what is due after an expression
 abbrev due_after : PragmaExpression → Due
-due_after (Keyword word) = due.BehindWord
-due_after (Assigned word equals v) = due_behind v
-due_after (Alone v) = due_behind v
+due_after (Keyword word) = due.AfterWord
+due_after (Assigned word equals v) = due_following v
+due_after (Alone v) = due_following v
 
 -- a list may end there, or go on after a comma
 record GoesOn (d : Due) : Type 0 where
-  closing : next d sign.Closing ≡ Some Closes
-  comma : next d sign.Comma ≡ Some (To due.Expression)
+  closing : next d token_class.Closing ≡ Some Closes
+  comma : next d token_class.Comma ≡ Some (To due.Expression)
 
-goes_on_behind : (v : PragmaValue) → GoesOn (due_behind v)
-goes_on_behind (Number number) = record { closing = refl; comma = refl }
-goes_on_behind _ = record { closing = refl; comma = refl }
+goes_on_following : (v : PragmaValue) → GoesOn (due_following v)
+goes_on_following (Number number) = record { closing = refl; comma = refl }
+goes_on_following _ = record { closing = refl; comma = refl }
 
 goes_on_after : (e : PragmaExpression) → GoesOn (due_after e)
 goes_on_after (Keyword word) = record { closing = refl; comma = refl }
-goes_on_after (Assigned word equals v) = goes_on_behind v
-goes_on_after (Alone v) = goes_on_behind v
+goes_on_after (Assigned word equals v) = goes_on_following v
+goes_on_after (Alone v) = goes_on_following v
 
 closing_moved : (depth : ℕ) (rest : List Placed) → moved depth rest (λ e n. scan e n rest) (Some Closes) ≡ closes depth rest
 closing_moved zero rest = refl
 closing_moved (suc depth) rest = refl
 
 -- the end of a list
-ends_scan : (d : Due) (depth : ℕ) (closing : Placed) (rest : List Placed) → GoesOn d → Has sign.Closing closing → scan d depth (closing ∷ rest) ≡ closes depth rest
+ends_scan : (d : Due) (depth : ℕ) (closing : Placed) (rest : List Placed) → GoesOn d → Has token_class.Closing closing → scan d depth (closing ∷ rest) ≡ closes depth rest
 ends_scan d depth closing rest on h =
-    step d depth closing rest sign.Closing h
+    step d depth closing rest token_class.Closing h
     ∙ ap (moved depth rest (λ (e : Due) (n : ℕ). scan e n rest)) on.closing
     ∙ closing_moved depth rest
 
 -- a comma
-comma_scan : (d : Due) (depth : ℕ) (comma : Placed) (rest : List Placed) → GoesOn d → Has sign.Comma comma → scan d depth (comma ∷ rest) ≡ scan due.Expression depth rest
+comma_scan : (d : Due) (depth : ℕ) (comma : Placed) (rest : List Placed) → GoesOn d → Has token_class.Comma comma → scan d depth (comma ∷ rest) ≡ scan due.Expression depth rest
 comma_scan d depth comma rest on h =
-    step d depth comma rest sign.Comma h ∙ ap (moved depth rest (λ (e : Due) (n : ℕ). scan e n rest)) on.comma
+    step d depth comma rest token_class.Comma h ∙ ap (moved depth rest (λ (e : Due) (n : ℕ). scan e n rest)) on.comma
 
 -- a value that is no word is scanned alike where an expression is due
 same_scan : (v : PragmaValue) (depth : ℕ) (rest : List Placed) → is_word_value v ≡ false → IsValue v → scan due.Expression depth (value_text v rest) ≡ scan due.Value depth (value_text v rest)
-same_scan (Text s) depth rest plain h = step due.Expression depth s rest sign.Text h ∙ sym (step due.Value depth s rest sign.Text h)
-same_scan (Number n) depth rest plain h = step due.Expression depth n rest sign.Number h ∙ sym (step due.Value depth n rest sign.Number h)
-same_scan (Sized n b) depth rest plain h = step due.Expression depth n (b ∷ rest) sign.Number h.0 ∙ sym (step due.Value depth n (b ∷ rest) sign.Number h.0)
-same_scan (Unsized b) depth rest plain h = step due.Expression depth b rest sign.Base h ∙ sym (step due.Value depth b rest sign.Base h)
+same_scan (Text s) depth rest plain h = step due.Expression depth s rest token_class.Text h ∙ sym (step due.Value depth s rest token_class.Text h)
+same_scan (Number n) depth rest plain h = step due.Expression depth n rest token_class.Number h ∙ sym (step due.Value depth n rest token_class.Number h)
+same_scan (Sized n b) depth rest plain h = step due.Expression depth n (b ∷ rest) token_class.Number h.0 ∙ sym (step due.Value depth n (b ∷ rest) token_class.Number h.0)
+same_scan (Unsized b) depth rest plain h = step due.Expression depth b rest token_class.Base h ∙ sym (step due.Value depth b rest token_class.Base h)
 same_scan (Word w) depth rest plain h = absurd cc
 same_scan (Listed o l c) depth rest plain h =
-    step due.Expression depth o (list_text l (c ∷ rest)) sign.Opening h.0 ∙ sym (step due.Value depth o (list_text l (c ∷ rest)) sign.Opening h.0)
+    step due.Expression depth o (list_text l (c ∷ rest)) token_class.Opening h.0 ∙ sym (step due.Value depth o (list_text l (c ∷ rest)) token_class.Opening h.0)
 
 mutual
-  value_scan : (v : PragmaValue) (depth : ℕ) (rest : List Placed) → IsValue v → scan due.Value depth (value_text v rest) ≡ scan (due_behind v) depth rest
-  value_scan (Text s) depth rest h = step due.Value depth s rest sign.Text h
-  value_scan (Number n) depth rest h = step due.Value depth n rest sign.Number h
-  value_scan (Sized n b) depth rest h = step due.Value depth n (b ∷ rest) sign.Number h.0 ∙ step due.BehindNumber depth b rest sign.Base h.1
-  value_scan (Unsized b) depth rest h = step due.Value depth b rest sign.Base h
-  value_scan (Word w) depth rest h = step due.Value depth w rest sign.Word h
-  value_scan (Listed o l c) depth rest h = step due.Value depth o (list_text l (c ∷ rest)) sign.Opening h.0 ∙ list_scan l (suc depth) c rest h.1 h.2
+  value_scan : (v : PragmaValue) (depth : ℕ) (rest : List Placed) → IsValue v → scan due.Value depth (value_text v rest) ≡ scan (due_following v) depth rest
+  value_scan (Text s) depth rest h = step due.Value depth s rest token_class.Text h
+  value_scan (Number n) depth rest h = step due.Value depth n rest token_class.Number h
+  value_scan (Sized n b) depth rest h = step due.Value depth n (b ∷ rest) token_class.Number h.0 ∙ step due.AfterNumber depth b rest token_class.Base h.1
+  value_scan (Unsized b) depth rest h = step due.Value depth b rest token_class.Base h
+  value_scan (Word w) depth rest h = step due.Value depth w rest token_class.Word h
+  value_scan (Listed o l c) depth rest h = step due.Value depth o (list_text l (c ∷ rest)) token_class.Opening h.0 ∙ list_scan l (suc depth) c rest h.1 h.2
 
   expression_scan : (e : PragmaExpression) (depth : ℕ) (rest : List Placed) → IsExpression e → scan due.Expression depth (expression_text e rest) ≡ scan (due_after e) depth rest
-  expression_scan (Keyword w) depth rest h = step due.Expression depth w rest sign.Word h
+  expression_scan (Keyword w) depth rest h = step due.Expression depth w rest token_class.Word h
   expression_scan (Assigned w q v) depth rest h =
-      step due.Expression depth w (q ∷ value_text v rest) sign.Word h.0
-      ∙ step due.BehindWord depth q (value_text v rest) sign.Equals h.1
+      step due.Expression depth w (q ∷ value_text v rest) token_class.Word h.0
+      ∙ step due.AfterWord depth q (value_text v rest) token_class.Equals h.1
       ∙ value_scan v depth rest h.2
   expression_scan (Alone v) depth rest h = same_scan v depth rest h.0 h.1 ∙ value_scan v depth rest h.1
 
   -- a list that is derived is scanned to its end
-  pub list_scan : (l : PragmaList) (depth : ℕ) (closing : Placed) (rest : List Placed) → IsList l → Has sign.Closing closing → scan due.Expression depth (list_text l (closing ∷ rest)) ≡ closes depth rest
+  pub list_scan : (l : PragmaList) (depth : ℕ) (closing : Placed) (rest : List Placed) → IsList l → Has token_class.Closing closing → scan due.Expression depth (list_text l (closing ∷ rest)) ≡ closes depth rest
   list_scan (Last e) depth c rest h is = expression_scan e depth (c ∷ rest) h ∙ ends_scan (due_after e) depth c rest (goes_on_after e) is
   list_scan (More e comma l) depth c rest h is =
       expression_scan e depth (comma ∷ list_text l (c ∷ rest)) h.0
@@ -107,7 +107,7 @@ tail_text (Some t) rest = t.0 ∷ list_text t.1 rest
 
 abbrev IsTail : Option (Placed × PragmaList) → Type 0
 IsTail None = Unit {0}
-IsTail (Some t) = Has sign.Comma t.0 × IsList t.1
+IsTail (Some t) = Has token_class.Comma t.0 × IsList t.1
 
 -- an expression, and what follows it in a list
 abbrev joined : PragmaExpression → Option (Placed × PragmaList) → PragmaList
@@ -159,16 +159,16 @@ pub record Counted (ps rest : List Placed) : Type 0 where
 abbrev pub Leads : Due → List Placed → List Placed → Type 0
 Leads due.Expression ps rest = Derived ps rest
 Leads due.Value ps rest = Valued ps rest
-Leads due.BehindWord ps rest = (w : Placed) → Has sign.Word w → Expressed (w ∷ ps) rest
-Leads due.BehindNumber ps rest = (n : Placed) → Has sign.Number n → Counted (n ∷ ps) rest
-Leads due.Behind ps rest = Tailed ps rest
+Leads due.AfterWord ps rest = (w : Placed) → Has token_class.Word w → Expressed (w ∷ ps) rest
+Leads due.AfterNumber ps rest = (n : Placed) → Has token_class.Number n → Counted (n ∷ ps) rest
+Leads due.After ps rest = Tailed ps rest
 
 -- a list in parentheses, and what follows it in a list
 record Opened (ps rest : List Placed) : Type 0 where
   l : PragmaList
   is : IsList l
   closing : Placed
-  closes : Has sign.Closing closing
+  closes : Has token_class.Closing closing
   t : Option (Placed × PragmaList)
   are : IsTail t
   spelled : ps ≡ list_text l (closing ∷ tail_text t rest)
@@ -191,7 +191,7 @@ alone ps rest x =
 single : (v : PragmaValue) (p : Placed) (ps rest : List Placed) → ((tail : List Placed) → value_text v tail ≡ p ∷ tail) → IsValue v → Tailed ps rest → Valued (p ∷ ps) rest
 single v p ps rest text is x = record { v = v; is = is; t = x.t; are = x.are; spelled = ap (λ (q : List Placed). p ∷ q) x.spelled ∙ sym (text (tail_text x.t rest)) }
 
-listed : (p : Placed) (ps rest : List Placed) → Has sign.Opening p → Opened ps rest → Valued (p ∷ ps) rest
+listed : (p : Placed) (ps rest : List Placed) → Has token_class.Opening p → Opened ps rest → Valued (p ∷ ps) rest
 listed p ps rest h x = record {
   v = Listed p x.l x.closing;
   is = (h, x.is, x.closes);
@@ -201,34 +201,34 @@ listed p ps rest h x = record {
 }
 
 -- one token more
-extend : (d : Due) (s : Sign) (p : Placed) (ps rest : List Placed) → Has s p → Led (next d s) p ps rest → Leads d (p ∷ ps) rest
+extend : (d : Due) (s : TokenClass) (p : Placed) (ps rest : List Placed) → Has s p → Led (next d s) p ps rest → Leads d (p ∷ ps) rest
 unfolding single listed
-extend due.Expression sign.Word p ps rest h x = expressed (p ∷ ps) rest (x p h)
-extend due.Expression sign.Text p ps rest h x = alone (p ∷ ps) rest (record { valued = single (Text p) p ps rest (λ _. refl) h x; no_word = refl })
-extend due.Expression sign.Base p ps rest h x = alone (p ∷ ps) rest (record { valued = single (Unsized p) p ps rest (λ _. refl) h x; no_word = refl })
-extend due.Expression sign.Number p ps rest h x = alone (p ∷ ps) rest (x p h)
-extend due.Expression sign.Opening p ps rest h x = alone (p ∷ ps) rest (record { valued = listed p ps rest h x; no_word = refl })
-extend due.Value sign.Word p ps rest h x = single (Word p) p ps rest (λ _. refl) h x
-extend due.Value sign.Text p ps rest h x = single (Text p) p ps rest (λ _. refl) h x
-extend due.Value sign.Base p ps rest h x = single (Unsized p) p ps rest (λ _. refl) h x
-extend due.Value sign.Number p ps rest h x = (x p h).valued
-extend due.Value sign.Opening p ps rest h x = listed p ps rest h x
-extend due.BehindWord sign.Equals p ps rest h x = λ w k. record {
+extend due.Expression token_class.Word p ps rest h x = expressed (p ∷ ps) rest (x p h)
+extend due.Expression token_class.Text p ps rest h x = alone (p ∷ ps) rest (record { valued = single (Text p) p ps rest (λ _. refl) h x; no_word = refl })
+extend due.Expression token_class.Base p ps rest h x = alone (p ∷ ps) rest (record { valued = single (Unsized p) p ps rest (λ _. refl) h x; no_word = refl })
+extend due.Expression token_class.Number p ps rest h x = alone (p ∷ ps) rest (x p h)
+extend due.Expression token_class.Opening p ps rest h x = alone (p ∷ ps) rest (record { valued = listed p ps rest h x; no_word = refl })
+extend due.Value token_class.Word p ps rest h x = single (Word p) p ps rest (λ _. refl) h x
+extend due.Value token_class.Text p ps rest h x = single (Text p) p ps rest (λ _. refl) h x
+extend due.Value token_class.Base p ps rest h x = single (Unsized p) p ps rest (λ _. refl) h x
+extend due.Value token_class.Number p ps rest h x = (x p h).valued
+extend due.Value token_class.Opening p ps rest h x = listed p ps rest h x
+extend due.AfterWord token_class.Equals p ps rest h x = λ w k. record {
   e = Assigned w p x.v;
   is = (k, h, x.is);
   t = x.t;
   are = x.are;
   spelled = ap (λ (q : List Placed). w ∷ p ∷ q) x.spelled;
 }
-extend due.BehindWord sign.Comma p ps rest h x = λ w k. record {
+extend due.AfterWord token_class.Comma p ps rest h x = λ w k. record {
   e = Keyword w;
   is = k;
   t = Some (p, x.l);
   are = (h, x.is);
   spelled = ap (λ (q : List Placed). w ∷ p ∷ q) x.spelled;
 }
-extend due.BehindWord sign.Closing p ps rest h x = λ w k. record { e = Keyword w; is = k; t = None; are = tt; spelled = ap (λ (q : List Placed). w ∷ q) x }
-extend due.BehindNumber sign.Base p ps rest h x = λ n k. record {
+extend due.AfterWord token_class.Closing p ps rest h x = λ w k. record { e = Keyword w; is = k; t = None; are = tt; spelled = ap (λ (q : List Placed). w ∷ q) x }
+extend due.AfterNumber token_class.Base p ps rest h x = λ n k. record {
   valued = record {
     v = Sized n p;
     is = (k, h);
@@ -238,7 +238,7 @@ extend due.BehindNumber sign.Base p ps rest h x = λ n k. record {
   };
   no_word = refl;
 }
-extend due.BehindNumber sign.Comma p ps rest h x = λ n k. record {
+extend due.AfterNumber token_class.Comma p ps rest h x = λ n k. record {
   valued = record {
     v = Number n;
     is = k;
@@ -248,29 +248,29 @@ extend due.BehindNumber sign.Comma p ps rest h x = λ n k. record {
   };
   no_word = refl;
 }
-extend due.BehindNumber sign.Closing p ps rest h x = λ n k. record {
+extend due.AfterNumber token_class.Closing p ps rest h x = λ n k. record {
   valued = record { v = Number n; is = k; t = None; are = tt; spelled = ap (λ (q : List Placed). n ∷ q) x };
   no_word = refl;
 }
-extend due.Behind sign.Comma p ps rest h x = record { t = Some (p, x.l); are = (h, x.is); spelled = ap (λ (q : List Placed). p ∷ q) x.spelled }
-extend due.Behind sign.Closing p ps rest h x = record { t = None; are = tt; spelled = x }
+extend due.After token_class.Comma p ps rest h x = record { t = Some (p, x.l); are = (h, x.is); spelled = ap (λ (q : List Placed). p ∷ q) x.spelled }
+extend due.After token_class.Closing p ps rest h x = record { t = None; are = tt; spelled = x }
 extend d s p ps rest h x = absurd x
 
 -- the token that ends a list
-closing_sign : (d : Due) (s : Sign) → next d s ≡ Some Closes → s ≡ sign.Closing
-closing_sign due.Expression sign.Closing h = refl
-closing_sign due.Value sign.Closing h = refl
-closing_sign due.Behind sign.Closing h = refl
-closing_sign due.BehindWord sign.Closing h = refl
-closing_sign due.BehindNumber sign.Closing h = refl
-closing_sign d s h = absurd cc
+closing_class : (d : Due) (s : TokenClass) → next d s ≡ Some Closes → s ≡ token_class.Closing
+closing_class due.Expression token_class.Closing h = refl
+closing_class due.Value token_class.Closing h = refl
+closing_class due.After token_class.Closing h = refl
+closing_class due.AfterWord token_class.Closing h = refl
+closing_class due.AfterNumber token_class.Closing h = refl
+closing_class d s h = absurd cc
 
 -- tokens that were scanned: what was due, up to the end of the list; and what follows that end
 pub record Found (d : Due) (depth : ℕ) (ps out : List Placed) : Type 0 where
   pub closing : Placed
   pub mid : List Placed
   pub leads : Leads d ps (closing ∷ mid)
-  pub is : Has sign.Closing closing
+  pub is : Has token_class.Closing closing
   pub goes_on : closes depth mid ≡ Some out
   pub shorter : length mid < length ps
 
@@ -278,7 +278,7 @@ pub record Found (d : Due) (depth : ℕ) (ps out : List Placed) : Type 0 where
 found_by :
     (n : ℕ) (d : Due) (depth : ℕ) (p : Placed) (ps out : List Placed) (move : Option Move)
     → ((d : Due) (depth : ℕ) (qs : List Placed) → length qs ≤ length ps → scan d depth qs ≡ Some out → Found d depth qs out)
-    → next d (sign_of p.1.kind) ≡ move → moved depth ps (λ e n. scan e n ps) move ≡ Some out → Found d depth (p ∷ ps) out
+    → next d (class_of p.1.kind) ≡ move → moved depth ps (λ e n. scan e n ps) move ≡ Some out → Found d depth (p ∷ ps) out
 found_by n d depth p ps out None shorter is h = absurd cc
 found_by n d depth p ps out (Some (To following)) shorter is h =
     let f = shorter following depth ps (omega arith) h in
@@ -286,14 +286,14 @@ found_by n d depth p ps out (Some (To following)) shorter is h =
     record {
       closing = f.closing;
       mid = f.mid;
-      leads = extend d (sign_of p.1.kind) p ps (f.closing ∷ f.mid) refl (subst (λ (m : Option Move). Led m p ps (f.closing ∷ f.mid)) (sym is) led);
+      leads = extend d (class_of p.1.kind) p ps (f.closing ∷ f.mid) refl (subst (λ (m : Option Move). Led m p ps (f.closing ∷ f.mid)) (sym is) led);
       is = f.is;
       goes_on = f.goes_on;
       shorter = omega (arith, f.shorter);
     }
 found_by n d depth p ps out (Some Opens) shorter is h =
     let f = shorter due.Expression (suc depth) ps (omega arith) h in
-    let g = shorter due.Behind depth f.mid (omega (arith, f.shorter)) f.goes_on in
+    let g = shorter due.After depth f.mid (omega (arith, f.shorter)) f.goes_on in
     let list : Derived ps (f.closing ∷ f.mid) = f.leads in
     let tail : Tailed f.mid (g.closing ∷ g.mid) = g.leads in
     let led : Led (Some Opens) p ps (g.closing ∷ g.mid) = record {
@@ -309,7 +309,7 @@ found_by n d depth p ps out (Some Opens) shorter is h =
     record {
       closing = g.closing;
       mid = g.mid;
-      leads = extend d (sign_of p.1.kind) p ps (g.closing ∷ g.mid) refl (subst (λ (m : Option Move). Led m p ps (g.closing ∷ g.mid)) (sym is) led);
+      leads = extend d (class_of p.1.kind) p ps (g.closing ∷ g.mid) refl (subst (λ (m : Option Move). Led m p ps (g.closing ∷ g.mid)) (sym is) led);
       is = g.is;
       goes_on = g.goes_on;
       shorter = omega (arith, f.shorter, g.shorter);
@@ -319,8 +319,8 @@ found_by n d zero p ps out (Some Closes) shorter is h =
     record {
       closing = p;
       mid = ps;
-      leads = extend d (sign_of p.1.kind) p ps (p ∷ ps) refl (subst (λ (m : Option Move). Led m p ps (p ∷ ps)) (sym is) led);
-      is = closing_sign d (sign_of p.1.kind) is;
+      leads = extend d (class_of p.1.kind) p ps (p ∷ ps) refl (subst (λ (m : Option Move). Led m p ps (p ∷ ps)) (sym is) led);
+      is = closing_class d (class_of p.1.kind) is;
       goes_on = h;
       shorter = omega arith;
     }
@@ -329,8 +329,8 @@ found_by n d (suc depth) p ps out (Some Closes) shorter is h =
     record {
       closing = p;
       mid = ps;
-      leads = extend d (sign_of p.1.kind) p ps (p ∷ ps) refl (subst (λ (m : Option Move). Led m p ps (p ∷ ps)) (sym is) led);
-      is = closing_sign d (sign_of p.1.kind) is;
+      leads = extend d (class_of p.1.kind) p ps (p ∷ ps) refl (subst (λ (m : Option Move). Led m p ps (p ∷ ps)) (sym is) led);
+      is = closing_class d (class_of p.1.kind) is;
       goes_on = h;
       shorter = omega arith;
     }
@@ -341,10 +341,10 @@ unfolding scan
 found_within n d depth [] out le h = absurd cc
 found_within zero d depth (p ∷ ps) out le h = absurd (omega arith)
 found_within (suc n) d depth (p ∷ ps) out le h =
-    found_by n d depth p ps out (next d (sign_of p.1.kind)) (λ e m qs short k. found_within n e m qs out (omega arith) k) refl h
+    found_by n d depth p ps out (next d (class_of p.1.kind)) (λ e m qs short k. found_within n e m qs out (omega arith) k) refl h
 
 -- a list that was scanned to its end is derived
-pub list_found : (ps out : List Placed) → scan due.Expression 0 ps ≡ Some out → (closing : Placed) × Has sign.Closing closing × Derived ps (closing ∷ out)
+pub list_found : (ps out : List Placed) → scan due.Expression 0 ps ≡ Some out → (closing : Placed) × Has token_class.Closing closing × Derived ps (closing ∷ out)
 list_found ps out h =
     let f = found_within (length ps) due.Expression 0 ps out (omega arith) h in
     let same : f.mid ≡ out = the_same f.mid out f.goes_on in

@@ -6,7 +6,7 @@ use Rattle.vp_pragma.specs.declared.lists.Due.{Due}
 use Rattle.vp_pragma.specs.declared.lists.Move.{Move}
 use Rattle.vp_pragma.specs.Lists.{moved, next, scan}
 use Rattle.vp_pragma.specs.Reading.{placed}
-use Rattle.vp_pragma.specs.Signs.{Placed, sign_of}
+use Rattle.vp_pragma.specs.TokenClasses.{Placed, class_of}
 
 -- one token less is left
 pub one_less : (left others : Rest) (p : Placed) → placed left ≡ p ∷ placed others → length left.tokens.now ≡ suc (length others.tokens.now)
@@ -15,7 +15,7 @@ one_less left others p split =
 
 -- what follows a list is what its first token's move leads to
 pub scanned :
-    (d : Due) (depth : ℕ) (ps qs : List Placed) (p : Placed) (move : Option Move) → ps ≡ p ∷ qs → move ≡ next d (sign_of p.1.kind)
+    (d : Due) (depth : ℕ) (ps qs : List Placed) (p : Placed) (move : Option Move) → ps ≡ p ∷ qs → move ≡ next d (class_of p.1.kind)
     → scan d depth ps ≡ moved depth qs (λ e n. scan e n qs) move
 unfolding scan
 scanned d depth ps qs p move split is =
@@ -23,7 +23,7 @@ scanned d depth ps qs p move split is =
 
 -- what the move of the first token leads to is what the whole list leads to
 pub leads_on :
-    (d : Due) (depth : ℕ) (ps qs : List Placed) (p : Placed) (move : Option Move) (whole : Option (List Placed)) → ps ≡ p ∷ qs → move ≡ next d (sign_of p.1.kind)
+    (d : Due) (depth : ℕ) (ps qs : List Placed) (p : Placed) (move : Option Move) (whole : Option (List Placed)) → ps ≡ p ∷ qs → move ≡ next d (class_of p.1.kind)
     → scan d depth ps ≡ whole → moved depth qs (λ e n. scan e n qs) move ≡ whole
 leads_on d depth ps qs p move whole split is leads = sym (scanned d depth ps qs p move split is) ∙ leads
 

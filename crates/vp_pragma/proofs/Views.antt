@@ -6,8 +6,8 @@ use Rattle.std.specs.Prelude.{is_some, option_map}
 use Rattle.vp_list.specs.Texts.{parts}
 use Rattle.vp_lex.specs.Strings.{string_value}
 use Rattle.vp_lex.specs.Texts.{text_of}
-use Rattle.vp_pragma.specs.declared.deed.ViewportStrings.{ViewportStrings}
-use Rattle.vp_pragma.specs.declared.fault.PragmaError.{PragmaError}
+use Rattle.vp_pragma.specs.declared.pragma_effect.ViewportStrings.{ViewportStrings}
+use Rattle.vp_pragma.specs.declared.error.PragmaError.{PragmaError}
 use Rattle.vp_pragma.specs.declared.reading.Open.{Open}
 use Rattle.vp_pragma.specs.declared.reading.Reading.{Reading}
 use Rattle.vp_pragma.specs.declared.viewport.Viewport as declared

@@ -4,12 +4,12 @@ use Rattle.std.specs.Result.{result_err}
 use Rattle.vp_lex.specs.declared.token.Token.{Token}
 use Rattle.vp_lex.specs.Strings.{string_value}
 use Rattle.vp_lex.specs.Texts.{text_of}
-use Rattle.vp_pragma.specs.declared.deed.Deed.{Deed}
-use Rattle.vp_pragma.specs.declared.deed.Deed.TheVariants.{Begins, Ends, Names, Forgets, Views, Encrypted, Bad}
-use Rattle.vp_pragma.specs.declared.deed.ViewportStrings.{ViewportStrings}
+use Rattle.vp_pragma.specs.declared.pragma_effect.PragmaEffect.{PragmaEffect}
+use Rattle.vp_pragma.specs.declared.pragma_effect.PragmaEffect.TheVariants.{Begins, Ends, Names, Forgets, Views, Encrypted, Bad}
+use Rattle.vp_pragma.specs.declared.pragma_effect.ViewportStrings.{ViewportStrings}
 use Rattle.vp_pragma.specs.declared.envelope.Envelope.{Envelope}
-use Rattle.vp_pragma.specs.declared.fault.PragmaError.{PragmaError}
-use Rattle.vp_pragma.specs.declared.fault.PragmaError.TheVariants as error
+use Rattle.vp_pragma.specs.declared.error.PragmaError.{PragmaError}
+use Rattle.vp_pragma.specs.declared.error.PragmaError.TheVariants as error
 use Rattle.vp_list.specs.Texts.{parts}
 use Rattle.vp_lex.specs.Pieces.{is_word}
 use Rattle.vp_pragma.specs.Access.{access_of}
@@ -18,7 +18,7 @@ use Rattle.vp_pragma.specs.Rights.{RightSet}
 use Rattle.vp_pragma.specs.Surroundings.{is_free, module_at}
 use Rattle.vp_list.specs.Refusals.{MayExplain}
 use Rattle.vp_pragma.specs.Pragmas.{LinesDo, lines_of}
-use Rattle.vp_pragma.specs.Signs.{Placed}
+use Rattle.vp_pragma.specs.TokenClasses.{Placed}
 
 -- an envelope that has begun: its place, its line, the module where it began, and its author
 pub record Begun : Type 0 where
@@ -112,20 +112,20 @@ view_at text r line None (Some b) = Err (error.BadPragma line)
 view_at text r line (Some view) (Some b) = viewed text r line view
 
 -- what a deed on the line of a directive makes of what has been read, or the first refusal of it that holds
-abbrev pub after_deed : List ℕ → List Token → Progress → Placed → Deed → Result Progress PragmaError
-after_deed text tokens r directive (Begins place) = begin_at tokens r directive place r.begun
-after_deed text tokens r directive (Ends place) = end_at tokens r directive place r.begun
-after_deed text tokens r directive (Names string) = Ok (record r { author = string_value (text_of text string) })
-after_deed text tokens r directive Forgets = Ok (record r { author = [] })
-after_deed text tokens r directive (Views view) = view_at text r directive.1.line view r.begun
-after_deed text tokens r directive Encrypted = Err (error.NeedsDecryption directive.1.line)
-after_deed text tokens r directive Bad = Err (error.BadPragma directive.1.line)
+abbrev pub after_effect : List ℕ → List Token → Progress → Placed → PragmaEffect → Result Progress PragmaError
+after_effect text tokens r directive (Begins place) = begin_at tokens r directive place r.begun
+after_effect text tokens r directive (Ends place) = end_at tokens r directive place r.begun
+after_effect text tokens r directive (Names string) = Ok (record r { author = string_value (text_of text string) })
+after_effect text tokens r directive Forgets = Ok (record r { author = [] })
+after_effect text tokens r directive (Views view) = view_at text r directive.1.line view r.begun
+after_effect text tokens r directive Encrypted = Err (error.NeedsDecryption directive.1.line)
+after_effect text tokens r directive Bad = Err (error.BadPragma directive.1.line)
 
 -- the same of deeds one after the other, up to the first refusal
-abbrev pub after_deeds : List ℕ → List Token → Result Progress PragmaError → List (Placed × Deed) → Result Progress PragmaError
-after_deeds text tokens (Err e) deeds = Err e
-after_deeds text tokens (Ok r) [] = Ok r
-after_deeds text tokens (Ok r) (d ∷ ds) = after_deeds text tokens (after_deed text tokens r d.0 d.1) ds
+abbrev pub after_effects : List ℕ → List Token → Result Progress PragmaError → List (Placed × PragmaEffect) → Result Progress PragmaError
+after_effects text tokens (Err e) effects = Err e
+after_effects text tokens (Ok r) [] = Ok r
+after_effects text tokens (Ok r) (d ∷ ds) = after_effects text tokens (after_effect text tokens r d.0 d.1) ds
 
 -- the envelopes at the end of a text: none may be left open (profile)
 abbrev pub ended_all : Progress → Option Begun → Result Protection PragmaError
@@ -133,16 +133,16 @@ ended_all r None = Ok (record { envelopes = r.ended; viewports = r.viewports })
 ended_all r (Some b) = Err (error.OpenEnvelope b.line)
 
 -- the envelopes at the end of a text that was read, or the refusal that ended the reading
-abbrev pub envelopes_behind : Result Progress PragmaError → Result Protection PragmaError
-envelopes_behind (Err e) = Err e
-envelopes_behind (Ok r) = ended_all r r.begun
+abbrev pub envelopes_after : Result Progress PragmaError → Result Protection PragmaError
+envelopes_after (Err e) = Err e
+envelopes_after (Ok r) = ended_all r r.begun
 
 -- the envelopes of a text and its viewports, or the first fault of its pragmas: what its lines do, one after the other; an envelope
 -- left open is told last (clause 28, profile)
 pub record AreEnvelopes (text : List ℕ) (tokens : List Token) (due : Result Protection PragmaError) : Type 0 where
-  pub deeds : List (Placed × Deed)
-  pub done : LinesDo text (lines_of text tokens) deeds
-  pub are : due ≡ envelopes_behind (after_deeds text tokens (Ok at_start) deeds)
+  pub effects : List (Placed × PragmaEffect)
+  pub done : LinesDo text (lines_of text tokens) effects
+  pub are : due ≡ envelopes_after (after_effects text tokens (Ok at_start) effects)
 
 -- an error is the first fault of the pragmas of a text; want of memory may be told at any time
 abbrev pub IsFaultOf : List ℕ → List Token → PragmaError → Type 0

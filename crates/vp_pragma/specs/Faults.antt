@@ -1,7 +1,7 @@
 -- The numbers and the lines of the faults of a text's pragmas.
 use Rattle.std.specs.Prelude.{ℕ}
-use Rattle.vp_pragma.specs.declared.fault.PragmaError.{PragmaError}
-use Rattle.vp_pragma.specs.declared.fault.PragmaError.TheVariants.{NestedBegin, EndWithoutBegin, OpenEnvelope, Unbalanced, TooMany, ViewportOutside, BadAccess, NeedsDecryption, BadPragma, NoMemory}
+use Rattle.vp_pragma.specs.declared.error.PragmaError.{PragmaError}
+use Rattle.vp_pragma.specs.declared.error.PragmaError.TheVariants.{NestedBegin, EndWithoutBegin, OpenEnvelope, Unbalanced, TooMany, ViewportOutside, BadAccess, NeedsDecryption, BadPragma, NoMemory}
 
 -- the number of a refusal (profile)
 abbrev pub code_of : PragmaError → ℕ

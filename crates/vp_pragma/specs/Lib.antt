@@ -4,7 +4,7 @@ pub mod Faults
 pub mod Envelopes
 pub mod Reading
 pub mod Surroundings
-pub mod Signs
+pub mod TokenClasses
 pub mod PragmaGrammar
 pub mod Pragmas
 pub mod Lists

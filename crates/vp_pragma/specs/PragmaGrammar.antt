@@ -5,9 +5,9 @@ use Rattle.vp_pragma.specs.declared.line.Value as said
 use Rattle.vp_pragma.specs.declared.line.Value.TheVariants as value
 use Rattle.vp_pragma.specs.declared.line.Expression as said_expression
 use Rattle.vp_pragma.specs.declared.line.Expression.TheVariants as expression
-use Rattle.vp_pragma.specs.declared.sign.Sign.{Sign}
-use Rattle.vp_pragma.specs.declared.sign.Sign.TheVariants as sign
-use Rattle.vp_pragma.specs.Signs.{Placed, begins_with, is_base, is_equals, sign_of}
+use Rattle.vp_pragma.specs.declared.token_class.TokenClass.{TokenClass}
+use Rattle.vp_pragma.specs.declared.token_class.TokenClass.TheVariants as token_class
+use Rattle.vp_pragma.specs.TokenClasses.{Placed, begins_with, is_base, is_equals, class_of}
 
 -- ---- derivations
 
@@ -58,8 +58,8 @@ abbrev mutual
 -- ---- which derivations are those of tokens
 
 -- a token has this sign
-abbrev pub Has : Sign → Placed → Type 0
-Has s p = sign_of p.1.kind ≡ s
+abbrev pub Has : TokenClass → Placed → Type 0
+Has s p = class_of p.1.kind ≡ s
 
 -- a value is a word
 abbrev pub is_word_value : PragmaValue → Bool
@@ -69,23 +69,23 @@ is_word_value _ = false
 abbrev mutual
   -- a value's tokens have the signs that it needs
   pub IsValue : PragmaValue → Type 0
-  IsValue (Text string) = Has sign.Text string
-  IsValue (Number number) = Has sign.Number number
-  IsValue (Sized size base) = Has sign.Number size × Has sign.Base base
-  IsValue (Unsized base) = Has sign.Base base
-  IsValue (Word word) = Has sign.Word word
-  IsValue (Listed opening l closing) = Has sign.Opening opening × IsList l × Has sign.Closing closing
+  IsValue (Text string) = Has token_class.Text string
+  IsValue (Number number) = Has token_class.Number number
+  IsValue (Sized size base) = Has token_class.Number size × Has token_class.Base base
+  IsValue (Unsized base) = Has token_class.Base base
+  IsValue (Word word) = Has token_class.Word word
+  IsValue (Listed opening l closing) = Has token_class.Opening opening × IsList l × Has token_class.Closing closing
 
   -- an expression's tokens have the signs that it needs
   pub IsExpression : PragmaExpression → Type 0
-  IsExpression (Keyword word) = Has sign.Word word
-  IsExpression (Assigned word equals v) = Has sign.Word word × Has sign.Equals equals × IsValue v
+  IsExpression (Keyword word) = Has token_class.Word word
+  IsExpression (Assigned word equals v) = Has token_class.Word word × Has token_class.Equals equals × IsValue v
   IsExpression (Alone v) = (is_word_value v ≡ false) × IsValue v
 
   -- a list's tokens have the signs that it needs
   pub IsList : PragmaList → Type 0
   IsList (Last e) = IsExpression e
-  IsList (More e comma l) = IsExpression e × Has sign.Comma comma × IsList l
+  IsList (More e comma l) = IsExpression e × Has token_class.Comma comma × IsList l
 
 -- ---- what derivations say
 
@@ -137,8 +137,8 @@ pub record Begins (ps : List Placed) (e : PragmaExpression) (rest : List Placed)
   pub ends : EndsExpression e rest
 
 -- what follows an expression, by the first sign: more after a comma; else something that makes the line bad there
-abbrev pub FollowsBy : Sign → Type 0 → List PragmaExpression → (whole : Bool) → Type 0
-FollowsBy sign.Comma more es whole = more
+abbrev pub FollowsBy : TokenClass → Type 0 → List PragmaExpression → (whole : Bool) → Type 0
+FollowsBy token_class.Comma more es whole = more
 FollowsBy _ more [] whole = whole ≡ false
 FollowsBy _ more (e ∷ es) whole = ⊥
 
@@ -146,7 +146,7 @@ FollowsBy _ more (e ∷ es) whole = ⊥
 abbrev pub Follows : (List Placed → Type 0) → List Placed → List PragmaExpression → (whole : Bool) → Type 0
 Follows more [] [] whole = whole ≡ true
 Follows more [] (e ∷ es) whole = ⊥
-Follows more (p ∷ ps) es whole = FollowsBy (sign_of p.1.kind) (more ps) es whole
+Follows more (p ∷ ps) es whole = FollowsBy (class_of p.1.kind) (more ps) es whole
 
 -- the expressions of these tokens, separated by commas, up to the place where the line is bad, if it is not whole
 abbrev pub AreExpressions : List Placed → List PragmaExpression → (whole : Bool) → Type 0

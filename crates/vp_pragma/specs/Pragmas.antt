@@ -8,13 +8,13 @@ use Rattle.vp_pragma.specs.declared.line.Value.{Value}
 use Rattle.vp_pragma.specs.declared.line.Value.TheVariants.{Text, Pairs}
 use Rattle.vp_pragma.specs.declared.line.Expression.{Expression}
 use Rattle.vp_pragma.specs.declared.line.Expression.TheVariants.{Alone, Assigned, Only}
-use Rattle.vp_pragma.specs.declared.deed.Deed.{Deed}
-use Rattle.vp_pragma.specs.declared.deed.Deed.TheVariants.{Begins, Ends, Names, Forgets, Views, Encrypted, Bad}
-use Rattle.vp_pragma.specs.declared.deed.Pragma.{Pragma}
-use Rattle.vp_pragma.specs.declared.deed.Pragma.TheVariants.{Protect, Reset}
-use Rattle.vp_pragma.specs.declared.deed.ViewportStrings.{ViewportStrings}
+use Rattle.vp_pragma.specs.declared.pragma_effect.PragmaEffect.{PragmaEffect}
+use Rattle.vp_pragma.specs.declared.pragma_effect.PragmaEffect.TheVariants.{Begins, Ends, Names, Forgets, Views, Encrypted, Bad}
+use Rattle.vp_pragma.specs.declared.pragma_effect.Pragma.{Pragma}
+use Rattle.vp_pragma.specs.declared.pragma_effect.Pragma.TheVariants.{Protect, Reset}
+use Rattle.vp_pragma.specs.declared.pragma_effect.ViewportStrings.{ViewportStrings}
 use Rattle.vp_pragma.specs.PragmaGrammar.{PragmaExpression, AreExpressions, expression_said}
-use Rattle.vp_pragma.specs.Signs.{Placed, is_word}
+use Rattle.vp_pragma.specs.TokenClasses.{Placed, is_word}
 
 -- ---- deeds
 
@@ -30,13 +30,13 @@ abbrev pub is_encryption : List ℕ → Bool
 is_encryption word = list_any (bytes_eq word) encryption_words
 
 -- a deed, where something is so
-abbrev pub deed_if : Bool → Deed → Option Deed
-deed_if so deed = if so then Some deed else None
+abbrev pub effect_if : Bool → PragmaEffect → Option PragmaEffect
+effect_if so effect = if so then Some effect else None
 
 -- the author that a value names, by its string
-abbrev pub author_deed : Value → Deed
-author_deed (Text string) = Names string
-author_deed _ = Bad
+abbrev pub author_effect : Value → PragmaEffect
+author_effect (Text string) = Names string
+author_effect _ = Bad
 
 -- the viewport that a value says: the strings of `object` and of `access`, in this order
 abbrev pub view_of : List ℕ → Value → Option ViewportStrings
@@ -47,60 +47,60 @@ view_of text (Pairs p) =
 view_of text _ = None
 
 -- what a keyword alone does: it opens or closes an envelope at its place, empties the author, is bad, or does nothing
-abbrev pub alone_deed : ℕ → List ℕ → Option Deed
-alone_deed place word =
+abbrev pub alone_effect : ℕ → List ℕ → Option PragmaEffect
+alone_effect place word =
     if bytes_eq word (codes "begin") then Some (Begins place)
     else (if bytes_eq word (codes "end") then Some (Ends place)
     else (if bytes_eq word (codes "author") then Some Bad
     else (if bytes_eq word (codes "reset") then Some Forgets
     else (if bytes_eq word (codes "viewport") then Some (Views None)
-    else deed_if (is_encryption word) Encrypted))))
+    else effect_if (is_encryption word) Encrypted))))
 
 -- a word is a keyword that has no value
 abbrev pub has_no_value : List ℕ → Bool
 has_no_value word = bytes_eq word (codes "begin") || bytes_eq word (codes "end") || bytes_eq word (codes "reset")
 
 -- what a keyword with a value does: it sets the author in force, opens a viewport, is bad, or does nothing
-abbrev pub assigned_deed : List ℕ → List ℕ → Value → Option Deed
-assigned_deed text word value =
-    if bytes_eq word (codes "author") then Some (author_deed value)
+abbrev pub assigned_effect : List ℕ → List ℕ → Value → Option PragmaEffect
+assigned_effect text word value =
+    if bytes_eq word (codes "author") then Some (author_effect value)
     else (if bytes_eq word (codes "viewport") then Some (Views (view_of text value))
     else (if has_no_value word then Some Bad
-    else deed_if (is_encryption word) Encrypted))
+    else effect_if (is_encryption word) Encrypted))
 
 -- what an expression of a protect pragma does
-abbrev pub protect_deed : List ℕ → Expression → Option Deed
-protect_deed text (Alone place keyword) = alone_deed place (text_of text keyword)
-protect_deed text (Assigned keyword value) = assigned_deed text (text_of text keyword) value
-protect_deed text Only = None
+abbrev pub protect_effect : List ℕ → Expression → Option PragmaEffect
+protect_effect text (Alone place keyword) = alone_effect place (text_of text keyword)
+protect_effect text (Assigned keyword value) = assigned_effect text (text_of text keyword) value
+protect_effect text Only = None
 
 -- what an expression of a reset pragma does: the keyword protect empties the author
-abbrev pub reset_deed : List ℕ → Expression → Option Deed
-reset_deed text (Alone place keyword) = deed_if (bytes_eq (text_of text keyword) (codes "protect")) Forgets
-reset_deed text _ = None
+abbrev pub reset_effect : List ℕ → Expression → Option PragmaEffect
+reset_effect text (Alone place keyword) = effect_if (bytes_eq (text_of text keyword) (codes "protect")) Forgets
+reset_effect text _ = None
 
 -- what an expression of a pragma does
-abbrev pub deed_of : Pragma → List ℕ → Expression → Option Deed
-deed_of Protect text e = protect_deed text e
-deed_of Reset text e = reset_deed text e
+abbrev pub effect_of : Pragma → List ℕ → Expression → Option PragmaEffect
+effect_of Protect text e = protect_effect text e
+effect_of Reset text e = reset_effect text e
 
 -- ---- the expressions of a pragma
 
 -- a deed before others, if there is one
-abbrev pub before_deeds : Option Deed → List Deed → List Deed
-before_deeds None deeds = deeds
-before_deeds (Some deed) deeds = deed ∷ deeds
+abbrev pub before_effects : Option PragmaEffect → List PragmaEffect → List PragmaEffect
+before_effects None effects = effects
+before_effects (Some effect) effects = effect ∷ effects
 
 -- what expressions do, one after the other; where they are not the whole of their line, it is bad after them
-abbrev pub deeds_by : Pragma → List ℕ → List PragmaExpression → (whole : Bool) → List Deed
-deeds_by pragma text [] whole = if whole then [] else Bad ∷ []
-deeds_by pragma text (e ∷ es) whole = before_deeds (deed_of pragma text (expression_said e)) (deeds_by pragma text es whole)
+abbrev pub effects_by : Pragma → List ℕ → List PragmaExpression → (whole : Bool) → List PragmaEffect
+effects_by pragma text [] whole = if whole then [] else Bad ∷ []
+effects_by pragma text (e ∷ es) whole = before_effects (effect_of pragma text (expression_said e)) (effects_by pragma text es whole)
 
 -- what the expressions of a pragma do, by its tokens; it may have none
-abbrev pub ExpressionsDo : Pragma → List ℕ → List Placed → List Deed → Type 0
-ExpressionsDo pragma text [] deeds = deeds ≡ []
-ExpressionsDo pragma text (p ∷ ps) deeds =
-    (es : List PragmaExpression) × (whole : Bool) × AreExpressions (p ∷ ps) es whole × (deeds ≡ deeds_by pragma text es whole)
+abbrev pub ExpressionsDo : Pragma → List ℕ → List Placed → List PragmaEffect → Type 0
+ExpressionsDo pragma text [] effects = effects ≡ []
+ExpressionsDo pragma text (p ∷ ps) effects =
+    (es : List PragmaExpression) × (whole : Bool) × AreExpressions (p ∷ ps) es whole × (effects ≡ effects_by pragma text es whole)
 
 -- ---- the pragma of a line
 
@@ -120,9 +120,9 @@ named_line name ps =
     else (if bytes_eq name (codes "resetall") then ResetAll else NoEffect))
 
 -- the pragma of these tokens
-abbrev pub line_behind : List ℕ → List Placed → PragmaLine
-line_behind text [] = Unnamed
-line_behind text (name ∷ ps) = if is_word name.1.kind then named_line (text_of text name.1) ps else Unnamed
+abbrev pub line_after : List ℕ → List Placed → PragmaLine
+line_after text [] = Unnamed
+line_after text (name ∷ ps) = if is_word name.1.kind then named_line (text_of text name.1) ps else Unnamed
 
 -- the token is the pragma directive, and not the timescale directive (clauses 19.8 and 19.10)
 abbrev pub is_pragma : List ℕ → Token → Bool
@@ -130,14 +130,14 @@ is_pragma text t = bytes_eq (text_of text t) (codes "`pragma")
 
 -- what stands on the line of a directive, by the tokens after it: a directive that is no pragma has no effect here
 abbrev pub directive_line : List ℕ → Token → List Placed → PragmaLine
-directive_line text t ps = if is_pragma text t then line_behind text ps else NoEffect
+directive_line text t ps = if is_pragma text t then line_after text ps else NoEffect
 
 -- what the line of a directive does (profile)
-abbrev pub LineDoes : List ℕ → PragmaLine → List Deed → Type 0
-LineDoes text NoEffect deeds = deeds ≡ []
-LineDoes text Unnamed deeds = deeds ≡ Bad ∷ []
-LineDoes text ResetAll deeds = deeds ≡ Forgets ∷ []
-LineDoes text (Expressions pragma ps) deeds = ExpressionsDo pragma text ps deeds
+abbrev pub LineDoes : List ℕ → PragmaLine → List PragmaEffect → Type 0
+LineDoes text NoEffect effects = effects ≡ []
+LineDoes text Unnamed effects = effects ≡ Bad ∷ []
+LineDoes text ResetAll effects = effects ≡ Forgets ∷ []
+LineDoes text (Expressions pragma ps) effects = ExpressionsDo pragma text ps effects
 
 -- ---- the lines of a text
 
@@ -172,8 +172,8 @@ abbrev pub lines_of : List ℕ → List Token → List (Placed × PragmaLine)
 lines_of text tokens = lines_from text None 0 tokens
 
 -- what lines do, one after the other, each with its directive
-abbrev pub LinesDo : List ℕ → List (Placed × PragmaLine) → List (Placed × Deed) → Type 0
-LinesDo text [] deeds = deeds ≡ []
-LinesDo text (l ∷ ls) deeds =
-    (here : List Deed) × (more : List (Placed × Deed)) × LineDoes text l.1 here × LinesDo text ls more
-    × (deeds ≡ map (λ deed. (l.0, deed)) here ++ more)
+abbrev pub LinesDo : List ℕ → List (Placed × PragmaLine) → List (Placed × PragmaEffect) → Type 0
+LinesDo text [] effects = effects ≡ []
+LinesDo text (l ∷ ls) effects =
+    (here : List PragmaEffect) × (more : List (Placed × PragmaEffect)) × LineDoes text l.1 here × LinesDo text ls more
+    × (effects ≡ map (λ effect. (l.0, effect)) here ++ more)

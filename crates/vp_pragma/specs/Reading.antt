@@ -3,21 +3,21 @@ use Rattle.std.specs.Prelude.{◌≡◌, ℕ, ◌+◌, ◌≤◌, if◌then◌el
 use Rattle.std.specs.List.{enumerate_from}
 use Rattle.vp_lex.specs.declared.token.TheConstants.{TEXT_LIMIT}
 use Rattle.vp_lex.specs.declared.token.Token.{Token}
-use Rattle.vp_pragma.specs.declared.deed.Deed.{Deed}
-use Rattle.vp_pragma.specs.declared.fault.PragmaError.{PragmaError}
+use Rattle.vp_pragma.specs.declared.pragma_effect.PragmaEffect.{PragmaEffect}
+use Rattle.vp_pragma.specs.declared.error.PragmaError.{PragmaError}
 use Rattle.vp_pragma.specs.declared.line.Rest.{Rest}
 use Rattle.vp_pragma.specs.declared.reading.Before.{Before}
 use Rattle.vp_pragma.specs.declared.reading.Line.{Line}
 use Rattle.vp_pragma.specs.declared.reading.Open.{Open}
 use Rattle.vp_pragma.specs.declared.reading.Reading.{Reading}
 use Rattle.vp_pragma.specs.Surroundings.{CountsUpTo, around_of, is_before_else, is_free, kinds_before, module_at}
-use Rattle.vp_pragma.specs.LineReading.{deeds_behind}
-use Rattle.vp_pragma.specs.Signs.{Placed}
+use Rattle.vp_pragma.specs.LineReading.{effects_after}
+use Rattle.vp_pragma.specs.TokenClasses.{Placed}
 use Rattle.vp_pragma.specs.declared.viewport.Viewport as declared
 use Rattle.vp_pragma.specs.declared.envelope.Envelope.{Envelope}
 use Rattle.vp_pragma.specs.Envelopes.{Protection, Viewport, object_of}
 use Rattle.vp_pragma.specs.Rights.{set_of}
-use Rattle.vp_pragma.specs.EnvelopesOf.{Begun, Progress, after_deed, after_deeds}
+use Rattle.vp_pragma.specs.EnvelopesOf.{Begun, Progress, after_effect, after_effects}
 
 -- the tokens of a line that are left, with their places
 abbrev pub placed : Rest → List Placed
@@ -75,14 +75,14 @@ abbrev pub directive_of : Line → Placed
 directive_of line = (line.place, line.directive)
 
 -- what a deed on a line makes of a reading
-abbrev pub after_one : Line → Reading → Deed → Result Progress PragmaError
-after_one line reading deed =
-    after_deed line.text.now line.tokens.now (progress_of reading) (directive_of line) deed
+abbrev pub after_one : Line → Reading → PragmaEffect → Result Progress PragmaError
+after_one line reading effect =
+    after_effect line.text.now line.tokens.now (progress_of reading) (directive_of line) effect
 
 -- what deeds on a line make of a reading
-abbrev pub after_all : Line → Reading → List Deed → Result Progress PragmaError
-after_all line reading deeds =
-    after_deeds line.text.now line.tokens.now (Ok (progress_of reading)) (map (λ deed. (directive_of line, deed)) deeds)
+abbrev pub after_all : Line → Reading → List PragmaEffect → Result Progress PragmaError
+after_all line reading effects =
+    after_effects line.text.now line.tokens.now (Ok (progress_of reading)) (map (λ effect. (directive_of line, effect)) effects)
 
 -- ---- a text
 
@@ -95,4 +95,4 @@ IsBefore tokens place before =
 -- what the tokens from a place on make of a reading, where the token before them stands on this pragma's line or on none
 abbrev pub after_left : List ℕ → List Token → Reading → Option ℕ → ℕ → Result Progress PragmaError
 after_left text tokens reading before place =
-    after_deeds text tokens (Ok (progress_of reading)) (deeds_behind text before place (drop place tokens))
+    after_effects text tokens (Ok (progress_of reading)) (effects_after text before place (drop place tokens))

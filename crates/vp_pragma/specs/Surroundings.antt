@@ -102,8 +102,8 @@ is_at_boundary kinds = fold (λ before kind. may_end kind) true kinds
 
 -- no block, case, parenthesis, bracket or brace is open after these kinds, each counted by itself, and a statement, an item or a
 -- module may have ended (profile)
-abbrev pub is_free_behind : List TokenKind → Bool
-is_free_behind kinds =
+abbrev pub is_free_after : List TokenKind → Bool
+is_free_after kinds =
     (open_count opens_block closes_block kinds == 0)
     && (open_count opens_case closes_case kinds == 0)
     && (open_count opens_parenthesis closes_parenthesis kinds == 0)
@@ -117,19 +117,19 @@ is_before_else tokens place = option_map_or is_else (kind_from place tokens) fal
 
 -- an envelope may begin or end on the line of the directive at a place (profile)
 abbrev pub is_free : List Token → ℕ → Bool
-is_free tokens place = is_free_behind (kinds_before place tokens) && not (is_before_else tokens place)
+is_free tokens place = is_free_after (kinds_before place tokens) && not (is_before_else tokens place)
 
 -- after these kinds a module is open
 abbrev pub is_in_module : List TokenKind → Bool
 is_in_module kinds = fold (λ inside kind. if begins_module kind then true else (if ends_module kind then false else inside)) false kinds
 
 -- after these kinds the how-many-th module is open; none outside of all modules
-abbrev pub module_behind : List TokenKind → Option ℕ
-module_behind kinds = if is_in_module kinds then Some (count_by begins_module kinds) else None
+abbrev pub module_after : List TokenKind → Option ℕ
+module_after kinds = if is_in_module kinds then Some (count_by begins_module kinds) else None
 
 -- the how-many-th module a place stands in; none outside of all modules
 abbrev pub module_at : List Token → ℕ → Option ℕ
-module_at tokens place = module_behind (kinds_before place tokens)
+module_at tokens place = module_after (kinds_before place tokens)
 
 -- ---- as they are kept while a text is read
 
@@ -151,8 +151,8 @@ abbrev pub counted : Bool → Bool → ℕ → ℕ
 counted opens closes n = if opens then n + 1 else (if closes then n - 1 else n)
 
 -- what is open after one more token
-abbrev pub around_behind : Surroundings → TokenKind → Surroundings
-around_behind s kind = record {
+abbrev pub around_after : Surroundings → TokenKind → Surroundings
+around_after s kind = record {
   blocks = counted (opens_block kind) (closes_block kind) s.blocks;
   cases = counted (opens_case kind) (closes_case kind) s.cases;
   parentheses = counted (opens_parenthesis kind) (closes_parenthesis kind) s.parentheses;

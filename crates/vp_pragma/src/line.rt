@@ -2,13 +2,13 @@
 ghost use Rattle.std.specs.Prelude.{◌≡◌, ◌≤◌, ◌+◌, [], ◌∷◌, length, drop, if◌then◌else◌, option_map, MatchOption, IfSome};
 ghost use Rattle.std.specs.List.{enumerate_from, prefix_len, take_while};
 ghost use Rattle.vp_lex.specs.declared.token.TheConstants.{TEXT_LIMIT};
-ghost use Rattle.vp_pragma.specs.LineReading.{behind_sign, expression_at, keyword_text, pair_found, pair_of, token_if, value_at};
+ghost use Rattle.vp_pragma.specs.LineReading.{after_sign, expression_at, keyword_text, pair_found, pair_of, token_if, pragma_value};
 ghost use Rattle.vp_pragma.specs.Pragmas.{is_on};
-ghost use Rattle.vp_pragma.specs.Signs.{begins_with, is_base, is_close, is_comma, is_equals, is_string, is_word, rest_of};
+ghost use Rattle.vp_pragma.specs.TokenClasses.{begins_with, is_base, is_close, is_comma, is_equals, is_string, is_word, rest_of};
 ghost use Rattle.vp_pragma.specs.Reading.{HasPlaces, placed};
 
 use crate::lists::list_end;
-use crate::sign::{Sign, sign_of};
+use crate::token_class::{TokenClass, class_of};
 use vp_lex::Token;
 
 /// Two keywords of a list, each with a string.
@@ -52,35 +52,35 @@ pub struct Rest<'a> {
 pub fn is_word(token: Token) -> bool
     ensures { result ≡ is_word token.kind }
 {
-    matches!(sign_of(token), Sign::Word)
+    matches!(class_of(token), TokenClass::Word)
 }
 
 /// The token gives a keyword its value.
 fn is_equals(token: Token) -> bool
     ensures { result ≡ is_equals token.kind }
 {
-    matches!(sign_of(token), Sign::Equals)
+    matches!(class_of(token), TokenClass::Equals)
 }
 
 /// The token stands between expressions.
 pub fn is_comma(token: Token) -> bool
     ensures { result ≡ is_comma token.kind }
 {
-    matches!(sign_of(token), Sign::Comma)
+    matches!(class_of(token), TokenClass::Comma)
 }
 
 /// The token ends a list.
 fn is_close(token: Token) -> bool
     ensures { result ≡ is_close token.kind }
 {
-    matches!(sign_of(token), Sign::Closing)
+    matches!(class_of(token), TokenClass::Closing)
 }
 
 /// The token is a string.
 fn is_string(token: Token) -> bool
     ensures { result ≡ is_string token.kind }
 {
-    matches!(sign_of(token), Sign::Text)
+    matches!(class_of(token), TokenClass::Text)
 }
 
 /// The first token, and what follows it.
@@ -103,22 +103,22 @@ pub fn split(rest: Rest<'_>) -> Option<(Token, Rest<'_>)>
 }
 
 /// What follows a number: after a base part, if one is first.
-fn behind_base(rest: Rest<'_>) -> Rest<'_>
+fn after_base(rest: Rest<'_>) -> Rest<'_>
     requires { HasPlaces rest }
     ensures parts { placed result ≡ (if begins_with is_base (placed rest.entry)
         then rest_of (placed rest.entry) else placed rest.entry) }
     ensures places { HasPlaces result }
 {
     match split(rest) {
-        Some((first, others)) if matches!(sign_of(first), Sign::Base) => others,
+        Some((first, others)) if matches!(class_of(first), TokenClass::Base) => others,
         _ => rest,
     }
 }
 
 /// What follows an equals sign, if one is first.
-fn behind_equals(rest: Rest<'_>) -> Option<Rest<'_>>
+fn after_equals(rest: Rest<'_>) -> Option<Rest<'_>>
     requires { HasPlaces rest }
-    ensures parts { option_map placed result ≡ behind_sign is_equals (placed rest.entry) }
+    ensures parts { option_map placed result ≡ after_sign is_equals (placed rest.entry) }
     ensures places { IfSome result HasPlaces }
 {
     match split(rest) {
@@ -161,14 +161,14 @@ fn keyword_text(rest: Rest<'_>) -> Option<(Token, Token, Rest<'_>)>
     ensures places { IfSome result (λ k. HasPlaces k.2) }
 {
     let (word, rest) = word_at(rest)?;
-    let (text, rest) = string_at(behind_equals(rest)?)?;
+    let (text, rest) = string_at(after_equals(rest)?)?;
     Some((word, text, rest))
 }
 
 /// What follows a comma, if one is first.
-fn behind_comma(rest: Rest<'_>) -> Option<Rest<'_>>
+fn after_comma(rest: Rest<'_>) -> Option<Rest<'_>>
     requires { HasPlaces rest }
-    ensures parts { option_map placed result ≡ behind_sign is_comma (placed rest.entry) }
+    ensures parts { option_map placed result ≡ after_sign is_comma (placed rest.entry) }
     ensures places { IfSome result HasPlaces }
 {
     match split(rest) {
@@ -178,9 +178,9 @@ fn behind_comma(rest: Rest<'_>) -> Option<Rest<'_>>
 }
 
 /// What follows the end of a list, if it is first.
-fn behind_close(rest: Rest<'_>) -> Option<Rest<'_>>
+fn after_close(rest: Rest<'_>) -> Option<Rest<'_>>
     requires { HasPlaces rest }
-    ensures parts { option_map placed result ≡ behind_sign is_close (placed rest.entry) }
+    ensures parts { option_map placed result ≡ after_sign is_close (placed rest.entry) }
     ensures places { IfSome result HasPlaces }
 {
     match split(rest) {
@@ -195,8 +195,8 @@ fn pair_found(rest: Rest<'_>) -> Option<Pair>
     ensures { result ≡ pair_found (placed rest.entry) }
 {
     let (first, text, rest) = keyword_text(rest)?;
-    let (second, other, rest) = keyword_text(behind_comma(rest)?)?;
-    let _behind = behind_close(rest)?;
+    let (second, other, rest) = keyword_text(after_comma(rest)?)?;
+    let _after = after_close(rest)?;
     Some(Pair {
         first,
         text,
@@ -217,17 +217,17 @@ fn pair_of(rest: Rest<'_>) -> Value
 }
 
 /// The value at the front of a line's tokens, and what follows it.
-fn value_at(rest: Rest<'_>) -> Option<(Value, Rest<'_>)>
+fn pragma_value(rest: Rest<'_>) -> Option<(Value, Rest<'_>)>
     requires { HasPlaces rest }
-    ensures parts { option_map (λ v. (v.0, placed v.1)) result ≡ value_at (placed rest.entry) }
+    ensures parts { option_map (λ v. (v.0, placed v.1)) result ≡ pragma_value (placed rest.entry) }
     ensures places { IfSome result (λ v. HasPlaces v.1) }
 {
     let (first, others) = split(rest)?;
-    match sign_of(first) {
-        Sign::Text => Some((Value::Text(first), others)),
-        Sign::Number => Some((Value::Other, behind_base(others))),
-        Sign::Base | Sign::Word => Some((Value::Other, others)),
-        Sign::Opening => Some((pair_of(others), list_end(others)?)),
+    match class_of(first) {
+        TokenClass::Text => Some((Value::Text(first), others)),
+        TokenClass::Number => Some((Value::Other, after_base(others))),
+        TokenClass::Base | TokenClass::Word => Some((Value::Other, others)),
+        TokenClass::Opening => Some((pair_of(others), list_end(others)?)),
         _ => None,
     }
 }
@@ -240,13 +240,13 @@ pub fn expression_at(rest: Rest<'_>) -> Option<(Expression, Rest<'_>)>
 {
     let (first, others) = split(rest)?;
     if !is_word(first) {
-        let (_, behind) = value_at(rest)?;
-        return Some((Expression::Only, behind));
+        let (_, remainder) = pragma_value(rest)?;
+        return Some((Expression::Only, remainder));
     }
-    match behind_equals(others) {
+    match after_equals(others) {
         Some(value) => {
-            let (value, behind) = value_at(value)?;
-            Some((Expression::Assigned(first, value), behind))
+            let (value, remainder) = pragma_value(value)?;
+            Some((Expression::Assigned(first, value), remainder))
         }
         None => Some((Expression::Alone(rest.at, first), others)),
     }

@@ -1,11 +1,11 @@
 // The lists of a pragma's line, which nest as deep as the text allows: so no function calls itself for each (clause 19.10).
 ghost use Rattle.std.specs.Prelude.{◌≡◌, IfSome, option_map};
 ghost use Rattle.vp_pragma.specs.declared.lists.Due.TheVariants as due;
-ghost use Rattle.vp_pragma.specs.Lists.{next, next_behind, next_behind_number, next_behind_word, next_expression, next_value, scan};
+ghost use Rattle.vp_pragma.specs.Lists.{next, next_after, next_after_number, next_after_word, next_expression, next_value, scan};
 ghost use Rattle.vp_pragma.specs.Reading.{HasPlaces, placed};
 
 use crate::line::{Rest, split};
-use crate::sign::{Sign, sign_of};
+use crate::token_class::{TokenClass, class_of};
 
 /// What is due next in a list.
 #[derive(Clone, Copy)]
@@ -13,11 +13,11 @@ pub enum Due {
     Expression,
     Value,
     /// What may follow a word that begins an expression.
-    BehindWord,
+    AfterWord,
     /// What may follow a number.
-    BehindNumber,
+    AfterNumber,
     /// What may follow an expression.
-    Behind,
+    After,
 }
 
 /// What a token does in a list.
@@ -29,51 +29,51 @@ pub enum Move {
 }
 
 /// What comes next where an expression is due.
-fn next_expression(sign: Sign) -> Option<Move>
-    ensures { result ≡ next_expression sign }
+fn next_expression(token_class: TokenClass) -> Option<Move>
+    ensures { result ≡ next_expression token_class }
 {
-    match sign {
-        Sign::Word => Some(Move::To(Due::BehindWord)),
-        Sign::Text | Sign::Base => Some(Move::To(Due::Behind)),
-        Sign::Number => Some(Move::To(Due::BehindNumber)),
-        Sign::Opening => Some(Move::Opens),
+    match token_class {
+        TokenClass::Word => Some(Move::To(Due::AfterWord)),
+        TokenClass::Text | TokenClass::Base => Some(Move::To(Due::After)),
+        TokenClass::Number => Some(Move::To(Due::AfterNumber)),
+        TokenClass::Opening => Some(Move::Opens),
         _ => None,
     }
 }
 
 /// What comes next where a value is due.
-fn next_value(sign: Sign) -> Option<Move>
-    ensures { result ≡ next_value sign }
+fn next_value(token_class: TokenClass) -> Option<Move>
+    ensures { result ≡ next_value token_class }
 {
-    match sign {
-        Sign::Word | Sign::Text | Sign::Base => Some(Move::To(Due::Behind)),
-        Sign::Number => Some(Move::To(Due::BehindNumber)),
-        Sign::Opening => Some(Move::Opens),
+    match token_class {
+        TokenClass::Word | TokenClass::Text | TokenClass::Base => Some(Move::To(Due::After)),
+        TokenClass::Number => Some(Move::To(Due::AfterNumber)),
+        TokenClass::Opening => Some(Move::Opens),
         _ => None,
     }
 }
 
 /// What comes next after an expression.
-fn next_behind(sign: Sign) -> Option<Move>
-    ensures { result ≡ next_behind sign }
+fn next_after(token_class: TokenClass) -> Option<Move>
+    ensures { result ≡ next_after token_class }
 {
-    match sign {
-        Sign::Comma => Some(Move::To(Due::Expression)),
-        Sign::Closing => Some(Move::Closes),
+    match token_class {
+        TokenClass::Comma => Some(Move::To(Due::Expression)),
+        TokenClass::Closing => Some(Move::Closes),
         _ => None,
     }
 }
 
 /// What comes next, where a token has this sign; nothing where none such may stand.
-fn next(due: Due, sign: Sign) -> Option<Move>
-    ensures { result ≡ next due sign }
+fn next(due: Due, token_class: TokenClass) -> Option<Move>
+    ensures { result ≡ next due token_class }
 {
-    match (due, sign) {
-        (Due::Expression, _) => next_expression(sign),
-        (Due::Value, _) => next_value(sign),
-        (Due::BehindWord, Sign::Equals) => Some(Move::To(Due::Value)),
-        (Due::BehindNumber, Sign::Base) => Some(Move::To(Due::Behind)),
-        (Due::BehindWord | Due::BehindNumber | Due::Behind, _) => next_behind(sign),
+    match (due, token_class) {
+        (Due::Expression, _) => next_expression(token_class),
+        (Due::Value, _) => next_value(token_class),
+        (Due::AfterWord, TokenClass::Equals) => Some(Move::To(Due::Value)),
+        (Due::AfterNumber, TokenClass::Base) => Some(Move::To(Due::After)),
+        (Due::AfterWord | Due::AfterNumber | Due::After, _) => next_after(token_class),
     }
 }
 
@@ -87,7 +87,7 @@ pub fn list_end(rest: Rest<'_>) -> Option<Rest<'_>>
     let mut depth = 0u32;
     let mut left = rest;
     while let Some((token, others)) = split(left) {
-        match next(due, sign_of(token))? {
+        match next(due, class_of(token))? {
             Move::To(following) => due = following,
             Move::Opens => {
                 depth += 1;
@@ -96,7 +96,7 @@ pub fn list_end(rest: Rest<'_>) -> Option<Rest<'_>>
             Move::Closes if depth == 0 => return Some(others),
             Move::Closes => {
                 depth -= 1;
-                due = Due::Behind;
+                due = Due::After;
             }
         }
         left = others;

@@ -4,19 +4,19 @@ ghost use Rattle.vp_lex.specs.declared.token.TheConstants.{TEXT_LIMIT};
 ghost use Rattle.vp_lex.specs.declared.token.Token.{Token};
 ghost use Rattle.vp_lex.specs.Strings.{string_value};
 ghost use Rattle.vp_lex.specs.Texts.{text_of};
-ghost use Rattle.vp_pragma.specs.declared.deed.Deed.{Deed};
-ghost use Rattle.vp_pragma.specs.EnvelopesOf.{AreEnvelopes, IsFaultOf, after_deeds, at_start, envelopes_behind, same_module};
-ghost use Rattle.vp_pragma.specs.Pragmas.{before_deeds, begins_line, is_pragma, on_line, pragma_line};
-ghost use Rattle.vp_pragma.specs.LineReading.{deeds_from, deeds_of_text, directive_deeds, line_deeds, named_deeds, all_deeds};
-ghost use Rattle.vp_pragma.specs.declared.fault.PragmaError.TheVariants.{NoMemory};
+ghost use Rattle.vp_pragma.specs.declared.pragma_effect.PragmaEffect.{PragmaEffect};
+ghost use Rattle.vp_pragma.specs.EnvelopesOf.{AreEnvelopes, IsFaultOf, after_effects, at_start, envelopes_after, same_module};
+ghost use Rattle.vp_pragma.specs.Pragmas.{before_effects, begins_line, is_pragma, on_line, pragma_line};
+ghost use Rattle.vp_pragma.specs.LineReading.{effects_from, effects_of_text, directive_effects, line_effects, named_effects, all_effects};
+ghost use Rattle.vp_pragma.specs.declared.error.PragmaError.TheVariants.{NoMemory};
 ghost use Rattle.vp_list.specs.Refusals.{MayExplain};
 ghost use Rattle.vp_pragma.specs.Reading.{HasPlaces, HasRoom, IsBefore, IsLine, after_all, after_left, after_one, placed, progress_of};
 ghost use Rattle.vp_pragma.specs.Surroundings.{is_before_else, is_free_around};
 
-use crate::deed::{Deed, Pragma, ViewportStrings, deed_of};
 use crate::envelope::{Envelope, Envelopes};
-use crate::fault::PragmaError;
+use crate::error::PragmaError;
 use crate::line::{Rest, expression_at, is_comma, is_word, run_of, split};
+use crate::pragma_effect::{Pragma, PragmaEffect, ViewportStrings, effect_of};
 use crate::surroundings::{Surroundings, is_before_else};
 use crate::viewport::{Viewport, read_view};
 use std::alloc::{AllocError, Global};
@@ -97,7 +97,7 @@ fn begin(
     requires line { IsLine line }
     requires room { HasRoom reading.old }
     ensures room { OnOk result (HasRoom reading.new) }
-    ensures begun { let after = after_one line.entry reading.old (Deed.Begins place)
+    ensures begun { let after = after_one line.entry reading.old (PragmaEffect.Begins place)
         in MatchResult result (λ _. after ≡ Ok (progress_of reading.new))
         (MayExplain NoMemory (result_err after)) }
 {
@@ -126,7 +126,7 @@ fn end(reading: &mut Reading, line: Line<'_>, place: u32) -> Result<(), PragmaEr
     requires line { IsLine line }
     requires room { HasRoom reading.old }
     ensures room { OnOk result (HasRoom reading.new) }
-    ensures ended { let after = after_one line.entry reading.old (Deed.Ends place)
+    ensures ended { let after = after_one line.entry reading.old (PragmaEffect.Ends place)
         in MatchResult result (λ _. after ≡ Ok (progress_of reading.new))
         (MayExplain NoMemory (result_err after)) }
 {
@@ -155,7 +155,7 @@ fn open_view(
     requires line { IsLine line }
     requires room { HasRoom reading.old }
     ensures room { OnOk result (HasRoom reading.new) }
-    ensures opened { let after = after_one line.entry reading.old (Deed.Views view)
+    ensures opened { let after = after_one line.entry reading.old (PragmaEffect.Views view)
         in MatchResult result (λ _. after ≡ Ok (progress_of reading.new))
         (MayExplain NoMemory (result_err after)) }
 {
@@ -178,31 +178,31 @@ fn apply(
     alloc: Global,
     reading: &mut Reading,
     line: Line<'_>,
-    deed: Deed,
+    effect: PragmaEffect,
 ) -> Result<(), PragmaError>
     requires line { IsLine line }
     requires room { HasRoom reading.old }
     ensures room { OnOk result (HasRoom reading.new) }
-    ensures done { let after = after_one line.entry reading.old deed
+    ensures done { let after = after_one line.entry reading.old effect
         in MatchResult result (λ _. after ≡ Ok (progress_of reading.new))
         (MayExplain NoMemory (result_err after)) }
 {
-    match deed {
-        Deed::Begins(place) => begin(alloc, reading, line, place),
-        Deed::Ends(place) => end(reading, line, place),
-        Deed::Names(string) => {
+    match effect {
+        PragmaEffect::Begins(place) => begin(alloc, reading, line, place),
+        PragmaEffect::Ends(place) => end(reading, line, place),
+        PragmaEffect::Names(string) => {
             reading.author = author_of(alloc, line.text, string)?;
             Ok(())
         }
-        Deed::Forgets => {
+        PragmaEffect::Forgets => {
             reading.author = SharedText::empty();
             Ok(())
         }
-        Deed::Views(view) => open_view(alloc, reading, line, view),
-        Deed::Encrypted => Err(PragmaError::NeedsDecryption {
+        PragmaEffect::Views(view) => open_view(alloc, reading, line, view),
+        PragmaEffect::Encrypted => Err(PragmaError::NeedsDecryption {
             line: line.directive.line,
         }),
-        Deed::Bad => Err(PragmaError::BadPragma {
+        PragmaEffect::Bad => Err(PragmaError::BadPragma {
             line: line.directive.line,
         }),
     }
@@ -214,20 +214,20 @@ fn apply_any(
     alloc: Global,
     reading: &mut Reading,
     line: Line<'_>,
-    deed: Option<Deed>,
+    effect: Option<PragmaEffect>,
 ) -> Result<(), PragmaError>
     requires line { IsLine line }
     requires room { HasRoom reading.old }
     ensures room { OnOk result (HasRoom reading.new) }
-    ensures done { OnOk result ((ds : List Deed)
-        → after_all line.entry reading.old (before_deeds deed ds)
+    ensures done { OnOk result ((ds : List PragmaEffect)
+        → after_all line.entry reading.old (before_effects effect ds)
         ≡ after_all line.entry reading.new ds) }
-    ensures fault { IfErr result (λ e. (ds : List Deed)
+    ensures fault { IfErr result (λ e. (ds : List PragmaEffect)
         → MayExplain NoMemory
-        (result_err (after_all line.entry reading.old (before_deeds deed ds))) e) }
+        (result_err (after_all line.entry reading.old (before_effects effect ds))) e) }
 {
-    match deed {
-        Some(deed) => apply(alloc, reading, line, deed),
+    match effect {
+        Some(effect) => apply(alloc, reading, line, effect),
         None => Ok(()),
     }
 }
@@ -247,22 +247,27 @@ fn apply_first<'a>(
     ensures places { IfOk result (λ next. IfSome next HasPlaces) }
     ensures last { IfOk result (λ next. IfNone next
         ((n : ℕ) → after_all line.entry reading.old
-        (deeds_from pragma line.entry.text.now (suc n) (placed rest.entry))
+        (effects_from pragma line.entry.text.now (suc n) (placed rest.entry))
         ≡ Ok (progress_of reading.new))) }
     ensures more { IfOk result (λ next. IfSome next
         (λ r. (n : ℕ) → after_all line.entry reading.old
-        (deeds_from pragma line.entry.text.now (suc n) (placed rest.entry))
-        ≡ after_all line.entry reading.new (deeds_from pragma line.entry.text.now n (placed r)))) }
+        (effects_from pragma line.entry.text.now (suc n) (placed rest.entry))
+        ≡ after_all line.entry reading.new (effects_from pragma line.entry.text.now n (placed r)))) }
     ensures fault { IfErr result (λ e. (n : ℕ)
         → MayExplain NoMemory (result_err (after_all line.entry reading.old
-        (deeds_from pragma line.entry.text.now (suc n) (placed rest.entry)))) e) }
+        (effects_from pragma line.entry.text.now (suc n) (placed rest.entry)))) e) }
 {
     let number = line.directive.line;
-    let Some((expression, behind)) = expression_at(rest) else {
+    let Some((expression, remainder)) = expression_at(rest) else {
         return Err(PragmaError::BadPragma { line: number });
     };
-    apply_any(alloc, reading, line, deed_of(pragma, line.text, expression))?;
-    let Some((comma, next)) = split(behind) else {
+    apply_any(
+        alloc,
+        reading,
+        line,
+        effect_of(pragma, line.text, expression),
+    )?;
+    let Some((comma, next)) = split(remainder) else {
         return Ok(None);
     };
     if !is_comma(comma) {
@@ -284,7 +289,7 @@ fn apply_all(
     requires room { HasRoom reading.old }
     ensures room { OnOk result (HasRoom reading.new) }
     ensures done { let after = after_all line.entry reading.old
-        (all_deeds pragma line.entry.text.now (placed rest.entry))
+        (all_effects pragma line.entry.text.now (placed rest.entry))
         in MatchResult result (λ _. after ≡ Ok (progress_of reading.new))
         (MayExplain NoMemory (result_err after)) }
 {
@@ -318,14 +323,14 @@ fn read_named(
     requires room { HasRoom reading.old }
     ensures room { OnOk result (HasRoom reading.new) }
     ensures done { let after = after_all line.entry reading.old
-        (named_deeds line.entry.text.now name.now (placed rest.entry))
+        (named_effects line.entry.text.now name.now (placed rest.entry))
         in MatchResult result (λ _. after ≡ Ok (progress_of reading.new))
         (MayExplain NoMemory (result_err after)) }
 {
     match name {
         "protect" => apply_all(alloc, reading, line, Pragma::Protect, rest),
         "reset" => apply_all(alloc, reading, line, Pragma::Reset, rest),
-        "resetall" => apply(alloc, reading, line, Deed::Forgets),
+        "resetall" => apply(alloc, reading, line, PragmaEffect::Forgets),
         _ => Ok(()),
     }
 }
@@ -338,7 +343,7 @@ fn read_line(alloc: Global, reading: &mut Reading, line: Line<'_>) -> Result<(),
     requires room { HasRoom reading.old }
     ensures room { OnOk result (HasRoom reading.new) }
     ensures done { let after = after_all line.entry reading.old
-        (line_deeds line.entry.text.now
+        (line_effects line.entry.text.now
         (on_line line.entry.place line.entry.directive
         (drop (line.entry.place + 1) line.entry.tokens.now)))
         in MatchResult result (λ _. after ≡ Ok (progress_of reading.new))
@@ -368,7 +373,7 @@ fn read_directive(alloc: Global, reading: &mut Reading, line: Line<'_>) -> Resul
     requires room { HasRoom reading.old }
     ensures room { OnOk result (HasRoom reading.new) }
     ensures done { let after = after_all line.entry reading.old
-        (directive_deeds line.entry.text.now line.entry.directive
+        (directive_effects line.entry.text.now line.entry.directive
         (on_line line.entry.place line.entry.directive
         (drop (line.entry.place + 1) line.entry.tokens.now)))
         in MatchResult result (λ _. after ≡ Ok (progress_of reading.new))
@@ -419,7 +424,7 @@ fn step(tokens: &[Token], place: usize, before: Before) -> Before
         }
     } else {
         Before {
-            around: before.around.behind(token.kind),
+            around: before.around.after_token(token.kind),
             line: None,
             before_else: false,
         }
@@ -441,17 +446,17 @@ fn read_token(
     tokens: &[Token],
     place: usize,
     before: Option<u32>,
-    behind: Before,
+    before_next: Before,
 ) -> Result<(), PragmaError>
     requires place { place < length tokens.now }
     requires few { length tokens.now ≤ TEXT_LIMIT }
-    requires behind { IsBefore tokens.now (place + 1) behind }
-    requires line { (d : Token) → behind.line ≡ pragma_line (slice_index_or tokens.now place d) }
+    requires before_next { IsBefore tokens.now (place + 1) before_next }
+    requires line { (d : Token) → before_next.line ≡ pragma_line (slice_index_or tokens.now place d) }
     requires room { HasRoom reading.old }
     ensures room { OnOk result (HasRoom reading.new) }
     ensures done { let after = after_left text.now tokens.now reading.old before place
         in MatchResult result (λ _. after
-        ≡ after_left text.now tokens.now reading.new behind.line (place + 1))
+        ≡ after_left text.now tokens.now reading.new before_next.line (place + 1))
         (MayExplain NoMemory (result_err after)) }
 {
     let directive = tokens[place];
@@ -463,8 +468,8 @@ fn read_token(
         tokens,
         place,
         directive,
-        free: is_free(behind),
-        module: behind.around.module(),
+        free: is_free(before_next),
+        module: before_next.around.module(),
     };
     read_directive(alloc, reading, line)
 }
@@ -473,8 +478,8 @@ fn read_token(
 fn read(alloc: Global, text: &str, tokens: &[Token]) -> Result<Reading, PragmaError>
     requires { length tokens.now ≤ TEXT_LIMIT }
     ensures room { IfOk result HasRoom }
-    ensures done { let after = after_deeds text.now tokens.now (Ok at_start)
-        (deeds_of_text text.now tokens.now)
+    ensures done { let after = after_effects text.now tokens.now (Ok at_start)
+        (effects_of_text text.now tokens.now)
         in MatchResult result (λ reading. after ≡ Ok (progress_of reading))
         (MayExplain NoMemory (result_err after)) }
 {
@@ -490,7 +495,7 @@ fn read(alloc: Global, text: &str, tokens: &[Token]) -> Result<Reading, PragmaEr
         before_else: false,
     };
     for place in 0..tokens.len() {
-        let behind = step(tokens, place, before);
+        let before_next = step(tokens, place, before);
         read_token(
             alloc,
             &mut reading,
@@ -498,9 +503,9 @@ fn read(alloc: Global, text: &str, tokens: &[Token]) -> Result<Reading, PragmaEr
             tokens,
             place,
             before.line,
-            behind,
+            before_next,
         )?;
-        before = behind;
+        before = before_next;
     }
     Ok(reading)
 }
@@ -508,7 +513,7 @@ fn read(alloc: Global, text: &str, tokens: &[Token]) -> Result<Reading, PragmaEr
 /// The envelopes of a reading at the end of its text.
 fn ended(alloc: Global, reading: Reading) -> Result<Envelopes, PragmaError>
     requires { HasRoom reading }
-    ensures { let after = envelopes_behind (Ok (progress_of reading))
+    ensures { let after = envelopes_after (Ok (progress_of reading))
         in MatchResult result (λ envelopes. after ≡ Ok envelopes)
         (MayExplain NoMemory (result_err after)) }
 {

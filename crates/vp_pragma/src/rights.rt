@@ -142,9 +142,9 @@ pub fn access(text: &str) -> Option<Rights>
     let mut rights = Rights::none();
     let mut rest = text;
     loop {
-        let (name, behind) = first_part(rest, '+');
+        let (name, remainder) = first_part(rest, '+');
         rights = rights.either(Rights::from(right_named(name)?));
-        match behind {
+        match remainder {
             Some(further) => rest = further,
             None => return Some(rights.either(Rights::LIST)),
         }

@@ -24,7 +24,7 @@ pub struct Surroundings {
 }
 
 impl Surroundings {
-    ghost use Rattle.vp_pragma.specs.Surroundings.{CountsUpTo, around_behind, around_of, is_free_around, with_boundary};
+    ghost use Rattle.vp_pragma.specs.Surroundings.{CountsUpTo, around_after, around_of, is_free_around, with_boundary};
 
     /// Before the first token.
     pub fn new() -> Surroundings
@@ -69,7 +69,7 @@ impl Surroundings {
     fn count_word(&mut self, word: Keyword)
         requires { CountsUpTo TEXT_LIMIT self.old }
         ensures { self.new ≡ with_boundary self.old.at_boundary
-            (around_behind self.old (token.Keyword word)) }
+            (around_after self.old (token.Keyword word)) }
     {
         match word {
             Keyword::Begin => self.blocks += 1,
@@ -89,7 +89,7 @@ impl Surroundings {
     fn count_mark(&mut self, mark: Punctuator)
         requires { CountsUpTo TEXT_LIMIT self.old }
         ensures { self.new ≡ with_boundary self.old.at_boundary
-            (around_behind self.old (token.Punctuator mark)) }
+            (around_after self.old (token.Punctuator mark)) }
     {
         match mark {
             Punctuator::LeftParenthesis => self.parentheses += 1,
@@ -105,9 +105,9 @@ impl Surroundings {
     }
 
     /// What is open after one more token.
-    pub fn behind(self, kind: TokenKind) -> Surroundings
+    pub fn after_token(self, kind: TokenKind) -> Surroundings
         requires { CountsUpTo TEXT_LIMIT self }
-        ensures { result ≡ around_behind self kind }
+        ensures { result ≡ around_after self kind }
     {
         let mut after = self;
         match kind {

@@ -9,12 +9,12 @@ ghost use Rattle.vp_lex.specs.Strings.{string_value};
 ghost use Rattle.vp_lex.specs.Texts.{text_of};
 ghost use Rattle.vp_pragma.specs.Envelopes.{object_of};
 ghost use Rattle.vp_pragma.specs.EnvelopesOf.{Progress, item_named, viewed};
-ghost use Rattle.vp_pragma.specs.declared.fault.PragmaError.TheVariants.{NoMemory};
+ghost use Rattle.vp_pragma.specs.declared.error.PragmaError.TheVariants.{NoMemory};
 ghost use Rattle.vp_list.specs.Refusals.{MayExplain};
 ghost use Rattle.vp_pragma.specs.Reading.{viewport_of};
 
-use crate::deed::ViewportStrings;
-use crate::fault::PragmaError;
+use crate::error::PragmaError;
+use crate::pragma_effect::ViewportStrings;
 use crate::rights::{Rights, access};
 use std::alloc::{AllocError, Global};
 use vp_lex::string_value;
@@ -141,11 +141,11 @@ fn names_of(object: &str) -> Option<(Option<&str>, &str)>
     ensures { option_map (λ n. (option_map (λ m. m.now) n.0, n.1.now)) result
         ≡ item_named (parts 46 object.entry.now) }
 {
-    let (first, behind) = first_part(object, '.');
-    let Some(behind) = behind else {
+    let (first, remainder) = first_part(object, '.');
+    let Some(remainder) = remainder else {
         return one_name(first);
     };
-    let (item, further) = first_part(behind, '.');
+    let (item, further) = first_part(remainder, '.');
     match further {
         Some(_) => None,
         None => two_names(first, item),

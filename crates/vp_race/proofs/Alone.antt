@@ -5,7 +5,7 @@ use Rattle.std.proofs.lemmas.Bool.{ltb-false}
 use Rattle.std.proofs.lemmas.Option.{slice_get_past}
 use Rattle.vp_sim.specs.Tables.{tables_of}
 use Rattle.vp_sim.specs.States.{Outcome, Refuses, State, eligible, happened, step, with_activation}
-use Rattle.vp_sim.specs.declared.fault.SimError.TheVariants.{Finished, Idle, NoSuchChoice}
+use Rattle.vp_sim.specs.declared.error.SimError.TheVariants.{Finished, Idle, NoSuchChoice}
 use Rattle.vp_strata.specs.Queues.{activated, is_done, peeked, ready}
 use Rattle.vp_race.specs.Orders.{IsOrder, HasEnd, chose_from, followed, has_choice, is_over, reached}
 

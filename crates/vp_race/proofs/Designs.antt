@@ -3,7 +3,7 @@ use Rattle.std.proofs.Common.{◌≡◌, ℕ, List, [], ◌∷◌, Option, Some,
 use Rattle.vp_elab.specs.Built.{Elaborated}
 use Rattle.vp_sim.specs.States.{Outcome, Goes, Refuses, State, step}
 use Rattle.vp_sim.specs.laws.Designs.{Leaves, step_leaves}
-use Rattle.vp_race.specs.Orders.{behind, followed, reached}
+use Rattle.vp_race.specs.Orders.{after_choices, followed, reached}
 
 -- the design of a state that was reached
 abbrev Has : Elaborated → Option State → Type 0
@@ -24,8 +24,8 @@ has_some : (d : Elaborated) (o : Option State) (end : State) → o ≡ Some end 
 has_some d o end there h = subst (λ (p : Option State). Has d p) there h
 
 -- choices leave the design
-pub behind_design : (s : State) (ks : List ℕ) (end : State) → behind s ks ≡ Some end → end.design ≡ s.design
-behind_design s ks end there = has_some s.design (behind s ks) end there (followed_has s.design (Some s) ks refl)
+pub after_design : (s : State) (ks : List ℕ) (end : State) → after_choices s ks ≡ Some end → end.design ≡ s.design
+after_design s ks end there = has_some s.design (after_choices s ks) end there (followed_has s.design (Some s) ks refl)
 
 -- choices lead to one state
 pub one_end : (o : Option State) (first second : State) → o ≡ Some first → o ≡ Some second → first ≡ second

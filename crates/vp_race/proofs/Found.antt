@@ -11,9 +11,9 @@ use Rattle.vp_bits.specs.laws.Words.{same_bits-Decides}
 use Rattle.vp_elab.proofs.Marks.{filter_below_more}
 use Rattle.vp_elab.specs.Tree.{below}
 use Rattle.vp_sim.specs.States.{State, eligible, step}
-use Rattle.vp_race.specs.Orders.{HasEnd, behind, differs, followed, has_choice, is_over, is_signal, reached, value_of}
-use Rattle.vp_race.specs.Segments.{Run, Told}
-use Rattle.vp_race.specs.Search.{choice, differing, finding_of, found, found_behind, found_beside, found_by, found_from, is_among, next_number, objects_of, tried, tried_from}
+use Rattle.vp_race.specs.Orders.{HasEnd, after_choices, differs, followed, has_choice, is_over, is_signal, reached, value_of}
+use Rattle.vp_race.specs.Segments.{Run, FindingState}
+use Rattle.vp_race.specs.Search.{choice, differing, finding_of, found, found_after, found_beside, found_by, found_from, is_among, next_number, objects_of, tried, tried_from}
 use Rattle.vp_race.proofs.Alone.{only}
 
 -- ---- objects below a number
@@ -50,10 +50,10 @@ or_right true b h = refl
 or_right false b h = h
 
 -- an object above those looked at is known where it was known before
-among_before : (segment : Run) (second : List ℕ) (p : ℕ → Bool) (already : List Told) (n : ℕ) → is_among (objects_of (already ++ map (finding_of segment second) (filter p (below n)))) n ≡ is_among (objects_of already) n
+among_before : (segment : Run) (second : List ℕ) (p : ℕ → Bool) (already : List FindingState) (n : ℕ) → is_among (objects_of (already ++ map (finding_of segment second) (filter p (below n)))) n ≡ is_among (objects_of already) n
 among_before segment second p already n =
     let ns = filter p (below n) in
-    ap (λ xs. is_among xs n) (map-append (λ (f : Told). f.object.0) already (map (finding_of segment second) ns) ∙ ap (λ xs. objects_of already ++ xs) (objects_back segment second ns))
+    ap (λ xs. is_among xs n) (map-append (λ (f : FindingState). f.object.0) already (map (finding_of segment second) ns) ∙ ap (λ xs. objects_of already ++ xs) (objects_back segment second ns))
     ∙ list_any-append (λ x. x == n) (objects_of already) ns
     ∙ or_right (is_among (objects_of already) n) (is_among ns n) (none_below p n n (omega arith))
 
@@ -67,7 +67,7 @@ one_more n = omega arith
 
 -- one object more
 pub found_more :
-    (segment : Run) (second : List ℕ) (first end : State) (already : List Told) (n : ℕ) (now : List Told)
+    (segment : Run) (second : List ℕ) (first end : State) (already : List FindingState) (n : ℕ) (now : List FindingState)
     → now ≡ already ++ map (finding_of segment second) (filter (λ o. differs first end o && not (is_among (objects_of already) o)) (below n))
     → now ++ (if differs first end n && not (is_among (objects_of now) n) then finding_of segment second n ∷ [] else [])
     ≡ already ++ map (finding_of segment second) (filter (λ o. differs first end o && not (is_among (objects_of already) o)) (below (n + 1)))
@@ -86,18 +86,18 @@ found_more segment second first end already n now h =
 -- ---- seeds
 
 -- one seed more
-pub seed_more : (segment : Run) (first : State) (limit : ℕ) (already : List Told) (seeds : List ℕ) (seed : ℕ) → found_from segment first limit already (seeds ++ seed ∷ []) ≡ found_from segment first limit already seeds ++ found_by segment first (found_from segment first limit already seeds) (tried segment.start limit seed)
+pub seed_more : (segment : Run) (first : State) (limit : ℕ) (already : List FindingState) (seeds : List ℕ) (seed : ℕ) → found_from segment first limit already (seeds ++ seed ∷ []) ≡ found_from segment first limit already seeds ++ found_by segment first (found_from segment first limit already seeds) (tried segment.start limit seed)
 seed_more segment first limit already [] seed = refl
 seed_more segment first limit already (s ∷ seeds) seed = seed_more segment first limit (already ++ found_by segment first already (tried segment.start limit s)) seeds seed
 
 -- what is found is by the state after the run's order
-pub found_by_end : (segment : Run) (first : State) (limit seeds : ℕ) → behind segment.start segment.order ≡ Some first → found segment limit seeds ≡ found_from segment first limit [] (below seeds)
+pub found_by_end : (segment : Run) (first : State) (limit seeds : ℕ) → after_choices segment.start segment.order ≡ Some first → found segment limit seeds ≡ found_from segment first limit [] (below seeds)
 found_by_end segment first limit seeds h = ap (λ o. found_beside segment o limit seeds) h
 
 -- what is found after an order is by the state after it
-pub found_by_order : (segment : Run) (first end : State) (already : List Told) (second : List ℕ) (o : Option (List ℕ)) → o ≡ Some second → behind segment.start second ≡ Some end → found_by segment first already o ≡ found_behind segment (objects_of already) first second (Some end)
+pub found_by_order : (segment : Run) (first end : State) (already : List FindingState) (second : List ℕ) (o : Option (List ℕ)) → o ≡ Some second → after_choices segment.start second ≡ Some end → found_by segment first already o ≡ found_after segment (objects_of already) first second (Some end)
 found_by_order segment first end already second o h there =
-    ap (λ q. found_by segment first already q) h ∙ ap (λ q. found_behind segment (objects_of already) first second q) there
+    ap (λ q. found_by segment first already q) h ∙ ap (λ q. found_after segment (objects_of already) first second q) there
 
 -- ---- all findings are of the segment
 
@@ -105,16 +105,16 @@ all_map : (segment : Run) (second ns : List ℕ) → All (λ f. f.segment ≡ se
 all_map segment second [] = All-nil (λ f. f.segment ≡ segment)
 all_map segment second (n ∷ ns) = All-cons (λ f. f.segment ≡ segment) (finding_of segment second n) (map (finding_of segment second) ns) refl (all_map segment second ns)
 
-all_behind : (segment : Run) (known : List ℕ) (first : State) (second : List ℕ) (o : Option State) → All (λ f. f.segment ≡ segment) (found_behind segment known first second o)
-all_behind segment known first second None = All-nil (λ f. f.segment ≡ segment)
-all_behind segment known first second (Some end) = all_map segment second (differing known first end)
+all_after : (segment : Run) (known : List ℕ) (first : State) (second : List ℕ) (o : Option State) → All (λ f. f.segment ≡ segment) (found_after segment known first second o)
+all_after segment known first second None = All-nil (λ f. f.segment ≡ segment)
+all_after segment known first second (Some end) = all_map segment second (differing known first end)
 
-all_by : (segment : Run) (first : State) (already : List Told) (o : Option (List ℕ)) → All (λ f. f.segment ≡ segment) (found_by segment first already o)
+all_by : (segment : Run) (first : State) (already : List FindingState) (o : Option (List ℕ)) → All (λ f. f.segment ≡ segment) (found_by segment first already o)
 all_by segment first already None = All-nil (λ f. f.segment ≡ segment)
-all_by segment first already (Some second) = all_behind segment (objects_of already) first second (behind segment.start second)
+all_by segment first already (Some second) = all_after segment (objects_of already) first second (after_choices segment.start second)
 
 -- what one seed more finds is of the segment
-pub all_more : (segment : Run) (first : State) (already : List Told) (o : Option (List ℕ)) → All (λ f. f.segment ≡ segment) already → All (λ f. f.segment ≡ segment) (already ++ found_by segment first already o)
+pub all_more : (segment : Run) (first : State) (already : List FindingState) (o : Option (List ℕ)) → All (λ f. f.segment ≡ segment) already → All (λ f. f.segment ≡ segment) (already ++ found_by segment first already o)
 all_more segment first already o h = All-append (λ f. f.segment ≡ segment) already (found_by segment first already o) h (all_by segment first already o)
 
 -- ---- a time slot without a choice
@@ -186,8 +186,8 @@ found_alone segment whole limit None seed none h = refl
 found_alone segment whole limit (Some second) seed none h =
     let e = tried_order limit seed seed (Some segment.start) second h in
     let same = only segment.start segment.order second e.end whole none (record { leads = e.leads; over = e.over }) in
-    let there : behind segment.start second ≡ Some whole.end = ap (behind segment.start) same ∙ whole.is_order.leads in
-    ap (λ o. found_behind segment [] whole.end second o) there
+    let there : after_choices segment.start second ≡ Some whole.end = ap (after_choices segment.start) same ∙ whole.is_order.leads in
+    ap (λ o. found_after segment [] whole.end second o) there
     ∙ ap (map (finding_of segment second)) (none_differ [] whole.end (below (length whole.end.design.tree.nodes)))
 
 none_from : (segment : Run) (whole : HasEnd segment.start segment.order) (limit : ℕ) (seeds : List ℕ) → has_choice segment.start segment.order ≡ false → found_from segment whole.end limit [] seeds ≡ []

@@ -3,9 +3,9 @@ use Rattle.std.proofs.Common.{◌≡◌, ◌∙◌, ◌==◌, ◌&&◌, ◌||◌
 use Rattle.std.specs.List.{list_any}
 use Rattle.std.proofs.lemmas.List.{map-append}
 use Rattle.vp_race.specs.Booking.{is_booked, is_name, name_of, same_race}
-use Rattle.vp_race.specs.Segments.{Told}
+use Rattle.vp_race.specs.Segments.{FindingState}
 
 -- a race is in the book where its name is among those of the book
-pub any_named : (f : Told) (races : List Told) → list_any (is_name f.segment.number f.object.0) (map name_of races) ≡ is_booked races f
+pub any_named : (f : FindingState) (races : List FindingState) → list_any (is_name f.segment.number f.object.0) (map name_of races) ≡ is_booked races f
 any_named f [] = refl
 any_named f (g ∷ races) = ap (λ b. same_race f g || b) (any_named f races)

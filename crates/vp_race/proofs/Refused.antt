@@ -8,27 +8,27 @@ use Rattle.vp_bits.specs.Vector.{same_bits}
 use Rattle.vp_bits.specs.laws.Words.{same_bits-Decides}
 use Rattle.vp_elab.specs.declared.object.ObjectId.{ObjectId}
 use Rattle.vp_operand.specs.Values.{no_value}
-use Rattle.vp_race.specs.declared.fault.RaceError.{RaceError}
-use Rattle.vp_race.specs.declared.fault.RaceError.TheVariants.{NoMemory, NotComplete, SameValue}
-use Rattle.vp_race.specs.Orders.{HasEnd, IsOrder, behind, differs, is_over, is_signal, value_of}
-use Rattle.vp_race.specs.Segments.{AreApart, Beside, Run, apart, check_refusal, order_refusal, refusal_behind, value_behind}
+use Rattle.vp_race.specs.declared.error.RaceError.{RaceError}
+use Rattle.vp_race.specs.declared.error.RaceError.TheVariants.{NoMemory, NotComplete, SameValue}
+use Rattle.vp_race.specs.Orders.{HasEnd, IsOrder, after_choices, differs, is_over, is_signal, value_of}
+use Rattle.vp_race.specs.Segments.{AreApart, Beside, Run, apart, check_refusal, order_refusal, refusal_after, value_after}
 use Rattle.vp_race.proofs.Apart.{signal_as}
-use Rattle.vp_race.proofs.Designs.{behind_design, one_end}
+use Rattle.vp_race.proofs.Designs.{after_design, one_end}
 use Rattle.vp_sim.specs.States.{State}
 
 -- the refusal after two orders that lead to states
-refusal_at : (segment : Run) (choices : List ℕ) (object : ℕ) (first end : State) → behind segment.start segment.order ≡ Some first → behind segment.start choices ≡ Some end → check_refusal segment choices object ≡ refusal_behind (Some first) (Some end) object
+refusal_at : (segment : Run) (choices : List ℕ) (object : ℕ) (first end : State) → after_choices segment.start segment.order ≡ Some first → after_choices segment.start choices ≡ Some end → check_refusal segment choices object ≡ refusal_after (Some first) (Some end) object
 refusal_at segment choices object first end h k =
-    ap (λ o. refusal_behind o (behind segment.start choices) object) h ∙ ap (λ o. refusal_behind (Some first) o object) k
+    ap (λ o. refusal_after o (after_choices segment.start choices) object) h ∙ ap (λ o. refusal_after (Some first) o object) k
 
 -- something is left to do
-pub not_complete : (segment : Run) (choices : List ℕ) (object : ℕ) (first end : State) → behind segment.start segment.order ≡ Some first → behind segment.start choices ≡ Some end → is_over end ≡ false → check_refusal segment choices object ≡ Some NotComplete
+pub not_complete : (segment : Run) (choices : List ℕ) (object : ℕ) (first end : State) → after_choices segment.start segment.order ≡ Some first → after_choices segment.start choices ≡ Some end → is_over end ≡ false → check_refusal segment choices object ≡ Some NotComplete
 not_complete segment choices object first end h k left =
     refusal_at segment choices object first end h k
     ∙ ap (λ (b : Bool). if not b then Some NotComplete else if differs first end object then None else Some SameValue) left
 
 -- whether the values differ decides, after an order
-decided : (segment : Run) (choices : List ℕ) (object : ℕ) (first end : State) → behind segment.start segment.order ≡ Some first → behind segment.start choices ≡ Some end → is_over end ≡ true → check_refusal segment choices object ≡ (if differs first end object then None else Some SameValue)
+decided : (segment : Run) (choices : List ℕ) (object : ℕ) (first end : State) → after_choices segment.start segment.order ≡ Some first → after_choices segment.start choices ≡ Some end → is_over end ≡ true → check_refusal segment choices object ≡ (if differs first end object then None else Some SameValue)
 decided segment choices object first end h k over =
     refusal_at segment choices object first end h k
     ∙ ap (λ (b : Bool). if not b then Some NotComplete else if differs first end object then None else Some SameValue) over
@@ -42,13 +42,13 @@ some_apart true x y h = refl
 some_apart false x y h = cc
 
 -- the values are the same
-pub same_value : (segment : Run) (choices : List ℕ) (object : ℕ) (first end : State) → behind segment.start segment.order ≡ Some first → behind segment.start choices ≡ Some end → is_over end ≡ true → apart first end object ≡ None → check_refusal segment choices object ≡ Some SameValue
+pub same_value : (segment : Run) (choices : List ℕ) (object : ℕ) (first end : State) → after_choices segment.start segment.order ≡ Some first → after_choices segment.start choices ≡ Some end → is_over end ≡ true → apart first end object ≡ None → check_refusal segment choices object ≡ Some SameValue
 same_value segment choices object first end h k over none =
     decided segment choices object first end h k over
     ∙ ap (λ (b : Bool). if b then None else Some SameValue) (none_apart (differs first end object) _ none)
 
 -- the values differ
-pub accepted : (segment : Run) (choices : List ℕ) (object : ℕ) (first end : State) (values : List Bit × List Bit) → behind segment.start segment.order ≡ Some first → behind segment.start choices ≡ Some end → is_over end ≡ true → apart first end object ≡ Some values → check_refusal segment choices object ≡ None
+pub accepted : (segment : Run) (choices : List ℕ) (object : ℕ) (first end : State) (values : List Bit × List Bit) → after_choices segment.start segment.order ≡ Some first → after_choices segment.start choices ≡ Some end → is_over end ≡ true → apart first end object ≡ Some values → check_refusal segment choices object ≡ None
 accepted segment choices object first end values h k over some =
     decided segment choices object first end h k over
     ∙ ap (λ (b : Bool). if b then None else Some SameValue) (some_apart (differs first end object) _ values some)
@@ -78,18 +78,18 @@ differ_by first end object values h = (
 unequal : (bits others : List Bit) → same_bits bits others ≡ false → bits ≢ others
 unequal bits others h e = let k = (same_bits-Decides bits others).1 e in cc
 
-as_order : (start : State) (choices : List ℕ) (end : State) → HasEnd start choices → behind start choices ≡ Some end → IsOrder start choices end
+as_order : (start : State) (choices : List ℕ) (end : State) → HasEnd start choices → after_choices start choices ≡ Some end → IsOrder start choices end
 as_order start choices end has leads =
-    subst (λ (s : State). IsOrder start choices s) (one_end (behind start choices) has.end end has.is_order.leads leads) has.is_order
+    subst (λ (s : State). IsOrder start choices s) (one_end (after_choices start choices) has.end end has.is_order.leads leads) has.is_order
 
-value_at : (start : State) (choices : List ℕ) (end : State) (object : ℕ) → behind start choices ≡ Some end → value_of end object ≡ value_behind start choices object
+value_at : (start : State) (choices : List ℕ) (end : State) (object : ℕ) → after_choices start choices ≡ Some end → value_of end object ≡ value_after start choices object
 value_at start choices end object leads = sym (ap (λ (o : Option State). option_map_or (λ s. value_of s object) o no_value) leads)
 
 -- two orders of a segment after which a net or reg has these values are a race of it
 pub apart_race :
     (b : Beside) (object : ObjectId) (first end : State) (values : List Bit × List Bit)
     → HasEnd b.segment.start b.segment.order → HasEnd b.segment.start b.second
-    → behind b.segment.start b.segment.order ≡ Some first → behind b.segment.start b.second ≡ Some end → apart first end object.0 ≡ Some values
+    → after_choices b.segment.start b.segment.order ≡ Some first → after_choices b.segment.start b.second ≡ Some end → apart first end object.0 ≡ Some values
     → AreApart b object values
 apart_race b object first end values one other leads led h =
     let d = differ_by first end object.0 values h in
@@ -99,7 +99,7 @@ apart_race b object first end values one other leads led h =
         second_end = end;
         first_order = as_order b.segment.start b.segment.order first one leads;
         second_order = as_order b.segment.start b.second end other led;
-        signal = signal_as b.segment.start first object.0 (sym (behind_design b.segment.start b.segment.order first leads)) ∙ d.0.0;
+        signal = signal_as b.segment.start first object.0 (sym (after_design b.segment.start b.segment.order first leads)) ∙ d.0.0;
         differ = unequal (value_of first object.0) (value_of end object.0) d.0.1;
       };
       first_value = sym (ap (λ (v : List Bit × List Bit). v.0) d.1) ∙ value_at b.segment.start b.segment.order first object.0 leads;
@@ -126,11 +126,11 @@ order_refused_at : (over differ : Bool) (e : RaceError) → MayExplain NoMemory 
 order_refused_at true differ e h = λ other. none_due e (h other)
 order_refused_at false differ e h = h
 
-order_refused_by : (first : State) (o : Option State) (object : ℕ) (e : RaceError) → MayExplain NoMemory (order_refusal o) e → MayExplain NoMemory (refusal_behind (Some first) o object) e
+order_refused_by : (first : State) (o : Option State) (object : ℕ) (e : RaceError) → MayExplain NoMemory (order_refusal o) e → MayExplain NoMemory (refusal_after (Some first) o object) e
 order_refused_by first None object e h = h
 order_refused_by first (Some end) object e h = order_refused_at (is_over end) (differs first end object) e h
 
-pub order_refused : (segment : Run) (choices : List ℕ) (object : ℕ) (first : State) (e : RaceError) → behind segment.start segment.order ≡ Some first → MayExplain NoMemory (order_refusal (behind segment.start choices)) e → MayExplain NoMemory (check_refusal segment choices object) e
+pub order_refused : (segment : Run) (choices : List ℕ) (object : ℕ) (first : State) (e : RaceError) → after_choices segment.start segment.order ≡ Some first → MayExplain NoMemory (order_refusal (after_choices segment.start choices)) e → MayExplain NoMemory (check_refusal segment choices object) e
 order_refused segment choices object first e leads h =
-    subst (λ (o : Option State). MayExplain NoMemory (refusal_behind o (behind segment.start choices) object) e) (sym leads)
-    (order_refused_by first (behind segment.start choices) object e h)
+    subst (λ (o : Option State). MayExplain NoMemory (refusal_after o (after_choices segment.start choices) object) e) (sym leads)
+    (order_refused_by first (after_choices segment.start choices) object e h)

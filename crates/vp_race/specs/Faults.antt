@@ -1,7 +1,7 @@
 -- The numbers of the refusals of the race search.
 use Rattle.std.specs.Prelude.{ℕ}
-use Rattle.vp_race.specs.declared.fault.RaceError.{RaceError}
-use Rattle.vp_race.specs.declared.fault.RaceError.TheVariants.{NotAnOrder, NotComplete, SameValue, SegmentGone, Booked, BookFull, NoMemory}
+use Rattle.vp_race.specs.declared.error.RaceError.{RaceError}
+use Rattle.vp_race.specs.declared.error.RaceError.TheVariants.{NotAnOrder, NotComplete, SameValue, SegmentGone, Booked, BookFull, NoMemory}
 
 -- the number of a refusal (profile)
 abbrev pub code_of : RaceError → ℕ

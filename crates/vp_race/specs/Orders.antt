@@ -24,8 +24,8 @@ followed (Some s) [] = Some s
 followed (Some s) (k ∷ ks) = followed (reached (step s k)) ks
 
 -- the state that these choices lead to, if each is that of a step
-abbrev pub behind : State → (choices : List ℕ) → Option State
-behind s choices = followed (Some s) choices
+abbrev pub after_choices : State → (choices : List ℕ) → Option State
+after_choices s choices = followed (Some s) choices
 
 -- nothing is left to do in the time slot: $finish was executed, or no event is left at the current time
 abbrev pub is_over : State → Bool
@@ -33,7 +33,7 @@ is_over s = s.finished || slot_done s
 
 -- an order of the events of a time slot from a state on: choices of steps that lead to a state in which nothing is left to do
 pub record IsOrder (start : State) (choices : List ℕ) (end : State) : Type 0 where
-  pub leads : behind start choices ≡ Some end
+  pub leads : after_choices start choices ≡ Some end
   pub over : is_over end ≡ true
 
 -- choices are an order of the time slot of a state

@@ -3,7 +3,7 @@ use Rattle.std.specs.Prelude.{◌≡◌, ℕ, ◌-◌, ◌≤◌, ◌==◌, ◌|
 use Rattle.std.specs.List.{find}
 use Rattle.circular_buffer.specs.Buffer.{keep_last}
 use Rattle.vp_sim.specs.States.{State}
-use Rattle.vp_race.specs.Orders.{behind, has_choice, is_over}
+use Rattle.vp_race.specs.Orders.{after_choices, has_choice, is_over}
 use Rattle.vp_race.specs.Segments.{Run}
 
 -- a segment that is not closed: the state with which it began, and what the run chose since
@@ -106,7 +106,7 @@ opened_by (Some begun) s = record { start = begun.start; order = begun.order }
 
 -- what the run chose leads from the segment's start to the state at which it stands
 pub record Leads (s : State) (begun : Begun) : Type 0 where
-  pub reached : behind begun.start begun.order ≡ Some s
+  pub reached : after_choices begun.start begun.order ≡ Some s
   pub choice : begun.has_choice ≡ has_choice begun.start begun.order
 
 -- the same, if the run took a step

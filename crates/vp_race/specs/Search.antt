@@ -1,14 +1,14 @@
 -- The search for races of a time slot: orders by numbers that a seed begins, and the objects whose values differ after them (profile).
 use Rattle.std.specs.Prelude.{◌≡◌, ℕ, ◌+◌, ◌-◌, ◌*◌, ◌/◌, ◌%◌, ◌^◌, ◌==◌, ◌<◌, ◌&&◌, zero, suc, Bool, false, not, if◌then◌else◌, List, [], ◌∷◌, ◌++◌, filter, length, map, min, Option, Some, None, option_map, Result, IfErr, IfOk, OnOk, slice_index_or}
 use Rattle.std.specs.List.{list_any}
-use Rattle.vp_race.specs.declared.fault.RaceError.TheVariants.{NoMemory}
+use Rattle.vp_race.specs.declared.error.RaceError.TheVariants.{NoMemory}
 use Rattle.vp_list.specs.Refusals.{MayExplain}
 use Rattle.vp_elab.specs.Tree.{below}
 use Rattle.vp_elab.specs.declared.object.ObjectId.{ObjectId}
 use Rattle.vp_sim.specs.States.{State, eligible, step}
-use Rattle.vp_race.specs.declared.fault.RaceError.{RaceError}
-use Rattle.vp_race.specs.Orders.{behind, differs, is_over, reached, sources_of}
-use Rattle.vp_race.specs.Segments.{Run, Told, check_refusal}
+use Rattle.vp_race.specs.declared.error.RaceError.{RaceError}
+use Rattle.vp_race.specs.Orders.{after_choices, differs, is_over, reached, sources_of}
+use Rattle.vp_race.specs.Segments.{Run, FindingState, check_refusal}
 
 -- the number after one, in the sequence that a seed begins
 abbrev pub next_number : ℕ → ℕ
@@ -43,55 +43,55 @@ differing known first second =
     filter (λ o. differs first second o && not (is_among known o)) (below (length first.design.tree.nodes))
 
 -- the objects of some findings
-abbrev pub objects_of : List Told → List ℕ
+abbrev pub objects_of : List FindingState → List ℕ
 objects_of findings = map (λ f. f.object.0) findings
 
 -- the finding of an object, in a segment with an order beside the run's
-abbrev pub finding_of : Run → (second : List ℕ) → (object : ℕ) → Told
+abbrev pub finding_of : Run → (second : List ℕ) → (object : ℕ) → FindingState
 finding_of segment second object = record { segment = segment; object = record { 0 = object }; second = second }
 
 -- what a check of choices at an object answers: the finding where they are a race, and else the refusal
-pub record IsChecked (segment : Run) (choices : List ℕ) (object : ℕ) (r : Result Told RaceError) : Type 0 where
+pub record IsChecked (segment : Run) (choices : List ℕ) (object : ℕ) (r : Result FindingState RaceError) : Type 0 where
   pub found : IfOk r (λ f. f ≡ finding_of segment choices object)
   pub accepted : OnOk r (check_refusal segment choices object ≡ None)
   pub refused : IfErr r (MayExplain NoMemory (check_refusal segment choices object))
 
 -- what is found after an order, where the run's order leads to the first state, beside what is known
-abbrev pub found_behind : Run → (known : List ℕ) → (first : State) → (second : List ℕ) → Option State → List Told
-found_behind segment known first second None = []
-found_behind segment known first second (Some end) = map (finding_of segment second) (differing known first end)
+abbrev pub found_after : Run → (known : List ℕ) → (first : State) → (second : List ℕ) → Option State → List FindingState
+found_after segment known first second None = []
+found_after segment known first second (Some end) = map (finding_of segment second) (differing known first end)
 
 -- what is found after the order of a seed, if it has one
-abbrev pub found_by : Run → (first : State) → (already : List Told) → Option (List ℕ) → List Told
+abbrev pub found_by : Run → (first : State) → (already : List FindingState) → Option (List ℕ) → List FindingState
 found_by segment first already None = []
-found_by segment first already (Some second) = found_behind segment (objects_of already) first second (behind segment.start second)
+found_by segment first already (Some second) = found_after segment (objects_of already) first second (after_choices segment.start second)
 
 -- what is found by seeds, one after another, beside what is found already: each object once
-abbrev pub found_from : Run → (first : State) → (limit : ℕ) → (already : List Told) → (seeds : List ℕ) → List Told
+abbrev pub found_from : Run → (first : State) → (limit : ℕ) → (already : List FindingState) → (seeds : List ℕ) → List FindingState
 found_from segment first limit already [] = already
 found_from segment first limit already (seed ∷ seeds) =
     found_from segment first limit (already ++ found_by segment first already (tried segment.start limit seed)) seeds
 
 -- what is found in a segment by the seeds below a number, beside the state after the run's order
-abbrev pub found_beside : Run → Option State → (limit : ℕ) → (seeds : ℕ) → List Told
+abbrev pub found_beside : Run → Option State → (limit : ℕ) → (seeds : ℕ) → List FindingState
 found_beside segment None limit seeds = []
 found_beside segment (Some first) limit seeds = found_from segment first limit [] (below seeds)
 
 -- what is found in a segment by the seeds below a number, by orders of at most so many steps
-abbrev pub found : Run → (limit : ℕ) → (seeds : ℕ) → List Told
-found segment limit seeds = found_beside segment (behind segment.start segment.order) limit seeds
+abbrev pub found : Run → (limit : ℕ) → (seeds : ℕ) → List FindingState
+found segment limit seeds = found_beside segment (after_choices segment.start segment.order) limit seeds
 
 -- these are the run's choices in a segment and their sources, and the state to which they lead
 pub record IsRunOf (segment : Run) (choices : List ℕ) (sources : List ObjectId) (end : State) : Type 0 where
   pub choices_are : choices ≡ segment.order
   pub sources_are : sources ≡ sources_of segment.start segment.order
-  pub leads : behind segment.start segment.order ≡ Some end
+  pub leads : after_choices segment.start segment.order ≡ Some end
 
 -- what is found, and among so many objects
 pub record Listed : Type 0 where
-  pub findings : List Told
+  pub findings : List FindingState
   pub objects : ℕ
 
 -- the objects of these findings are marked among all
-abbrev pub AreMarked : List Told → (marks : List Bool) → Type 0
+abbrev pub AreMarked : List FindingState → (marks : List Bool) → Type 0
 AreMarked findings marks = (object : ℕ) → object < length marks → slice_index_or marks object false ≡ is_among (objects_of findings) object

@@ -1,10 +1,10 @@
 ghost use Rattle.std.specs.List.{list_any};
 ghost use Rattle.std.specs.Prelude.{◌≡◌, ◌∷◌, ◌++◌, [], false, None, Some, IfErr, IfSome, OnErr, OnOk, option_copied};
-ghost use Rattle.vp_race.specs.declared.fault.RaceError.TheVariants.{NoMemory};
+ghost use Rattle.vp_race.specs.declared.error.RaceError.TheVariants.{NoMemory};
 ghost use Rattle.vp_list.specs.Refusals.{Explains};
 ghost use Rattle.vp_race.specs.Booking.{is_booked, is_name, refusal_of_finding, with_race};
 
-use crate::fault::RaceError;
+use crate::error::RaceError;
 use crate::finding::Finding;
 use crate::segment::Segment;
 use crate::shared::Shared;

@@ -1,12 +1,12 @@
 ghost use Rattle.std.specs.Prelude.{◌≡◌, if◌then◌else◌, true, None, Some, IfErr, IfOk, OnOk, IsOkUnless};
 ghost use Rattle.std.specs.Arc.{arc_value};
 ghost use Rattle.vp_list.specs.Refusals.{MayExplain};
-ghost use Rattle.vp_race.specs.declared.fault.RaceError.TheVariants.{NoMemory};
-ghost use Rattle.vp_race.specs.Orders.{behind, differs, is_over};
+ghost use Rattle.vp_race.specs.declared.error.RaceError.TheVariants.{NoMemory};
+ghost use Rattle.vp_race.specs.Orders.{after_choices, differs, is_over};
 ghost use Rattle.vp_race.specs.Search.{IsChecked, finding_of};
 ghost use Rattle.vp_race.specs.Segments.{apart, check_refusal, order_refusal};
 
-use crate::fault::RaceError;
+use crate::error::RaceError;
 use crate::finding::Finding;
 use crate::follow::{Order, follow, is_over, is_signal, run_order};
 use crate::pair::OrderPair;
@@ -40,8 +40,8 @@ pub fn finding_at(
     second: &Sim,
     object: ObjectId,
 ) -> Result<Option<Finding>, RaceError>
-    requires first { behind orders.now.segment.start orders.now.segment.order ≡ Some first.now }
-    requires second { behind orders.now.segment.start orders.now.second ≡ Some second.now }
+    requires first { after_choices orders.now.segment.start orders.now.segment.order ≡ Some first.now }
+    requires second { after_choices orders.now.segment.start orders.now.second ≡ Some second.now }
     ensures found { IfOk result (λ f. f ≡ (if differs first.now second.now object.0
         then Some (finding_of orders.now.segment orders.now.second object.0) else None)) }
     ensures memory { IsOkUnless result NoMemory }
@@ -77,12 +77,12 @@ fn pair_of(
       second = choices.items;
     }) }
     ensures first { OnOk result
-        (behind (arc_value segment.now).start (arc_value segment.now).order ≡ Some first.new) }
+        (after_choices (arc_value segment.now).start (arc_value segment.now).order ≡ Some first.new) }
     ensures second { OnOk result
-        (behind (arc_value segment.now).start choices.items ≡ Some second.new) }
+        (after_choices (arc_value segment.now).start choices.items ≡ Some second.new) }
     ensures over { OnOk result (is_over second.new ≡ true) }
     ensures refused { IfErr result (MayExplain NoMemory
-        (order_refusal (behind (arc_value segment.now).start choices.items))) }
+        (order_refusal (after_choices (arc_value segment.now).start choices.items))) }
 {
     let _order = segment.order();
     let run = run_order(alloc, segment, first)?;

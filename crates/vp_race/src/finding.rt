@@ -1,6 +1,6 @@
 ghost use Rattle.std.specs.Prelude.{◌≡◌};
 ghost use Rattle.vp_race.specs.Orders.{sources_of};
-ghost use Rattle.vp_race.specs.Segments.{IsRaceOf, value_behind};
+ghost use Rattle.vp_race.specs.Segments.{IsRaceOf, value_after};
 
 use crate::pair::OrderPair;
 use crate::segment::Segment;
@@ -19,9 +19,9 @@ pub struct Finding {
 }
 
 impl Model for Finding {
-    ghost use Rattle.vp_race.specs.Segments.{AreApart, Told};
+    ghost use Rattle.vp_race.specs.Segments.{AreApart, FindingState};
 
-    ghost Value = { Told };
+    ghost Value = { FindingState };
 
     ghost view = { λ f. record {
       segment = f.orders.segment;
@@ -57,9 +57,9 @@ impl Finding {
 
     /// Its values after the run's order and after the other.
     pub fn values(&self) -> (Bits, Bits)
-        ensures first { result.0 ≡ value_behind self.now.segment.start self.now.segment.order
+        ensures first { result.0 ≡ value_after self.now.segment.start self.now.segment.order
             self.now.object.0 }
-        ensures second { result.1 ≡ value_behind self.now.segment.start self.now.second
+        ensures second { result.1 ≡ value_after self.now.segment.start self.now.second
             self.now.object.0 }
     {
         self.values

@@ -1,10 +1,10 @@
 ghost use Rattle.std.specs.Prelude.{◌≡◌, ◌<◌, ◌∷◌, ◌++◌, ◌&&◌, [], if◌then◌else◌, not, length, None, Some, IfOk, OnOk, IsOkUnless};
-ghost use Rattle.vp_race.specs.declared.fault.RaceError.TheVariants.{NoMemory};
-ghost use Rattle.vp_race.specs.Orders.{behind, differs};
-ghost use Rattle.vp_race.specs.Search.{finding_of, found_behind, is_among, objects_of};
+ghost use Rattle.vp_race.specs.declared.error.RaceError.TheVariants.{NoMemory};
+ghost use Rattle.vp_race.specs.Orders.{after_choices, differs};
+ghost use Rattle.vp_race.specs.Search.{finding_of, found_after, is_among, objects_of};
 
 use crate::comparison::finding_at;
-use crate::fault::RaceError;
+use crate::error::RaceError;
 use crate::finding::Finding;
 use crate::pair::OrderPair;
 use std::alloc::{AllocError, Global};
@@ -80,8 +80,8 @@ impl Findings {
         second: &Sim,
         object: ObjectId,
     ) -> Result<(), RaceError>
-        requires first { behind orders.now.segment.start orders.now.segment.order ≡ Some first.now }
-        requires second { behind orders.now.segment.start orders.now.second ≡ Some second.now }
+        requires first { after_choices orders.now.segment.start orders.now.segment.order ≡ Some first.now }
+        requires second { after_choices orders.now.segment.start orders.now.second ≡ Some second.now }
         requires within { object.0 < self.old.objects }
         ensures found { OnOk result (self.new.findings ≡ self.old.findings
             ++ (if differs first.now second.now object.0
@@ -100,17 +100,17 @@ impl Findings {
     }
 
     /// Finds each net and reg that is not found and has different values in the simulations after two orders; or want of memory (1207).
-    pub fn find_behind(
+    pub fn find_after(
         &mut self,
         orders: &OrderPair,
         first: &Sim,
         second: &Sim,
     ) -> Result<(), RaceError>
-        requires first { behind orders.now.segment.start orders.now.segment.order ≡ Some first.now }
-        requires second { behind orders.now.segment.start orders.now.second ≡ Some second.now }
+        requires first { after_choices orders.now.segment.start orders.now.segment.order ≡ Some first.now }
+        requires second { after_choices orders.now.segment.start orders.now.second ≡ Some second.now }
         requires objects { self.old.objects ≡ length first.now.design.tree.nodes }
         ensures found { OnOk result (self.new.findings ≡ self.old.findings
-            ++ found_behind orders.now.segment (objects_of self.old.findings) first.now
+            ++ found_after orders.now.segment (objects_of self.old.findings) first.now
             orders.now.second (Some second.now)) }
         ensures objects { self.new.objects ≡ self.old.objects }
         ensures memory { IsOkUnless result NoMemory }

@@ -1,11 +1,11 @@
 ghost use Rattle.std.specs.Prelude.{◌≡◌, ◌++◌, Some, IfErr, IfOk, OnOk, IsOkUnless};
 ghost use Rattle.vp_race.specs.Segments.{choices_refusal};
 ghost use Rattle.vp_list.specs.Refusals.{MayExplain};
-ghost use Rattle.vp_race.specs.declared.fault.RaceError.TheVariants.{NoMemory};
-ghost use Rattle.vp_race.specs.Orders.{behind, is_over, is_signal, reached, sources_of};
+ghost use Rattle.vp_race.specs.declared.error.RaceError.TheVariants.{NoMemory};
+ghost use Rattle.vp_race.specs.Orders.{after_choices, is_over, is_signal, reached, sources_of};
 ghost use Rattle.vp_sim.specs.States.{step};
 
-use crate::fault::RaceError;
+use crate::error::RaceError;
 use crate::segment::Segment;
 use std::alloc::Global;
 use vp_elab::{Kind, ObjectId};
@@ -55,11 +55,11 @@ pub fn follow(
     choices: &[u32],
     sources: &mut Vec<ObjectId>,
 ) -> Result<(), RaceError>
-    ensures leads { OnOk result (behind simulation.old choices.now ≡ Some simulation.new) }
+    ensures leads { OnOk result (after_choices simulation.old choices.now ≡ Some simulation.new) }
     ensures sources { OnOk result (sources.new.items
         ≡ sources.old.items ++ sources_of simulation.old choices.now) }
     ensures refused { IfErr result (MayExplain NoMemory
-        (choices_refusal (behind simulation.old choices.now))) }
+        (choices_refusal (after_choices simulation.old choices.now))) }
 {
     for choice in choices {
         sources.push(simulation.source(*choice as usize))?;
@@ -73,7 +73,7 @@ pub fn follow(
 pub fn run_order(alloc: Global, segment: &Segment, simulation: &mut Sim) -> Result<Order, RaceError>
     requires { simulation.old ≡ segment.now.start }
     ensures leads { OnOk result
-        (behind segment.now.start segment.now.order ≡ Some simulation.new) }
+        (after_choices segment.now.start segment.now.order ≡ Some simulation.new) }
     ensures choices { IfOk result (λ o. o.choices.items ≡ segment.now.order) }
     ensures sources { IfOk result (λ o. o.sources.items
         ≡ sources_of segment.now.start segment.now.order) }

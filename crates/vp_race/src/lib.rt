@@ -4,15 +4,15 @@
 //! answer are [`Finding`]s, each of which is a race of its segment by its type.
 #![tactic(auto)]
 
-mod begun;
 mod book;
 mod comparison;
-mod fault;
+mod error;
 mod finding;
 mod findings;
 mod follow;
 mod gate;
 mod kept;
+mod open_segment;
 mod pair;
 mod recording;
 mod seeds;
@@ -22,7 +22,7 @@ mod trial;
 
 pub use book::Book;
 pub use comparison::check;
-pub use fault::RaceError;
+pub use error::RaceError;
 pub use finding::Finding;
 pub use gate::{Gate, OpenGate};
 pub use pair::OrderPair;

@@ -2,13 +2,13 @@ ghost use Rattle.std.specs.Prelude.{◌≡◌, ◌<◌, ◌+◌, ◌^◌, None, 
 ghost use Rattle.std.specs.Arc.{arc_value};
 ghost use Rattle.vp_sim.specs.States.{refusal_in};
 ghost use Rattle.vp_list.specs.Refusals.{Explains};
-ghost use Rattle.vp_sim.specs.declared.fault.SimError.TheVariants.{NoMemory};
+ghost use Rattle.vp_sim.specs.declared.error.SimError.TheVariants.{NoMemory};
 ghost use Rattle.vp_sim.specs.States.{Goes, advance, put, start, step};
 ghost use Rattle.vp_race.specs.Recording.{first_segments, kept_of, next_job, with_anew, with_job, with_step};
 
-use crate::begun::{BegunSegment, close, make_ready, note};
 use crate::follow::is_over;
 use crate::kept::KeptSegments;
+use crate::open_segment::{OpenSegment, close, make_ready, note};
 use crate::segment::Segment;
 use std::alloc::Global;
 use std::marker::Model;
@@ -24,7 +24,7 @@ pub struct Recording {
     alloc: Global,
     simulation: Sim,
     /// The open segment, if the run took a step in it. So puts alone keep nothing.
-    begun: Option<BegunSegment>,
+    begun: Option<OpenSegment>,
     closed: KeptSegments,
     /// The number of the segment that was handed out last; 0 before the first.
     last_job: u64,

@@ -1,10 +1,10 @@
 ghost use Rattle.std.specs.Prelude.{◌≡◌, ◌++◌, length, IfOk, OnOk, IsOkUnless};
 ghost use Rattle.std.specs.Arc.{arc_value};
 ghost use Rattle.std.specs.List.{All};
-ghost use Rattle.vp_race.specs.declared.fault.RaceError.TheVariants.{NoMemory};
+ghost use Rattle.vp_race.specs.declared.error.RaceError.TheVariants.{NoMemory};
 ghost use Rattle.vp_race.specs.Search.{IsRunOf, found, found_by, tried};
 
-use crate::fault::RaceError;
+use crate::error::RaceError;
 use crate::finding::Finding;
 use crate::findings::Findings;
 use crate::follow::{Order, run_order};
@@ -55,7 +55,7 @@ fn try_seed(
         first: Arc::try_clone(run)?,
         second: Arc::new(alloc, order)?,
     };
-    findings.find_behind(&orders, first, simulation)
+    findings.find_after(&orders, first, simulation)
 }
 
 /// The same as `search`, by a simulation after the run's order, which is given, and by one of the same design.

@@ -7,14 +7,14 @@ ghost use Rattle.vp_race.specs.Search.{found};
 use std::alloc::{AllocError, Global};
 use std::marker::Model;
 use std::sync::Arc;
-use vp_sim::KeptSim;
+use vp_sim::SimCheckpoint;
 
 /// A segment of a run: what it did in a time slot, from the slot's beginning or from a put on, to the step after which nothing was left to do. A
 /// contract sees its number, the state with which it began, and the order that the run took; the order is one from that state.
 #[derive(Drop)]
 pub struct Segment {
     number: u64,
-    start: Arc<KeptSim>,
+    start: Arc<SimCheckpoint>,
     order: Vec<u32>,
     /// At one of its steps another event could have been taken.
     several: bool,
@@ -38,7 +38,7 @@ impl Model for Segment {
 
 impl Segment {
     /// The segment of a number, which began with a kept simulation; the run took this order from there, and had a choice or none there.
-    pub fn new(number: u64, start: Arc<KeptSim>, order: Vec<u32>, several: bool) -> Segment
+    pub fn new(number: u64, start: Arc<SimCheckpoint>, order: Vec<u32>, several: bool) -> Segment
         requires { IsRun (arc_value start) order.items several }
         ensures { result ≡ record {
           number = number;
@@ -75,7 +75,7 @@ impl Segment {
     }
 
     /// The simulation with which it began.
-    pub fn start(&self) -> &KeptSim
+    pub fn start(&self) -> &SimCheckpoint
         ensures { result.now ≡ self.now.start }
     {
         &self.start

@@ -1,10 +1,10 @@
 ghost use Rattle.std.specs.Prelude.{◌≡◌, ◌++◌, ◌∷◌, [], if◌then◌else◌, false, true, None, Some, IfOk, IsOkUnless};
-ghost use Rattle.vp_race.specs.declared.fault.RaceError.TheVariants.{NoMemory};
+ghost use Rattle.vp_race.specs.declared.error.RaceError.TheVariants.{NoMemory};
 ghost use Rattle.vp_race.specs.Orders.{IsOrder, reached, sources_of};
 ghost use Rattle.vp_race.specs.Search.{choice, next_number, tried};
 ghost use Rattle.vp_sim.specs.States.{source_of, step};
 
-use crate::fault::RaceError;
+use crate::error::RaceError;
 use crate::follow::{Order, is_over};
 use std::alloc::Global;
 use vp_sim::{Sim, SimError};

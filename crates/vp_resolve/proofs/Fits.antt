@@ -11,7 +11,7 @@ use Rattle.vp_elab.specs.Built.{Elaborated, IsElaborated}
 use Rattle.vp_elab.specs.Elaboration.{further_limit}
 use Rattle.vp_elab.specs.Tree.{Node}
 use Rattle.vp_operand.specs.Arena.{is_width}
-use Rattle.vp_resolve.specs.declared.fault.ExprError.TheVariants.{TooWide, SignedCompare, BadSelect}
+use Rattle.vp_resolve.specs.declared.error.ExprError.TheVariants.{TooWide, SignedCompare, BadSelect}
 use Rattle.vp_resolve.specs.Checks.{bad_in, counted_sizes, first_bad, first_signed, first_wide, first_wide_in, refusal_of, wide_declared, wide_item, wide_target}
 use Rattle.vp_resolve.specs.Operands.{all_fit}
 use Rattle.vp_resolve.proofs.Gapless.{whole_expressions}

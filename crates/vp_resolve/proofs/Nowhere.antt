@@ -7,7 +7,7 @@ use Rattle.vp_source.specs.declared.source.Source.{Source}
 use Rattle.vp_source.specs.Places.{earlier, earliest}
 use Rattle.vp_source.specs.laws.Places.{earliest-more}
 use Rattle.vp_elab.specs.Tree.{below}
-use Rattle.vp_resolve.specs.declared.fault.ExprError.{ExprError}
+use Rattle.vp_resolve.specs.declared.error.ExprError.{ExprError}
 use Rattle.vp_resolve.specs.Checks.{place_if, refused_at}
 
 -- two places are missing where the first of them is

@@ -233,27 +233,27 @@ module _ (d : Elaborated) (wide : list_all node_fits d.tree.nodes ≡ true) wher
   with_operand sizes o = sizes ++ operand_size sizes o ∷ []
 
   -- the sizes of expressions after others, as they are counted
-  abbrev sizes_behind : (scope : Option ℕ) → List ℕ → List Expression → List ℕ
-  sizes_behind scope sizes [] = []
-  sizes_behind scope sizes (e ∷ es) =
-      counted_size d scope sizes e ∷ sizes_behind scope (with_size d scope sizes e) es
+  abbrev sizes_after : (scope : Option ℕ) → List ℕ → List Expression → List ℕ
+  sizes_after scope sizes [] = []
+  sizes_after scope sizes (e ∷ es) =
+      counted_size d scope sizes e ∷ sizes_after scope (with_size d scope sizes e) es
 
-  fold_behind : (scope : Option ℕ) (sizes : List ℕ) (es : List Expression) → fold (with_size d scope) sizes es ≡ sizes ++ sizes_behind scope sizes es
-  fold_behind scope sizes [] = sym (append-nil sizes)
-  fold_behind scope sizes (e ∷ es) =
-      fold_behind scope (with_size d scope sizes e) es
-      ∙ append_assoc sizes (counted_size d scope sizes e ∷ []) (sizes_behind scope (with_size d scope sizes e) es)
+  fold_after : (scope : Option ℕ) (sizes : List ℕ) (es : List Expression) → fold (with_size d scope) sizes es ≡ sizes ++ sizes_after scope sizes es
+  fold_after scope sizes [] = sym (append-nil sizes)
+  fold_after scope sizes (e ∷ es) =
+      fold_after scope (with_size d scope sizes e) es
+      ∙ append_assoc sizes (counted_size d scope sizes e ∷ []) (sizes_after scope (with_size d scope sizes e) es)
 
-  length-behind : (scope : Option ℕ) (sizes : List ℕ) (es : List Expression) → length (sizes_behind scope sizes es) ≡ length es
-  length-behind scope sizes [] = refl
-  length-behind scope sizes (e ∷ es) = ap suc (length-behind scope (with_size d scope sizes e) es)
+  length-following : (scope : Option ℕ) (sizes : List ℕ) (es : List Expression) → length (sizes_after scope sizes es) ≡ length es
+  length-following scope sizes [] = refl
+  length-following scope sizes (e ∷ es) = ap suc (length-following scope (with_size d scope sizes e) es)
 
   -- sizes as they are counted are those of operands, and fit
   record AreCounted (sizes counts : List ℕ) : Type 0 where
     are : counts ≡ sizes
     fit : list_all is_width counts ≡ true
 
-  list_counted : (scope : Option ℕ) (sizes : List ℕ) (es : List Expression) (more : List ℕ) → list_all is_width sizes ≡ true → ((k : ℕ) → wide_among es (sizes_behind scope sizes es ++ more) k ≡ None) → earliest (bad_at d scope) es ≡ None → AreCounted (fold with_operand sizes (map (operand_of d scope) es)) (fold (with_size d scope) sizes es)
+  list_counted : (scope : Option ℕ) (sizes : List ℕ) (es : List Expression) (more : List ℕ) → list_all is_width sizes ≡ true → ((k : ℕ) → wide_among es (sizes_after scope sizes es ++ more) k ≡ None) → earliest (bad_at d scope) es ≡ None → AreCounted (fold with_operand sizes (map (operand_of d scope) es)) (fold (with_size d scope) sizes es)
   list_counted scope sizes [] more fit narrow good = record { are = refl; fit = fit }
   list_counted scope sizes (e ∷ es) more fit narrow good =
       let both = earlier_none (bad_at d scope e) (earliest (bad_at d scope) es) good in
@@ -271,20 +271,20 @@ module _ (d : Elaborated) (wide : list_all node_fits d.tree.nodes ≡ true) wher
   abbrev sizes_all : List ℕ → List Module → List ℕ
   sizes_all sizes [] = []
   sizes_all sizes (m ∷ ms) =
-      sizes_behind (scope_of d m) sizes (expressions_in d.source m) ++ sizes_all (with_sizes d sizes m) ms
+      sizes_after (scope_of d m) sizes (expressions_in d.source m) ++ sizes_all (with_sizes d sizes m) ms
 
   fold_all : (sizes : List ℕ) (ms : List Module) → fold (with_sizes d) sizes ms ≡ sizes ++ sizes_all sizes ms
   fold_all sizes [] = sym (append-nil sizes)
   fold_all sizes (m ∷ ms) =
-      let own = sizes_behind (scope_of d m) sizes (expressions_in d.source m) in
+      let own = sizes_after (scope_of d m) sizes (expressions_in d.source m) in
       fold_all (with_sizes d sizes m) ms
-      ∙ ap (λ (l : List ℕ). l ++ sizes_all (with_sizes d sizes m) ms) (fold_behind (scope_of d m) sizes (expressions_in d.source m))
+      ∙ ap (λ (l : List ℕ). l ++ sizes_all (with_sizes d sizes m) ms) (fold_after (scope_of d m) sizes (expressions_in d.source m))
       ∙ append_assoc sizes own (sizes_all (with_sizes d sizes m) ms)
 
   -- what stands after the sizes of a module
-  drop_behind : (scope : Option ℕ) (sizes : List ℕ) (es : List Expression) (more : List ℕ) → drop (length es) (sizes_behind scope sizes es ++ more) ≡ more
-  drop_behind scope sizes [] more = refl
-  drop_behind scope sizes (e ∷ es) more = drop_behind scope (with_size d scope sizes e) es more
+  drop_after : (scope : Option ℕ) (sizes : List ℕ) (es : List Expression) (more : List ℕ) → drop (length es) (sizes_after scope sizes es ++ more) ≡ more
+  drop_after scope sizes [] more = refl
+  drop_after scope sizes (e ∷ es) more = drop_after scope (with_size d scope sizes e) es more
 
   modules_counted : (sizes : List ℕ) (ms : List Module) → list_all is_width sizes ≡ true → first_wide_in d.source ms (sizes_all sizes ms) ≡ None → earliest (bad_in d) ms ≡ None → AreCounted (fold with_operand sizes (flat_map (operands_in d) ms)) (fold (with_sizes d) sizes ms)
   modules_counted sizes [] fit narrow good = record { are = refl; fit = fit }
@@ -292,12 +292,12 @@ module _ (d : Elaborated) (wide : list_all node_fits d.tree.nodes ≡ true) wher
       let scope = scope_of d m in
       let es = expressions_in d.source m in
       let more = sizes_all (with_sizes d sizes m) ms in
-      let all = sizes_behind scope sizes es ++ more in
+      let all = sizes_after scope sizes es ++ more in
       let wide_parts = earlier_none (first_wide_of es all) (first_wide_in d.source ms (drop (length es) all)) narrow in
       let bad_parts = earlier_none (bad_in d m) (earliest (bad_in d) ms) good in
       let bad_own = earlier_none _ (earliest (bad_at d scope) es) bad_parts.0 in
       let own = list_counted scope sizes es more fit (λ k. narrow_each es all k (slice_get es k) wide_parts.0 refl) bad_own.1 in
-      let rest = modules_counted (with_sizes d sizes m) ms own.fit (ap (first_wide_in d.source ms) (sym (drop_behind scope sizes es more)) ∙ wide_parts.1) bad_parts.1 in
+      let rest = modules_counted (with_sizes d sizes m) ms own.fit (ap (first_wide_in d.source ms) (sym (drop_after scope sizes es more)) ∙ wide_parts.1) bad_parts.1 in
       record {
         are =
             rest.are

@@ -20,8 +20,8 @@ use Rattle.vp_names.specs.Refusals.{first_in}
 use Rattle.vp_elab.specs.Built.{Elaborated}
 use Rattle.vp_elab.specs.Elaboration.{range_width}
 use Rattle.vp_elab.specs.Tree.{below}
-use Rattle.vp_resolve.specs.declared.fault.ExprError.{ExprError}
-use Rattle.vp_resolve.specs.declared.fault.ExprError.TheVariants.{TooWide, SignedCompare, BadSelect}
+use Rattle.vp_resolve.specs.declared.error.ExprError.{ExprError}
+use Rattle.vp_resolve.specs.declared.error.ExprError.TheVariants.{TooWide, SignedCompare, BadSelect}
 use Rattle.vp_operand.specs.Arena.{operand_size, signs_in}
 use Rattle.vp_resolve.specs.Names.{node_named, scope_of}
 use Rattle.vp_resolve.specs.Operands.{operand_of, operands_of}

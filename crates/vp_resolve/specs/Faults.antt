@@ -1,7 +1,7 @@
 -- The numbers and the lines of the faults of a design's expressions.
 use Rattle.std.specs.Prelude.{ℕ}
-use Rattle.vp_resolve.specs.declared.fault.ExprError.{ExprError}
-use Rattle.vp_resolve.specs.declared.fault.ExprError.TheVariants.{TooWide, SignedCompare, BadSelect, NoMemory}
+use Rattle.vp_resolve.specs.declared.error.ExprError.{ExprError}
+use Rattle.vp_resolve.specs.declared.error.ExprError.TheVariants.{TooWide, SignedCompare, BadSelect, NoMemory}
 
 -- the number of a refusal (profile)
 abbrev pub code_of : ExprError → ℕ

@@ -235,7 +235,7 @@ fn first_wide_declared(source: &Source) -> Option<u32>
 }
 
 /// The sizes after so many.
-fn sizes_behind(sizes: &[u8], count: usize) -> &[u8]
+fn sizes_after(sizes: &[u8], count: usize) -> &[u8]
     ensures { result.now ≡ drop count sizes.now }
 {
     sizes.get(count..).unwrap_or(&[])
@@ -250,7 +250,7 @@ fn first_wide_expression(source: &Source, sizes: &[u8]) -> Option<u32>
     for module in source.modules.as_slice() {
         let expressions = expressions_of(source, *module);
         first = earlier(first, first_wide_of(expressions, left));
-        left = sizes_behind(left, expressions.len());
+        left = sizes_after(left, expressions.len());
     }
     first
 }

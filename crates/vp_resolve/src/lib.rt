@@ -3,12 +3,12 @@
 
 mod checks;
 mod constants;
-mod fault;
+mod error;
 mod refusing;
 mod resolving;
 
 pub use constants::constant_at;
-pub use fault::ExprError;
+pub use error::ExprError;
 pub use refusing::refuse;
 pub use resolving::{
     lowest_in, object_named, operands_of, part_place, scope_of, slot_in, width_in,

@@ -1,12 +1,12 @@
 // Why the expressions of a design are refused: the first refusal that holds, each tested over the whole text.
 ghost use Rattle.vp_list.specs.Refusals.{MayExplain};
-ghost use Rattle.vp_resolve.specs.declared.fault.ExprError.TheVariants.{NoMemory};
+ghost use Rattle.vp_resolve.specs.declared.error.ExprError.TheVariants.{NoMemory};
 ghost use Rattle.std.specs.Prelude.{◌≡◌, true, None, IfErr, OnOk};
 ghost use Rattle.vp_resolve.specs.Checks.{refusal_of};
 ghost use Rattle.vp_resolve.specs.Operands.{all_fit, operands_of};
 
 use crate::checks::{first_bad, first_signed, first_wide};
-use crate::fault::ExprError;
+use crate::error::ExprError;
 use std::alloc::Global;
 use vp_elab::Design;
 use vp_operand::Operand;

@@ -10,11 +10,11 @@ use Rattle.vp_policy.specs.Users.{user_of}
 use Rattle.vp_elab.specs.Tree.{Tree}
 use Rattle.vp_explain.specs.Openings.{IsRight}
 use Rattle.vp_script.specs.declared.audits.Audited.{Audited}
-use Rattle.vp_script.specs.declared.fault.ServeFault.{ServeFault}
-use Rattle.vp_script.specs.declared.fault.ServeFault.TheVariants as fault
+use Rattle.vp_script.specs.declared.error.ServeFault.{ServeFault}
+use Rattle.vp_script.specs.declared.error.ServeFault.TheVariants as fault
 use Rattle.vp_world.specs.Worlds.{Opening}
-use Rattle.vp_wire.specs.declared.fault.WireError.{WireError}
-use Rattle.vp_script.specs.Audits.{EndsAuditBy, EndsOpenedBy, EndsRunBy, IsAuditBehind, IsAudited, IsLacking, OpensFor, RunsTo, audited_of}
+use Rattle.vp_wire.specs.declared.error.WireError.{WireError}
+use Rattle.vp_script.specs.Audits.{EndsAuditBy, EndsOpenedBy, EndsRunBy, IsAuditAfter, IsAudited, IsOutOfMemory, OpensFor, RunsTo, audited_of}
 use Rattle.vp_design.specs.Designs.{IsDesignOf, text_limit}
 use Rattle.vp_script.specs.Scripts.{IsAnswered, IsOpened, IsStopped, Script, opened, opening_of}
 use Rattle.vp_script.specs.Views.{Gives, IsUntoldUnder}
@@ -73,19 +73,19 @@ module _ (text bytes : List ℕ) (design : Elaborated) (policy : PolicyState) (r
   gives = record { fits = read.fits; is_file = read.is_file }
 
   -- want of memory is what a view may be refused by
-  lacking : (name : List ℕ) (f : ServeFault) → IsLacking f → IsUntoldUnder bytes name design f
-  lacking name (fault.Policy e) h = inr (file_in policy, gives, h)
-  lacking name (fault.World e) h = inl h
-  lacking name fault.NoMemory h = inl tt
-  lacking name (fault.Design e) h = absurd h
-  lacking name (fault.Lines e) h = absurd h
-  lacking name (fault.Hub e) h = absurd h
-  lacking name fault.BadBundle h = absurd h
-  lacking name fault.ReadFailed h = absurd h
-  lacking name fault.TooLong h = absurd h
-  lacking name fault.NoSuchUser h = absurd h
-  lacking name fault.ListenFailed h = absurd h
-  lacking name fault.NoThread h = absurd h
+  allocation_error : (name : List ℕ) (f : ServeFault) → IsOutOfMemory f → IsUntoldUnder bytes name design f
+  allocation_error name (fault.Policy e) h = inr (file_in policy, gives, h)
+  allocation_error name (fault.World e) h = inl h
+  allocation_error name fault.NoMemory h = inl tt
+  allocation_error name (fault.Design e) h = absurd h
+  allocation_error name (fault.Lines e) h = absurd h
+  allocation_error name (fault.Hub e) h = absurd h
+  allocation_error name fault.BadBundle h = absurd h
+  allocation_error name fault.ReadFailed h = absurd h
+  allocation_error name fault.TooLong h = absurd h
+  allocation_error name fault.NoSuchUser h = absurd h
+  allocation_error name fault.ListenFailed h = absurd h
+  allocation_error name fault.NoThread h = absurd h
 
   module _ (name : List ℕ) (unread still_unread : Option (List ℕ)) where
     -- before the script: the policy file is refused, or has no such user
@@ -100,20 +100,20 @@ module _ (text bytes : List ℕ) (design : Elaborated) (policy : PolicyState) (r
       opens_for : OpensFor text bytes name (opening_of design policy) user
       opens_for = record { opens = opens_with; named = named }
 
-      pub audited : (explain : Bool) (audited : Audited) → IsAuditBehind explain (opening_of design policy) user unread still_unread audited → IsAudited explain text bytes name unread still_unread audited
-      audited explain given is = record { opening = opening_of design policy; user = user; opens = opens_for; behind = is }
+      pub audited : (explain : Bool) (audited : Audited) → IsAuditAfter explain (opening_of design policy) user unread still_unread audited → IsAudited explain text bytes name unread still_unread audited
+      audited explain given is = record { opening = opening_of design policy; user = user; opens = opens_for; following = is }
 
       -- after its beginning
       pub ended : (f : ServeFault) → EndsOpenedBy (opening_of design policy) unread still_unread f → EndsAuditBy text bytes name unread still_unread f
-      ended f (inl (lacks, still)) = untold f (lacking name f lacks) still
+      ended f (inl (lacks, still)) = untold f (allocation_error name f lacks) still
       ended f (inr ends) = inr (opening_of design policy, user, opens_for, ends)
 
 -- of a design that is lent comes what comes of its owner's
 module _ (lent own : Elaborated) (same : lent ≡ own) (policy : PolicyState) (unread still_unread : Option (List ℕ)) where
   pub audit_of_own :
-      (explain : Bool) (user : ℕ) (audited : Audited) → IsAuditBehind explain (opening_of lent policy) user unread still_unread audited
-      → IsAuditBehind explain (opening_of own policy) user unread still_unread audited
-  audit_of_own explain user audited is = subst (λ (d : Elaborated). IsAuditBehind explain (opening_of d policy) user unread still_unread audited) same is
+      (explain : Bool) (user : ℕ) (audited : Audited) → IsAuditAfter explain (opening_of lent policy) user unread still_unread audited
+      → IsAuditAfter explain (opening_of own policy) user unread still_unread audited
+  audit_of_own explain user audited is = subst (λ (d : Elaborated). IsAuditAfter explain (opening_of d policy) user unread still_unread audited) same is
 
   pub ends_own : (f : ServeFault) → EndsRunBy (opening_of lent policy) unread still_unread f → EndsOpenedBy (opening_of own policy) unread still_unread f
   ends_own f ends = inr (subst (λ (d : Elaborated). EndsRunBy (opening_of d policy) unread still_unread f) same ends)
@@ -125,28 +125,28 @@ opens_lent script own lent policy opens same = opens ∙ ap (λ (d : Elaborated)
 module _ (opening : Opening) (unread still_unread : Option (List ℕ)) where
   module _ (script : Script) (opens : script ≡ opened opening) where
     -- a script that opens so is run
-    pub runs_to : (starved : Bool) (behind : Script) (lines : ℕ) → IsAnswered starved script behind unread still_unread None None lines → RunsTo opening unread still_unread behind
-    runs_to starved behind lines answered = record {
-      starved = starved;
+    pub runs_to : (out_of_memory : Bool) (following : Script) (lines : ℕ) → IsAnswered out_of_memory script following unread still_unread None None lines → RunsTo opening unread still_unread following
+    runs_to out_of_memory following lines answered = record {
+      out_of_memory = out_of_memory;
       lines = lines;
-      answered = subst (λ (s : Script). IsAnswered starved s behind unread still_unread None None lines) opens answered;
+      answered = subst (λ (s : Script). IsAnswered out_of_memory s following unread still_unread None None lines) opens answered;
     }
 
     -- or has stopped
     pub stops : (e : WireError) → IsStopped e script unread still_unread None None → EndsRunBy opening unread still_unread (fault.Lines e)
     stops e stopped = subst (λ (s : Script). IsStopped e s unread still_unread None None) opens stopped
 
-  module _ (behind : Script) (runs : RunsTo opening unread still_unread behind) where
+  module _ (following : Script) (runs : RunsTo opening unread still_unread following) where
     -- after a run its log is audited
-    pub audit_behind :
-        (began : behind.world.opening ≡ opening) (explain : Bool) (user : ℕ) (audited : Audited) → audited ≡ audited_of explain behind.world.opening user behind.world.log
-        → IsAuditBehind explain opening user unread still_unread audited
-    audit_behind began explain user audited is = record {
-      behind = behind;
+    pub audit_after :
+        (began : following.world.opening ≡ opening) (explain : Bool) (user : ℕ) (audited : Audited) → audited ≡ audited_of explain following.world.opening user following.world.log
+        → IsAuditAfter explain opening user unread still_unread audited
+    audit_after began explain user audited is = record {
+      following = following;
       runs = runs;
-      is = is ∙ ap (λ (o : Opening). audited_of explain o user behind.world.log) began;
+      is = is ∙ ap (λ (o : Opening). audited_of explain o user following.world.log) began;
     }
 
     -- or memory is lacking for that
-    pub lacks_behind : (f : ServeFault) → f ≡ fault.NoMemory → EndsRunBy opening unread still_unread f
-    lacks_behind f is = subst (EndsRunBy opening unread still_unread) (sym is) (behind, runs)
+    pub lacks_after : (f : ServeFault) → f ≡ fault.NoMemory → EndsRunBy opening unread still_unread f
+    lacks_after f is = subst (EndsRunBy opening unread still_unread) (sym is) (following, runs)

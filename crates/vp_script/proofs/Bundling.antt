@@ -2,11 +2,11 @@
 use Rattle.std.proofs.Common.{◌≡◌, ◌∙◌, ◌≤◌, ◌<◌, ℕ, Bool, inl, inr, List, length, Option, Some, sym, subst, ap}
 use Rattle.std.specs.Prelude.{IsUtf8, option_map}
 use Rattle.std.proofs.lemmas.Bool.Decides.{leb_tells}
-use Rattle.vp_script.specs.declared.fault.ServeFault.{ServeFault}
-use Rattle.vp_script.specs.declared.fault.ServeFault.TheVariants as fault
+use Rattle.vp_script.specs.declared.error.ServeFault.{ServeFault}
+use Rattle.vp_script.specs.declared.error.ServeFault.TheVariants as fault
 use Rattle.vp_script.specs.Bundles.{cut_of}
 use Rattle.vp_design.specs.Designs.{text_limit}
-use Rattle.vp_script.specs.Refused.{HasDesignText}
+use Rattle.vp_script.specs.Failure.{HasDesignText}
 use Rattle.vp_script.specs.Scripts.{EndsBundleBy, EndsBy, HasParts, IsBadBundle, IsBundle, IsScript, Parts, bundle_limit}
 
 -- what a cut that was found gives
@@ -47,15 +47,15 @@ module _ (bundle : List ℕ) (parts : Parts) (has : HasParts bundle parts) where
 
   module _ (text : IsUtf8 parts.text) (held holds : Option (List ℕ)) (own input : List ℕ) (is_text : own ≡ parts.text) (is_input : input ≡ parts.input) where
     -- the script of a bundle, which has read all of it
-    pub bundle_script : (starved : Bool) (still : List ℕ) (lines : ℕ) → IsScript starved own parts.policy (Some input) (Some still) held holds lines → IsBundle starved bundle held holds lines
-    bundle_script starved still lines script =
-        let first = subst (λ (t : List ℕ). IsScript starved t parts.policy (Some input) (Some still) held holds lines) is_text script in
-        let whole = subst (λ (t : List ℕ). IsScript starved parts.text parts.policy (Some t) (Some still) held holds lines) is_input first in
+    pub bundle_script : (out_of_memory : Bool) (still : List ℕ) (lines : ℕ) → IsScript out_of_memory own parts.policy (Some input) (Some still) held holds lines → IsBundle out_of_memory bundle held holds lines
+    bundle_script out_of_memory still lines script =
+        let first = subst (λ (t : List ℕ). IsScript out_of_memory t parts.policy (Some input) (Some still) held holds lines) is_text script in
+        let whole = subst (λ (t : List ℕ). IsScript out_of_memory parts.text parts.policy (Some t) (Some still) held holds lines) is_input first in
         record {
           parts = parts;
           has = has;
           text = text;
-          script = subst (λ (t : List ℕ). IsScript starved parts.text parts.policy (Some parts.input) (Some t) held holds lines) whole.answered.whole.at_end whole;
+          script = subst (λ (t : List ℕ). IsScript out_of_memory parts.text parts.policy (Some parts.input) (Some t) held holds lines) whole.answered.whole.at_end whole;
         }
 
     -- the fault of its script

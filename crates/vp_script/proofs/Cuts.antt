@@ -7,7 +7,7 @@ use Rattle.std.specs.Option.{unwrap_or}
 use Rattle.std.proofs.lemmas.Bool.{eqb-true}
 use Rattle.std.proofs.lemmas.List.{append_assoc, append-nil, length-append}
 use Rattle.std.proofs.Math.Seq.{take-append_seam}
-use Rattle.vp_list.specs.Texts.{begun, behind_part, parts}
+use Rattle.vp_list.specs.Texts.{begun, part_and_rest, parts}
 use Rattle.vp_list.specs.laws.Texts.{parts_some}
 use Rattle.vp_script.specs.Bundles.{cut_lines, cut_of, joined, prefixed}
 
@@ -54,19 +54,19 @@ abbrev pub rest_of : Option (List ℕ) → List ℕ
 rest_of None = []
 rest_of (Some next) = next
 
-cut_here : (line : List ℕ) (behind : Option (List ℕ)) → bytes_eq line (codes "%%") ≡ true → cut_lines (behind_part 10 line behind) ≡ Some ([], rest_of behind)
+cut_here : (line : List ℕ) (following : Option (List ℕ)) → bytes_eq line (codes "%%") ≡ true → cut_lines (part_and_rest 10 line following) ≡ Some ([], rest_of following)
 cut_here line None e = at_mark [] line true e
 cut_here line (Some next) e = at_mark (parts 10 next) line true e ∙ ap (λ (t : List ℕ). Some ([], t)) (joined_parts next)
 
 -- at a line `%%` the text is cut
-pub cut_at_mark : (bytes rest line : List ℕ) (behind : Option (List ℕ)) → Left bytes (Some rest) → parts 10 rest ≡ behind_part 10 line behind → bytes_eq line (codes "%%") ≡ true → Some (take (length bytes - length rest) bytes, rest_of behind) ≡ cut_of bytes
-cut_at_mark bytes rest line behind left is e =
+pub cut_at_mark : (bytes rest line : List ℕ) (following : Option (List ℕ)) → Left bytes (Some rest) → parts 10 rest ≡ part_and_rest 10 line following → bytes_eq line (codes "%%") ≡ true → Some (take (length bytes - length rest) bytes, rest_of following) ≡ cut_of bytes
+cut_at_mark bytes rest line following left is e =
     let front : List ℕ = take (length bytes - length rest) bytes in
     sym
     (left.1
     ∙ ap (λ ls. prefixed front (cut_lines ls)) is
-    ∙ ap (λ c. prefixed front c) (cut_here line behind e)
-    ∙ ap (λ (l : List ℕ). Some (l, rest_of behind)) (append-nil front))
+    ∙ ap (λ c. prefixed front c) (cut_here line following e)
+    ∙ ap (λ (l : List ℕ). Some (l, rest_of following)) (append-nil front))
 
 front_is : (bytes pre rest : List ℕ) → bytes ≡ pre ++ rest → take (length bytes - length rest) bytes ≡ pre
 front_is bytes pre rest is =
@@ -76,11 +76,11 @@ front_is bytes pre rest is =
     ∙ take-append_seam pre rest
 
 -- after another line the rest is left
-pub left_behind_line : (bytes rest line : List ℕ) (behind : Option (List ℕ)) → Left bytes (Some rest) → parts 10 rest ≡ behind_part 10 line behind → MatchOption behind (rest ≡ line) (λ r. rest ≡ line ++ 10 ∷ r) → bytes_eq line (codes "%%") ≡ false → Left bytes behind
-left_behind_line bytes rest line None left is whole e =
+pub left_after_line : (bytes rest line : List ℕ) (following : Option (List ℕ)) → Left bytes (Some rest) → parts 10 rest ≡ part_and_rest 10 line following → MatchOption following (rest ≡ line) (λ r. rest ≡ line ++ 10 ∷ r) → bytes_eq line (codes "%%") ≡ false → Left bytes following
+left_after_line bytes rest line None left is whole e =
     let front : List ℕ = take (length bytes - length rest) bytes in
     sym (left.1 ∙ ap (λ ls. prefixed front (cut_lines ls)) is ∙ ap (λ c. prefixed front c) (at_mark [] line false e))
-left_behind_line bytes rest line (Some next) left is whole e =
+left_after_line bytes rest line (Some next) left is whole e =
     let front : List ℕ = take (length bytes - length rest) bytes in
     let pre : List ℕ = front ++ (line ++ 10 ∷ []) in
     let again : bytes ≡ pre ++ next =

@@ -1,15 +1,15 @@
 -- How the world of a script began stays as it was.
 use Rattle.std.proofs.Common.{◌≡◌, ◌∙◌, ℕ, zero, suc, Bool, List, [], ◌∷◌, Option, Some, None, refl, subst, inl, inr, ap}
 use Rattle.std.specs.Prelude.{is_none}
-use Rattle.vp_race.specs.Segments.{Told}
+use Rattle.vp_race.specs.Segments.{FindingState}
 use Rattle.vp_answer.specs.declared.request.Request.{Request}
 use Rattle.vp_answer.specs.declared.request.Request.TheVariants as request
 use Rattle.vp_answer.specs.declared.reply.Reply.{Reply}
 use Rattle.vp_world.specs.declared.event.Event.{Event}
 use Rattle.vp_world.specs.declared.event.Event.TheVariants as event
-use Rattle.vp_world.specs.declared.fault.WorldError.{WorldError}
+use Rattle.vp_world.specs.declared.error.WorldError.{WorldError}
 use Rattle.vp_world.specs.History.{refused_by, with_entry}
-use Rattle.vp_world.specs.Worlds.{Logged}
+use Rattle.vp_world.specs.Worlds.{WorldLog}
 use Rattle.vp_wire.specs.declared.dialogue.Stage.{Stage}
 use Rattle.vp_wire.specs.declared.dialogue.Stage.TheVariants.{Before, Open, Closed}
 use Rattle.vp_wire.specs.Dialogue.{Answers, AnswersAll, Calls, Closes, Point, Tells, Turn, turn_of}
@@ -17,18 +17,18 @@ use Rattle.vp_script.specs.Scripts.{Applied, AppliedBy, Happen, IsAnswered, Runn
 use Rattle.vp_script.proofs.Running.{opening_if, which}
 
 -- an event leaves it, by its refusal
-by_refusal : (refusal : Option WorldError) (w v : Logged) (e : Event) (answer : Reply) → AppliedBy refusal w e answer v → v.opening ≡ w.opening
-by_refusal (Some x) w v e answer (told, same) = ap (λ (u : Logged). u.opening) same
-by_refusal None w v e answer (inl (told, same)) = ap (λ (u : Logged). u.opening) same
-by_refusal None w v e answer (inr (told, same)) = ap (λ (u : Logged). u.opening) same
+by_refusal : (refusal : Option WorldError) (w v : WorldLog) (e : Event) (answer : Reply) → AppliedBy refusal w e answer v → v.opening ≡ w.opening
+by_refusal (Some x) w v e answer (told, same) = ap (λ (u : WorldLog). u.opening) same
+by_refusal None w v e answer (inl (told, same)) = ap (λ (u : WorldLog). u.opening) same
+by_refusal None w v e answer (inr (told, same)) = ap (λ (u : WorldLog). u.opening) same
 
 -- so does a request, whether there is an event of it or not
-applied_keeps : (e : Option Event) (w v : Logged) (answer : Reply) → Applied e w answer v → v.opening ≡ w.opening
-applied_keeps None w v answer (told, same) = ap (λ (u : Logged). u.opening) same
+applied_keeps : (e : Option Event) (w v : WorldLog) (answer : Reply) → Applied e w answer v → v.opening ≡ w.opening
+applied_keeps None w v answer (told, same) = ap (λ (u : WorldLog). u.opening) same
 applied_keeps (Some e) w v answer applied = by_refusal (refused_by w e) w v e answer applied
 
 -- and what happens next
-turn_keeps : (w : Logged) (found : List Told) (q : Running) → turned_by w found ≡ Some q → q.world.opening ≡ w.opening
+turn_keeps : (w : WorldLog) (found : List FindingState) (q : Running) → turned_by w found ≡ Some q → q.world.opening ≡ w.opening
 turn_keeps w [] q h =
     elim (which (is_none (refused_by w event.TakeJob)) (is_none (refused_by w (next_event w))) (record { world = with_entry w event.TakeJob; found = searched w }) (record { world = with_entry w (next_event w); found = [] }) q h) [
       | inl (b, e) ↦ subst (λ (r : Running). r.world.opening ≡ w.opening) e refl
@@ -43,37 +43,37 @@ happen_keeps zero r q same = ap (λ (p : Running). p.world.opening) same
 happen_keeps (suc n) r q (p, before, last) = turn_keeps p.world p.found q last ∙ happen_keeps n r p before
 
 -- and a run of the simulation
-runs_keep : (starved : Bool) (w v : Logged) → Runs starved w v → v.opening ≡ w.opening
-runs_keep starved w v (n, rest, happened, ends) = happen_keeps n (record { world = w; found = [] }) (record { world = v; found = rest }) happened
+runs_keep : (out_of_memory : Bool) (w v : WorldLog) → Runs out_of_memory w v → v.opening ≡ w.opening
+runs_keep out_of_memory w v (n, rest, happened, ends) = happen_keeps n (record { world = w; found = [] }) (record { world = v; found = rest }) happened
 
 -- so a request that is served leaves it
-serves_keeps : (starved : Bool) (before after : Script) (r : Request) (answer : Reply) → Serves starved before r answer after → after.world.opening ≡ before.world.opening
-serves_keeps starved before after r answer s =
-    runs_keep starved s.asked after.world s.runs ∙ applied_keeps _ before.world s.asked answer s.applied
+serves_keeps : (out_of_memory : Bool) (before after : Script) (r : Request) (answer : Reply) → Serves out_of_memory before r answer after → after.world.opening ≡ before.world.opening
+serves_keeps out_of_memory before after r answer s =
+    runs_keep out_of_memory s.asked after.world s.runs ∙ applied_keeps _ before.world s.asked answer s.applied
 
 -- the opening at a point of a dialogue
-module _ (starved : Bool) where
-  line_keeps : (turn : Turn) (p q : Point Script) (reply_line : List ℕ) → Answers (Serves starved) turn p reply_line q → q.caller.world.opening ≡ p.caller.world.opening
+module _ (out_of_memory : Bool) where
+  line_keeps : (turn : Turn) (p q : Point Script) (reply_line : List ℕ) → Answers (Serves out_of_memory) turn p reply_line q → q.caller.world.opening ≡ p.caller.world.opening
   line_keeps (Tells text) p q reply_line (told, same) = ap (λ (o : Point Script). o.caller.world.opening) same
-  line_keeps (Calls r) p q reply_line (inl asked) = serves_keeps starved p.caller q.caller r asked.reply asked.called
+  line_keeps (Calls r) p q reply_line (inl asked) = serves_keeps out_of_memory p.caller q.caller r asked.reply asked.called
   line_keeps (Calls r) p q reply_line (inr (told, same)) = ap (λ (o : Point Script). o.caller.world.opening) same
 
-  lines_keep : (lines reply_lines : List (List ℕ)) (p q : Point Script) → AnswersAll (Serves starved) lines p reply_lines q → q.caller.world.opening ≡ p.caller.world.opening
+  lines_keep : (lines reply_lines : List (List ℕ)) (p q : Point Script) → AnswersAll (Serves out_of_memory) lines p reply_lines q → q.caller.world.opening ≡ p.caller.world.opening
   lines_keep [] [] p q same = ap (λ (o : Point Script). o.caller.world.opening) same
   lines_keep [] (t ∷ reply_lines) p q none = absurd none
   lines_keep (line ∷ lines) [] p q none = absurd none
   lines_keep (line ∷ lines) (t ∷ reply_lines) p q (next, one, more) =
       lines_keep lines reply_lines next q more ∙ line_keeps (turn_of p.stage line) p next t one
 
-  close_keeps : (stage : Stage) (c d : Script) → Closes (Serves starved) stage c d → d.world.opening ≡ c.world.opening
+  close_keeps : (stage : Stage) (c d : Script) → Closes (Serves out_of_memory) stage c d → d.world.opening ≡ c.world.opening
   close_keeps Before c d same = ap (λ (s : Script). s.world.opening) same
-  close_keeps Open c d (reply, served) = serves_keeps starved c d request.Close reply served
+  close_keeps Open c d (reply, served) = serves_keeps out_of_memory c d request.Close reply served
   close_keeps Closed c d same = ap (λ (s : Script). s.world.opening) same
 
 -- after a script over an input the world is still one that began so
 pub answered_keeps :
-    {unread still_unread held holds : Option (List ℕ)} (starved : Bool) (script behind : Script) (lines : ℕ) → IsAnswered starved script behind unread still_unread held holds lines
-    → behind.world.opening ≡ script.world.opening
-answered_keeps starved script behind lines a =
-    close_keeps starved a.end.stage a.end.caller behind a.closes
-    ∙ lines_keep starved a.whole.dialogue.lines a.whole.dialogue.reply_lines (record { stage = Before; caller = script }) a.end a.whole.dialogue.answers
+    {unread still_unread held holds : Option (List ℕ)} (out_of_memory : Bool) (script following : Script) (lines : ℕ) → IsAnswered out_of_memory script following unread still_unread held holds lines
+    → following.world.opening ≡ script.world.opening
+answered_keeps out_of_memory script following lines a =
+    close_keeps out_of_memory a.end.stage a.end.caller following a.closes
+    ∙ lines_keep out_of_memory a.whole.dialogue.lines a.whole.dialogue.reply_lines (record { stage = Before; caller = script }) a.end a.whole.dialogue.answers

@@ -7,14 +7,14 @@ use Rattle.std.proofs.lemmas.List.{length-append}
 use Rattle.std.proofs.lemmas.List.Elements.{All-drop}
 use Rattle.vp_race.specs.Recording.{next_job}
 use Rattle.vp_race.specs.Search.{found}
-use Rattle.vp_race.specs.Segments.{Run, Told}
-use Rattle.vp_sim.specs.declared.fault.SimError.TheVariants as sim
+use Rattle.vp_race.specs.Segments.{Run, FindingState}
+use Rattle.vp_sim.specs.declared.error.SimError.TheVariants as sim
 use Rattle.vp_world.specs.declared.event.Event.{Event}
 use Rattle.vp_world.specs.declared.event.Event.TheVariants as event
-use Rattle.vp_world.specs.declared.fault.WorldError.{WorldError}
-use Rattle.vp_world.specs.declared.fault.WorldError.TheVariants as error
-use Rattle.vp_world.specs.History.{is_log_full, refusal_of, refusal_of_job, refused_by, state_behind, with_entry}
-use Rattle.vp_world.specs.Worlds.{Logged, Opening, State}
+use Rattle.vp_world.specs.declared.error.WorldError.{WorldError}
+use Rattle.vp_world.specs.declared.error.WorldError.TheVariants as error
+use Rattle.vp_world.specs.History.{is_log_full, refusal_of, refusal_of_job, refused_by, state_after, with_entry}
+use Rattle.vp_world.specs.Worlds.{WorldLog, Opening, State}
 use Rattle.vp_script.specs.Keeping.{GoesOn, GoesOnBy}
 use Rattle.vp_script.specs.Scripts.{Happen, Running, Runs, next_event, next_event_by, searched, seed_count, step_limit, turned, turned_by, with_event_if}
 
@@ -46,27 +46,27 @@ job_not_full false job none = refl
 job_not_full true job none = cc
 
 -- the room in the log of a world
-abbrev pub room : Logged → ℕ
+abbrev pub room : WorldLog → ℕ
 room w = w.opening.limits.log - length w.log
 
 -- an event takes of the room, where the log is not full
-takes : (w : Logged) (e : Event) → is_log_full w.opening w.log ≡ false → room (with_entry w e) < room w
+takes : (w : WorldLog) (e : Event) → is_log_full w.opening w.log ≡ false → room (with_entry w e) < room w
 takes w e open_log = omega (arith, leb-false w.opening.limits.log (length w.log) open_log, length-append w.log)
 
 -- each event of the simulation takes of the room
-pub less_room : (w : Logged) → refused_by w (next_event w) ≡ None → room (with_entry w (next_event w)) < room w
+pub less_room : (w : WorldLog) → refused_by w (next_event w) ≡ None → room (with_entry w (next_event w)) < room w
 less_room w none =
-    takes w (next_event w) (not_full w.opening (state_behind w.opening w.log) (is_log_full w.opening w.log) (refused_by w (event.Step 0)) none)
+    takes w (next_event w) (not_full w.opening (state_after w.opening w.log) (is_log_full w.opening w.log) (refused_by w (event.Step 0)) none)
 
 -- and so does a job
-less_by_job : (w : Logged) → refused_by w event.TakeJob ≡ None → room (with_entry w event.TakeJob) < room w
+less_by_job : (w : WorldLog) → refused_by w event.TakeJob ≡ None → room (with_entry w event.TakeJob) < room w
 less_by_job w none = takes w event.TakeJob (job_not_full (is_log_full w.opening w.log) _ none)
 
 -- no event gives any
-no_more : (w : Logged) (e : Event) → room (with_entry w e) ≤ room w
+no_more : (w : WorldLog) (e : Event) → room (with_entry w e) ≤ room w
 no_more w e = omega (arith, length-append w.log)
 
-no_more_if : (w : Logged) (e : Event) (b : Bool) → room (if b then with_entry w e else w) ≤ room w
+no_more_if : (w : WorldLog) (e : Event) (b : Bool) → room (if b then with_entry w e else w) ≤ room w
 no_more_if w e true = no_more w e
 no_more_if w e false = omega arith
 
@@ -86,7 +86,7 @@ which false true x y q h = let e : y ≡ q = cc in inr (refl, e)
 which false false x y q h = absurd (cc)
 
 -- what happens next takes of the room, where no race is still to be booked
-turn_less : (w : Logged) (q : Running) → turned_by w [] ≡ Some q → room q.world < room w
+turn_less : (w : WorldLog) (q : Running) → turned_by w [] ≡ Some q → room q.world < room w
 turn_less w q h =
     elim (which (is_none (refused_by w event.TakeJob)) (is_none (refused_by w (next_event w))) (record { world = with_entry w event.TakeJob; found = searched w }) (record { world = with_entry w (next_event w); found = [] }) q h) [
       | inl (b, e) ↦ subst (λ (r : Running). room r.world < room w) e (less_by_job w (none_of (refused_by w event.TakeJob) b))
@@ -94,14 +94,14 @@ turn_less w q h =
     ]
 
 -- and gives none where one is
-turn_no_more : (w : Logged) (found : List Told) (q : Running) → turned_by w found ≡ Some q → room q.world ≤ room w
+turn_no_more : (w : WorldLog) (found : List FindingState) (q : Running) → turned_by w found ≡ Some q → room q.world ≤ room w
 turn_no_more w [] q h = omega (arith, turn_less w q h)
 turn_no_more w (f ∷ fs) q h =
     let e : record { world = with_event_if w (event.Book f); found = fs } ≡ q = cc in
     subst (λ (r : Running). room r.world ≤ room w) e (no_more_if w (event.Book f) (is_none (refused_by w (event.Book f))))
 
 -- where something happens in a world without races to be booked, there is less room after it
-pub happened_less : (n : ℕ) (w : Logged) (q : Running) → Happen (suc n) (record { world = w; found = [] }) q → room q.world < room w
+pub happened_less : (n : ℕ) (w : WorldLog) (q : Running) → Happen (suc n) (record { world = w; found = [] }) q → room q.world < room w
 happened_less zero w q (p, same, last) =
     turn_less w q (subst (λ (r : Running). turned r ≡ Some q) same last)
 happened_less (suc n) w q (p, before, last) =
@@ -119,24 +119,24 @@ happen_then n (suc m) r p q h (between, before, last) =
     subst (λ (k : ℕ). Happen k r q) same more
 
 -- the next event of the simulation happens, where there is no job
-pub turn_next : (w : Logged) → is_none (refused_by w event.TakeJob) ≡ false → refused_by w (next_event w) ≡ None
+pub turn_next : (w : WorldLog) → is_none (refused_by w event.TakeJob) ≡ false → refused_by w (next_event w) ≡ None
     → turned (record { world = w; found = [] }) ≡ Some (record { world = with_entry w (next_event w); found = [] })
 turn_next w no_job none = rw (no_job, is_none_of (refused_by w (next_event w)) none) refl
 
 -- a job is taken and searched
-pub turn_job : (w : Logged) → refused_by w event.TakeJob ≡ None
+pub turn_job : (w : WorldLog) → refused_by w event.TakeJob ≡ None
     → turned (record { world = w; found = [] }) ≡ Some (record { world = with_entry w event.TakeJob; found = searched w })
 turn_job w none = rw (is_none_of (refused_by w event.TakeJob) none) refl
 
 -- nothing happens where neither is accepted
-pub turn_none : (w : Logged) → is_none (refused_by w event.TakeJob) ≡ false → is_none (refused_by w (next_event w)) ≡ false
+pub turn_none : (w : WorldLog) → is_none (refused_by w event.TakeJob) ≡ false → is_none (refused_by w (next_event w)) ≡ false
     → turned (record { world = w; found = [] }) ≡ None
 turn_none w no_job no_event = rw (no_job, no_event) refl
 
 -- ---- what is booked
 
 -- a race is booked where the world takes it, and the world stays where it does not
-pub booked : (done : Bool) (w v : Logged) (e : Event) → (done ≡ true → (refused_by w e ≡ None) × (v ≡ with_entry w e)) → (done ≡ false → (is_none (refused_by w e) ≡ false) × (v ≡ w)) → v ≡ with_event_if w e
+pub booked : (done : Bool) (w v : WorldLog) (e : Event) → (done ≡ true → (refused_by w e ≡ None) × (v ≡ with_entry w e)) → (done ≡ false → (is_none (refused_by w e) ≡ false) × (v ≡ w)) → v ≡ with_event_if w e
 booked true w v e taken refused =
     let by = taken refl in
     let is : with_event_if w e ≡ with_entry w e = rw (is_none_of (refused_by w e) by.0) refl in
@@ -153,27 +153,27 @@ first_of (y ∷ ys) x h = let e : y ≡ x = cc in ap (λ z. z ∷ ys) e
 
 -- the first of some races is booked
 pub booked_next :
-    (r : Running) (w v : Logged) (found : List Told) (f : Told) → (n : ℕ) × Happen n r (record { world = w; found = found })
+    (r : Running) (w v : WorldLog) (found : List FindingState) (f : FindingState) → (n : ℕ) × Happen n r (record { world = w; found = found })
     → Some f ≡ slice_get found 0 → v ≡ with_event_if w (event.Book f)
     → (n : ℕ) × Happen n r (record { world = v; found = drop 1 found })
 booked_next r w v found f (n, happened) there is =
     let before : Happen n r (record { world = w; found = f ∷ drop 1 found }) =
-    subst (λ (fs : List Told). Happen n r (record { world = w; found = fs })) (first_of found f there) happened in
-    (suc n, (record { world = w; found = f ∷ drop 1 found }, before, ap (λ (u : Logged). Some (record { world = u; found = drop 1 found })) (sym is)))
+    subst (λ (fs : List FindingState). Happen n r (record { world = w; found = fs })) (first_of found f there) happened in
+    (suc n, (record { world = w; found = f ∷ drop 1 found }, before, ap (λ (u : WorldLog). Some (record { world = u; found = drop 1 found })) (sym is)))
 
 -- a race that is booked leaves how the world began
-pub opening_if : (w : Logged) (e : Event) (b : Bool) → (if b then with_entry w e else w).opening ≡ w.opening
+pub opening_if : (w : WorldLog) (e : Event) (b : Bool) → (if b then with_entry w e else w).opening ≡ w.opening
 opening_if w e true = refl
 opening_if w e false = refl
 
 -- the other races are still of the world's design
 pub booked_designs :
-    (w v : Logged) (e : Event) (found : List Told) → v ≡ with_event_if w e → All (λ (f : Told). f.segment.start.design ≡ w.opening.design) found
-    → All (λ (f : Told). f.segment.start.design ≡ v.opening.design) (drop 1 found)
+    (w v : WorldLog) (e : Event) (found : List FindingState) → v ≡ with_event_if w e → All (λ (f : FindingState). f.segment.start.design ≡ w.opening.design) found
+    → All (λ (f : FindingState). f.segment.start.design ≡ v.opening.design) (drop 1 found)
 booked_designs w v e found is all =
-    let same : w.opening ≡ v.opening = sym (ap (λ (u : Logged). u.opening) is ∙ opening_if w e (is_none (refused_by w e))) in
-    subst (λ (o : Opening). All (λ (f : Told). f.segment.start.design ≡ o.design) (drop 1 found)) same
-    (All-drop (λ (f : Told). f.segment.start.design ≡ w.opening.design) 1 found all)
+    let same : w.opening ≡ v.opening = sym (ap (λ (u : WorldLog). u.opening) is ∙ opening_if w e (is_none (refused_by w e))) in
+    subst (λ (o : Opening). All (λ (f : FindingState). f.segment.start.design ≡ o.design) (drop 1 found)) same
+    (All-drop (λ (f : FindingState). f.segment.start.design ≡ w.opening.design) 1 found all)
 
 -- ---- a job
 
@@ -182,66 +182,66 @@ one : (r q : Running) → turned r ≡ Some q → Happen 1 r q
 one r q h = (r, refl, h)
 
 -- what is found in a segment, where it is the next job
-pub searched_is : (w : Logged) (run : Run) → Some run ≡ next_job (state_behind w.opening w.log).segments → searched w ≡ found run step_limit seed_count
+pub searched_is : (w : WorldLog) (run : Run) → Some run ≡ next_job (state_after w.opening w.log).segments → searched w ≡ found run step_limit seed_count
 searched_is w run is = ap (λ (o : Option Run). option_map_or (λ r. found r step_limit seed_count) o []) (sym is)
 
 -- a job is taken
 job_taken :
-    (w u : Logged) (fs : List Told) → (refused_by w event.TakeJob ≡ None) × (u ≡ with_entry w event.TakeJob) → searched w ≡ fs
+    (w u : WorldLog) (fs : List FindingState) → (refused_by w event.TakeJob ≡ None) × (u ≡ with_entry w event.TakeJob) → searched w ≡ fs
     → Happen 1 (record { world = w; found = [] }) (record { world = u; found = fs })
 job_taken w u fs (none, entered) is =
     let first : Running = record { world = w; found = [] } in
     let by_search : Happen 1 first (record { world = with_entry w event.TakeJob; found = fs }) =
-    subst (λ (fs' : List Told). Happen 1 first (record { world = with_entry w event.TakeJob; found = fs' })) is (one first (record { world = with_entry w event.TakeJob; found = searched w }) (turn_job w none)) in
-    subst (λ (u' : Logged). Happen 1 first (record { world = u'; found = fs })) (sym entered) by_search
+    subst (λ (fs' : List FindingState). Happen 1 first (record { world = with_entry w event.TakeJob; found = fs' })) is (one first (record { world = with_entry w event.TakeJob; found = searched w }) (turn_job w none)) in
+    subst (λ (u' : WorldLog). Happen 1 first (record { world = u'; found = fs })) (sym entered) by_search
 
 -- and then what is found is booked
 pub job_then :
-    (starved : Bool) (w u v : Logged) (fs : List Told) → (refused_by w event.TakeJob ≡ None) × (u ≡ with_entry w event.TakeJob) → searched w ≡ fs
-    → GoesOn starved (record { world = u; found = fs }) v → GoesOn starved (record { world = w; found = [] }) v
-job_then starved w u v fs taken is (n, rest, happened, end) =
+    (out_of_memory : Bool) (w u v : WorldLog) (fs : List FindingState) → (refused_by w event.TakeJob ≡ None) × (u ≡ with_entry w event.TakeJob) → searched w ≡ fs
+    → GoesOn out_of_memory (record { world = u; found = fs }) v → GoesOn out_of_memory (record { world = w; found = [] }) v
+job_then out_of_memory w u v fs taken is (n, rest, happened, end) =
     (n + 1, rest, happen_then 1 n (record { world = w; found = [] }) (record { world = u; found = fs }) (record { world = v; found = rest }) (job_taken w u fs taken is) happened, end)
 
 -- all that is found is booked
 pub job_done :
-    (w u v : Logged) (fs : List Told) → (refused_by w event.TakeJob ≡ None) × (u ≡ with_entry w event.TakeJob) → searched w ≡ fs
+    (w u v : WorldLog) (fs : List FindingState) → (refused_by w event.TakeJob ≡ None) × (u ≡ with_entry w event.TakeJob) → searched w ≡ fs
     → GoesOn false (record { world = u; found = fs }) v → GoesOnBy w v
-job_done w u v fs taken is (n, rest, happened, inl lacking) = absurd (cc)
+job_done w u v fs taken is (n, rest, happened, inl allocation_error) = absurd (cc)
 job_done w u v fs taken is (n, rest, happened, inr all) =
     let first : Running = record { world = w; found = [] } in
-    let behind = happen_then 1 n first (record { world = u; found = fs }) (record { world = v; found = rest }) (job_taken w u fs taken is) happened in
+    let following = happen_then 1 n first (record { world = u; found = fs }) (record { world = v; found = rest }) (job_taken w u fs taken is) happened in
     let same : n + 1 ≡ suc n = omega arith in (
       n,
       subst (λ (k : ℕ). Happen k first (record { world = v; found = [] })) same
-          (subst (λ (rest' : List Told). Happen (n + 1) first (record { world = v; found = rest' })) all behind),
+          (subst (λ (rest' : List FindingState). Happen (n + 1) first (record { world = v; found = rest' })) all following),
     )
 
 -- where memory is lacking, nothing may happen
-pub nothing : (w : Logged) → GoesOn true (record { world = w; found = [] }) w
+pub nothing : (w : WorldLog) → GoesOn true (record { world = w; found = [] }) w
 nothing w = (0, [], refl, inl refl)
 
 -- ---- a run
 
 -- a run that a search takes on
-pub run_searched : (w u v : Logged) → (n : ℕ) × Happen n (record { world = w; found = [] }) (record { world = u; found = [] }) → GoesOnBy u v → (n : ℕ) × Happen n (record { world = w; found = [] }) (record { world = v; found = [] })
+pub run_searched : (w u v : WorldLog) → (n : ℕ) × Happen n (record { world = w; found = [] }) (record { world = u; found = [] }) → GoesOnBy u v → (n : ℕ) × Happen n (record { world = w; found = [] }) (record { world = v; found = [] })
 run_searched w u v (n, happened) (m, more) = (suc m + n, happen_then n (suc m) _ _ _ happened more)
 
 -- a run that the next event takes on
-pub run_next :
-    (w u v : Logged) → (n : ℕ) × Happen n (record { world = w; found = [] }) (record { world = u; found = [] }) → is_none (refused_by u event.TakeJob) ≡ false
+pub run_continues :
+    (w u v : WorldLog) → (n : ℕ) × Happen n (record { world = w; found = [] }) (record { world = u; found = [] }) → is_none (refused_by u event.TakeJob) ≡ false
     → refused_by u (next_event u) ≡ None → v ≡ with_entry u (next_event u)
     → (n : ℕ) × Happen n (record { world = w; found = [] }) (record { world = v; found = [] })
-run_next w u v (n, happened) no_job none is =
-    (suc n, (record { world = u; found = [] }, happened, turn_next u no_job none ∙ ap (λ (u' : Logged). Some (record { world = u'; found = [] })) (sym is)))
+run_continues w u v (n, happened) no_job none is =
+    (suc n, (record { world = u; found = [] }, happened, turn_next u no_job none ∙ ap (λ (u' : WorldLog). Some (record { world = u'; found = [] })) (sym is)))
 
 -- a run that ends for want of memory
-pub run_starved : (w u v : Logged) → (n : ℕ) × Happen n (record { world = w; found = [] }) (record { world = u; found = [] }) → GoesOn true (record { world = u; found = [] }) v → Runs true w v
-run_starved w u v (n, happened) (m, rest, more, end) = (m + n, rest, happen_then n m _ _ _ happened more, inl refl)
+pub run_out_of_memory : (w u v : WorldLog) → (n : ℕ) × Happen n (record { world = w; found = [] }) (record { world = u; found = [] }) → GoesOn true (record { world = u; found = [] }) v → Runs true w v
+run_out_of_memory w u v (n, happened) (m, rest, more, end) = (m + n, rest, happen_then n m _ _ _ happened more, inl refl)
 
 -- a run that the world ends
-pub run_over : (w u : Logged) → (n : ℕ) × Happen n (record { world = w; found = [] }) (record { world = u; found = [] }) → is_none (refused_by u event.TakeJob) ≡ false → is_none (refused_by u (next_event u)) ≡ false → Runs false w u
+pub run_over : (w u : WorldLog) → (n : ℕ) × Happen n (record { world = w; found = [] }) (record { world = u; found = [] }) → is_none (refused_by u event.TakeJob) ≡ false → is_none (refused_by u (next_event u)) ≡ false → Runs false w u
 run_over w u (n, happened) no_job no_event = (n, [], happened, inr (turn_none u no_job no_event))
 
 -- a search takes of the room
-pub less_by_search : (w v : Logged) → GoesOnBy w v → room v < room w
+pub less_by_search : (w v : WorldLog) → GoesOnBy w v → room v < room w
 less_by_search w v (n, happened) = happened_less n w (record { world = v; found = [] }) happened

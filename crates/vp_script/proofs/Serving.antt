@@ -4,17 +4,17 @@ use Rattle.vp_wire.specs.declared.dialogue.Stage.{Stage}
 use Rattle.vp_wire.specs.declared.dialogue.Stage.TheVariants.{Before, Open, Closed}
 use Rattle.vp_answer.specs.declared.request.Request.{Request}
 use Rattle.vp_answer.specs.declared.reply.Reply.{Reply}
-use Rattle.vp_world.specs.Worlds.{Logged}
-use Rattle.vp_wire.specs.declared.fault.WireError.{WireError}
-use Rattle.vp_wire.specs.declared.fault.WireError.TheVariants as wire
+use Rattle.vp_world.specs.Worlds.{WorldLog}
+use Rattle.vp_wire.specs.declared.error.WireError.{WireError}
+use Rattle.vp_wire.specs.declared.error.WireError.TheVariants as wire
 use Rattle.vp_wire.specs.Dialogue.{Stops, Answers, AnswersAll, Calls, Closes, IsWhole, Point, Tells, Turn, turn_of}
-use Rattle.vp_script.specs.declared.keeper.Keeper.{Keeper}
+use Rattle.vp_script.specs.declared.script_session.ScriptSession.{ScriptSession}
 use Rattle.vp_script.specs.Keeping.{Keeps, script_of}
 use Rattle.vp_script.specs.Scripts.{IsAnswered, IsStopped, Runs, Script, Serves}
 
 -- a run in which memory was not lacking is one in which it may have been
-pub runs_more : (a b : Bool) (w v : Logged) → (a ≡ true → b ≡ true) → Runs a w v → Runs b w v
-runs_more a b w v up (n, rest, happened, ends) = (n, rest, happened, elim ends [ inl starved ↦ inl (up starved) | inr refused ↦ inr refused ])
+pub runs_more : (a b : Bool) (w v : WorldLog) → (a ≡ true → b ≡ true) → Runs a w v → Runs b w v
+runs_more a b w v up (n, rest, happened, ends) = (n, rest, happened, elim ends [ inl out_of_memory ↦ inl (up out_of_memory) | inr refused ↦ inr refused ])
 
 serves_more : (a b : Bool) (before after : Script) (r : Request) (answer : Reply) → (a ≡ true → b ≡ true) → Serves a before r answer after → Serves b before r answer after
 serves_more a b before after r answer up s = record {
@@ -25,31 +25,31 @@ serves_more a b before after r answer up s = record {
 }
 
 -- the point of a script that is kept
-abbrev point_of : Point Keeper → Point Script
+abbrev point_of : Point ScriptSession → Point Script
 point_of p = record { stage = p.stage; caller = script_of p.caller }
 
 -- at this point memory has been lacking only if it has in the end
-abbrev Fed : Point Keeper → Bool → Type 0
-Fed p b = p.caller.starved ≡ true → b ≡ true
+abbrev Fed : Point ScriptSession → Bool → Type 0
+Fed p b = p.caller.out_of_memory ≡ true → b ≡ true
 
-fed_before : (p q : Point Keeper) (b : Bool) → q ≡ p → Fed q b → Fed p b
-fed_before p q b same fed = λ starved. fed (ap (λ (o : Point Keeper). o.caller.starved) same ∙ starved)
+fed_before : (p q : Point ScriptSession) (b : Bool) → q ≡ p → Fed q b → Fed p b
+fed_before p q b same fed = λ out_of_memory. fed (ap (λ (o : Point ScriptSession). o.caller.out_of_memory) same ∙ out_of_memory)
 
 module _ (b : Bool) where
-  one_served : (turn : Turn) (p q : Point Keeper) (reply_line : List ℕ) → Answers Keeps turn p reply_line q → Fed q b → Answers (Serves b) turn (point_of p) reply_line (point_of q) × Fed p b
+  one_served : (turn : Turn) (p q : Point ScriptSession) (reply_line : List ℕ) → Answers Keeps turn p reply_line q → Fed q b → Answers (Serves b) turn (point_of p) reply_line (point_of q) × Fed p b
   one_served (Tells text) p q reply_line (is_reply_line, same) fed = ((is_reply_line, ap point_of same), fed_before p q b same fed)
   one_served (Calls r) p q reply_line (inl asked) fed = (
     inl (record {
       reply = asked.reply;
-      called = serves_more q.caller.starved b (script_of p.caller) (script_of q.caller) r asked.reply fed asked.called.serves;
+      called = serves_more q.caller.out_of_memory b (script_of p.caller) (script_of q.caller) r asked.reply fed asked.called.serves;
       is_reply_line = asked.is_reply_line;
       stage = asked.stage;
     }),
-    λ starved. fed (asked.called.starved starved),
+    λ out_of_memory. fed (asked.called.out_of_memory out_of_memory),
   )
   one_served (Calls r) p q reply_line (inr (is_reply_line, same)) fed = (inr (is_reply_line, ap point_of same), fed_before p q b same fed)
 
-  all_served : (lines reply_lines : List (List ℕ)) (p q : Point Keeper) → AnswersAll Keeps lines p reply_lines q → Fed q b → AnswersAll (Serves b) lines (point_of p) reply_lines (point_of q) × Fed p b
+  all_served : (lines reply_lines : List (List ℕ)) (p q : Point ScriptSession) → AnswersAll Keeps lines p reply_lines q → Fed q b → AnswersAll (Serves b) lines (point_of p) reply_lines (point_of q) × Fed p b
   all_served [] [] p q same fed = (ap point_of same, fed_before p q b same fed)
   all_served [] (t ∷ reply_lines) p q none fed = absurd none
   all_served (line ∷ lines) [] p q none fed = absurd none
@@ -58,12 +58,12 @@ module _ (b : Bool) where
       let first = one_served (turn_of p.stage line) p next t one rest.1 in
       ((point_of next, first.0, rest.0), first.1)
 
-  closed : (stage : Stage) (c d : Keeper) → Closes Keeps stage c d → (d.starved ≡ true → b ≡ true) → Closes (Serves b) stage (script_of c) (script_of d) × (c.starved ≡ true → b ≡ true)
-  closed Before c d same fed = (ap script_of same, λ starved. fed (ap (λ (k : Keeper). k.starved) same ∙ starved))
-  closed Open c d (reply, kept) fed = ((reply, serves_more d.starved b (script_of c) (script_of d) _ reply fed kept.serves), λ starved. fed (kept.starved starved))
-  closed Closed c d same fed = (ap script_of same, λ starved. fed (ap (λ (k : Keeper). k.starved) same ∙ starved))
+  closed : (stage : Stage) (c d : ScriptSession) → Closes Keeps stage c d → (d.out_of_memory ≡ true → b ≡ true) → Closes (Serves b) stage (script_of c) (script_of d) × (c.out_of_memory ≡ true → b ≡ true)
+  closed Before c d same fed = (ap script_of same, λ out_of_memory. fed (ap (λ (k : ScriptSession). k.out_of_memory) same ∙ out_of_memory))
+  closed Open c d (reply, kept) fed = ((reply, serves_more d.out_of_memory b (script_of c) (script_of d) _ reply fed kept.serves), λ out_of_memory. fed (kept.out_of_memory out_of_memory))
+  closed Closed c d same fed = (ap script_of same, λ out_of_memory. fed (ap (λ (k : ScriptSession). k.out_of_memory) same ∙ out_of_memory))
 
-  stopped_by : (unread still_unread held holds : Option (List ℕ)) (e : WireError) (c : Keeper) (end : Point Keeper) → Stops e Keeps unread still_unread held holds c end → Fed end b → Stops e (Serves b) unread still_unread held holds (script_of c) (point_of end)
+  stopped_by : (unread still_unread held holds : Option (List ℕ)) (e : WireError) (c : ScriptSession) (end : Point ScriptSession) → Stops e Keeps unread still_unread held holds c end → Fed end b → Stops e (Serves b) unread still_unread held holds (script_of c) (point_of end)
   stopped_by unread still_unread held holds wire.ReadFault c end d fed = record { input = d.input; read = d.read; lines = d.lines; are_its = d.are_its; reply_lines = d.reply_lines; answers = (all_served d.lines d.reply_lines (record { stage = Before; caller = c }) end d.answers fed).0; written = d.written; is_out = d.is_out; appended = d.appended }
   stopped_by unread still_unread held holds wire.TurnLimit c end d fed = record { input = d.input; read = d.read; lines = d.lines; are_its = d.are_its; reply_lines = d.reply_lines; answers = (all_served d.lines d.reply_lines (record { stage = Before; caller = c }) end d.answers fed).0; written = d.written; is_out = d.is_out; appended = d.appended }
   stopped_by unread still_unread held holds wire.WriteFault c end d fed = record { input = d.input; read = d.read; lines = d.lines; are_its = d.are_its; reply_lines = d.reply_lines; answers = (all_served d.lines d.reply_lines (record { stage = Before; caller = c }) end d.answers fed).0; written = d.written; is_out = d.is_out; appended = d.appended }
@@ -73,11 +73,11 @@ module _ (b : Bool) where
   stopped_by unread still_unread held holds wire.NoMemory c end none fed = absurd none
 
 -- a session with a kept script
-pub served : {unread still_unread held holds : Option (List ℕ)} (c d : Keeper) (end : Point Keeper) (lines : ℕ) (starved : Bool) → starved ≡ d.starved → IsWhole Keeps unread still_unread held holds c end lines → Closes Keeps end.stage end.caller d
-    → IsAnswered starved (script_of c) (script_of d) unread still_unread held holds lines
-served c d end lines starved same w closes =
-    let last = closed starved end.stage end.caller d closes (λ lacking. same ∙ lacking) in
-    let all = all_served starved w.dialogue.lines w.dialogue.reply_lines (record { stage = Before; caller = c }) end w.dialogue.answers last.1 in
+pub served : {unread still_unread held holds : Option (List ℕ)} (c d : ScriptSession) (end : Point ScriptSession) (lines : ℕ) (out_of_memory : Bool) → out_of_memory ≡ d.out_of_memory → IsWhole Keeps unread still_unread held holds c end lines → Closes Keeps end.stage end.caller d
+    → IsAnswered out_of_memory (script_of c) (script_of d) unread still_unread held holds lines
+served c d end lines out_of_memory same w closes =
+    let last = closed out_of_memory end.stage end.caller d closes (λ allocation_error. same ∙ allocation_error) in
+    let all = all_served out_of_memory w.dialogue.lines w.dialogue.reply_lines (record { stage = Before; caller = c }) end w.dialogue.answers last.1 in
     record {
       end = point_of end;
       whole = record {
@@ -99,14 +99,14 @@ served c d end lines starved same w closes =
     }
 
 -- a session with a kept script that stopped
-pub stopped : {unread still_unread held holds : Option (List ℕ)} (e : WireError) (c d : Keeper) (end : Point Keeper) → Stops e Keeps unread still_unread held holds c end → Closes Keeps end.stage end.caller d
+pub stopped : {unread still_unread held holds : Option (List ℕ)} (e : WireError) (c d : ScriptSession) (end : Point ScriptSession) → Stops e Keeps unread still_unread held holds c end → Closes Keeps end.stage end.caller d
     → IsStopped e (script_of c) unread still_unread held holds
 stopped e c d end s closes =
-    let last = closed d.starved end.stage end.caller d closes (λ starved. starved) in
+    let last = closed d.out_of_memory end.stage end.caller d closes (λ out_of_memory. out_of_memory) in
     record {
-      starved = d.starved;
+      out_of_memory = d.out_of_memory;
       end = point_of end;
-      stops = stopped_by d.starved _ _ _ _ e c end s last.1;
-      behind = script_of d;
+      stops = stopped_by d.out_of_memory _ _ _ _ e c end s last.1;
+      following = script_of d;
       closes = last.0;
     }

@@ -1,16 +1,16 @@
 -- An audit after a script: what one user was told is what comes of what he can know (profile).
 use Rattle.std.specs.Prelude.{◌≡◌, ◌⊎◌, ℕ, Bool, true, if◌then◌else◌, List, length, Option, Some, None}
-use Rattle.vp_policy.specs.declared.fault.PolicyError.TheVariants as policy_error
+use Rattle.vp_policy.specs.declared.error.PolicyError.TheVariants as policy_error
 use Rattle.vp_policy.specs.Users.{user_of}
-use Rattle.vp_world.specs.declared.fault.WorldError.TheVariants as error
+use Rattle.vp_world.specs.declared.error.WorldError.TheVariants as error
 use Rattle.vp_world.specs.Entries.{Entry}
 use Rattle.vp_world.specs.Worlds.{Opening}
 use Rattle.vp_explain.specs.Audit.{Audit}
 use Rattle.vp_explain.specs.Projections.{replies_of}
 use Rattle.vp_explain.specs.Explanation.{log_explanation}
 use Rattle.vp_script.specs.declared.audits.Audited.{Audited}
-use Rattle.vp_script.specs.declared.fault.ServeFault.{ServeFault}
-use Rattle.vp_script.specs.declared.fault.ServeFault.TheVariants as fault
+use Rattle.vp_script.specs.declared.error.ServeFault.{ServeFault}
+use Rattle.vp_script.specs.declared.error.ServeFault.TheVariants as fault
 use Rattle.vp_script.specs.Scripts.{IsAnswered, IsOpened, IsStopped, Script, opened}
 use Rattle.vp_script.specs.Views.{IsViewRefusedBy}
 
@@ -32,16 +32,16 @@ audited_of explain opening user log = record {
 }
 
 -- a script, from how its world opens to what it is after an input: the input is read to its end, and what is told goes nowhere
-pub record RunsTo (opening : Opening) (unread still_unread : Option (List ℕ)) (behind : Script) : Type 0 where
-  pub starved : Bool
+pub record RunsTo (opening : Opening) (unread still_unread : Option (List ℕ)) (following : Script) : Type 0 where
+  pub out_of_memory : Bool
   pub lines : ℕ
-  pub answered : IsAnswered starved (opened opening) behind unread still_unread None None lines
+  pub answered : IsAnswered out_of_memory (opened opening) following unread still_unread None None lines
 
 -- an audit of the user of a number, of the log after a script over an input
-pub record IsAuditBehind (explain : Bool) (opening : Opening) (user : ℕ) (unread still_unread : Option (List ℕ)) (audited : Audited) : Type 0 where
-  pub behind : Script
-  pub runs : RunsTo opening unread still_unread behind
-  pub is : audited ≡ audited_of explain opening user behind.world.log
+pub record IsAuditAfter (explain : Bool) (opening : Opening) (user : ℕ) (unread still_unread : Option (List ℕ)) (audited : Audited) : Type 0 where
+  pub following : Script
+  pub runs : RunsTo opening unread still_unread following
+  pub is : audited ≡ audited_of explain opening user following.world.log
 
 -- a text and a policy file open a script, and the user of a name in the file has this number
 pub record OpensFor (text policy name : List ℕ) (opening : Opening) (user : ℕ) : Type 0 where
@@ -53,27 +53,27 @@ pub record IsAudited (explain : Bool) (text policy name : List ℕ) (unread stil
   pub opening : Opening
   pub user : ℕ
   pub opens : OpensFor text policy name opening user
-  pub behind : IsAuditBehind explain opening user unread still_unread audited
+  pub following : IsAuditAfter explain opening user unread still_unread audited
 
 -- ---- why there is none
 
 -- memory is lacking
-abbrev pub IsLacking : ServeFault → Type 0
-IsLacking (fault.Policy e) = e ≡ policy_error.NoMemory
-IsLacking (fault.World e) = e ≡ error.NoMemory
-IsLacking fault.NoMemory = Unit {0}
-IsLacking f = ⊥
+abbrev pub IsOutOfMemory : ServeFault → Type 0
+IsOutOfMemory (fault.Policy e) = e ≡ policy_error.NoMemory
+IsOutOfMemory (fault.World e) = e ≡ error.NoMemory
+IsOutOfMemory fault.NoMemory = Unit {0}
+IsOutOfMemory f = ⊥
 
 -- a script over an input has ended without an audit: by a fault of the reader; or at the end of the input, for want of memory
 abbrev pub EndsRunBy : Opening → (unread still_unread : Option (List ℕ)) → ServeFault → Type 0
 EndsRunBy opening unread still_unread (fault.Lines e) = IsStopped e (opened opening) unread still_unread None None
-EndsRunBy opening unread still_unread fault.NoMemory = (behind : Script) × RunsTo opening unread still_unread behind
+EndsRunBy opening unread still_unread fault.NoMemory = (following : Script) × RunsTo opening unread still_unread following
 EndsRunBy opening unread still_unread f = ⊥
 
 -- the same, or before anything was read, for want of memory
 abbrev pub EndsOpenedBy : Opening → (unread still_unread : Option (List ℕ)) → ServeFault → Type 0
 EndsOpenedBy opening unread still_unread f =
-    (IsLacking f × (still_unread ≡ unread)) ⊎ EndsRunBy opening unread still_unread f
+    (IsOutOfMemory f × (still_unread ≡ unread)) ⊎ EndsRunBy opening unread still_unread f
 
 -- the script of a text and a policy file that has the user of a name has ended without an audit
 abbrev pub EndsNamedBy : (text policy name : List ℕ) → (unread still_unread : Option (List ℕ)) → ServeFault → Type 0

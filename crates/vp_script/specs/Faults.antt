@@ -5,8 +5,8 @@ use Rattle.vp_policy.specs.Faults as policy
 use Rattle.vp_world.specs.Faults as world
 use Rattle.vp_wire.specs.Faults as wire
 use Rattle.vp_hub.specs.Faults as hub
-use Rattle.vp_script.specs.declared.fault.ServeFault.{ServeFault}
-use Rattle.vp_script.specs.declared.fault.ServeFault.TheVariants.{Design, Policy, World, Lines, Hub, BadBundle, ReadFailed, TooLong, NoSuchUser, ListenFailed, NoThread, NoMemory}
+use Rattle.vp_script.specs.declared.error.ServeFault.{ServeFault}
+use Rattle.vp_script.specs.declared.error.ServeFault.TheVariants.{Design, Policy, World, Lines, Hub, BadBundle, ReadFailed, TooLong, NoSuchUser, ListenFailed, NoThread, NoMemory}
 
 -- the number of a fault (profile)
 abbrev pub code_of : ServeFault → ℕ

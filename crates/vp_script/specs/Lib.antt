@@ -5,4 +5,4 @@ pub mod Scripts
 pub mod Keeping
 pub mod Views
 pub mod Audits
-pub mod Refused
+pub mod Failure

@@ -4,32 +4,32 @@ use Rattle.std.specs.Option.{option_map_or}
 use Rattle.std.specs.Result.{result_err}
 use Rattle.vp_list.specs.Refusals.{MayExplain}
 use Rattle.vp_elab.specs.Built.{Elaborated}
-use Rattle.vp_policy.specs.declared.fault.PolicyError.TheVariants as policy_error
+use Rattle.vp_policy.specs.declared.error.PolicyError.TheVariants as policy_error
 use Rattle.vp_policy.specs.File.{PolicyFile, file_of, policy_for}
 use Rattle.vp_policy.specs.PolicyState.{PolicyState}
 use Rattle.vp_race.specs.Recording.{next_job}
 use Rattle.vp_race.specs.Search.{found}
-use Rattle.vp_race.specs.Segments.{Told}
-use Rattle.vp_sim.specs.declared.fault.SimError.TheVariants.{Idle}
+use Rattle.vp_race.specs.Segments.{FindingState}
+use Rattle.vp_sim.specs.declared.error.SimError.TheVariants.{Idle}
 use Rattle.vp_world.specs.declared.event.Event.{Event}
 use Rattle.vp_world.specs.declared.event.Event.TheVariants as event
 use Rattle.vp_answer.specs.declared.request.Request.{Request}
 use Rattle.vp_answer.specs.declared.request.Request.TheVariants as request
 use Rattle.vp_answer.specs.declared.request.SessionId.{SessionId}
-use Rattle.vp_world.specs.declared.fault.WorldError.{WorldError}
-use Rattle.vp_world.specs.declared.fault.WorldError.TheVariants as error
+use Rattle.vp_world.specs.declared.error.WorldError.{WorldError}
+use Rattle.vp_world.specs.declared.error.WorldError.TheVariants as error
 use Rattle.vp_world.specs.declared.limits.Limits.{Limits}
 use Rattle.vp_answer.specs.declared.reply.Refusal.TheVariants as refusal
 use Rattle.vp_answer.specs.declared.reply.Reply.{Reply}
 use Rattle.vp_answer.specs.declared.reply.Reply.TheVariants as reply
-use Rattle.vp_world.specs.History.{answered_by, refused_by, state_behind, with_entry}
+use Rattle.vp_world.specs.History.{answered_by, refused_by, state_after, with_entry}
 use Rattle.vp_world.specs.Refusals.{refusal_of_error}
-use Rattle.vp_world.specs.Worlds.{Logged, Opening}
-use Rattle.vp_wire.specs.declared.fault.WireError.{WireError}
+use Rattle.vp_world.specs.Worlds.{WorldLog, Opening}
+use Rattle.vp_wire.specs.declared.error.WireError.{WireError}
 use Rattle.vp_wire.specs.Dialogue.{Closes, IsWhole, Point, Stops}
 use Rattle.vp_script.specs.Bundles.{cut_of}
-use Rattle.vp_script.specs.declared.fault.ServeFault.{ServeFault}
-use Rattle.vp_script.specs.declared.fault.ServeFault.TheVariants as fault
+use Rattle.vp_script.specs.declared.error.ServeFault.{ServeFault}
+use Rattle.vp_script.specs.declared.error.ServeFault.TheVariants as fault
 use Rattle.vp_design.specs.Designs.{IsDesignOf, text_limit}
 use Rattle.vp_script.specs.Designs.{IsRefusedBy}
 
@@ -37,14 +37,14 @@ use Rattle.vp_script.specs.Designs.{IsRefusedBy}
 
 -- what a world does with an event, by its refusal: it answers and logs it, or tells the refusal; or there is no memory, and
 -- nothing happens
-abbrev pub AppliedBy : Option WorldError → Logged → Event → Reply → Logged → Type 0
+abbrev pub AppliedBy : Option WorldError → WorldLog → Event → Reply → WorldLog → Type 0
 AppliedBy (Some e) w happens answer v = (answer ≡ reply.Error (refusal_of_error e)) × (v ≡ w)
 AppliedBy None w happens answer v =
     ((answer ≡ answered_by w happens) × (v ≡ with_entry w happens))
     ⊎ ((answer ≡ reply.Error refusal.NoMemory) × (v ≡ w))
 
 -- what a world does with an event, if there is one: a request of a session that was not opened is none
-abbrev pub Applied : Option Event → Logged → Reply → Logged → Type 0
+abbrev pub Applied : Option Event → WorldLog → Reply → WorldLog → Type 0
 Applied None w answer v = (answer ≡ reply.Error refusal.NotOpen) × (v ≡ w)
 Applied (Some e) w answer v = AppliedBy (refused_by w e) w e answer v
 
@@ -56,7 +56,7 @@ next_event_by (Some (error.Sim Idle)) = event.Advance
 next_event_by stepped = event.Step 0
 
 -- the next event of the simulation in a world
-abbrev pub next_event : Logged → Event
+abbrev pub next_event : WorldLog → Event
 next_event w = next_event_by (refused_by w (event.Step 0))
 
 -- a search tries so many seeds, by orders of at most so many steps (profile)
@@ -68,21 +68,21 @@ step_limit = 10000
 
 -- a world, and the races that were found and are still to be booked
 pub record Running : Type 0 where
-  pub world : Logged
-  pub found : List Told
+  pub world : WorldLog
+  pub found : List FindingState
 
 -- a world with an event, if it does not refuse it
-abbrev pub with_event_if : Logged → Event → Logged
+abbrev pub with_event_if : WorldLog → Event → WorldLog
 with_event_if w e = if is_none (refused_by w e) then with_entry w e else w
 
 -- what is found in the segment that is the next job of a world, if there is one
-abbrev pub searched : Logged → List Told
+abbrev pub searched : WorldLog → List FindingState
 searched w =
-    option_map_or (λ run. found run step_limit seed_count) (next_job (state_behind w.opening w.log).segments) []
+    option_map_or (λ run. found run step_limit seed_count) (next_job (state_after w.opening w.log).segments) []
 
 -- what happens next: a race that was found is booked, unless the world refuses it; else, if there is a job, it is taken and its segment is
 -- searched; else the next event of the simulation happens; nothing, where the world refuses that
-abbrev pub turned_by : Logged → (found : List Told) → Option Running
+abbrev pub turned_by : WorldLog → (found : List FindingState) → Option Running
 turned_by w (f ∷ fs) = Some (record { world = with_event_if w (event.Book f); found = fs })
 turned_by w [] =
     if is_none (refused_by w event.TakeJob)
@@ -101,16 +101,16 @@ Happen (suc n) r q = (p : Running) × Happen n r p × (turned p ≡ Some q)
 
 -- the simulation runs, and what it does is searched for races, until nothing happens next; or, where memory may have been lacking, up to what
 -- there was none for
-abbrev pub Runs : (starved : Bool) → Logged → Logged → Type 0
-Runs starved w v =
-    (n : ℕ) × (rest : List Told) × Happen n (record { world = w; found = [] }) (record { world = v; found = rest })
-    × ((starved ≡ true) ⊎ (turned (record { world = v; found = rest }) ≡ None))
+abbrev pub Runs : (out_of_memory : Bool) → WorldLog → WorldLog → Type 0
+Runs out_of_memory w v =
+    (n : ℕ) × (rest : List FindingState) × Happen n (record { world = w; found = [] }) (record { world = v; found = rest })
+    × ((out_of_memory ≡ true) ⊎ (turned (record { world = v; found = rest }) ≡ None))
 
 -- ---- a script
 
 -- a world, and the session that the script has opened, if it has
 pub record Script : Type 0 where
-  pub world : Logged
+  pub world : WorldLog
   pub session : Option SessionId
 
 -- the event of a request
@@ -122,23 +122,23 @@ event_of (Some id) request.Close = Some (event.Close id)
 event_of (Some id) r = Some (event.Ask id r)
 
 -- the session of a script after a reply
-abbrev pub session_behind : Option SessionId → Reply → Option SessionId
-session_behind session (reply.Opened id) = Some id
-session_behind session answer = session
+abbrev pub session_after : Option SessionId → Reply → Option SessionId
+session_after session (reply.Opened id) = Some id
+session_after session answer = session
 
 -- a script's request is answered by the world, and then the simulation runs
-pub record Serves (starved : Bool) (before : Script) (r : Request) (answer : Reply) (after : Script) : Type 0 where
-  pub asked : Logged
+pub record Serves (out_of_memory : Bool) (before : Script) (r : Request) (answer : Reply) (after : Script) : Type 0 where
+  pub asked : WorldLog
   pub applied : Applied (event_of before.session r) before.world answer asked
-  pub session : after.session ≡ session_behind before.session answer
-  pub runs : Runs starved asked after.world
+  pub session : after.session ≡ session_after before.session answer
+  pub runs : Runs out_of_memory asked after.world
 
 -- a world that began so, in which nothing has happened
-abbrev pub new_world : Opening → Logged
+abbrev pub new_world : Opening → WorldLog
 new_world opening = record { opening = opening; log = [] }
 
 -- the script of a world that has opened no session
-abbrev pub begun : Logged → Script
+abbrev pub begun : WorldLog → Script
 begun world = record { world = world; session = None }
 
 -- a script in which nothing has happened
@@ -166,28 +166,28 @@ pub record IsOpened (text policy : List ℕ) (script : Script) : Type 0 where
 
 -- a script over an input has read it to the end, so many lines, and each was told what the script answers it; and it is this script
 -- after that
-pub record IsAnswered (starved : Bool) (script behind : Script) (unread still_unread held holds : Option (List ℕ)) (lines : ℕ) : Type 0 where
+pub record IsAnswered (out_of_memory : Bool) (script following : Script) (unread still_unread held holds : Option (List ℕ)) (lines : ℕ) : Type 0 where
   pub end : Point Script
-  pub whole : IsWhole (Serves starved) unread still_unread held holds script end lines
-  pub closes : Closes (Serves starved) end.stage end.caller behind
+  pub whole : IsWhole (Serves out_of_memory) unread still_unread held holds script end lines
+  pub closes : Closes (Serves out_of_memory) end.stage end.caller following
 
 -- the script of a text and a policy file over an input
-pub record IsScript (starved : Bool) (text policy : List ℕ) (unread still_unread held holds : Option (List ℕ)) (lines : ℕ) : Type 0 where
+pub record IsScript (out_of_memory : Bool) (text policy : List ℕ) (unread still_unread held holds : Option (List ℕ)) (lines : ℕ) : Type 0 where
   pub script : Script
   pub opened : IsOpened text policy script
-  pub behind : Script
-  pub answered : IsAnswered starved script behind unread still_unread held holds lines
+  pub following : Script
+  pub answered : IsAnswered out_of_memory script following unread still_unread held holds lines
 
 -- ---- faults
 
 -- a script over an input has stopped by a fault of the reader or the writer, and each line that was answered till then was told what
 -- the script answers it
 pub record IsStopped (e : WireError) (script : Script) (unread still_unread held holds : Option (List ℕ)) : Type 0 where
-  pub starved : Bool
+  pub out_of_memory : Bool
   pub end : Point Script
-  pub stops : Stops e (Serves starved) unread still_unread held holds script end
-  pub behind : Script
-  pub closes : Closes (Serves starved) end.stage end.caller behind
+  pub stops : Stops e (Serves out_of_memory) unread still_unread held holds script end
+  pub following : Script
+  pub closes : Closes (Serves out_of_memory) end.stage end.caller following
 
 -- a policy file is refused by a fault, after a text that has this design: it is too long, or it is none; or memory is lacking
 abbrev pub IsPolicyRefusedBy : Elaborated → List ℕ → ServeFault → Type 0
@@ -245,11 +245,11 @@ HasNoParts bundle =
     (cut_of bundle ≡ None) ⊎ ((text : List ℕ) × (rest : List ℕ) × (cut_of bundle ≡ Some (text, rest)) × (cut_of rest ≡ None))
 
 -- the script of a bundle: that of its parts, whose first is a text
-pub record IsBundle (starved : Bool) (bundle : List ℕ) (held holds : Option (List ℕ)) (lines : ℕ) : Type 0 where
+pub record IsBundle (out_of_memory : Bool) (bundle : List ℕ) (held holds : Option (List ℕ)) (lines : ℕ) : Type 0 where
   pub parts : Parts
   pub has : HasParts bundle parts
   pub text : IsUtf8 parts.text
-  pub script : IsScript starved parts.text parts.policy (Some parts.input) (Some []) held holds lines
+  pub script : IsScript out_of_memory parts.text parts.policy (Some parts.input) (Some []) held holds lines
 
 -- the fault of a bundle before its script: it is too long; it has no two lines `%%`; its design is too long; it is no text. Each where
 -- those before it are not

@@ -1,13 +1,13 @@
 -- What is told of a design and a policy before anything runs (profile).
 use Rattle.std.specs.Prelude.{◌≡◌, ◌⊎◌, ◌≤◌, ℕ, List, length, Some, None, Ok}
 use Rattle.vp_elab.specs.Built.{Elaborated}
-use Rattle.vp_policy.specs.declared.fault.PolicyError.TheVariants as policy_error
+use Rattle.vp_policy.specs.declared.error.PolicyError.TheVariants as policy_error
 use Rattle.vp_policy.specs.File.{PolicyFile, file_of}
 use Rattle.vp_policy.specs.Users.{Member, member_at, user_of}
 use Rattle.vp_policy.specs.View.{view_of}
 use Rattle.vp_outline.specs.Outline.{outline_of}
-use Rattle.vp_script.specs.declared.fault.ServeFault.{ServeFault}
-use Rattle.vp_script.specs.declared.fault.ServeFault.TheVariants as fault
+use Rattle.vp_script.specs.declared.error.ServeFault.{ServeFault}
+use Rattle.vp_script.specs.declared.error.ServeFault.TheVariants as fault
 use Rattle.vp_design.specs.Designs.{IsDesignOf, text_limit}
 use Rattle.vp_script.specs.Designs.{IsRefusedBy}
 use Rattle.vp_script.specs.Scripts.{IsPolicyRefusedBy}

@@ -3,15 +3,15 @@ ghost use Rattle.std.specs.Prelude.{◌≡◌, IfErr, IfOk, IsOkUnless, OnOk};
 ghost use Rattle.std.specs.Arc.{arc_value};
 ghost use Rattle.vp_explain.specs.Openings.{IsRight};
 ghost use Rattle.vp_policy.specs.PolicyState.{Fits};
-ghost use Rattle.vp_script.specs.declared.fault.ServeFault.TheVariants.{NoMemory};
-ghost use Rattle.vp_script.specs.Audits.{EndsAuditBy, EndsOpenedBy, EndsRunBy, IsAuditBehind, IsAudited, IsLacking, RunsTo, audit_of, audited_of, explanation_if};
+ghost use Rattle.vp_script.specs.declared.error.ServeFault.TheVariants.{NoMemory};
+ghost use Rattle.vp_script.specs.Audits.{EndsAuditBy, EndsOpenedBy, EndsRunBy, IsAuditAfter, IsAudited, IsOutOfMemory, RunsTo, audit_of, audited_of, explanation_if};
 ghost use Rattle.vp_script.specs.Keeping.{script_of};
 ghost use Rattle.vp_script.specs.Scripts.{opened, opening_of};
 ghost use Rattle.vp_world.specs.Worlds.{Opening};
 
-use crate::fault::ServeFault;
-use crate::keeper::Keeper;
-use crate::script::{answered, checked, keeper_of, policy_of};
+use crate::error::ServeFault;
+use crate::script::{answered, checked, policy_of, script_session_of};
+use crate::script_session::ScriptSession;
 use std::alloc::Global;
 use std::io;
 use std::io::Read;
@@ -35,16 +35,16 @@ fn log_audit(
     alloc: Global,
     checked: &Checked,
     policy: &Policy,
-    keeper: &Keeper,
+    script_session: &ScriptSession,
     user: UserId,
 ) -> Result<Audit, ServeFault>
-    requires right { IsRight keeper.now.world.opening }
-    requires design { keeper.now.world.opening.design ≡ checked.now }
-    requires policy { keeper.now.world.opening.policy ≡ policy.now }
-    ensures audit { IfOk result (λ audit. audit ≡ audit_of user.0 keeper.now.world.log) }
+    requires right { IsRight script_session.now.world.opening }
+    requires design { script_session.now.world.opening.design ≡ checked.now }
+    requires policy { script_session.now.world.opening.policy ≡ policy.now }
+    ensures audit { IfOk result (λ audit. audit ≡ audit_of user.0 script_session.now.world.log) }
     ensures refused { IsOkUnless result NoMemory }
 {
-    match audit_user(alloc, checked, policy, keeper.log(), user) {
+    match audit_user(alloc, checked, policy, script_session.log(), user) {
         Ok(audit) => Ok(audit),
         Err(_) => Err(ServeFault::NoMemory),
     }
@@ -55,21 +55,21 @@ fn log_explanation(
     alloc: Global,
     checked: &Checked,
     policy: &Policy,
-    keeper: &Keeper,
+    script_session: &ScriptSession,
     user: UserId,
     explain: bool,
 ) -> Result<Option<Text>, ServeFault>
-    requires right { IsRight keeper.now.world.opening }
-    requires design { keeper.now.world.opening.design ≡ checked.now }
-    requires policy { keeper.now.world.opening.policy ≡ policy.now }
+    requires right { IsRight script_session.now.world.opening }
+    requires design { script_session.now.world.opening.design ≡ checked.now }
+    requires policy { script_session.now.world.opening.policy ≡ policy.now }
     ensures explanation { IfOk result (λ text. text
-        ≡ explanation_if explain keeper.now.world.opening user.0 keeper.now.world.log) }
+        ≡ explanation_if explain script_session.now.world.opening user.0 script_session.now.world.log) }
     ensures refused { IsOkUnless result NoMemory }
 {
     if !explain {
         return Ok(None);
     }
-    match explain_user(alloc, checked, policy, keeper.log(), user) {
+    match explain_user(alloc, checked, policy, script_session.log(), user) {
         Ok(text) => Ok(Some(text)),
         Err(_) => Err(ServeFault::NoMemory),
     }
@@ -80,54 +80,58 @@ fn log_audited(
     alloc: Global,
     checked: &Checked,
     policy: &Policy,
-    keeper: &Keeper,
+    script_session: &ScriptSession,
     user: UserId,
     explain: bool,
 ) -> Result<Audited, ServeFault>
-    requires right { IsRight keeper.now.world.opening }
-    requires design { keeper.now.world.opening.design ≡ checked.now }
-    requires policy { keeper.now.world.opening.policy ≡ policy.now }
+    requires right { IsRight script_session.now.world.opening }
+    requires design { script_session.now.world.opening.design ≡ checked.now }
+    requires policy { script_session.now.world.opening.policy ≡ policy.now }
     ensures audited { IfOk result (λ audited. audited
-        ≡ audited_of explain keeper.now.world.opening user.0 keeper.now.world.log) }
+        ≡ audited_of explain script_session.now.world.opening user.0 script_session.now.world.log) }
     ensures refused { IsOkUnless result NoMemory }
 {
     Ok(Audited {
-        audit: log_audit(alloc, checked, policy, keeper, user)?,
-        explanation: log_explanation(alloc, checked, policy, keeper, user, explain)?,
+        audit: log_audit(alloc, checked, policy, script_session, user)?,
+        explanation: log_explanation(alloc, checked, policy, script_session, user, explain)?,
     })
 }
 
 /// Answers the lines of a reader by a script, up to the end of the input, and tells no reply; or the fault of the reader.
 fn run_to_end<R: Read>(
     alloc: Global,
-    keeper: &mut Keeper,
+    script_session: &mut ScriptSession,
     reader: &mut Counted<R>,
 ) -> Result<(), ServeFault>
-    ensures ran { OnOk result ((opening : Opening) → script_of keeper.old ≡ opened opening
+    ensures ran { OnOk result ((opening : Opening) → script_of script_session.old ≡ opened opening
         → RunsTo opening (R.remaining reader.old.inner) (R.remaining reader.new.inner)
-        (script_of keeper.new)) }
+        (script_of script_session.new)) }
     ensures opening { OnOk result
-        ((script_of keeper.new).world.opening ≡ (script_of keeper.old).world.opening) }
+        ((script_of script_session.new).world.opening ≡ (script_of script_session.old).world.opening) }
     ensures stopped { IfErr result (λ fault. (opening : Opening)
-        → script_of keeper.old ≡ opened opening
+        → script_of script_session.old ≡ opened opening
         → EndsRunBy opening (R.remaining reader.old.inner) (R.remaining reader.new.inner) fault) }
 {
     let mut nowhere = Counted::new(io::sink());
-    match answered(alloc, keeper, reader, &mut nowhere) {
+    match answered(alloc, script_session, reader, &mut nowhere) {
         Ok(_) => Ok(()),
         Err(error) => Err(ServeFault::Lines(error)),
     }
 }
 
 /// A fresh script of a design and a policy, which the caller keeps; or want of memory.
-fn keeper_for(alloc: Global, checked: &Arc<Checked>, policy: &Policy) -> Result<Keeper, ServeFault>
+fn script_session_for(
+    alloc: Global,
+    checked: &Arc<Checked>,
+    policy: &Policy,
+) -> Result<ScriptSession, ServeFault>
     requires { Fits policy.now (arc_value checked.now).tree }
-    ensures script { IfOk result (λ keeper. script_of keeper
+    ensures script { IfOk result (λ script_session. script_of script_session
         ≡ opened (opening_of (arc_value checked.now) policy.now)) }
-    ensures refused { IfErr result IsLacking }
+    ensures refused { IfErr result IsOutOfMemory }
 {
     let own_policy = policy.try_clone(alloc, checked.design())?;
-    keeper_of(alloc, Arc::try_clone(checked)?, own_policy)
+    script_session_of(alloc, Arc::try_clone(checked)?, own_policy)
 }
 
 /// Runs a fresh script, which the caller keeps, over a reader, and audits a user after it; or the fault of the reader, or want of memory at
@@ -138,19 +142,19 @@ fn run_and_audit<R: Read>(
     policy: &Policy,
     user: UserId,
     explain: bool,
-    keeper: &mut Keeper,
+    script_session: &mut ScriptSession,
     reader: &mut Counted<R>,
 ) -> Result<Audited, ServeFault>
     requires right { IsRight (opening_of checked.now policy.now) }
-    requires fresh { script_of keeper.old ≡ opened (opening_of checked.now policy.now) }
-    ensures audit { IfOk result (λ audited. IsAuditBehind explain
+    requires fresh { script_of script_session.old ≡ opened (opening_of checked.now policy.now) }
+    ensures audit { IfOk result (λ audited. IsAuditAfter explain
         (opening_of checked.now policy.now) user.0
         (R.remaining reader.old.inner) (R.remaining reader.new.inner) audited) }
     ensures refused { IfErr result (λ fault. EndsRunBy (opening_of checked.now policy.now)
         (R.remaining reader.old.inner) (R.remaining reader.new.inner) fault) }
 {
-    run_to_end(alloc, keeper, reader)?;
-    log_audited(alloc, checked, policy, keeper, user, explain)
+    run_to_end(alloc, script_session, reader)?;
+    log_audited(alloc, checked, policy, script_session, user, explain)
 }
 
 /// Runs a fresh script of a design and a policy over a reader, and audits a user after it; or the fault of the reader, or want of
@@ -164,17 +168,25 @@ fn script_audit<R: Read>(
     reader: &mut Counted<R>,
 ) -> Result<Audited, ServeFault>
     requires { IsRight (opening_of (arc_value checked.now) policy.now) }
-    ensures audit { IfOk result (λ audited. IsAuditBehind explain
+    ensures audit { IfOk result (λ audited. IsAuditAfter explain
         (opening_of (arc_value checked.now) policy.now) user.0
         (R.remaining reader.old.inner) (R.remaining reader.new.inner) audited) }
     ensures refused { IfErr result (λ fault. EndsOpenedBy
         (opening_of (arc_value checked.now) policy.now)
         (R.remaining reader.old.inner) (R.remaining reader.new.inner) fault) }
 {
-    let mut keeper = keeper_for(alloc, checked, policy)?;
-    let audited = run_and_audit(alloc, checked, policy, user, explain, &mut keeper, reader);
+    let mut script_session = script_session_for(alloc, checked, policy)?;
+    let audited = run_and_audit(
+        alloc,
+        checked,
+        policy,
+        user,
+        explain,
+        &mut script_session,
+        reader,
+    );
     // Dropped by a call, so that how a keeper is dropped is no part of this function's proof.
-    drop(keeper);
+    drop(script_session);
     audited
 }
 

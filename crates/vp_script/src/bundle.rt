@@ -3,7 +3,7 @@ ghost use Rattle.std.specs.Str.{bytes_eq};
 ghost use Rattle.vp_script.specs.Bundles.{cut_of};
 ghost use Rattle.vp_script.specs.Scripts.{EndsBundleBy, IsBundle};
 
-use crate::fault::ServeFault;
+use crate::error::ServeFault;
 use crate::script::{Ran, run_script};
 use crate::sources::{BUNDLE_LIMIT, text_of};
 use std::alloc::Global;
@@ -24,12 +24,12 @@ pub(crate) fn cut(bytes: &[u8]) -> Option<(&[u8], &[u8])>
 {
     let mut left = Some(bytes);
     while let Some(rest) = left {
-        let (line, behind) = first_piece(rest, b'\n');
+        let (line, following) = first_piece(rest, b'\n');
         if is_mark(line) {
             let start = bytes.len() - rest.len();
-            return Some((&bytes[..start], behind.unwrap_or(&[])));
+            return Some((&bytes[..start], following.unwrap_or(&[])));
         }
-        left = behind;
+        left = following;
     }
     None
 }
@@ -42,7 +42,7 @@ pub fn run_bundle<W: Write>(
     bundle: &[u8],
     writer: &mut Counted<W>,
 ) -> Result<Ran, ServeFault>
-    ensures script { IfOk result (λ ran. IsBundle ran.starved bundle.now
+    ensures script { IfOk result (λ ran. IsBundle ran.out_of_memory bundle.now
         (W.contents writer.old.inner) (W.contents writer.new.inner) ran.lines) }
     ensures fault { IfErr result (λ fault. EndsBundleBy bundle.now
         (W.contents writer.old.inner) (W.contents writer.new.inner) fault) }

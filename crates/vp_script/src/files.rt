@@ -1,8 +1,8 @@
 // Scripts, audits, checks and views over files and standard input.
 use crate::audits::{Audited, audit_script};
 use crate::bundle::run_bundle;
-use crate::fault::ServeFault;
-use crate::refused::{Refused, STANDARD_INPUT, Sources, bundle_refused};
+use crate::error::ServeFault;
+use crate::failure::{Failure, STANDARD_INPUT, Sources, bundle_refused};
 use crate::script::{Ran, run_script};
 use crate::sources::{BUNDLE_LIMIT, read_at_most, text_of};
 use crate::views::{check_design, check_policy, view_text};
@@ -21,17 +21,17 @@ fn file_bytes<R: AllocGlobal + Files>(rt: &R, path: &str) -> Result<Vec<u8>, Ser
 }
 
 /// The bytes of a file, as `file_bytes` reads them; a fault is told with the name of the file.
-fn named_bytes<R: AllocGlobal + Files>(rt: &R, path: &str) -> Result<Vec<u8>, Refused> {
-    file_bytes(rt, path).map_err(|fault| Refused::of_file(rt.alloc(), path, fault))
+fn named_bytes<R: AllocGlobal + Files>(rt: &R, path: &str) -> Result<Vec<u8>, Failure> {
+    file_bytes(rt, path).map_err(|fault| Failure::of_file(rt.alloc(), path, fault))
 }
 
 /// The text of a design's bytes; a fault is told with the name of its file.
-fn named_text<'a>(alloc: Global, path: &str, bytes: &'a [u8]) -> Result<&'a str, Refused> {
-    text_of(bytes, ServeFault::ReadFailed).map_err(|fault| Refused::of_file(alloc, path, fault))
+fn named_text<'a>(alloc: Global, path: &str, bytes: &'a [u8]) -> Result<&'a str, Failure> {
+    text_of(bytes, ServeFault::ReadFailed).map_err(|fault| Failure::of_file(alloc, path, fault))
 }
 
 /// Reads the file of a design; or tells its first fault.
-fn check_design_file<R: AllocGlobal + Files>(rt: &R, path: &str) -> Result<(), Refused> {
+fn check_design_file<R: AllocGlobal + Files>(rt: &R, path: &str) -> Result<(), Failure> {
     let alloc = rt.alloc();
     let bytes = named_bytes(rt, path)?;
     let text = named_text(alloc, path, &bytes)?;
@@ -59,7 +59,7 @@ impl<'d, 'p> SourceFiles<'d, 'p> {
         rt: &R,
         design_name: &'d str,
         policy_name: &'p str,
-    ) -> Result<SourceFiles<'d, 'p>, Refused> {
+    ) -> Result<SourceFiles<'d, 'p>, Failure> {
         Ok(SourceFiles {
             design_name,
             design: named_bytes(rt, design_name)?,
@@ -69,7 +69,7 @@ impl<'d, 'p> SourceFiles<'d, 'p> {
     }
 
     /// What they hold, with their names; or that the design is no text, or too long.
-    pub fn sources(&self, alloc: Global) -> Result<Sources<'_, '_>, Refused> {
+    pub fn sources(&self, alloc: Global) -> Result<Sources<'_, '_>, Failure> {
         Ok(Sources {
             design_name: self.design_name,
             design: named_text(alloc, self.design_name, &self.design)?,
@@ -84,7 +84,7 @@ pub fn check_files<R: AllocGlobal + Files>(
     rt: &R,
     design: &str,
     policy: Option<&str>,
-) -> Result<(), Refused> {
+) -> Result<(), Failure> {
     let Some(policy) = policy else {
         return check_design_file(rt, design);
     };
@@ -103,7 +103,7 @@ pub fn view_files<R: AllocGlobal + Files>(
     design: &str,
     policy: &str,
     user: &str,
-) -> Result<Text, Refused> {
+) -> Result<Text, Failure> {
     let alloc = rt.alloc();
     let files = SourceFiles::read(rt, design, policy)?;
     let sources = files.sources(alloc)?;
@@ -118,12 +118,12 @@ pub fn run_files<R: AllocGlobal + Files + Input + Print>(
     rt: &R,
     design: &str,
     policy: &str,
-) -> Result<Ran, Refused> {
+) -> Result<Ran, Failure> {
     let alloc = rt.alloc();
     let files = SourceFiles::read(rt, design, policy)?;
     let sources = files.sources(alloc)?;
     let mut reader = Counted::new(rt.reader());
-    let mut writer = Counted::new(BufWriter::new(alloc, io::writer(rt)).map_err(|_| Refused::new(
+    let mut writer = Counted::new(BufWriter::new(alloc, io::writer(rt)).map_err(|_| Failure::new(
         alloc,
         ServeFault::NoMemory,
     ))?);
@@ -145,7 +145,7 @@ pub fn audit_files<R: AllocGlobal + Files + Input>(
     policy: &str,
     user: &str,
     explain: bool,
-) -> Result<Audited, Refused> {
+) -> Result<Audited, Failure> {
     let alloc = rt.alloc();
     let files = SourceFiles::read(rt, design, policy)?;
     let sources = files.sources(alloc)?;
@@ -162,14 +162,14 @@ pub fn audit_files<R: AllocGlobal + Files + Input>(
 }
 
 /// Runs the bundle of standard input; the faults are those of `run_bundle`, or `ReadFailed` (1602).
-pub fn run_input<R: AllocGlobal + Input + Print>(rt: &R) -> Result<Ran, Refused> {
+pub fn run_input<R: AllocGlobal + Input + Print>(rt: &R) -> Result<Ran, Failure> {
     let alloc = rt.alloc();
-    let bundle = read_at_most(alloc, rt.reader(), BUNDLE_LIMIT).map_err(|fault| Refused::of_file(
+    let bundle = read_at_most(alloc, rt.reader(), BUNDLE_LIMIT).map_err(|fault| Failure::of_file(
         alloc,
         STANDARD_INPUT,
         fault,
     ))?;
-    let mut writer = Counted::new(BufWriter::new(alloc, io::writer(rt)).map_err(|_| Refused::new(
+    let mut writer = Counted::new(BufWriter::new(alloc, io::writer(rt)).map_err(|_| Failure::new(
         alloc,
         ServeFault::NoMemory,
     ))?);

@@ -3,19 +3,19 @@
 
 mod audits;
 mod bundle;
-mod fault;
+mod error;
+mod failure;
 mod files;
-mod keeper;
-mod refused;
 mod script;
+mod script_session;
 mod sources;
 mod views;
 
 pub use audits::{Audited, audit_script};
 pub use bundle::run_bundle;
-pub use fault::ServeFault;
+pub use error::ServeFault;
+pub use failure::{Failure, Sources, bundle_refused};
 pub use files::{SourceFiles, audit_files, check_files, run_files, run_input, view_files};
-pub use refused::{Refused, Sources, bundle_refused};
 pub use script::{Ran, fresh_world, run_script};
 pub use sources::{BUNDLE_LIMIT, text_of};
 pub use views::{check_design, check_policy, view_text};

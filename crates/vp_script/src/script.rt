@@ -7,11 +7,11 @@ ghost use Rattle.vp_script.specs.Keeping.{script_of};
 ghost use Rattle.vp_design.specs.Designs.{IsDesignOf};
 ghost use Rattle.vp_script.specs.Designs.{IsRefusedBy};
 ghost use Rattle.vp_script.specs.Scripts.{EndsBy, IsAnswered, IsOpened, IsPolicyRefusedBy, IsScript, IsStopped, IsUnopened, begun, new_world, opened, opening_of};
-ghost use Rattle.vp_script.specs.declared.fault.ServeFault.TheVariants as fault;
-ghost use Rattle.vp_world.specs.declared.fault.WorldError.TheVariants as error;
+ghost use Rattle.vp_script.specs.declared.error.ServeFault.TheVariants as fault;
+ghost use Rattle.vp_world.specs.declared.error.WorldError.TheVariants as error;
 
-use crate::fault::ServeFault;
-use crate::keeper::Keeper;
+use crate::error::ServeFault;
+use crate::script_session::ScriptSession;
 use std::alloc::Global;
 use std::io::{Read, Write};
 use std::sync::Arc;
@@ -28,7 +28,7 @@ pub struct Ran {
     /// How many lines were read.
     pub lines: u64,
     /// At some time there was no memory to let the simulation run on.
-    pub starved: bool,
+    pub out_of_memory: bool,
 }
 
 /// The checked design of a text, to be shared; or its first fault, or want of memory (1607).
@@ -64,17 +64,17 @@ fn world_of(alloc: Global, checked: Arc<Checked>, policy: Policy) -> Result<Worl
 }
 
 /// A fresh world of a design and a policy, whose script has no session yet; or want of memory.
-pub(crate) fn keeper_of(
+pub(crate) fn script_session_of(
     alloc: Global,
     checked: Arc<Checked>,
     policy: Policy,
-) -> Result<Keeper, ServeFault>
+) -> Result<ScriptSession, ServeFault>
     requires { Fits policy (arc_value checked).tree }
     ensures script { IfOk result
-        (λ keeper. script_of keeper ≡ opened (opening_of (arc_value checked) policy)) }
+        (λ script_session. script_of script_session ≡ opened (opening_of (arc_value checked) policy)) }
     ensures refused { IfErr result (λ told. told ≡ fault.World error.NoMemory) }
 {
-    Ok(Keeper::new(alloc, world_of(alloc, checked, policy)?))
+    Ok(ScriptSession::new(alloc, world_of(alloc, checked, policy)?))
 }
 
 /// A world of the text of a design and the file of a policy, with the greatest limits, in which nothing has happened; or the first
@@ -90,32 +90,32 @@ pub fn fresh_world(alloc: Global, design: &str, policy: &[u8]) -> Result<World, 
 }
 
 /// A fresh script of the text of a design and the file of a policy; or the first fault of the design, then of the policy.
-fn opened(alloc: Global, design: &str, policy: &[u8]) -> Result<Keeper, ServeFault>
-    ensures script { IfOk result (λ keeper. IsOpened design.now policy.now (script_of keeper)) }
+fn opened(alloc: Global, design: &str, policy: &[u8]) -> Result<ScriptSession, ServeFault>
+    ensures script { IfOk result (λ script_session. IsOpened design.now policy.now (script_of script_session)) }
     ensures refused { IfErr result (λ fault. IsUnopened design.now policy.now fault) }
 {
-    Ok(Keeper::new(alloc, fresh_world(alloc, design, policy)?))
+    Ok(ScriptSession::new(alloc, fresh_world(alloc, design, policy)?))
 }
 
 /// Answers the lines of a reader by a script, up to the end of the input; or the fault of the reader or the writer.
 pub(crate) fn answered<R: Read, W: Write>(
     alloc: Global,
-    keeper: &mut Keeper,
+    script_session: &mut ScriptSession,
     reader: &mut Counted<R>,
     writer: &mut Counted<W>,
 ) -> Result<Ran, WireError>
-    ensures answered { IfOk result (λ ran. IsAnswered ran.starved
-        (script_of keeper.old) (script_of keeper.new)
+    ensures answered { IfOk result (λ ran. IsAnswered ran.out_of_memory
+        (script_of script_session.old) (script_of script_session.new)
         (R.remaining reader.old.inner) (R.remaining reader.new.inner)
         (W.contents writer.old.inner) (W.contents writer.new.inner) ran.lines) }
-    ensures stopped { IfErr result (λ e. IsStopped e (script_of keeper.old)
+    ensures stopped { IfErr result (λ e. IsStopped e (script_of script_session.old)
         (R.remaining reader.old.inner) (R.remaining reader.new.inner)
         (W.contents writer.old.inner) (W.contents writer.new.inner)) }
 {
-    match session(alloc, reader, writer, keeper) {
+    match session(alloc, reader, writer, script_session) {
         Ok(ended) => Ok(Ran {
             lines: ended.lines,
-            starved: keeper.is_starved(),
+            out_of_memory: script_session.is_out_of_memory(),
         }),
         Err(error) => Err(error),
     }
@@ -130,7 +130,7 @@ pub fn run_script<R: Read, W: Write>(
     reader: &mut Counted<R>,
     writer: &mut Counted<W>,
 ) -> Result<Ran, ServeFault>
-    ensures script { IfOk result (λ ran. IsScript ran.starved design.now policy.now
+    ensures script { IfOk result (λ ran. IsScript ran.out_of_memory design.now policy.now
         (R.remaining reader.old.inner) (R.remaining reader.new.inner)
         (W.contents writer.old.inner) (W.contents writer.new.inner) ran.lines) }
     ensures fault { IfErr result (λ fault. EndsBy design.now policy.now
@@ -140,10 +140,10 @@ pub fn run_script<R: Read, W: Write>(
     ensures one_design { (d e : Elaborated) → IsDesignOf design.now d → IsDesignOf design.now e
         → d ≡ e }
 {
-    let mut keeper = opened(alloc, design, policy)?;
-    let ran = answered(alloc, &mut keeper, reader, writer);
+    let mut script_session = opened(alloc, design, policy)?;
+    let ran = answered(alloc, &mut script_session, reader, writer);
     // Dropped by a call, so that how a keeper is dropped is no part of this function's proof.
-    drop(keeper);
+    drop(script_session);
     match ran {
         Ok(ran) => Ok(ran),
         Err(error) => Err(ServeFault::Lines(error)),

@@ -1,8 +1,8 @@
 // What the program reads before it runs.
 ghost use Rattle.std.specs.Prelude.{◌≡◌, ◌≤◌, ◌<◌, length, IfErr, IfOk, IsUtf8, OnOk};
-ghost use Rattle.vp_script.specs.declared.fault.ServeFault.TheVariants.{TooLong};
+ghost use Rattle.vp_script.specs.declared.error.ServeFault.TheVariants.{TooLong};
 
-use crate::fault::ServeFault;
+use crate::error::ServeFault;
 use std::alloc::Global;
 use std::io::{ErrorKind, Read};
 use vp_design::TEXT_LIMIT;

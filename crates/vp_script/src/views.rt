@@ -5,7 +5,7 @@ ghost use Rattle.vp_script.specs.Designs.{IsRefusedBy};
 ghost use Rattle.vp_script.specs.Scripts.{IsPolicyRefusedBy, IsUnopened};
 ghost use Rattle.vp_script.specs.Views.{AreRight, HasDesign, IsPolicyFor, IsSeenBy, IsSeenUnder, IsUntold, IsUntoldUnder, IsViewOf, IsViewRefusedBy};
 
-use crate::fault::ServeFault;
+use crate::error::ServeFault;
 use crate::script::{checked, policy_of};
 use std::alloc::Global;
 use vp_elab::Design;

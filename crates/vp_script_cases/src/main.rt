@@ -14,7 +14,7 @@ use std::io::BufReader;
 use std::rt::Files;
 use std::{env, fs, io};
 use vp_hub::HubError;
-use vp_script::{Refused, ServeFault, audit_files, check_files, run_files, view_files};
+use vp_script::{Failure, ServeFault, audit_files, check_files, run_files, view_files};
 
 /// Whether a case prints what it must; what it prints is shown where it does not.
 fn is_as_wanted<R: AllocGlobal + Print>(rt: &R, case: &Case) -> io::Result<bool> {
@@ -43,14 +43,14 @@ fn check_file<R: AllocGlobal + Files + Print>(rt: &R, file: &str) -> io::Result<
 }
 
 /// Tells a fault, and its diagnostic.
-fn print_fault<R: AllocGlobal + Print>(rt: &R, refused: &Refused) -> io::Result<()> {
+fn print_fault<R: AllocGlobal + Print>(rt: &R, refused: &Failure) -> io::Result<()> {
     rt.print(fault_line(rt.alloc(), &refused.fault)?.as_str())?;
     rt.print(refused.diagnostic.as_str())
 }
 
 /// Tells the fault of a server whose hub can't be closed.
 fn print_unclosed<R: AllocGlobal + Print>(rt: &R, error: HubError) -> io::Result<()> {
-    print_fault(rt, &Refused::new(rt.alloc(), ServeFault::Hub(error)))
+    print_fault(rt, &Failure::new(rt.alloc(), ServeFault::Hub(error)))
 }
 
 /// Runs a design and a policy of files, and tells the fault that ends the run, if one does.

@@ -5,7 +5,7 @@ use denote.Param.Send.{IsSync, sendable}
 use Rattle.std.proofs.Crossing.{crosses}
 use Rattle.std.specs.declared.sync.ledger.Ledger as ledger
 use Rattle.vp_hub.proofs.Crossing.{hub_sync}
-use Rattle.vp_hub.specs.declared.opens.Opens as opens
+use Rattle.vp_hub.specs.declared.opens.NamesOpening as opens
 use Rattle.vp_serve.specs.contracts.service.Service as Service
 use Rattle.vp_serve.proofs.passes.Passes.TheSendSync as passes
 use Rattle.vp_serve.proofs.settings.Settings.TheSendSync as settings

@@ -7,7 +7,7 @@ use Rattle.vp_answer.specs.declared.request.Request.{Request}
 use Rattle.vp_answer.specs.declared.request.Request.TheVariants as request
 use Rattle.vp_hub.specs.Faults.{refusal_of}
 use Rattle.vp_hub.specs.Worlds.{Opening}
-use Rattle.vp_hub.specs.declared.fault.HubError.{HubError}
+use Rattle.vp_hub.specs.declared.error.HubError.{HubError}
 use Rattle.vp_hub.specs.Calls.{Passed}
 use Rattle.vp_hub.specs.Hubs.{IsAnswered, IsOpened}
 

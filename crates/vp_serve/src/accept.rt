@@ -6,19 +6,21 @@ use std::sync::Wait;
 use std::sync::atomic::Ordering;
 use std::thread::{Scope, Threads};
 use std::time::Clock;
-use vp_hub::Opens;
+use vp_hub::NamesOpening;
 use vp_race::Gate;
 
 /// So many connections are open at most.
 pub(crate) const CONNECTION_LIMIT: usize = 256;
 
 /// Gives a connection a thread, unless there are too many connections, or there is no memory or no thread for it: then it is dropped.
-fn accept<'s, 'a, E, L: Opens + Send + Sync, R: Threads + Wait + Clock + Sync, G: Gate + Sync>(
-    rt: &'s R,
-    scope: &'s Scope<'s, E>,
-    service: &'s Service<'a, L, G>,
-    stream: TcpStream,
-) {
+fn accept<
+    's,
+    'a,
+    E,
+    L: NamesOpening + Send + Sync,
+    R: Threads + Wait + Clock + Sync,
+    G: Gate + Sync,
+>(rt: &'s R, scope: &'s Scope<'s, E>, service: &'s Service<'a, L, G>, stream: TcpStream) {
     if service.connections.load(Ordering::SeqCst) >= CONNECTION_LIMIT {
         return;
     }
@@ -40,7 +42,7 @@ pub(crate) fn accept_all<
     's,
     'a,
     E,
-    L: Opens + Send + Sync,
+    L: NamesOpening + Send + Sync,
     R: Threads + Wait + Clock + Sync,
     G: Gate + Sync,
 >(rt: &'s R, scope: &'s Scope<'s, E>, service: &'s Service<'a, L, G>, listener: &TcpListener) {
@@ -58,7 +60,10 @@ pub(crate) fn accept_all<
 }
 
 /// Waits until no connection is open.
-pub(crate) fn await_all<L: Opens, R: Wait + Clock, G: Gate>(rt: &R, service: &Service<'_, L, G>) {
+pub(crate) fn await_all<L: NamesOpening, R: Wait + Clock, G: Gate>(
+    rt: &R,
+    service: &Service<'_, L, G>,
+) {
     for _ in rt.forever() {
         if service.connections.load(Ordering::SeqCst) == 0 {
             break;

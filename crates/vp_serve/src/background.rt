@@ -3,7 +3,7 @@ use std::sync::Wait;
 use std::sync::atomic::Ordering;
 use std::thread;
 use std::time::{Clock, Duration};
-use vp_hub::Opens;
+use vp_hub::NamesOpening;
 use vp_race::Gate;
 
 /// Rests a millisecond, as a thread does that finds nothing to do.
@@ -15,7 +15,7 @@ pub(crate) fn rest<R: Clock>(rt: &R) {
 const EVENTS_AT_ONCE: u64 = 256;
 
 /// Lets the simulation run, until the server ends.
-pub(crate) fn run_simulation<L: Opens, R: Wait + Clock, G: Gate>(
+pub(crate) fn run_simulation<L: NamesOpening, R: Wait + Clock, G: Gate>(
     rt: &R,
     service: &Service<'_, L, G>,
 ) {
@@ -31,7 +31,10 @@ pub(crate) fn run_simulation<L: Opens, R: Wait + Clock, G: Gate>(
 }
 
 /// Searches for races, until the server ends.
-pub(crate) fn run_worker<L: Opens, R: Wait + Clock, G: Gate>(rt: &R, service: &Service<'_, L, G>) {
+pub(crate) fn run_worker<L: NamesOpening, R: Wait + Clock, G: Gate>(
+    rt: &R,
+    service: &Service<'_, L, G>,
+) {
     for _ in rt.forever() {
         if service.ending.load(Ordering::SeqCst) {
             break;

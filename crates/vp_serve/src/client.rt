@@ -8,14 +8,14 @@ use std::net::TcpStream;
 use std::sync::Wait;
 use std::sync::atomic::{AtomicBool, Ordering};
 use vp_answer::{GrantChange, Refusal, Reply, Request};
-use vp_hub::{Hub, Opens, Pass};
+use vp_hub::{Hub, NamesOpening, Pass};
 use vp_list::Text;
 use vp_race::Gate;
 use vp_wire::Caller;
 
 /// Who asks by a connection: nobody yet, or the user of a session.
 #[derive(Drop)]
-pub(crate) struct Client<'a, L: Opens, R: Wait, G: Gate> {
+pub(crate) struct Client<'a, L: NamesOpening, R: Wait, G: Gate> {
     pub(crate) rt: &'a R,
     pub(crate) hub: &'a Hub<L>,
     pub(crate) gate: &'a G,
@@ -25,7 +25,7 @@ pub(crate) struct Client<'a, L: Opens, R: Wait, G: Gate> {
     pub(crate) pass: Option<Pass<L>>,
 }
 
-impl<'a, L: Opens, R: Wait, G: Gate> Client<'a, L, R, G> {
+impl<'a, L: NamesOpening, R: Wait, G: Gate> Client<'a, L, R, G> {
     /// The client has shown a token that holds: from now on he may be silent.
     fn note_known(&self) {
         self.is_known.store(true, Ordering::SeqCst);
@@ -80,7 +80,7 @@ impl<'a, L: Opens, R: Wait, G: Gate> Client<'a, L, R, G> {
     }
 }
 
-impl<'a, L: Opens, R: Wait, G: Gate> Caller for Client<'a, L, R, G> {
+impl<'a, L: NamesOpening, R: Wait, G: Gate> Caller for Client<'a, L, R, G> {
     ghost calls = { λ before r answer after.
         Answers L.opening before.pass r answer after.pass };
 

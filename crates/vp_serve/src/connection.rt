@@ -6,12 +6,12 @@ use std::net::TcpStream;
 use std::sync::Wait;
 use std::sync::atomic::{AtomicBool, Ordering};
 use std::time::Clock;
-use vp_hub::{Opens, Pass};
+use vp_hub::{NamesOpening, Pass};
 use vp_race::Gate;
 use vp_wire::{Counted, session};
 
 /// Serves a connection to its end, and hands the pass of its session back, if one was opened.
-pub(crate) fn serve_connection<L: Opens, R: Wait + Clock, G: Gate>(
+pub(crate) fn serve_connection<L: NamesOpening, R: Wait + Clock, G: Gate>(
     rt: &R,
     service: &Service<'_, L, G>,
     stream: TcpStream,
@@ -28,7 +28,7 @@ pub(crate) fn serve_connection<L: Opens, R: Wait + Clock, G: Gate>(
 
 /// Answers the lines of a connection, and gives the pass of its session, if one was opened. Where a client takes too long to be known, or
 /// reads nothing, the dialogue ends as one whose reader or writer fails.
-fn answer<L: Opens, R: Wait + Clock, G: Gate>(
+fn answer<L: NamesOpening, R: Wait + Clock, G: Gate>(
     rt: &R,
     service: &Service<'_, L, G>,
     stream: &TcpStream,

@@ -5,14 +5,14 @@ mod accept;
 mod background;
 mod client;
 mod connection;
-mod fault;
+mod error;
 mod incoming;
 mod passes;
 mod server;
 mod service;
 mod settings;
 
-pub use fault::ServerFault;
+pub use error::ServerError;
 pub use server::serve;
 pub use settings::Settings;
 pub use vp_hub::Limits;

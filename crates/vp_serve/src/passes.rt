@@ -1,18 +1,18 @@
 ghost use Rattle.std.specs.Prelude.{◌≡◌, ◌+◌, ◌++◌, ◌∷◌, [], OnErr, OnOk, vec_items};
 
 use std::alloc::{AllocError, AllocFailed, Global};
-use vp_hub::{Opens, Pass};
+use vp_hub::{NamesOpening, Pass};
 
 /// The passes of the sessions that have ended, with room for those of the connections that are open, so that none is lost for want of
 /// memory.
 #[derive(Drop)]
-pub(crate) struct Passes<L: Opens> {
+pub(crate) struct Passes<L: NamesOpening> {
     pub(crate) ended: Vec<Pass<L>>,
     /// So many more may come.
     expected: usize,
 }
 
-impl<L: Opens> Passes<L> {
+impl<L: NamesOpening> Passes<L> {
     /// With no pass, and no room.
     pub(crate) fn new(alloc: Global) -> Passes<L>
         ensures { result.ended.items ≡ [] }

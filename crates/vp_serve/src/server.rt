@@ -4,7 +4,7 @@ ghost use Rattle.vp_hub.specs.Closing.{IsClosed};
 
 use crate::accept::{accept_all, await_all};
 use crate::background::{run_simulation, run_worker};
-use crate::fault::ServerFault;
+use crate::error::ServerError;
 use crate::service::Service;
 use crate::settings::Settings;
 use std::alloc::Global;
@@ -16,15 +16,18 @@ use std::sync::ledger::Blank;
 use std::thread;
 use std::thread::{Scope, Threads};
 use std::time::Clock;
-use vp_hub::{Closed, Desk, Hub, Limits, Opens, World};
+use vp_hub::{Closed, Desk, Hub, Limits, NamesOpening, World};
 use vp_race::Gate;
 
 /// Starts the thread of the simulation and those of the workers, and tells whether all could be started.
-fn start<'s, 'a, E, L: Opens + Send + Sync, R: Threads + Wait + Clock + Sync, G: Gate + Sync>(
-    rt: &'s R,
-    scope: &'s Scope<'s, E>,
-    service: &'s Service<'a, L, G>,
-) -> bool {
+fn start<
+    's,
+    'a,
+    E,
+    L: NamesOpening + Send + Sync,
+    R: Threads + Wait + Clock + Sync,
+    G: Gate + Sync,
+>(rt: &'s R, scope: &'s Scope<'s, E>, service: &'s Service<'a, L, G>) -> bool {
     if scope.spawn(move || run_simulation(rt, service)).is_err() {
         return false;
     }
@@ -38,7 +41,7 @@ fn start<'s, 'a, E, L: Opens + Send + Sync, R: Threads + Wait + Clock + Sync, G:
 
 /// Serves the connections of a listener, each in a thread, until they have ended; and tells whether the threads could be started that serve
 /// all of them.
-fn run<'a, L: Opens + Send + Sync, R: Threads + Wait + Clock + Sync, G: Gate + Sync>(
+fn run<'a, L: NamesOpening + Send + Sync, R: Threads + Wait + Clock + Sync, G: Gate + Sync>(
     rt: &R,
     service: &Service<'a, L, G>,
     listener: &TcpListener,
@@ -56,7 +59,7 @@ fn run<'a, L: Opens + Send + Sync, R: Threads + Wait + Clock + Sync, G: Gate + S
 
 /// Serves a world in which nothing has happened to the connections of a listener, and gives what is left of it; or tells that a thread
 /// can't be started (1606), or why the hub can't be closed (1401 to 1403).
-fn serve_world<L: Opens + Send + Sync, R: Threads + Wait + Clock + Sync, G: Gate + Sync>(
+fn serve_world<L: NamesOpening + Send + Sync, R: Threads + Wait + Clock + Sync, G: Gate + Sync>(
     rt: &R,
     alloc: Global,
     blank: Blank,
@@ -64,7 +67,7 @@ fn serve_world<L: Opens + Send + Sync, R: Threads + Wait + Clock + Sync, G: Gate
     settings: Settings,
     listener: &TcpListener,
     gate: &G,
-) -> Result<Closed, ServerFault>
+) -> Result<Closed, ServerError>
     requires name { blank.name ≡ L.name }
     requires parts { blank.parts ≡ L.parts }
     requires room { blank.parts ≡ world.opening.limits.log + 1 }
@@ -76,7 +79,7 @@ fn serve_world<L: Opens + Send + Sync, R: Threads + Wait + Clock + Sync, G: Gate
     let hub = Hub::new(alloc, Desk::<L>::new(alloc, blank, world));
     let service = Service::new(alloc, settings, hub, gate);
     if !run(rt, &service, listener) {
-        return Err(ServerFault::NoThread);
+        return Err(ServerError::NoThread);
     }
     let passes = service.passes.into_inner();
     let closed = service.hub.close(passes.ended)?;
@@ -95,7 +98,7 @@ pub fn serve<R, G>(
     settings: Settings,
     listener: &TcpListener,
     gate: &G,
-) -> Result<Closed, ServerFault>
+) -> Result<Closed, ServerError>
 where
     R: Threads + Wait + Clock + Sync,
     G: Gate + Sync,

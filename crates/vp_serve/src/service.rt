@@ -3,11 +3,11 @@ use crate::settings::Settings;
 use std::alloc::Global;
 use std::sync::Mutex;
 use std::sync::atomic::{AtomicBool, AtomicUsize};
-use vp_hub::{Hub, Opens};
+use vp_hub::{Hub, NamesOpening};
 
 /// What the threads of a server share.
 #[derive(Drop)]
-pub(crate) struct Service<'a, L: Opens, G> {
+pub(crate) struct Service<'a, L: NamesOpening, G> {
     pub(crate) alloc: Global,
     pub(crate) settings: Settings,
     pub(crate) hub: Hub<L>,
@@ -20,7 +20,7 @@ pub(crate) struct Service<'a, L: Opens, G> {
     pub(crate) ending: AtomicBool,
 }
 
-impl<'a, L: Opens, G> Service<'a, L, G> {
+impl<'a, L: NamesOpening, G> Service<'a, L, G> {
     /// No connection is open.
     pub(crate) fn new(
         alloc: Global,

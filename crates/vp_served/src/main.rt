@@ -10,7 +10,7 @@ use vp_audit::Audit;
 use vp_cli::{Command, Misuse, command};
 use vp_list::Text;
 use vp_script::{
-    Audited, Ran, Refused, ServeFault, audit_files, check_files, run_files, run_input, view_files,
+    Audited, Failure, Ran, ServeFault, audit_files, check_files, run_files, run_input, view_files,
 };
 use vp_serve::Settings;
 
@@ -21,7 +21,7 @@ fn print_text<R: Print>(rt: &R, text: &Text) -> io::Result<ExitCode> {
 }
 
 /// Prints a fault, and its diagnostic on standard error, also where the fault can't be printed; the status is 1.
-fn print_refused<R: Print + Eprint>(rt: &R, refused: &Refused) -> io::Result<ExitCode> {
+fn print_refused<R: Print + Eprint>(rt: &R, refused: &Failure) -> io::Result<ExitCode> {
     let code = refused.fault.code();
     let line = refused.fault.line();
     let printed = println!(rt; "fault {code} line {line}");
@@ -32,10 +32,10 @@ fn print_refused<R: Print + Eprint>(rt: &R, refused: &Refused) -> io::Result<Exi
 
 /// Prints the fault that ended a run, if one did; the status is 1 then. That there was no memory to let the simulation run on is
 /// told on standard error.
-fn run_status<R: Print + Eprint>(rt: &R, ran: Result<Ran, Refused>) -> io::Result<ExitCode> {
+fn run_status<R: Print + Eprint>(rt: &R, ran: Result<Ran, Failure>) -> io::Result<ExitCode> {
     match ran {
         Ok(ran) => {
-            if ran.starved {
+            if ran.out_of_memory {
                 rt.eprint("there was no memory to let the simulation run on\n")?;
             }
             Ok(ExitCode::SUCCESS)
@@ -45,7 +45,7 @@ fn run_status<R: Print + Eprint>(rt: &R, ran: Result<Ran, Refused>) -> io::Resul
 }
 
 /// Prints the fault that ended a command, if one did; the status is 1 then.
-fn fault_status<R: Print + Eprint>(rt: &R, done: Result<(), Refused>) -> io::Result<ExitCode> {
+fn fault_status<R: Print + Eprint>(rt: &R, done: Result<(), Failure>) -> io::Result<ExitCode> {
     match done {
         Ok(()) => Ok(ExitCode::SUCCESS),
         Err(refused) => print_refused(rt, &refused),
@@ -53,7 +53,7 @@ fn fault_status<R: Print + Eprint>(rt: &R, done: Result<(), Refused>) -> io::Res
 }
 
 /// Prints what a user sees, or the fault for which that is not told; the status is 1 then.
-fn view_status<R: Print + Eprint>(rt: &R, view: Result<Text, Refused>) -> io::Result<ExitCode> {
+fn view_status<R: Print + Eprint>(rt: &R, view: Result<Text, Failure>) -> io::Result<ExitCode> {
     match view {
         Ok(text) => print_text(rt, &text),
         Err(refused) => print_refused(rt, &refused),
@@ -76,7 +76,7 @@ fn print_audit<R: Print>(rt: &R, audit: Audit) -> io::Result<ExitCode> {
 /// that of the audit, or 1.
 fn audit_status<R: Print + Eprint>(
     rt: &R,
-    audited: Result<Audited, Refused>,
+    audited: Result<Audited, Failure>,
 ) -> io::Result<ExitCode> {
     match audited {
         Ok(Audited { audit, explanation }) => {
@@ -131,6 +131,6 @@ fn main(rt: HostRuntime) -> io::Result<ExitCode> {
             rt.eprint(text.as_str())?;
             Ok(ExitCode::from(2))
         }
-        Err(Misuse::NoMemory) => print_refused(&rt, &Refused::new(alloc, ServeFault::NoMemory)),
+        Err(Misuse::NoMemory) => print_refused(&rt, &Failure::new(alloc, ServeFault::NoMemory)),
     }
 }

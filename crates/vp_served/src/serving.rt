@@ -11,8 +11,8 @@ use std::thread::Threads;
 use std::time::Clock;
 use vp_hub::Closed;
 use vp_race::OpenGate;
-use vp_script::{Refused, ServeFault, SourceFiles, fresh_world};
-use vp_serve::{ServerFault, Settings, serve};
+use vp_script::{Failure, ServeFault, SourceFiles, fresh_world};
+use vp_serve::{ServerError, Settings, serve};
 use vp_wire::WireError;
 use vp_world::{Limits, World};
 
@@ -22,7 +22,7 @@ fn world_of_files<R: AllocGlobal + Files>(
     rt: &R,
     design: &str,
     policy: &str,
-) -> Result<World, Refused>
+) -> Result<World, Failure>
     ensures limits { IfOk result (λ world. world.opening.limits ≡ greatest) }
     ensures empty { IfOk result (λ world. world.log ≡ []) }
 {
@@ -36,24 +36,24 @@ fn world_of_files<R: AllocGlobal + Files>(
 }
 
 /// Prints a line; or tells that it can't be printed (1505).
-fn print_line<R: AllocGlobal + Print>(rt: &R, word: &str, number: u64) -> Result<(), Refused> {
+fn print_line<R: AllocGlobal + Print>(rt: &R, word: &str, number: u64) -> Result<(), Failure> {
     match println!(rt; "{word} {number}") {
         Ok(()) => Ok(()),
         Err(_) => {
             let fault = ServeFault::Lines(WireError::WriteFault);
-            Err(Refused::new(rt.alloc(), fault))
+            Err(Failure::new(rt.alloc(), fault))
         }
     }
 }
 
 /// Listens on a port of 127.0.0.1, and prints `listening` and the port; or tells that it can't be listened on (1605).
-fn listen<R>(rt: &R, port: u16) -> Result<TcpListener, Refused>
+fn listen<R>(rt: &R, port: u16) -> Result<TcpListener, Failure>
 where
     R: AllocGlobal + Print + Net<Listener = TcpListener, Stream = TcpStream>,
 {
     let Ok(listener) = TcpListener::bind(rt, (Ipv4Addr::LOCALHOST, port)) else {
         let fault = ServeFault::ListenFailed;
-        return Err(Refused::new(rt.alloc(), fault));
+        return Err(Failure::new(rt.alloc(), fault));
     };
     print_line(rt, "listening", u64::from(port))?;
     Ok(listener)
@@ -68,12 +68,12 @@ fn entry_count(closed: Closed) -> u64 {
 }
 
 /// The fault of a run that a server's fault is.
-fn fault_of(fault: ServerFault) -> ServeFault
+fn fault_of(fault: ServerError) -> ServeFault
     ensures { code_of result ≡ server.code_of fault }
 {
     match fault {
-        ServerFault::NoThread => ServeFault::NoThread,
-        ServerFault::Hub(error) => ServeFault::Hub(error),
+        ServerError::NoThread => ServeFault::NoThread,
+        ServerError::Hub(error) => ServeFault::Hub(error),
     }
 }
 
@@ -84,14 +84,14 @@ fn serve_world<R: AllocGlobal + Threads + Wait + Clock + Sync>(
     world: World,
     settings: Settings,
     listener: &TcpListener,
-) -> Result<u64, Refused>
+) -> Result<u64, Failure>
     requires limits { world.opening.limits ≡ greatest }
     requires empty { world.log ≡ [] }
 {
     let limits = Limits::GREATEST;
     match serve(rt, rt.alloc(), world, limits, settings, listener, &OpenGate) {
         Ok(closed) => Ok(entry_count(closed)),
-        Err(fault) => Err(Refused::new(rt.alloc(), fault_of(fault))),
+        Err(fault) => Err(Failure::new(rt.alloc(), fault_of(fault))),
     }
 }
 
@@ -104,7 +104,7 @@ pub fn serve_files<R>(
     policy: &str,
     port: u16,
     settings: Settings,
-) -> Result<(), Refused>
+) -> Result<(), Failure>
 where
     R: AllocGlobal
         + Files

@@ -12,8 +12,8 @@ use Rattle.vp_active.specs.declared.event.Event.TheVariants.{Evaluation, NetUpda
 use Rattle.vp_active.specs.Events.{eligible_places}
 use Rattle.vp_strata.specs.Queues.{no_events, with_active}
 use Rattle.vp_waking.specs.declared.change.Change.{Change}
-use Rattle.vp_sim.specs.declared.fault.SimError.{SimError}
-use Rattle.vp_sim.specs.declared.fault.SimError.TheVariants.{Idle, NoSuchChoice}
+use Rattle.vp_sim.specs.declared.error.SimError.{SimError}
+use Rattle.vp_sim.specs.declared.error.SimError.TheVariants.{Idle, NoSuchChoice}
 use Rattle.vp_waking.specs.declared.waiting.Waiting.{Waiting}
 use Rattle.vp_waking.specs.declared.waiting.Waiting.TheVariants.{Nothing}
 use Rattle.vp_sim.specs.States.{Goes, Outcome, Refuses, State, put_by, step_by}
@@ -84,8 +84,8 @@ abbrev z : List Bit
 z = HighImpedance ∷ []
 
 -- the outcome of steps from the start
-abbrev behind : List ℕ → Outcome
-behind ks =
+abbrev state_after : List ℕ → Outcome
+state_after ks =
     steps chain (Goes (running (x ∷ x ∷ z ∷ z ∷ x ∷ x ∷ []) (Nothing ∷ Nothing ∷ []) (Evaluation 0 ∷ Evaluation 1 ∷ [])) None) ks
 
 -- a value from outside for a, after an outcome
@@ -94,36 +94,36 @@ a_is value (Goes s change) = put_by chain s 1 value
 a_is value (Refuses e) = Refuses e
 
 -- the evaluations change nothing: their updates are active
-both_evaluated : active_in (behind (0 ∷ 0 ∷ [])) ≡ NetUpdate 0 x ∷ NetUpdate 1 x ∷ []
+both_evaluated : active_in (state_after (0 ∷ 0 ∷ [])) ≡ NetUpdate 0 x ∷ NetUpdate 1 x ∷ []
 both_evaluated = refl
 
-nothing_told : told (behind (0 ∷ [])) ≡ Ok None
+nothing_told : told (state_after (0 ∷ [])) ≡ Ok None
 nothing_told = refl
 
 -- y1 changes, and y2 is evaluated again, since it waits for y1
-y1_changes : told (behind (0 ∷ 0 ∷ 0 ∷ [])) ≡ changed 2 x
+y1_changes : told (state_after (0 ∷ 0 ∷ 0 ∷ [])) ≡ changed 2 x
 y1_changes = refl
 
-y2_wakes : active_in (behind (0 ∷ 0 ∷ 0 ∷ [])) ≡ NetUpdate 1 x ∷ Evaluation 1 ∷ []
+y2_wakes : active_in (state_after (0 ∷ 0 ∷ 0 ∷ [])) ≡ NetUpdate 1 x ∷ Evaluation 1 ∷ []
 y2_wakes = refl
 
 -- y2 gets a value, and then the same again
-done : values_in (behind (0 ∷ 0 ∷ 0 ∷ 0 ∷ 0 ∷ 0 ∷ [])) ≡ x ∷ x ∷ x ∷ x ∷ x ∷ x ∷ []
+done : values_in (state_after (0 ∷ 0 ∷ 0 ∷ 0 ∷ 0 ∷ 0 ∷ [])) ≡ x ∷ x ∷ x ∷ x ∷ x ∷ x ∷ []
 done = refl
 
-idle : told (behind (0 ∷ 0 ∷ 0 ∷ 0 ∷ 0 ∷ 0 ∷ 0 ∷ [])) ≡ Err Idle
+idle : told (state_after (0 ∷ 0 ∷ 0 ∷ 0 ∷ 0 ∷ 0 ∷ 0 ∷ [])) ≡ Err Idle
 idle = refl
 
 -- a changes, and y1 follows, and y2
-a_wakes : active_in (a_is (One ∷ []) (behind (0 ∷ 0 ∷ 0 ∷ 0 ∷ 0 ∷ 0 ∷ []))) ≡ Evaluation 0 ∷ []
+a_wakes : active_in (a_is (One ∷ []) (state_after (0 ∷ 0 ∷ 0 ∷ 0 ∷ 0 ∷ 0 ∷ []))) ≡ Evaluation 0 ∷ []
 a_wakes = refl
 
-follow : values_in (steps chain (a_is (One ∷ []) (behind (0 ∷ 0 ∷ 0 ∷ 0 ∷ 0 ∷ 0 ∷ []))) (0 ∷ 0 ∷ 0 ∷ 0 ∷ [])) ≡ x ∷ (One ∷ []) ∷ (Zero ∷ []) ∷ (One ∷ []) ∷ x ∷ x ∷ []
+follow : values_in (steps chain (a_is (One ∷ []) (state_after (0 ∷ 0 ∷ 0 ∷ 0 ∷ 0 ∷ 0 ∷ []))) (0 ∷ 0 ∷ 0 ∷ 0 ∷ [])) ≡ x ∷ (One ∷ []) ∷ (Zero ∷ []) ∷ (One ∷ []) ∷ x ∷ x ∷ []
 follow = refl
 
 -- y1 is evaluated before a changes, and again after that: of its two updates the older is eligible
 abbrev twice : Outcome
-twice = steps chain (a_is (One ∷ []) (behind (0 ∷ []))) (2 ∷ [])
+twice = steps chain (a_is (One ∷ []) (state_after (0 ∷ []))) (2 ∷ [])
 
 two_updates : active_in twice ≡ Evaluation 1 ∷ NetUpdate 0 x ∷ NetUpdate 0 (Zero ∷ []) ∷ []
 two_updates = refl

@@ -1,7 +1,7 @@
 -- The numbers of the refusals of a simulation.
 use Rattle.std.specs.Prelude.{ℕ}
-use Rattle.vp_sim.specs.declared.fault.SimError.{SimError}
-use Rattle.vp_sim.specs.declared.fault.SimError.TheVariants.{Finished, Idle, SlotNotDone, NoSuchChoice, TimeLimit, NoMemory}
+use Rattle.vp_sim.specs.declared.error.SimError.{SimError}
+use Rattle.vp_sim.specs.declared.error.SimError.TheVariants.{Finished, Idle, SlotNotDone, NoSuchChoice, TimeLimit, NoMemory}
 
 -- the number of a refusal (profile)
 abbrev pub code_of : SimError → ℕ

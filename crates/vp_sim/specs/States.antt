@@ -17,7 +17,7 @@ use Rattle.vp_expr.specs.Tables.{process_object, tables_of}
 use Rattle.vp_statement.specs.declared.effect.Effect.{Effect}
 use Rattle.vp_statement.specs.declared.effect.Effect.TheVariants as effect
 use Rattle.vp_statement.specs.Effects.{effect_at}
-use Rattle.vp_statement.specs.Walking.{behind_at, flow_of, next_event}
+use Rattle.vp_statement.specs.Walking.{after_at, flow_of, next_event}
 use Rattle.vp_strata.specs.declared.event.Delayed.{Delayed}
 use Rattle.vp_strata.specs.declared.event.Delayed.TheVariants as later
 use Rattle.vp_active.specs.declared.event.Event.{Event}
@@ -27,13 +27,13 @@ use Rattle.vp_strata.specs.declared.strata.TheConstants.{TIME_LIMIT}
 use Rattle.vp_active.specs.Events.{process_of}
 use Rattle.vp_strata.specs.Queues.{Queue, activated, advanced, first_time, is_done, no_events, peeked, ready, scheduled, taken, with_active, with_future, with_inactive, with_nonblocking}
 use Rattle.vp_waking.specs.declared.change.Change.{Change}
-use Rattle.vp_sim.specs.declared.fault.SimError.{SimError}
-use Rattle.vp_sim.specs.declared.fault.SimError.TheVariants.{Finished, Idle, SlotNotDone, NoSuchChoice, TimeLimit}
+use Rattle.vp_sim.specs.declared.error.SimError.{SimError}
+use Rattle.vp_sim.specs.declared.error.SimError.TheVariants.{Finished, Idle, SlotNotDone, NoSuchChoice, TimeLimit}
 use Rattle.vp_waking.specs.declared.waiting.Waiting.{Waiting}
 use Rattle.vp_waking.specs.declared.waiting.Waiting.TheVariants as wait
-use Rattle.vp_waking.specs.Changes.{change_of, net_at, set_change, updated_by, values_behind}
+use Rattle.vp_waking.specs.Changes.{change_of, net_at, set_change, updated_by, values_with}
 use Rattle.vp_waking.specs.Listening.{AreHeard}
-use Rattle.vp_waking.specs.Waking.{roused, with_evaluations, woken_by}
+use Rattle.vp_waking.specs.Waking.{woken_state, with_evaluations, woken_by}
 
 -- a state: the design, the time, whether $finish was executed, the value of each object, the place of the statement with which each
 -- process goes on, if one remains of it, what each waits for, and the event queue (clause 11.3)
@@ -62,8 +62,8 @@ woken tables s (Some change) = woken_by tables (value_in s.values change.object.
 -- (clause 11.3)
 abbrev pub with_change : Tables → State → Option Change → State
 with_change tables s change = record s {
-  values = values_behind s.values change;
-  waiting = roused s.waiting (woken tables s change);
+  values = values_with s.values change;
+  waiting = woken_state s.waiting (woken tables s change);
   queue = with_evaluations s.queue (woken tables s change);
 }
 
@@ -82,21 +82,21 @@ updated tables s k change = Goes (with_change tables (without_event s k) change)
 -- ---- the event of a procedure
 
 -- an always begins again where nothing remains of it (clause 9.9.2)
-abbrev pub again : (repeats : Bool) → (body : ℕ) → (rest : Option ℕ) → Option ℕ
-again true body None = Some body
-again true body (Some place) = Some place
-again false body rest = rest
+abbrev pub restart_always : (repeats : Bool) → (body : ℕ) → (rest : Option ℕ) → Option ℕ
+restart_always true body None = Some body
+restart_always true body (Some place) = Some place
+restart_always false body rest = rest
 
 -- the statement with which a procedure goes on after its event: after a control the one that it controls, after a test the one that it
 -- chose, else the one that comes after the event (clauses 9.4 to 9.8)
-abbrev pub goes_on : (behind : Option ℕ) → Effect → Option ℕ
-goes_on behind effect.Nothing = behind
-goes_on behind (effect.Assigns object place value) = behind
-goes_on behind (effect.Defers object place value delay) = behind
-goes_on behind (effect.Pauses amount next) = Some next
-goes_on behind (effect.Awaits place next) = Some next
-goes_on behind (effect.Proceeds next) = option_or next behind
-goes_on behind effect.Finishes = behind
+abbrev pub goes_on : (following : Option ℕ) → Effect → Option ℕ
+goes_on following effect.Nothing = following
+goes_on following (effect.Assigns object place value) = following
+goes_on following (effect.Defers object place value delay) = following
+goes_on following (effect.Pauses amount next) = Some next
+goes_on following (effect.Awaits place next) = Some next
+goes_on following (effect.Proceeds next) = option_or next following
+goes_on following effect.Finishes = following
 
 -- the event of a procedure is over where the procedure pauses or waits, and where nothing remains of it; else it keeps its place
 -- (profile)
@@ -174,7 +174,7 @@ is_late time delay = nat_le 1 delay && nat_le TIME_LIMIT (time + delay)
 
 -- the statement with which a procedure goes on after the event at a place, which does this
 abbrev pub rest_of : Tables → Source → (repeats : Bool) → (body : ℕ) → (event : ℕ) → Effect → Option ℕ
-rest_of tables source repeats body event e = again repeats body (goes_on (behind_at source tables.actions event) e)
+rest_of tables source repeats body event e = restart_always repeats body (goes_on (after_at source tables.actions event) e)
 
 -- the k-th of the eligible events, of a process, does this, and the process goes on with this
 abbrev pub performed : Tables → State → (k : ℕ) → (process : ℕ) → (rest : Option ℕ) → Effect → Outcome
@@ -199,9 +199,9 @@ happens_at tables s k process instance repeats body event =
     (next_effect tables s instance event)
 
 -- the evaluation of a procedure: one event's worth of what remains of it (profile)
-abbrev pub turn : Tables → State → (k : ℕ) → (process : ℕ) → (instance : ObjectId) → (repeats : Bool) → (body : ℕ) → (remaining : Option ℕ) → Outcome
-turn tables s k process instance repeats body None = Goes (without_event s k) None
-turn tables s k process instance repeats body (Some place) =
+abbrev pub run_procedure : Tables → State → (k : ℕ) → (process : ℕ) → (instance : ObjectId) → (repeats : Bool) → (body : ℕ) → (remaining : Option ℕ) → Outcome
+run_procedure tables s k process instance repeats body None = Goes (without_event s k) None
+run_procedure tables s k process instance repeats body (Some place) =
     happens_at tables s k process instance repeats body (next_event tables.actions place)
 
 -- ---- the event of a continuous process
@@ -221,7 +221,7 @@ driven s k process net value =
 abbrev pub evaluated : Tables → State → (k : ℕ) → (process : ℕ) → Option Process → Outcome
 evaluated tables s k process None = Goes (without_event s k) None
 evaluated tables s k process (Some (Procedure object instance repeats body)) =
-    turn tables s k process instance repeats body (slice_index_or s.remaining process None)
+    run_procedure tables s k process instance repeats body (slice_index_or s.remaining process None)
 evaluated tables s k process (Some (Assignment object net instance value)) =
     Goes (driven s k process net (eval tables (drop instance.0 s.values) value)) None
 evaluated tables s k process (Some (Connection port net)) = Goes (driven s k process net (value_in s.values port.0)) None

@@ -3,11 +3,11 @@ ghost use Rattle.vp_sim.specs.States.{refusal_in};
 ghost use Rattle.vp_list.specs.Refusals.{Explains};
 ghost use Rattle.vp_expr.specs.Tables.{tables_of};
 ghost use Rattle.vp_active.specs.declared.event.Event.TheVariants.{NetUpdate};
-ghost use Rattle.vp_sim.specs.declared.fault.SimError.TheVariants.{NoMemory};
+ghost use Rattle.vp_sim.specs.declared.error.SimError.TheVariants.{NoMemory};
 ghost use Rattle.vp_waking.specs.Changes.{change_of, net_at, updated_by};
-ghost use Rattle.vp_sim.specs.States.{Goes, IsStep, Refuses, with_activation, driven, evaluated, happened, without_event, step, turn, with_event};
+ghost use Rattle.vp_sim.specs.States.{Goes, IsStep, Refuses, with_activation, driven, evaluated, happened, without_event, step, run_procedure, with_event};
 
-use crate::fault::SimError;
+use crate::error::SimError;
 use crate::machine::Machine;
 use vp_bits::Bits;
 use vp_elab::ObjectId;
@@ -99,7 +99,7 @@ impl Machine {
     }
 
     /// The evaluation of a procedure in an instance, the k-th of the eligible events, and what it changed; else the refusal (805, 806).
-    fn turn(
+    fn run_procedure(
         &mut self,
         k: usize,
         process: usize,
@@ -107,11 +107,11 @@ impl Machine {
         repeats: bool,
         body: u32,
     ) -> Result<Option<Change>, SimError>
-        ensures ok { IfOk result (λ change. turn (tables_of self.old.state.design)
+        ensures ok { IfOk result (λ change. run_procedure (tables_of self.old.state.design)
             (with_activation self.old.state) k process instance repeats body
             (slice_index_or self.old.state.remaining process None) ≡ Goes self.new.state change) }
         ensures refused { IfErr result (Explains NoMemory (refusal_in
-            (turn (tables_of self.old.state.design) (with_activation self.old.state) k process
+            (run_procedure (tables_of self.old.state.design) (with_activation self.old.state) k process
             instance repeats body (slice_index_or self.old.state.remaining process None)))) }
         ensures unchanged { OnErr result (self.new.state ≡ self.old.state) }
     {
@@ -145,7 +145,7 @@ impl Machine {
                 repeats,
                 body,
                 ..
-            } => self.turn(k, process, instance, repeats, body),
+            } => self.run_procedure(k, process, instance, repeats, body),
             Process::Assignment {
                 net,
                 instance,
@@ -187,10 +187,10 @@ impl Machine {
     /// The evaluation of a procedure in an instance is legal, whichever of the eligible events it is; else the refusal (805).
     fn check_turn(&self, process: usize, instance: ObjectId) -> Result<(), SimError>
         ensures ok { OnOk result ((k : ℕ) → (repeats : Bool) → (body : ℕ)
-            → IsStep (turn (tables_of self.now.state.design) (with_activation self.now.state) k
+            → IsStep (run_procedure (tables_of self.now.state.design) (with_activation self.now.state) k
             process instance repeats body (slice_index_or self.now.state.remaining process None))) }
         ensures refused { IfErr result (λ e. (k : ℕ) → (repeats : Bool) → (body : ℕ)
-            → turn (tables_of self.now.state.design) (with_activation self.now.state) k process
+            → run_procedure (tables_of self.now.state.design) (with_activation self.now.state) k process
             instance repeats body (slice_index_or self.now.state.remaining process None)
             ≡ Refuses e) }
     {

@@ -1,10 +1,10 @@
 ghost use Rattle.std.specs.Prelude.{◌≡◌, length, slice_index_or, true, IfOk, OnErr, OnOk, IsOkUnless};
 ghost use Rattle.vp_expr.specs.Tables.{tables_of};
 ghost use Rattle.vp_operand.specs.Values.{no_value};
-ghost use Rattle.vp_sim.specs.declared.fault.SimError.TheVariants.{NoMemory};
+ghost use Rattle.vp_sim.specs.declared.error.SimError.TheVariants.{NoMemory};
 ghost use Rattle.vp_waking.specs.Listening.{AreHeard};
 
-use crate::fault::SimError;
+use crate::error::SimError;
 use crate::lists::{KeptLists, Lists};
 use crate::machine::Machine;
 use std::alloc::{AllocError, Global};
@@ -12,29 +12,29 @@ use std::marker::Model;
 use std::sync::Arc;
 use vp_bits::Bits;
 use vp_elab::ObjectId;
-use vp_expr::{Checked, KeptValues, Values};
+use vp_expr::{Checked, Values, ValuesCheckpoint};
 use vp_list::{SharedList, TrackedList};
 use vp_statement::Flow;
-use vp_strata::{KeptStrata, Strata};
+use vp_strata::{Strata, StrataCheckpoint};
 use vp_waking::{Listeners, Waiting};
 
 /// A simulation as it was when a copy of it was kept. Copies of one simulation share what did not change between them. A contract
 /// sees its state.
 #[derive(Drop)]
-pub struct KeptSim {
+pub struct SimCheckpoint {
     alloc: Global,
     checked: Arc<Checked>,
     flow: Arc<Flow>,
     /// In time units.
     time: u64,
     finished: bool,
-    values: KeptValues,
+    values: ValuesCheckpoint,
     remaining: SharedList<Option<u32>>,
     waiting: SharedList<Waiting>,
-    queue: KeptStrata,
+    queue: StrataCheckpoint,
 }
 
-impl Model for KeptSim {
+impl Model for SimCheckpoint {
     ghost use Rattle.std.specs.Arc.{arc_value};
     ghost use Rattle.vp_sim.specs.States.{FitsDesign, State};
 
@@ -54,7 +54,7 @@ impl Model for KeptSim {
         k.values k.queue.processes k.waiting };
 }
 
-impl KeptSim {
+impl SimCheckpoint {
     /// The time when the copy was made, in time units.
     pub fn time(&self) -> u64
         ensures { result ≡ self.now.time }
@@ -71,7 +71,7 @@ impl KeptSim {
 
     /// Whether two copies, of simulations of one design, are the same: their times, `$finish`, their events, what remains of each process,
     /// what each waits for, and all values. It takes time for each event, process and object at most, and no memory.
-    pub fn is_same(&self, other: &KeptSim) -> bool
+    pub fn is_same(&self, other: &SimCheckpoint) -> bool
         requires { self.now.design ≡ other.now.design }
         ensures same { result ≡ true → self.now ≡ other.now }
         ensures differs { self.now ≡ other.now → result ≡ true }
@@ -138,11 +138,11 @@ impl Machine {
         ensures same { self.new ≡ self.old }
         ensures err { IsOkUnless result NoMemory }
     {
-        let Ok(values) = self.values.keep() else {
+        let Ok(values) = self.values.checkpoint() else {
             return Err(SimError::NoMemory);
         };
-        let remaining = self.remaining.keep()?;
-        let waiting = self.waiting.keep()?;
+        let remaining = self.remaining.checkpoint()?;
+        let waiting = self.waiting.checkpoint()?;
         Ok(KeptLists {
             values,
             remaining,
@@ -151,16 +151,16 @@ impl Machine {
     }
 
     /// A copy of the simulation to be kept; or want of memory (806).
-    pub fn keep(&mut self) -> Result<KeptSim, SimError>
+    pub fn checkpoint(&mut self) -> Result<SimCheckpoint, SimError>
         ensures copy { IfOk result (λ copy. copy ≡ self.old.state) }
         ensures same { self.new.state ≡ self.old.state }
         ensures err { IsOkUnless result NoMemory }
     {
         let lists = self.keep_lists()?;
-        let Ok(queue) = self.queue.keep(self.alloc) else {
+        let Ok(queue) = self.queue.checkpoint(self.alloc) else {
             return Err(SimError::NoMemory);
         };
-        Ok(KeptSim {
+        Ok(SimCheckpoint {
             alloc: self.alloc,
             checked: self.listeners.share()?,
             flow: Arc::try_clone(&self.flow)?,
@@ -174,7 +174,7 @@ impl Machine {
     }
 
     /// A simulation that goes on from a copy; or want of memory (806).
-    pub fn of_kept(kept: &KeptSim) -> Result<Machine, SimError>
+    pub fn of_kept(kept: &SimCheckpoint) -> Result<Machine, SimError>
         ensures state { IfOk result (λ m. m.state ≡ kept.now) }
         ensures err { IsOkUnless result NoMemory }
     {
@@ -207,7 +207,7 @@ impl Machine {
     }
 
     /// The simulation goes on from a copy, whose lists these are, and whose processes can wait; or want of memory (806).
-    fn go_on(&mut self, kept: &KeptSim, lists: Lists) -> Result<(), SimError>
+    fn go_on(&mut self, kept: &SimCheckpoint, lists: Lists) -> Result<(), SimError>
         requires design { self.old.state.design ≡ kept.now.design }
         requires values { lists.values ≡ kept.now.values }
         requires remaining { lists.remaining ≡ kept.now.remaining }
@@ -230,7 +230,7 @@ impl Machine {
     }
 
     /// The simulation goes on from a copy; or want of memory (806).
-    pub fn restore(&mut self, kept: &KeptSim) -> Result<(), SimError>
+    pub fn restore(&mut self, kept: &SimCheckpoint) -> Result<(), SimError>
         requires { self.old.state.design ≡ kept.now.design }
         ensures ok { OnOk result (self.new.state ≡ kept.now) }
         ensures refused { IsOkUnless result NoMemory }

@@ -1,8 +1,8 @@
 //! A simulation: the processes of a design run, one event at a time, by any legal choice.
 #![tactic(auto)]
 
+mod error;
 mod events;
-mod fault;
 mod kept;
 mod lists;
 mod machine;
@@ -11,8 +11,8 @@ mod remaining;
 mod sim;
 mod steps;
 
-pub use fault::SimError;
-pub use kept::KeptSim;
+pub use error::SimError;
+pub use kept::SimCheckpoint;
 pub use sim::Sim;
 pub use vp_expr::Checked;
 pub use vp_waking::Change;

@@ -1,11 +1,11 @@
 ghost use Rattle.std.specs.Prelude.{◌≡◌, IfOk, IsOkUnless};
-ghost use Rattle.vp_sim.specs.declared.fault.SimError.TheVariants.{NoMemory};
+ghost use Rattle.vp_sim.specs.declared.error.SimError.TheVariants.{NoMemory};
 ghost use Rattle.vp_sim.specs.States.{start};
 
-use crate::fault::SimError;
+use crate::error::SimError;
 use crate::remaining::{all_whole, none_waits};
 use std::alloc::Global;
-use vp_expr::{Checked, KeptValues, Values};
+use vp_expr::{Checked, Values, ValuesCheckpoint};
 use vp_list::{SharedList, TrackedList};
 use vp_waking::Waiting;
 
@@ -22,7 +22,7 @@ pub struct Lists {
 /// The same as it was when a copy was kept.
 #[derive(Drop)]
 pub struct KeptLists {
-    pub values: KeptValues,
+    pub values: ValuesCheckpoint,
     pub remaining: SharedList<Option<u32>>,
     pub waiting: SharedList<Waiting>,
 }

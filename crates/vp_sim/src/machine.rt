@@ -1,12 +1,12 @@
 ghost use Rattle.std.specs.Prelude.{◌≡◌, ◌≤◌, ◌<◌, length, slice_index_or, slice_set, IfSome, OnErr, OnOk, IsOkUnless};
 ghost use Rattle.std.specs.Arc.{arc_value};
 ghost use Rattle.vp_expr.specs.Tables.{tables_of};
-ghost use Rattle.vp_sim.specs.declared.fault.SimError.TheVariants.{NoMemory};
+ghost use Rattle.vp_sim.specs.declared.error.SimError.TheVariants.{NoMemory};
 ghost use Rattle.vp_waking.specs.Listening.{IsHeard, count_of};
 ghost use Rattle.vp_sim.specs.States.{with_activation, with_change, without_event};
 ghost use Rattle.vp_waking.specs.Waking.{awaited_by};
 
-use crate::fault::SimError;
+use crate::error::SimError;
 use std::alloc::Global;
 use std::marker::Model;
 use std::sync::Arc;
@@ -90,7 +90,7 @@ impl Machine {
     {
         match change {
             Some(change) => {
-                let count = self.listeners.of(change.object.0 as usize).len();
+                let count = self.listeners.processes_on(change.object.0 as usize).len();
                 self.room(count)
             }
             None => Ok(()),

@@ -3,14 +3,14 @@ ghost use Rattle.std.specs.Option.{option_or};
 ghost use Rattle.vp_sim.specs.States.{refusal_in};
 ghost use Rattle.vp_list.specs.Refusals.{Explains};
 ghost use Rattle.vp_expr.specs.Tables.{tables_of};
-ghost use Rattle.vp_sim.specs.declared.fault.SimError.TheVariants.{NoMemory};
+ghost use Rattle.vp_sim.specs.declared.error.SimError.TheVariants.{NoMemory};
 ghost use Rattle.vp_statement.specs.declared.effect.Effect.TheVariants as effect;
-ghost use Rattle.vp_statement.specs.Walking.{behind_at, next_event};
+ghost use Rattle.vp_statement.specs.Walking.{after_at, next_event};
 ghost use Rattle.vp_strata.specs.Queues.{taken};
 ghost use Rattle.vp_waking.specs.Changes.{set_change};
-ghost use Rattle.vp_sim.specs.States.{Goes, again, deferred, delay_of, delayed, is_late, next_effect, paused, performs, rest_of, taken_if, with_activation};
+ghost use Rattle.vp_sim.specs.States.{Goes, restart_always, deferred, delay_of, delayed, is_late, next_effect, paused, performs, rest_of, taken_if, with_activation};
 
-use crate::fault::SimError;
+use crate::error::SimError;
 use crate::machine::Machine;
 use crate::remaining::remaining_of;
 use vp_bits::Bits;
@@ -43,8 +43,8 @@ fn is_late(time: u64, delay: u32) -> bool
 }
 
 /// An `always` begins again where nothing remains of it (9.9.2).
-fn again(repeats: bool, body: u32, rest: Option<u32>) -> Option<u32>
-    ensures { result ≡ again repeats body rest }
+fn restart_always(repeats: bool, body: u32, rest: Option<u32>) -> Option<u32>
+    ensures { result ≡ restart_always repeats body rest }
 {
     if repeats { rest.or(Some(body)) } else { rest }
 }
@@ -96,10 +96,10 @@ impl Machine {
 
     /// The statement with which a procedure goes on after the event at a place: the one that the event chose, if it chose one.
     fn rest(&self, repeats: bool, body: u32, event: u32, chosen: Option<u32>) -> Option<u32>
-        ensures { result ≡ again repeats body (option_or chosen (behind_at
+        ensures { result ≡ restart_always repeats body (option_or chosen (after_at
             self.now.state.design.source (tables_of self.now.state.design).actions event)) }
     {
-        again(repeats, body, chosen.or(self.flow.behind(event)))
+        restart_always(repeats, body, chosen.or(self.flow.next_after(event)))
     }
 
     /// What the event of a procedure does would happen at 2^62 or later.
@@ -110,7 +110,7 @@ impl Machine {
     }
 
     /// A procedure goes on with a statement after its event, the k-th of the eligible ones, which is over where it goes on with none.
-    fn proceed(&mut self, k: usize, process: usize, rest: Option<u32>)
+    fn resume_at(&mut self, k: usize, process: usize, rest: Option<u32>)
         ensures state { self.new.state ≡ record (with_activation self.old.state) {
           remaining = slice_set self.old.state.remaining process rest;
           queue = taken_if (is_none rest) (with_activation self.old.state).queue k;
@@ -187,7 +187,7 @@ impl Machine {
     {
         let change = self.set_change(object, place, value);
         self.room_for(&change)?;
-        self.proceed(k, process, rest);
+        self.resume_at(k, process, rest);
         self.change(&change);
         Ok(change)
     }
@@ -215,11 +215,11 @@ impl Machine {
         let process = update.process;
         if delay > 0 {
             self.schedule(delay, Delayed::Nonblocking { update })?;
-            self.proceed(k, process, rest);
+            self.resume_at(k, process, rest);
             return Ok(());
         }
         self.room(1)?;
-        self.proceed(k, process, rest);
+        self.resume_at(k, process, rest);
         self.push_nonblocking(update);
         Ok(())
     }
@@ -313,15 +313,15 @@ impl Machine {
             Effect::Awaits { place, next } => self.control(k, process, place, next)?,
             Effect::Proceeds { next } => {
                 let rest = self.rest(repeats, body, event, next);
-                self.proceed(k, process, rest);
+                self.resume_at(k, process, rest);
             }
             Effect::Nothing => {
                 let rest = self.rest(repeats, body, event, None);
-                self.proceed(k, process, rest);
+                self.resume_at(k, process, rest);
             }
             Effect::Finishes => {
                 let rest = self.rest(repeats, body, event, None);
-                self.proceed(k, process, rest);
+                self.resume_at(k, process, rest);
                 self.finished = true;
             }
         }

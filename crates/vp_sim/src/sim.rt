@@ -3,11 +3,11 @@ ghost use Rattle.std.specs.Arc.{arc_value};
 ghost use Rattle.vp_sim.specs.States.{refusal_in};
 ghost use Rattle.vp_list.specs.Refusals.{Explains};
 ghost use Rattle.vp_operand.specs.Values.{no_value};
-ghost use Rattle.vp_sim.specs.declared.fault.SimError.TheVariants.{NoMemory};
+ghost use Rattle.vp_sim.specs.declared.error.SimError.TheVariants.{NoMemory};
 ghost use Rattle.vp_sim.specs.States.{Goes, IsStep, Refuses, advance, eligible, next_time, put, slot_done, source_of, start, step};
 
-use crate::fault::SimError;
-use crate::kept::KeptSim;
+use crate::error::SimError;
+use crate::kept::SimCheckpoint;
 use crate::machine::Machine;
 use std::alloc::Global;
 use std::marker::Model;
@@ -45,16 +45,16 @@ impl Sim {
     }
 
     /// A copy of the simulation to be kept, which shares what was not written since the last one; or want of memory (806).
-    pub fn keep(&mut self) -> Result<KeptSim, SimError>
+    pub fn checkpoint(&mut self) -> Result<SimCheckpoint, SimError>
         ensures copy { IfOk result (λ copy. copy ≡ self.old) }
         ensures same { self.new ≡ self.old }
         ensures err { IsOkUnless result NoMemory }
     {
-        self.machine.keep()
+        self.machine.checkpoint()
     }
 
     /// A simulation that goes on from a copy; or want of memory (806).
-    pub fn of_kept(kept: &KeptSim) -> Result<Sim, SimError>
+    pub fn of_kept(kept: &SimCheckpoint) -> Result<Sim, SimError>
         ensures state { IfOk result (λ sim. sim ≡ kept.now) }
         ensures err { IsOkUnless result NoMemory }
     {
@@ -65,7 +65,7 @@ impl Sim {
     }
 
     /// The simulation goes on from a copy of one of the same design; or want of memory (806), which leaves it as it was.
-    pub fn restore(&mut self, kept: &KeptSim) -> Result<(), SimError>
+    pub fn restore(&mut self, kept: &SimCheckpoint) -> Result<(), SimError>
         requires { self.old.design ≡ kept.now.design }
         ensures ok { OnOk result (self.new ≡ kept.now) }
         ensures refused { IsOkUnless result NoMemory }

@@ -8,10 +8,10 @@ ghost use Rattle.vp_active.specs.Events.{process_of};
 ghost use Rattle.vp_strata.specs.Queues.{no_events, with_active};
 ghost use Rattle.vp_expr.specs.Tables.{tables_of};
 ghost use Rattle.vp_statement.specs.Walking.{flow_of};
-ghost use Rattle.vp_sim.specs.declared.fault.SimError.TheVariants.{NoMemory};
+ghost use Rattle.vp_sim.specs.declared.error.SimError.TheVariants.{NoMemory};
 ghost use Rattle.vp_sim.specs.States.{Goes, IsStep, Refuses, advance, advanced_to, eligible, next_time, put, slot_done, source_of, start, step};
 
-use crate::fault::SimError;
+use crate::error::SimError;
 use crate::lists::first_lists;
 use crate::machine::Machine;
 use std::alloc::{AllocError, Global};

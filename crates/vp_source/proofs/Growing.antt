@@ -49,9 +49,9 @@ connection_by_grows place port (Some e) lists = record {
   parts = value_grows e lists.parts;
 }
 
-pub connection_grows : (behind : Symbol) (c : Connection) (lists : Lists) → AllGrow lists (put_connection behind c lists)
-connection_grows behind (Ordered value) lists = connection_by_grows (first_place (value_text value (behind ∷ []))) None value lists
-connection_grows behind (Named period port opening value closing) lists =
+pub connection_grows : (following : Symbol) (c : Connection) (lists : Lists) → AllGrow lists (put_connection following c lists)
+connection_grows following (Ordered value) lists = connection_by_grows (first_place (value_text value (following ∷ []))) None value lists
+connection_grows following (Named period port opening value closing) lists =
     connection_by_grows (first_place (value_text value (symbol_at (symbol.Punctuator punctuator.RightParenthesis) closing ∷ []))) (Some port) value lists
 
 pub connected_grows : (closing : ℕ) (c : Connection) (fs : List (Further Connection)) (lists : Lists) → AllGrow lists (put_connected closing c fs lists)

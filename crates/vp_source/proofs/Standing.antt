@@ -24,8 +24,8 @@ use Rattle.vp_source.proofs.Growing.{AllGrow, all_kept, connected_grows, connect
 use Rattle.vp_source.proofs.GrowingParts.{Extends, Grows, expr_last, longer, onward, stmt_grows, value_grows}
 
 -- what stands after so many
-stands_behind : {X : Type 0} (xs : List X) (y : X) (ys : List X) → slice_get (xs ++ y ∷ ys) (length xs) ≡ Some y
-stands_behind xs y ys =
+stands_after : {X : Type 0} (xs : List X) (y : X) (ys : List X) → slice_get (xs ++ y ∷ ys) (length xs) ≡ Some y
+stands_after xs y ys =
     slice_get-get_or (xs ++ y ∷ ys) (length xs) y (let n = length-append xs (y ∷ ys) in omega arith)
     ∙ ap (λ x. Some x) (get_or-append_seam xs y ys y)
 
@@ -33,7 +33,7 @@ stands_behind xs y ys =
 stands_in : {X : Type 0} (xs : List X) (y : X) (all : List X) → Extends (xs ++ y ∷ []) all → slice_get all (length xs) ≡ Some y
 stands_in xs y all h =
     ap (λ l. slice_get l (length xs)) (h.is ∙ append_assoc xs (y ∷ []) h.more)
-    ∙ stands_behind xs y h.more
+    ∙ stands_after xs y h.more
 
 -- the module of a number lies after some lists, and others after it
 record AtModule (told : Module) (m : module_of.Module) (all : Lists) : Type 0 where
@@ -69,11 +69,11 @@ at_item (x ∷ is) lists (suc place) i h =
 -- ---- connections, counted
 
 -- a connection is one more
-connection_count : (behind : Symbol) (c : Connection) (lists : Lists) → length (put_connection behind c lists).connections ≡ length lists.connections + 1
-connection_count behind (Ordered None) lists = length_push lists.connections _
-connection_count behind (Ordered (Some e)) lists = length_push lists.connections _
-connection_count behind (Named period port opening None closing) lists = length_push lists.connections _
-connection_count behind (Named period port opening (Some e) closing) lists = length_push lists.connections _
+connection_count : (following : Symbol) (c : Connection) (lists : Lists) → length (put_connection following c lists).connections ≡ length lists.connections + 1
+connection_count following (Ordered None) lists = length_push lists.connections _
+connection_count following (Ordered (Some e)) lists = length_push lists.connections _
+connection_count following (Named period port opening None closing) lists = length_push lists.connections _
+connection_count following (Named period port opening (Some e) closing) lists = length_push lists.connections _
 
 -- a connection and further ones are as many more
 connected_count : (closing : ℕ) (c : Connection) (fs : List (Further Connection)) (lists : Lists) → length (put_connected closing c fs lists).connections ≡ length lists.connections + length (connections_of (Connected c fs))
@@ -137,7 +137,7 @@ module _ (text : Source) (number : ℕ) (told : Module) (m : module_of.Module) (
         number = number;
         one = one;
         before = before;
-        behind = record {
+        following = record {
           statements = all.statements.more;
           expressions = all.expressions.more;
           terms = all.terms.more;
@@ -158,8 +158,8 @@ module _ (text : Source) (number : ℕ) (told : Module) (m : module_of.Module) (
   procedure_stands : (construct : ℕ → source.Item) (body : Stmt) (before : Lists) → AllGrow header before → AllGrow (put_procedure construct body before) after → ProcedureStands text m construct body
   procedure_stands construct body before low more =
       let b = put_stmt body before.parts in
-      let behind : Lists = record before { parts = b.1 } in
-      let i = has_item (construct b.0) behind (further_on low (parts_grow before b.1 (stmt_grows body before.parts))) more in
+      let following : Lists = record before { parts = b.1 } in
+      let i = has_item (construct b.0) following (further_on low (parts_grow before b.1 (stmt_grows body before.parts))) more in
       record {
         number = i.place;
         from = i.from;
@@ -185,7 +185,7 @@ module _ (text : Source) (number : ℕ) (told : Module) (m : module_of.Module) (
         number = number;
         one = one;
         before = before.expressions;
-        behind = all.expressions.more;
+        following = all.expressions.more;
         laid = all.expressions.is;
         there = refl;
         from = omega arith;
@@ -216,10 +216,10 @@ module _ (text : Source) (number : ℕ) (told : Module) (m : module_of.Module) (
       stands_in before.connections c text.connections (further_on more at.more).connections
 
   -- a connection that is laid out stands after those before it
-  connection_stands : (behind : Symbol) (c : Connection) (before : Lists) → AllGrow header before → AllGrow (put_connection behind c before) after → ConnectionStands text m (length before.connections) c
-  connection_stands behind (Ordered None) before low more =
+  connection_stands : (following : Symbol) (c : Connection) (before : Lists) → AllGrow header before → AllGrow (put_connection following c before) after → ConnectionStands text m (length before.connections) c
+  connection_stands following (Ordered None) before low more =
       record { one = _; is = has_connection _ before more; port = refl; stands = tt }
-  connection_stands behind (Ordered (Some e)) before low more =
+  connection_stands following (Ordered (Some e)) before low more =
       let v = put_value e before.parts in
       record {
         one = _;
@@ -227,9 +227,9 @@ module _ (text : Source) (number : ℕ) (told : Module) (m : module_of.Module) (
         port = refl;
         stands = expression_stands e before.parts low.parts more.parts;
       }
-  connection_stands behind (Named period port opening None closing) before low more =
+  connection_stands following (Named period port opening None closing) before low more =
       record { one = _; is = has_connection _ before more; port = refl; stands = tt }
-  connection_stands behind (Named period port opening (Some e) closing) before low more =
+  connection_stands following (Named period port opening (Some e) closing) before low more =
       let v = put_value e before.parts in
       record {
         one = _;
@@ -239,11 +239,11 @@ module _ (text : Source) (number : ℕ) (told : Module) (m : module_of.Module) (
       }
 
   -- the first of connections stands where they begin
-  first_stands : (behind : Symbol) (c x : Connection) (before : Lists) → AllGrow header before → AllGrow (put_connection behind c before) after → c ≡ x → ConnectionStands text m (length before.connections + 0) x
-  first_stands behind c x before low more same =
+  first_stands : (following : Symbol) (c x : Connection) (before : Lists) → AllGrow header before → AllGrow (put_connection following c before) after → c ≡ x → ConnectionStands text m (length before.connections + 0) x
+  first_stands following c x before low more same =
       let begin : length before.connections ≡ length before.connections + 0 = omega arith in
       subst (λ (n : ℕ). ConnectionStands text m n x) begin
-      (subst (λ (y : Connection). ConnectionStands text m (length before.connections) y) same (connection_stands behind c before low more))
+      (subst (λ (y : Connection). ConnectionStands text m (length before.connections) y) same (connection_stands following c before low more))
 
   -- each of a connection and further ones stands after those before it
   connected_stand : (closing : ℕ) (c : Connection) (fs : List (Further Connection)) (before : Lists) → AllGrow header before → AllGrow (put_connected closing c fs before) after → (position : ℕ) (x : Connection) → slice_get (connections_of (Connected c fs)) position ≡ Some x → ConnectionStands text m (length before.connections + position) x
@@ -289,16 +289,16 @@ module _ (text : Source) (number : ℕ) (told : Module) (m : module_of.Module) (
   declarator_stands (Nets place range) (Valued name equals value) before low more =
       let v = put_value value before.parts in
       let net = item.Net name (option_map put_declared range) in
-      let behind : Lists = record before { parts = v.1 } in
-      value_stands (item.Assignment name) value before (with_item net behind) low (with_item_grows net behind) more
+      let following : Lists = record before { parts = v.1 } in
+      value_stands (item.Assignment name) value before (with_item net following) low (with_item_grows net following) more
   declarator_stands (LocalParameters place) (Valued name equals value) before low more =
       let v = put_value value before.parts in
-      let behind : Lists = record before { parts = v.1 } in
-      value_stands (item.LocalParameter name) value before behind low (all_kept behind) more
+      let following : Lists = record before { parts = v.1 } in
+      value_stands (item.LocalParameter name) value before following low (all_kept following) more
   declarator_stands (Assignments place) (Valued name equals value) before low more =
       let v = put_value value before.parts in
-      let behind : Lists = record before { parts = v.1 } in
-      value_stands (item.Assignment name) value before behind low (all_kept behind) more
+      let following : Lists = record before { parts = v.1 } in
+      value_stands (item.Assignment name) value before following low (all_kept following) more
   declarator_stands (Instances definition) (Instance name opening connections closing) before low more =
       instance_stands name definition closing connections before low more
   declarator_stands _ _ before low more = tt

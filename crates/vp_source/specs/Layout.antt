@@ -69,8 +69,8 @@ put_connection_by place port (Some e) lists =
 
 -- a connection, after which this symbol stands: its value begins at the value's first symbol, or where it has none at that after it
 abbrev pub put_connection : Symbol → Connection → Lists → Lists
-put_connection behind (Ordered value) lists = put_connection_by (first_place (value_text value (behind ∷ []))) None value lists
-put_connection behind (Named period port opening value closing) lists =
+put_connection following (Ordered value) lists = put_connection_by (first_place (value_text value (following ∷ []))) None value lists
+put_connection following (Named period port opening value closing) lists =
     put_connection_by (first_place (value_text value (symbol_at (symbol.Punctuator punctuator.RightParenthesis) closing ∷ []))) (Some port) value lists
 
 -- a comma

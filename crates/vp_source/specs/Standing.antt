@@ -20,11 +20,11 @@ pub record StatementStandsAt (text : Source) (m : module_of.Module) (place : ℕ
   pub number : ℕ
   pub one : slice_get text.modules number ≡ Some m
   pub before : Lists
-  pub behind : Lists
-  pub statements : text.statements ≡ (put_stmt s before).1.statements ++ behind.statements
-  pub expressions : text.expressions ≡ (put_stmt s before).1.expressions ++ behind.expressions
-  pub terms : text.terms ≡ (put_stmt s before).1.terms ++ behind.terms
-  pub choices : text.choices ≡ (put_stmt s before).1.choices ++ behind.choices
+  pub following : Lists
+  pub statements : text.statements ≡ (put_stmt s before).1.statements ++ following.statements
+  pub expressions : text.expressions ≡ (put_stmt s before).1.expressions ++ following.expressions
+  pub terms : text.terms ≡ (put_stmt s before).1.terms ++ following.terms
+  pub choices : text.choices ≡ (put_stmt s before).1.choices ++ following.choices
   pub there : place ≡ (put_stmt s before).0
   pub statements_from : m.statements.first ≤ length before.statements
   pub statements_to : length (put_stmt s before).1.statements ≤ m.statements.end
@@ -48,8 +48,8 @@ pub record ExpressionStandsAt (text : Source) (m : module_of.Module) (place : �
   pub number : ℕ
   pub one : slice_get text.modules number ≡ Some m
   pub before : List node.Expression
-  pub behind : List node.Expression
-  pub laid : text.expressions ≡ (put_expr e before).1 ++ behind
+  pub following : List node.Expression
+  pub laid : text.expressions ≡ (put_expr e before).1 ++ following
   pub there : place ≡ (put_expr e before).0
   pub from : m.expressions.first ≤ length before
   pub to : place < m.expressions.end

@@ -97,12 +97,12 @@ choices_of [] body = []
 choices_of (label ∷ labels) body = record { label = Some label; body = body } ∷ choices_of labels body
 
 -- where choices lie after others
-abbrev pub span_behind : List choice.Choice → List choice.Choice → span.Span
-span_behind others choices = record { first = length others; end = length (others ++ choices) }
+abbrev pub span_after : List choice.Choice → List choice.Choice → span.Span
+span_after others choices = record { first = length others; end = length (others ++ choices) }
 
 -- choices after the others, and where they lie
 abbrev pub with_choices : List choice.Choice → Lists → span.Span × Lists
-with_choices choices lists = (span_behind lists.choices choices, record lists { choices = lists.choices ++ choices })
+with_choices choices lists = (span_after lists.choices choices, record lists { choices = lists.choices ++ choices })
 
 abbrev mutual
   -- a statement after its expressions and the statements in it; a block is the chain of its statements, from an empty one on

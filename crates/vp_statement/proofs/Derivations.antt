@@ -35,26 +35,26 @@ runs_there d m number place whole one low high = record {
 }
 
 -- a part of a list that lies after others
-pub cut_behind : {X : Type 0} (first own behind all : List X) → all ≡ (first ++ own) ++ behind → range_of all (length first) (length (first ++ own)) ≡ own
-cut_behind first own behind all h =
+pub cut_after : {X : Type 0} (first own following all : List X) → all ≡ (first ++ own) ++ following → range_of all (length first) (length (first ++ own)) ≡ own
+cut_after first own following all h =
     let a = length first in
     let b = length (first ++ own) in
     let n = length-append first own in
-    let k = length-append (first ++ own) behind in
+    let k = length-append (first ++ own) following in
     ap (λ l. range_of l a b) h
-    ∙ in_range ((first ++ own) ++ behind) a b (omega arith) (omega arith)
-    ∙ ap (λ l. take (b - a) (drop a l)) (append_assoc first own behind)
-    ∙ ap (take (b - a)) (drop-append_seam first (own ++ behind))
-    ∙ ap (λ i. take i (own ++ behind)) (let same : b - a ≡ length own = omega arith in same)
-    ∙ take-append_seam own behind
+    ∙ in_range ((first ++ own) ++ following) a b (omega arith) (omega arith)
+    ∙ ap (λ l. take (b - a) (drop a l)) (append_assoc first own following)
+    ∙ ap (take (b - a)) (drop-append_seam first (own ++ following))
+    ∙ ap (λ i. take i (own ++ following)) (let same : b - a ≡ length own = omega arith in same)
+    ∙ take-append_seam own following
 
 module _ (d : Elaborated) (m : Module) (number : ℕ) (whole : AreWhole d.source) (one : slice_get d.source.modules number ≡ Some m) where
   -- lists lie after the first statement and expression of the module
-  pub record Behind (lists : Lists) : Type 0 where
+  pub record After (lists : Lists) : Type 0 where
     pub statements : m.statements.first ≤ length lists.statements
     pub expressions : m.expressions.first ≤ length lists.expressions
 
-  pub later : {a b : Lists} → Grows a b → Behind a → Behind b
+  pub later : {a b : Lists} → Grows a b → After a → After b
   later h k = record {
     statements = (let l = longer h.statements in let s = k.statements in omega arith);
     expressions = (let l = longer h.expressions in let e = k.expressions in omega arith);
@@ -80,7 +80,7 @@ module _ (d : Elaborated) (m : Module) (number : ℕ) (whole : AreWhole d.source
   }
 
   -- a statement that is laid out runs at its place
-  pub runs : (n : Statement) (lists : Lists) → Behind lists → Within (with_statement n lists).1 → Runs d m (length lists.statements) n
+  pub runs : (n : Statement) (lists : Lists) → After lists → Within (with_statement n lists).1 → Runs d m (length lists.statements) n
   runs n lists b w =
       let low = b.statements in
       let high = w.statements_to in
@@ -92,25 +92,25 @@ module _ (d : Elaborated) (m : Module) (number : ℕ) (whole : AreWhole d.source
       subst (λ (s : Statement). Runs d m (length lists.statements) s) there (runs_there d m number (length lists.statements) whole one low (omega arith))
 
   -- an expression that is laid out stands at its place
-  pub value_stands : (e : expression.Expr) (lists : Lists) → Behind lists → Within (put_value e lists).1 → StandsAt d m (put_value e lists).0 e
+  pub value_stands : (e : expression.Expr) (lists : Lists) → After lists → Within (put_value e lists).1 → StandsAt d m (put_value e lists).0 e
   value_stands e lists b w = record {
     number = number;
     one = one;
     before = lists.expressions;
-    behind = w.expressions.more;
+    following = w.expressions.more;
     laid = w.expressions.is;
     there = refl;
     from = b.expressions;
     to = (let last = expr_last e lists.expressions in let end = w.expressions_to in omega arith);
   }
 
-  selected : (s : expression.Selection) (lists : Lists) → Behind lists → Within (put_target s lists).1 → IsSelected d m (put_target s lists).0 s
+  selected : (s : expression.Selection) (lists : Lists) → After lists → Within (put_target s lists).1 → IsSelected d m (put_target s lists).0 s
   selected expression.Whole lists b w = refl
   selected (expression.Bit opening e closing) lists b w = ((put_value e lists).0, refl, value_stands e lists b w)
   selected (expression.Part r) lists b w = refl
 
   -- an assignment that is laid out
-  assignment : (made : chosen.Selection → ℕ → Statement) (s : expression.Selection) (e : expression.Expr) (lists : Lists) → Behind lists → (let x = put_target s lists in let v = put_value e x.1 in Within (with_statement (made x.0 v.0) v.1).1 → IsAssignment d m (length v.1.statements) made s e)
+  assignment : (made : chosen.Selection → ℕ → Statement) (s : expression.Selection) (e : expression.Expr) (lists : Lists) → After lists → (let x = put_target s lists in let v = put_value e x.1 in Within (with_statement (made x.0 v.0) v.1).1 → IsAssignment d m (length v.1.statements) made s e)
   assignment made s e lists b w =
       let x = put_target s lists in
       let v = put_value e x.1 in
@@ -124,11 +124,11 @@ module _ (d : Elaborated) (m : Module) (number : ℕ) (whole : AreWhole d.source
   pub terms_stand : (e : Event) (lists : Lists) → Within (put_event e lists).1 → AreTerms d (put_event e lists).0 e
   terms_stand (Any star) lists w = refl
   terms_stand (AnyGrouped opening star closing) lists w = refl
-  terms_stand (Change name) lists w = (_, refl, cut_behind lists.terms (put_term (Level name) ∷ []) w.terms.more d.source.terms w.terms.is)
+  terms_stand (Change name) lists w = (_, refl, cut_after lists.terms (put_term (Level name) ∷ []) w.terms.more d.source.terms w.terms.is)
   terms_stand (Terms opening l closing) lists w =
       let own = put_terms l [] in
       let are = terms_are l lists.terms in
-      (_, refl, ap (λ (t : List EventTerm). range_of d.source.terms (length lists.terms) (length t)) are ∙ cut_behind lists.terms own w.terms.more d.source.terms (w.terms.is ∙ ap (λ (t : List EventTerm). t ++ w.terms.more) are))
+      (_, refl, ap (λ (t : List EventTerm). range_of d.source.terms (length lists.terms) (length t)) are ∙ cut_after lists.terms own w.terms.more d.source.terms (w.terms.is ∙ ap (λ (t : List EventTerm). t ++ w.terms.more) are))
 
   -- labels that are laid out after others
   pub record Labelled (l : LabelList) (labels : List ℕ) (lists : Lists) : Type 0 where
@@ -136,7 +136,7 @@ module _ (d : Elaborated) (m : Module) (number : ℕ) (whole : AreWhole d.source
     pub are : (put_labels l labels lists).0 ≡ labels ++ own
     pub stand : AreLabels d m own l
 
-  pub labels_stand : (l : LabelList) (labels : List ℕ) (lists : Lists) → Behind lists → Within (put_labels l labels lists).1 → Labelled l labels lists
+  pub labels_stand : (l : LabelList) (labels : List ℕ) (lists : Lists) → After lists → Within (put_labels l labels lists).1 → Labelled l labels lists
   labels_stand (Only e) labels lists b w =
       let v = put_value e lists in
       record { own = v.0 ∷ []; are = refl; stand = (v.0, refl, value_stands e lists b w) }
@@ -150,7 +150,7 @@ module _ (d : Elaborated) (m : Module) (number : ℕ) (whole : AreWhole d.source
       }
 
   -- a statement after an expression, and one of both
-  guarded : (made : ℕ → ℕ → Statement) (e : expression.Expr) (s : Stmt) (lists : Lists) → Behind lists → (let c = put_value e lists in let x = put_stmt s c.1 in Within (with_statement (made c.0 x.0) x.1).1 → (Behind c.1 → Within x.1 → IsActionOf d m x.0 s) → (c : ℕ) × (b : ℕ) × Runs d m (length x.1.statements) (made c b) × StandsAt d m c e × IsActionOf d m b s)
+  guarded : (made : ℕ → ℕ → Statement) (e : expression.Expr) (s : Stmt) (lists : Lists) → After lists → (let c = put_value e lists in let x = put_stmt s c.1 in Within (with_statement (made c.0 x.0) x.1).1 → (After c.1 → Within x.1 → IsActionOf d m x.0 s) → (c : ℕ) × (b : ℕ) × Runs d m (length x.1.statements) (made c b) × StandsAt d m c e × IsActionOf d m b s)
   guarded made e s lists b w body =
       let c = put_value e lists in
       let x = put_stmt s c.1 in
@@ -161,7 +161,7 @@ module _ (d : Elaborated) (m : Module) (number : ℕ) (whole : AreWhole d.source
       (c.0, x.0, runs n x.1 (later (stmt_grows s c.1) b1) w, value_stands e lists b w1, body b1 w2)
 
   mutual
-    stmt_runs : (s : Stmt) (lists : Lists) → Behind lists → Within (put_stmt s lists).1 → IsActionOf d m (put_stmt s lists).0 s
+    stmt_runs : (s : Stmt) (lists : Lists) → After lists → Within (put_stmt s lists).1 → IsActionOf d m (put_stmt s lists).0 s
     stmt_runs (Assign target s equals value semicolon) lists b w = assignment (statement.Assign target) s value lists b w
     stmt_runs (Block begin body end) lists b w =
         let x = with_statement statement.Empty lists in
@@ -238,7 +238,7 @@ module _ (d : Elaborated) (m : Module) (number : ℕ) (whole : AreWhole d.source
         let w3 = earlier (statement_grows n c.1) w in
         let w2 = earlier (choices_grow x.0 x.1) w3 in
         let w1 = earlier (items_grow items v.1) w2 in
-        let are : choices_at d.source c.0 ≡ x.0 = cut_behind x.1.choices x.0 w3.choices.more d.source.choices w3.choices.is in (
+        let are : choices_at d.source c.0 ≡ x.0 = cut_after x.1.choices x.0 w3.choices.more d.source.choices w3.choices.is in (
           v.0,
           c.0,
           runs n c.1 (later (choices_grow x.0 x.1) b2) w,
@@ -247,7 +247,7 @@ module _ (d : Elaborated) (m : Module) (number : ℕ) (whole : AreWhole d.source
         )
     stmt_runs (Finish finish argument semicolon) lists b w = runs statement.Finish lists b w
 
-    chain_runs : (l : Stmts) (chain : ℕ) (lists : Lists) → Behind lists → Within (put_stmts l chain lists).1 → IsChain d m chain (put_stmts l chain lists).0 l
+    chain_runs : (l : Stmts) (chain : ℕ) (lists : Lists) → After lists → Within (put_stmts l chain lists).1 → IsChain d m chain (put_stmts l chain lists).0 l
     chain_runs Empty chain lists b w = refl
     chain_runs (Then s l) chain lists b w =
         let x = put_stmt s lists in
@@ -257,7 +257,7 @@ module _ (d : Elaborated) (m : Module) (number : ℕ) (whole : AreWhole d.source
         let w2 = earlier (stmts_grow l y.0 y.1) w in
         (x.0, y.0, runs n x.1 b1 w2, stmt_runs s lists b (earlier (statement_grows n x.1) w2), chain_runs l y.0 y.1 (later (statement_grows n x.1) b1) w)
 
-    item_runs : (i : Item) (lists : Lists) → Behind lists → Within (put_item i lists).1 → IsItem d m (put_item i lists).0 i
+    item_runs : (i : Item) (lists : Lists) → After lists → Within (put_item i lists).1 → IsItem d m (put_item i lists).0 i
     item_runs (Labels l colon s) lists b w =
         let ls = put_labels l [] lists in
         let x = put_stmt s ls.1 in
@@ -265,7 +265,7 @@ module _ (d : Elaborated) (m : Module) (number : ℕ) (whole : AreWhole d.source
         (h.own, x.0, ap (λ (l : List ℕ). choices_of l x.0) h.are, h.stand, stmt_runs s ls.1 (later (labels_grow l [] lists) b) w)
     item_runs (Default default_place colon s) lists b w = ((put_stmt s lists).0, refl, stmt_runs s lists b w)
 
-    items_run : (l : Items) (lists : Lists) → Behind lists → Within (put_items l lists).1 → AreItems d m (put_items l lists).0 l
+    items_run : (l : Items) (lists : Lists) → After lists → Within (put_items l lists).1 → AreItems d m (put_items l lists).0 l
     items_run (Last i) lists b w = item_runs i lists b w
     items_run (More i l) lists b w =
         let x = put_item i lists in
@@ -274,16 +274,16 @@ module _ (d : Elaborated) (m : Module) (number : ℕ) (whole : AreWhole d.source
 
 module _ (d : Elaborated) (m : Module) (place : ℕ) (s : Stmt) (whole : AreWhole d.source) (h : StatementStandsAt d.source m place s) where
   -- what is laid out before a statement that stands in a design lies after the first parts of its module
-  pub starts : Behind d m h.number whole h.one h.before
+  pub starts : After d m h.number whole h.one h.before
   starts = record { statements = h.statements_from; expressions = h.expressions_from }
 
   -- and what is laid out up to its end is the design's
   pub ends : Within d m h.number whole h.one (put_stmt s h.before).1
   ends = record {
-    statements = record { more = h.behind.statements; is = h.statements };
-    expressions = record { more = h.behind.expressions; is = h.expressions };
-    terms = record { more = h.behind.terms; is = h.terms };
-    choices = record { more = h.behind.choices; is = h.choices };
+    statements = record { more = h.following.statements; is = h.statements };
+    expressions = record { more = h.following.expressions; is = h.expressions };
+    terms = record { more = h.following.terms; is = h.terms };
+    choices = record { more = h.following.choices; is = h.choices };
     statements_to = h.statements_to;
     expressions_to = h.expressions_to;
   }

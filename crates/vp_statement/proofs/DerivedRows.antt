@@ -54,7 +54,7 @@ stands = record {
   number = 0;
   one = refl;
   before = no_parts;
-  behind = no_parts;
+  following = no_parts;
   statements = refl;
   expressions = refl;
   terms = refl;
@@ -68,7 +68,7 @@ stands = record {
 
 -- its condition stands at the first place
 condition : StandsAt design m 0 (expression.Number 6 1)
-condition = record { number = 0; one = refl; before = []; behind = []; laid = refl; there = refl; from = omega arith; to = omega arith }
+condition = record { number = 0; one = refl; before = []; following = []; laid = refl; there = refl; from = omega arith; to = omega arith }
 
 -- and there run the delay and the loop, each with its part, one after the other
 runs : IsActionOf design m 6 block

@@ -31,7 +31,7 @@ use Rattle.vp_statement.specs.Derived.{AreLabels, AreTerms, IsActionOf, IsChain}
 use Rattle.vp_statement.specs.Reads.{assignment_reads, block_reads, event_awaits, expr_reads, item_reads, items_reads, label_reads, stmt_awaits, stmt_reads, target_reads, terms_of}
 use Rattle.vp_statement.proofs.Bounds.{stmt_from, stmt_last}
 use Rattle.vp_statement.proofs.Derivations as laid
-use Rattle.vp_statement.proofs.Derivations.{cut_behind, derived}
+use Rattle.vp_statement.proofs.Derivations.{cut_after, derived}
 
 -- lists of slots, one after the other
 both : {a b c e : List Slot} → a ≡ b → c ≡ e → a ++ c ≡ b ++ e
@@ -81,8 +81,8 @@ module _ (d : Elaborated) (m : Module) (number : ℕ) (whole : AreWhole d.source
   abbrev read : List (List Slot)
   read = reads_of d.source os
 
-  abbrev Behind : Lists → Type 0
-  Behind lists = laid.Behind d m number whole one lists
+  abbrev After : Lists → Type 0
+  After lists = laid.After d m number whole one lists
 
   abbrev Within : Lists → Type 0
   Within lists = laid.Within d m number whole one lists
@@ -113,17 +113,17 @@ module _ (d : Elaborated) (m : Module) (number : ℕ) (whole : AreWhole d.source
   -- ---- expressions
 
   -- an expression that is laid out
-  value_read : (e : expression.Expr) (lists : Lists) → Behind lists → Within (put_value e lists).1 → slots_at os (put_value e lists).0 ≡ expr_reads d scope e
+  value_read : (e : expression.Expr) (lists : Lists) → After lists → Within (put_value e lists).1 → slots_at os (put_value e lists).0 ≡ expr_reads d scope e
   value_read e lists b w = (has_term d m (put_value e lists).0 e whole (laid.value_stands d m number whole one e lists b w)).reads
 
   -- the index of a target
-  target_read : (s : expression.Selection) (lists : Lists) → Behind lists → Within (put_target s lists).1 → index_slots os (put_target s lists).0 ≡ target_reads d scope s
+  target_read : (s : expression.Selection) (lists : Lists) → After lists → Within (put_target s lists).1 → index_slots os (put_target s lists).0 ≡ target_reads d scope s
   target_read expression.Whole lists b w = refl
   target_read (expression.Bit opening e closing) lists b w = value_read e lists b w
   target_read (expression.Part r) lists b w = refl
 
   -- an assignment that is laid out
-  assignment_read : (made_as : chosen.Selection → ℕ → Statement) (s : expression.Selection) (e : expression.Expr) (lists : Lists) → ((before : List (List Slot)) (c : chosen.Selection) (v : ℕ) → reads_from d.source os before (made_as c v) ≡ index_slots os c ++ slots_at os v) → Behind lists
+  assignment_read : (made_as : chosen.Selection → ℕ → Statement) (s : expression.Selection) (e : expression.Expr) (lists : Lists) → ((before : List (List Slot)) (c : chosen.Selection) (v : ℕ) → reads_from d.source os before (made_as c v) ≡ index_slots os c ++ slots_at os v) → After lists
       → (let x = put_target s lists in let v = put_value e x.1 in Within (with_statement (made_as x.0 v.0) v.1).1 → part_reads read (length v.1.statements) ≡ assignment_reads d scope s e)
   assignment_read made_as s e lists same b w =
       let x = put_target s lists in
@@ -158,8 +158,8 @@ module _ (d : Elaborated) (m : Module) (number : ℕ) (whole : AreWhole d.source
   awaited_read (Some span) place before = refl
 
   -- a statement after an expression, and one of both
-  guarded_read : (made_as : ℕ → ℕ → Statement) (e : expression.Expr) (s : Stmt) (lists : Lists) → ((before : List (List Slot)) (c x : ℕ) → reads_from d.source os before (made_as c x) ≡ (slots_at os c ++ part_reads before x) ++ []) → Behind lists
-      → (let c = put_value e lists in let x = put_stmt s c.1 in Within (with_statement (made_as c.0 x.0) x.1).1 → (Behind c.1 → Within x.1 → part_reads read x.0 ≡ stmt_reads d scope s) → part_reads read (length x.1.statements) ≡ expr_reads d scope e ++ stmt_reads d scope s)
+  guarded_read : (made_as : ℕ → ℕ → Statement) (e : expression.Expr) (s : Stmt) (lists : Lists) → ((before : List (List Slot)) (c x : ℕ) → reads_from d.source os before (made_as c x) ≡ (slots_at os c ++ part_reads before x) ++ []) → After lists
+      → (let c = put_value e lists in let x = put_stmt s c.1 in Within (with_statement (made_as c.0 x.0) x.1).1 → (After c.1 → Within x.1 → part_reads read x.0 ≡ stmt_reads d scope s) → part_reads read (length x.1.statements) ≡ expr_reads d scope e ++ stmt_reads d scope s)
   guarded_read made_as e s lists same b w body =
       let c = put_value e lists in
       let x = put_stmt s c.1 in
@@ -188,7 +188,7 @@ module _ (d : Elaborated) (m : Module) (number : ℕ) (whole : AreWhole d.source
 
   mutual
     -- a statement that is laid out reads what its derivation does
-    stmt_read : (s : Stmt) (lists : Lists) → Behind lists → Within (put_stmt s lists).1 → part_reads read (put_stmt s lists).0 ≡ stmt_reads d scope s
+    stmt_read : (s : Stmt) (lists : Lists) → After lists → Within (put_stmt s lists).1 → part_reads read (put_stmt s lists).0 ≡ stmt_reads d scope s
     stmt_read (Assign target s equals value semicolon) lists b w = assignment_read (statement.Assign target) s value lists (λ before c v. refl) b w
     stmt_read (Block begin body end) lists b w =
         let x = with_statement statement.Empty lists in
@@ -277,14 +277,14 @@ module _ (d : Elaborated) (m : Module) (number : ℕ) (whole : AreWhole d.source
         let w3 = laid.earlier d m number whole one (statement_grows n c.1) w in
         let w2 = laid.earlier d m number whole one (choices_grow x.0 x.1) w3 in
         let w1 = laid.earlier d m number whole one (items_grow items v.1) w2 in
-        let are : choices_at d.source c.0 ≡ x.0 = cut_behind x.1.choices x.0 w3.choices.more d.source.choices w3.choices.is in
+        let are : choices_at d.source c.0 ≡ x.0 = cut_after x.1.choices x.0 w3.choices.more d.source.choices w3.choices.is in
         made n c.1 w
         ∙ both (value_read value lists b w1)
         (ap (choice_reads os before None) are ∙ items_read items v.1 before None tt (λ p h. get_or-take (length c.1.statements) read p [] h) b1 w2)
     stmt_read (Finish finish argument semicolon) lists b w = made statement.Finish lists w
 
     -- a block that is laid out, after what the chain reads that it goes on with
-    block_read : (l : Stmts) (chain : ℕ) (lists : Lists) → chain < length lists.statements → Behind lists → Within (put_stmts l chain lists).1 → part_reads read (put_stmts l chain lists).0 ≡ block_reads d scope l ++ part_reads read chain
+    block_read : (l : Stmts) (chain : ℕ) (lists : Lists) → chain < length lists.statements → After lists → Within (put_stmts l chain lists).1 → part_reads read (put_stmts l chain lists).0 ≡ block_reads d scope l ++ part_reads read chain
     block_read Empty chain lists h b w = refl
     block_read (Then s l) chain lists h b w =
         let x = put_stmt s lists in
@@ -300,7 +300,7 @@ module _ (d : Elaborated) (m : Module) (number : ℕ) (whole : AreWhole d.source
         ∙ sym (append_assoc (block_reads d scope l) (stmt_reads d scope s) (part_reads read chain))
 
     -- an item that is laid out, before other choices
-    item_read : (i : Item) (lists : Lists) (before : List (List Slot)) (previous : Option ℕ) (rest : List Choice) → IsBefore previous (length lists.statements) → AreBelow before (length (put_item i lists).1.statements) → Behind lists → Within (put_item i lists).1
+    item_read : (i : Item) (lists : Lists) (before : List (List Slot)) (previous : Option ℕ) (rest : List Choice) → IsBefore previous (length lists.statements) → AreBelow before (length (put_item i lists).1.statements) → After lists → Within (put_item i lists).1
         → choice_reads os before previous ((put_item i lists).0 ++ rest) ≡ item_reads d scope i ++ choice_reads os before (Some (body_place i lists)) rest
     item_read (Labels l colon s) lists before previous rest h same b w =
         let ls = put_labels l [] lists in
@@ -321,7 +321,7 @@ module _ (d : Elaborated) (m : Module) (number : ℕ) (whole : AreWhole d.source
         ∙ stmt_read s lists b w)
 
     -- items that are laid out, after a choice or none
-    items_read : (l : Items) (lists : Lists) (before : List (List Slot)) (previous : Option ℕ) → IsBefore previous (length lists.statements) → AreBelow before (length (put_items l lists).1.statements) → Behind lists → Within (put_items l lists).1
+    items_read : (l : Items) (lists : Lists) (before : List (List Slot)) (previous : Option ℕ) → IsBefore previous (length lists.statements) → AreBelow before (length (put_items l lists).1.statements) → After lists → Within (put_items l lists).1
         → choice_reads os before previous (put_items l lists).0 ≡ items_reads d scope l
     items_read (Last i) lists before previous h same b w =
         ap (choice_reads os before previous) (sym (append-nil (put_item i lists).0))
@@ -358,7 +358,7 @@ module _ (d : Elaborated) (m : Module) (number : ℕ) (whole : AreWhole d.source
   block_awaited (Then s l) first last h k = block_awaited l h.1 last h.4 h.2.awaits
 
   -- a statement that is laid out waits for what its derivation does
-  stmt_awaited : (s : Stmt) (lists : Lists) → Behind lists → Within (put_stmt s lists).1 → IsActionOf d m (put_stmt s lists).0 s → get_or awaits (put_stmt s lists).0 [] ≡ stmt_awaits d scope s
+  stmt_awaited : (s : Stmt) (lists : Lists) → After lists → Within (put_stmt s lists).1 → IsActionOf d m (put_stmt s lists).0 s → get_or awaits (put_stmt s lists).0 [] ≡ stmt_awaits d scope s
   stmt_awaited (Assign target s equals value semicolon) lists b w h = h.2.awaits
   stmt_awaited (Block begin body end) lists b w h = block_awaited body h.0 (put_stmt (Block begin body end) lists).0 h.2 h.1.awaits
   stmt_awaited (Null semicolon) lists b w h = h.awaits

@@ -42,9 +42,9 @@ empty_block : next_event block 3 ≡ 3
 empty_block = refl
 
 -- after its first statement comes the empty block, after that the last one, and after that nothing
-behind_in_a_block : flow_of source block ≡ Some 1 ∷ Some 3 ∷ Some 3 ∷ Some 5 ∷ Some 5 ∷ None ∷ None ∷ []
+after_in_a_block : flow_of source block ≡ Some 1 ∷ Some 3 ∷ Some 3 ∷ Some 5 ∷ Some 5 ∷ None ∷ None ∷ []
 unfolding flow_of
-behind_in_a_block = refl
+after_in_a_block = refl
 
 -- `forever ;`, and a for of a start, a body, a step and turns
 abbrev loops : List Action
@@ -62,24 +62,24 @@ for_begins = refl
 
 -- after the body of a forever comes the forever; after the start of a for its turns, after its body the step, after the step the
 -- turns, and nothing after these
-behind_in_loops : flow_of source loops ≡ Some 1 ∷ None ∷ Some 5 ∷ Some 4 ∷ Some 5 ∷ None ∷ None ∷ []
+after_in_loops : flow_of source loops ≡ Some 1 ∷ None ∷ Some 5 ∷ Some 4 ∷ Some 5 ∷ None ∷ None ∷ []
 unfolding flow_of
-behind_in_loops = refl
+after_in_loops = refl
 
 -- `begin if (c) ; else ; ; end`: after both choices comes what comes after the if
-behind_in_a_choice : flow_of source (action.Nothing ∷ action.Null ∷ action.Null ∷ action.If condition 1 (Some 2) ∷ action.Then 0 3 ∷ action.Null ∷ action.Then 4 5 ∷ []) ≡ Some 3 ∷ Some 5 ∷ Some 5 ∷ Some 5 ∷ Some 5 ∷ None ∷ None ∷ []
+after_in_a_choice : flow_of source (action.Nothing ∷ action.Null ∷ action.Null ∷ action.If condition 1 (Some 2) ∷ action.Then 0 3 ∷ action.Null ∷ action.Then 4 5 ∷ []) ≡ Some 3 ∷ Some 5 ∷ Some 5 ∷ Some 5 ∷ Some 5 ∷ None ∷ None ∷ []
 unfolding flow_of
-behind_in_a_choice = refl
+after_in_a_choice = refl
 
 -- `forever case (s) 0: ; default: ; endcase`: after each choice comes the forever
-behind_in_a_case : flow_of source (action.Null ∷ action.Null ∷ action.Case false condition (record { first = 0; end = 2 }) ∷ action.Forever 2 ∷ []) ≡ Some 3 ∷ Some 3 ∷ Some 3 ∷ None ∷ []
+after_in_a_case : flow_of source (action.Null ∷ action.Null ∷ action.Case false condition (record { first = 0; end = 2 }) ∷ action.Forever 2 ∷ []) ≡ Some 3 ∷ Some 3 ∷ Some 3 ∷ None ∷ []
 unfolding flow_of
-behind_in_a_case = refl
+after_in_a_case = refl
 
 -- `while (c) #1 wait (c) @(a) ;`: after what a control controls comes what comes after the control
-behind_controls : flow_of source (action.Null ∷ action.Event 0 ∷ action.Wait condition 1 ∷ action.Delay 1 2 ∷ action.While condition 3 None ∷ []) ≡ Some 4 ∷ Some 4 ∷ Some 4 ∷ Some 4 ∷ None ∷ []
+after_controls : flow_of source (action.Null ∷ action.Event 0 ∷ action.Wait condition 1 ∷ action.Delay 1 2 ∷ action.While condition 3 None ∷ []) ≡ Some 4 ∷ Some 4 ∷ Some 4 ∷ Some 4 ∷ None ∷ []
 unfolding flow_of
-behind_controls = refl
+after_controls = refl
 
 -- ---- tests
 

@@ -87,20 +87,20 @@ abbrev pub parts_by_place : Source → List Action → List (Option Part)
 parts_by_place source actions = map (λ place. find (stands_at place) (all_parts source actions)) (below (length actions))
 
 -- what comes after a part, by what comes after the whole; nothing comes after what is no part
-abbrev pub behind_part : (ℕ → Option ℕ) → Option Part → Option ℕ
-behind_part go None = None
-behind_part go (Some part) = option_or part.next (go part.whole)
+abbrev pub part_and_rest : (ℕ → Option ℕ) → Option Part → Option ℕ
+part_and_rest go None = None
+part_and_rest go (Some part) = option_or part.next (go part.whole)
 
 -- the place of the statement that comes after the one at a place, if one does, which lies nested at most so deep
-abbrev pub behind : List (Option Part) → ℕ → (place : ℕ) → Option ℕ
-behind parts zero place = None
-behind parts (suc n) place = behind_part (behind parts n) (slice_index_or parts place None)
+abbrev pub next_after : List (Option Part) → ℕ → (place : ℕ) → Option ℕ
+next_after parts zero place = None
+next_after parts (suc n) place = part_and_rest (next_after parts n) (slice_index_or parts place None)
 
 -- of each statement the place of the one that comes after it, if one does
 unfoldable pub flow_of : Source → List Action → List (Option ℕ)
 flow_of source actions =
-    let parts = parts_by_place source actions in map (behind parts (length parts)) (below (length actions))
+    let parts = parts_by_place source actions in map (next_after parts (length parts)) (below (length actions))
 
 -- the place of the statement that comes after the one at a place, if one does
-abbrev pub behind_at : Source → List Action → (place : ℕ) → Option ℕ
-behind_at source actions place = slice_index_or (flow_of source actions) place None
+abbrev pub after_at : Source → List Action → (place : ℕ) → Option ℕ
+after_at source actions place = slice_index_or (flow_of source actions) place None

@@ -1,7 +1,7 @@
 ghost use Rattle.std.specs.Prelude.{◌≡◌, length, map, slice_index_or, IfOk, None};
 ghost use Rattle.std.specs.List.{fold};
 ghost use Rattle.vp_statement.specs.Noting.{noted};
-ghost use Rattle.vp_statement.specs.Walking.{action_at, behind, flow_of, part_if, part_of, parts_by_place, parts_of, step_or};
+ghost use Rattle.vp_statement.specs.Walking.{action_at, next_after, flow_of, part_if, part_of, parts_by_place, parts_of, step_or};
 
 use crate::effect::choices_in;
 use crate::walk::action_at;
@@ -22,7 +22,7 @@ pub struct Part {
 /// Of each statement of a design the place of the one that comes after it, if one does (9.4 to 9.8.1). A contract sees these.
 #[derive(Drop)]
 pub struct Flow {
-    behind: Vec<Option<u32>>,
+    next_after: Vec<Option<u32>>,
 }
 
 impl Model for Flow {
@@ -30,7 +30,7 @@ impl Model for Flow {
 
     ghost Value = { List (Option ℕ) };
 
-    ghost view = { λ f. f.behind.items };
+    ghost view = { λ f. f.next_after.items };
 }
 
 /// The step of a loop, if there is one, else the loop.
@@ -131,8 +131,8 @@ fn parts_by_place(
 }
 
 /// The statement that comes after the one at a place, by the parts that statements are.
-fn behind(parts: &[Option<Part>], place: u32) -> Option<u32>
-    ensures { result ≡ behind parts.now (length parts.now) place }
+fn next_after(parts: &[Option<Part>], place: u32) -> Option<u32>
+    ensures { result ≡ next_after parts.now (length parts.now) place }
 {
     let mut here = place;
     'rise: for _turn in 0..parts.len() {
@@ -157,18 +157,18 @@ impl Flow {
             return Err(AllocError);
         };
         let parts = parts_by_place(alloc, source, actions, count)?;
-        let mut behinds = Vec::new(alloc);
+        let mut afters = Vec::new(alloc);
         for place in 0..count {
-            behinds.push(behind(&parts, place))?;
+            afters.push(next_after(&parts, place))?;
         }
-        Ok(Flow { behind: behinds })
+        Ok(Flow { next_after: afters })
     }
 
     /// The statement that comes after the one at a place; none at the end of a procedure, and for a place that is not there.
-    pub fn behind(&self, place: u32) -> Option<u32>
+    pub fn next_after(&self, place: u32) -> Option<u32>
         ensures { result ≡ slice_index_or self.now place None }
     {
-        match self.behind.get(place as usize) {
+        match self.next_after.get(place as usize) {
             Some(next) => *next,
             None => None,
         }

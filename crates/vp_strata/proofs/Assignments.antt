@@ -10,10 +10,10 @@ use Rattle.vp_active.specs.declared.event.Event.{Event}
 use Rattle.vp_active.specs.declared.event.Event.TheVariants.{Evaluation, NetUpdate, Nonblocking}
 use Rattle.vp_active.specs.declared.event.NonblockingUpdate.{NonblockingUpdate}
 use Rattle.vp_strata.specs.declared.event.Timed.{Timed}
-use Rattle.vp_active.specs.Events.{drives, eligible_behind, eligible_places, is_eligible, is_nonblocking}
+use Rattle.vp_active.specs.Events.{drives, eligible_after, eligible_places, is_eligible, is_nonblocking}
 use Rattle.vp_strata.specs.Queues.{Queue, with_active, without}
 use Rattle.vp_active.specs.Slots.{IsPushed, without_at}
-use Rattle.vp_active.specs.laws.Choosing.{get_behind, oldest}
+use Rattle.vp_active.specs.laws.Choosing.{get_after, oldest}
 
 -- ---- which events are eligible
 
@@ -31,32 +31,32 @@ map_here true f n m xs ys here rest = ap (λ (i : ℕ). i ∷ xs) here ∙ ap (�
 map_here false f n m xs ys here rest = rest
 
 -- events after such updates are eligible as they are without them
-behind_updates : (us : List NonblockingUpdate) (older es : List Event) → All (λ e. is_nonblocking e ≡ false) es → eligible_behind (map Nonblocking us ++ older) es ≡ map (λ n. length us + n) (eligible_behind older es)
-behind_updates us older [] other = refl
-behind_updates us older (e ∷ es) other =
+after_updates : (us : List NonblockingUpdate) (older es : List Event) → All (λ e. is_nonblocking e ≡ false) es → eligible_after (map Nonblocking us ++ older) es ≡ map (λ n. length us + n) (eligible_after older es)
+after_updates us older [] other = refl
+after_updates us older (e ∷ es) other =
     let P : Event → Type 0 = λ d. is_nonblocking d ≡ false in
     let front = map Nonblocking us in
     let long : length (front ++ older) ≡ length us + length older = length-append front older ∙ ap (λ (n : ℕ). n + length older) (length-map us Nonblocking) in
-    let rest = eligible_behind (front ++ older ++ e ∷ []) es in
+    let rest = eligible_after (front ++ older ++ e ∷ []) es in
     ap (λ t. cond t (length (front ++ older) ∷ []) [] ++ rest) (eligible_same us older e (All-head P e es other))
-    ∙ map_here (is_eligible older e) (λ n. length us + n) (length older) (length (front ++ older)) rest (eligible_behind (older ++ e ∷ []) es) long (
-    ap (λ (o : List Event). eligible_behind o es) (append_assoc front older (e ∷ [])) ∙ behind_updates us (older ++ e ∷ []) es (All-tail P e es other))
+    ∙ map_here (is_eligible older e) (λ n. length us + n) (length older) (length (front ++ older)) rest (eligible_after (older ++ e ∷ []) es) long (
+    ap (λ (o : List Event). eligible_after o es) (append_assoc front older (e ∷ [])) ∙ after_updates us (older ++ e ∷ []) es (All-tail P e es other))
 
-eligible-append : (older xs ys : List Event) → eligible_behind older (xs ++ ys) ≡ eligible_behind older xs ++ eligible_behind (older ++ xs) ys
-eligible-append older [] ys = ap (λ (o : List Event). eligible_behind o ys) (sym (append-nil older))
+eligible-append : (older xs ys : List Event) → eligible_after older (xs ++ ys) ≡ eligible_after older xs ++ eligible_after (older ++ xs) ys
+eligible-append older [] ys = ap (λ (o : List Event). eligible_after o ys) (sym (append-nil older))
 eligible-append older (x ∷ xs) ys =
     let here = cond (is_eligible older x) (length older ∷ []) [] in
     ap (λ (ps : List ℕ). here ++ ps) (eligible-append (older ++ x ∷ []) xs ys)
-    ∙ sym (append_assoc here (eligible_behind (older ++ x ∷ []) xs) (eligible_behind (older ++ x ∷ [] ++ xs) ys))
-    ∙ ap (λ (o : List Event). (here ++ eligible_behind (older ++ x ∷ []) xs) ++ eligible_behind o ys) (append_assoc older (x ∷ []) xs)
+    ∙ sym (append_assoc here (eligible_after (older ++ x ∷ []) xs) (eligible_after (older ++ x ∷ [] ++ xs) ys))
+    ∙ ap (λ (o : List Event). (here ++ eligible_after (older ++ x ∷ []) xs) ++ eligible_after o ys) (append_assoc older (x ∷ []) xs)
 
 eligible_with : (u : NonblockingUpdate) (us : List NonblockingUpdate) (es : List Event) → All (λ e. is_nonblocking e ≡ false) es → eligible_places (map Nonblocking (u ∷ us) ++ es) ≡ 0 ∷ map (λ n. suc (length us) + n) (eligible_places es)
 eligible_with u us es other =
     let front = map Nonblocking (u ∷ us) in
     eligible-append [] front es
-    ∙ ap (λ (ps : List ℕ). ps ++ eligible_behind front es) (oldest u us)
-    ∙ ap (λ (o : List Event). 0 ∷ eligible_behind o es) (sym (append-nil front))
-    ∙ ap (λ (ps : List ℕ). 0 ∷ ps) (behind_updates (u ∷ us) [] es other)
+    ∙ ap (λ (ps : List ℕ). ps ++ eligible_after front es) (oldest u us)
+    ∙ ap (λ (o : List Event). 0 ∷ eligible_after o es) (sym (append-nil front))
+    ∙ ap (λ (ps : List ℕ). 0 ∷ ps) (after_updates (u ∷ us) [] es other)
 
 -- how many events are eligible
 pub count_with : (us : List NonblockingUpdate) (es : List Event) → All (λ e. is_nonblocking e ≡ false) es → min (length us) 1 + length (eligible_places es) ≡ length (eligible_places (map Nonblocking us ++ es))
@@ -75,7 +75,7 @@ at_with (u ∷ us) es k other some =
 get_there : (us : List NonblockingUpdate) (es : List Event) (o : Option ℕ) → option_and_then (slice_get (map Nonblocking us ++ es)) (option_map (λ n. length us + n) o) ≡ option_and_then (slice_get es) o
 get_there us es None = refl
 get_there us es (Some n) =
-    get_behind (map Nonblocking us) es (length us + n) n (ap (λ (m : ℕ). m + n) (sym (length-map us Nonblocking)))
+    get_after (map Nonblocking us) es (length us + n) n (ap (λ (m : ℕ). m + n) (sym (length-map us Nonblocking)))
 
 pub peeked_with : (us : List NonblockingUpdate) (es : List Event) (k : ℕ) → All (λ e. is_nonblocking e ≡ false) es → 0 < length us → 0 < k
     → option_and_then (slice_get es) (slice_get (eligible_places es) (k - 1)) ≡ option_and_then (slice_get (map Nonblocking us ++ es)) (slice_get (eligible_places (map Nonblocking us ++ es)) k)

@@ -253,13 +253,13 @@ pub rest_at : (taken : ℕ) (cs : List (List Timed)) → AreUnfinished taken cs 
 rest_at taken [] h some = absurd (omega arith)
 rest_at taken (c ∷ cs) h some = rest_of taken c cs h.0
 
-pub rest_behind : (taken : ℕ) (cs : List (List Timed)) → AreUnfinished taken cs → 0 < length cs → length (get_or cs 0 []) ≤ taken + 1 → joined (remaining 0 (drop 1 cs)) ≡ drop 1 (joined (remaining taken cs))
-rest_behind taken [] h some last = absurd (omega arith)
-rest_behind taken (c ∷ cs) h some last = rest_is taken c cs h.0 last
+pub rest_after : (taken : ℕ) (cs : List (List Timed)) → AreUnfinished taken cs → 0 < length cs → length (get_or cs 0 []) ≤ taken + 1 → joined (remaining 0 (drop 1 cs)) ≡ drop 1 (joined (remaining taken cs))
+rest_after taken [] h some last = absurd (omega arith)
+rest_after taken (c ∷ cs) h some last = rest_is taken c cs h.0 last
 
-pub unfinished_behind : (taken : ℕ) (cs : List (List Timed)) → AreUnfinished taken cs → AreUnfinished 0 (drop 1 cs)
-unfinished_behind taken [] h = refl
-unfinished_behind taken (c ∷ cs) h = unfinished_zero cs h.1
+pub unfinished_following : (taken : ℕ) (cs : List (List Timed)) → AreUnfinished taken cs → AreUnfinished 0 (drop 1 cs)
+unfinished_following taken [] h = refl
+unfinished_following taken (c ∷ cs) h = unfinished_zero cs h.1
 
 -- ---- how many stand before a place
 

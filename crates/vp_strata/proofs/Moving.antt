@@ -15,12 +15,12 @@ put_and_future q future (later.Evaluation process) = refl
 put_and_future q future (later.Nonblocking update) = refl
 
 -- the queue after the first of its future events, so many
-abbrev pub behind : Queue → ℕ → Queue
-behind q count =
+abbrev pub queue_after : Queue → ℕ → Queue
+queue_after q count =
     with_future (fold put_in q (map (λ (e : Timed). e.event) (take count q.future))) (drop count q.future)
 
 -- one more happens
-pub one_more : (q : Queue) (count : ℕ) (e : Timed) → count < length q.future → get_or q.future count e ≡ e → put_in (with_future (behind q count) (drop (count + 1) q.future)) e.event ≡ behind q (count + 1)
+pub one_more : (q : Queue) (count : ℕ) (e : Timed) → count < length q.future → get_or q.future count e ≡ e → put_in (with_future (queue_after q count) (drop (count + 1) q.future)) e.event ≡ queue_after q (count + 1)
 one_more q count e within here =
     put_and_future (fold put_in q (map (λ (e : Timed). e.event) (take count q.future))) (drop (count + 1) q.future) e.event
     ∙ ap (λ q2. with_future q2 (drop (count + 1) q.future))
@@ -37,11 +37,11 @@ first_left (x ∷ es) zero e h = (omega arith, cc)
 first_left (x ∷ es) (suc count) e h = let rest = first_left es count e h in (omega (arith, rest.0), rest.1)
 
 -- one more happens, that which is now first
-pub next_one : (q now : Queue) (count : ℕ) (e : Timed) → now ≡ behind q count → slice_get now.future 0 ≡ Some e → put_in (with_future now (drop 1 now.future)) e.event ≡ behind q (count + 1)
+pub next_one : (q now : Queue) (count : ℕ) (e : Timed) → now ≡ queue_after q count → slice_get now.future 0 ≡ Some e → put_in (with_future now (drop 1 now.future)) e.event ≡ queue_after q (count + 1)
 next_one q now count e so first =
     let here = first_left q.future count e (sym (ap (λ (n : Queue). slice_get n.future 0) so) ∙ first) in
     ap (λ (n : Queue). put_in (with_future n (drop 1 n.future)) e.event) so
-    ∙ ap (λ es. put_in (with_future (behind q count) es) e.event) (drop-drop 1 count q.future)
+    ∙ ap (λ es. put_in (with_future (queue_after q count) es) e.event) (drop-drop 1 count q.future)
     ∙ one_more q count e here.0 here.1
 
 none_at_end : (es : List Timed) (count : ℕ) → slice_get (drop count es) 0 ≡ None → length es ≤ count
@@ -50,15 +50,15 @@ none_at_end (x ∷ es) zero h = absurd cc
 none_at_end (x ∷ es) (suc count) h = let rest = none_at_end es count h in omega (arith, rest)
 
 -- where there is no first, all have happened
-pub none_left : (q now : Queue) (count : ℕ) → now ≡ behind q count → slice_get now.future 0 ≡ None → length q.future ≤ count
+pub none_left : (q now : Queue) (count : ℕ) → now ≡ queue_after q count → slice_get now.future 0 ≡ None → length q.future ≤ count
 none_left q now count so none = none_at_end q.future count (sym (ap (λ (n : Queue). slice_get n.future 0) so) ∙ none)
 
-arrived_at : (q : Queue) (count : ℕ) (first : Option ℕ) → first_time q.future ≡ first → IfSome first (λ time. take count q.future ≡ filter (is_at time) q.future) → IfSome first (λ time. drop count q.future ≡ filter (λ e. not (is_at time e)) q.future) → IfNone first (count ≡ 0) → behind q count ≡ moved q first
-arrived_at q count None is kept left none = ap (behind q) none
+arrived_at : (q : Queue) (count : ℕ) (first : Option ℕ) → first_time q.future ≡ first → IfSome first (λ time. take count q.future ≡ filter (is_at time) q.future) → IfSome first (λ time. drop count q.future ≡ filter (λ e. not (is_at time e)) q.future) → IfNone first (count ≡ 0) → queue_after q count ≡ moved q first
+arrived_at q count None is kept left none = ap (queue_after q) none
 arrived_at q count (Some time) is kept left none =
     ap (λ es. with_future (fold put_in q (map (λ (e : Timed). e.event) es)) (drop count q.future)) kept
     ∙ ap (with_future (fold put_in q (map (λ (e : Timed). e.event) (filter (is_at time) q.future)))) left
 
 -- after all events of the first time, the time is that
-pub arrived : (q : Queue) (count : ℕ) → IfSome (first_time q.future) (λ time. take count q.future ≡ filter (is_at time) q.future) → IfSome (first_time q.future) (λ time. drop count q.future ≡ filter (λ e. not (is_at time e)) q.future) → IfNone (first_time q.future) (count ≡ 0) → behind q count ≡ advanced q
+pub arrived : (q : Queue) (count : ℕ) → IfSome (first_time q.future) (λ time. take count q.future ≡ filter (is_at time) q.future) → IfSome (first_time q.future) (λ time. drop count q.future ≡ filter (λ e. not (is_at time e)) q.future) → IfNone (first_time q.future) (count ≡ 0) → queue_after q count ≡ advanced q
 arrived q count kept left none = arrived_at q count (first_time q.future) refl kept left none

@@ -10,17 +10,17 @@ use Rattle.vp_strata.specs.Queues.{AreOrdered, first_time, is_at, is_by, schedul
 
 -- those before a place pass, and those from it on don't: these are all that pass, and all that don't
 pub parts : {X : Type 0} (p : X → Bool) (xs : List X) (i : ℕ) → AllWithin (λ y. p y ≡ true) xs 0 i → AllWithin (λ y. p y ≡ false) xs i (length xs) → i ≤ length xs → (take i xs ≡ filter p xs) × (drop i xs ≡ filter (λ y. not (p y)) xs)
-parts p [] zero before behind within = (refl, refl)
-parts p [] (suc i) before behind within = absurd (omega arith)
-parts p (x ∷ xs) zero before behind within =
-    let here : p x ≡ false = behind 0 x (omega arith) (omega arith) in
-    let rest = parts p xs zero (λ k d low high. absurd (omega arith)) (λ k d low high. behind (suc k) d (omega arith) (omega arith)) (omega arith) in (
+parts p [] zero before following within = (refl, refl)
+parts p [] (suc i) before following within = absurd (omega arith)
+parts p (x ∷ xs) zero before following within =
+    let here : p x ≡ false = following 0 x (omega arith) (omega arith) in
+    let rest = parts p xs zero (λ k d low high. absurd (omega arith)) (λ k d low high. following (suc k) d (omega arith) (omega arith)) (omega arith) in (
       rest.0 ∙ ap (λ b. cond b (x ∷ filter p xs) (filter p xs)) (sym here),
       ap (λ ys. x ∷ ys) rest.1 ∙ ap (λ b. cond (not b) (x ∷ filter (λ y. not (p y)) xs) (filter (λ y. not (p y)) xs)) (sym here),
     )
-parts p (x ∷ xs) (suc i) before behind within =
+parts p (x ∷ xs) (suc i) before following within =
     let here : p x ≡ true = before 0 x (omega arith) (omega arith) in
-    let rest = parts p xs i (λ k d low high. before (suc k) d (omega arith) (omega arith)) (λ k d low high. behind (suc k) d (omega arith) (omega arith)) (omega arith) in (
+    let rest = parts p xs i (λ k d low high. before (suc k) d (omega arith) (omega arith)) (λ k d low high. following (suc k) d (omega arith) (omega arith)) (omega arith) in (
       ap (λ ys. x ∷ ys) rest.0 ∙ ap (λ b. cond b (x ∷ filter p xs) (filter p xs)) (sym here),
       rest.1 ∙ ap (λ b. cond (not b) (x ∷ filter (λ y. not (p y)) xs) (filter (λ y. not (p y)) xs)) (sym here),
     )
@@ -48,8 +48,8 @@ none_earlier (x ∷ xs) time ordered first k d h =
 
 -- those that come no later than the first time are those at it
 pub at_first : (xs : List Timed) (time i : ℕ) → AreOrdered xs → first_time xs ≡ Some time → AllWithin (λ e. is_by time e ≡ true) xs 0 i → AllWithin (λ e. is_by time e ≡ false) xs i (length xs) → i ≤ length xs → (take i xs ≡ filter (is_at time) xs) × (drop i xs ≡ filter (λ e. not (is_at time e)) xs)
-at_first xs time i ordered first before behind within =
-    let parted = parts (is_by time) xs i before behind within in
+at_first xs time i ordered first before following within =
+    let parted = parts (is_by time) xs i before following within in
     let same : (k : ℕ) (d : Timed) → k < length xs → is_by time (get_or xs k d) ≡ is_at time (get_or xs k d) =
     λ k d h. by_is_at time (get_or xs k d).time (none_earlier xs time ordered first k d h) in (
       parted.0 ∙ same_kept (is_by time) (is_at time) xs same,
@@ -60,14 +60,14 @@ at_first xs time i ordered first before behind within =
 
 -- one more stands after those that come no later
 pub scheduled_at : (xs : List Timed) (i : ℕ) (y : Timed) → AllWithin (λ e. is_by y.time e ≡ true) xs 0 i → AllWithin (λ e. is_by y.time e ≡ false) xs i (length xs) → i ≤ length xs → insert xs i y ≡ scheduled y xs
-scheduled_at xs i y before behind within =
-    let parted = parts (is_by y.time) xs i before behind within in
+scheduled_at xs i y before following within =
+    let parted = parts (is_by y.time) xs i before following within in
     ap (λ (es : List Timed). es ++ y ∷ drop i xs) parted.0
     ∙ ap (λ (es : List Timed). filter (is_by y.time) xs ++ y ∷ es) parted.1
 
 -- the events stay in order after one more that stands after those that come no later
 pub ordered_with : (xs : List Timed) (i : ℕ) (y : Timed) → AreOrdered xs → i ≤ length xs → AllWithin (λ e. is_by y.time e ≡ true) xs 0 i → AllWithin (λ e. is_by y.time e ≡ false) xs i (length xs) → AreOrdered (insert xs i y)
-ordered_with xs i y ordered within before behind a b d ab long =
+ordered_with xs i y ordered within before following a b d ab long =
     let size = length-insert xs i y within in
     let left : (k : ℕ) → k < i → get_or (insert xs i y) k d ≡ get_or xs k d = λ k h. get_or-insert_below xs i y d k h within in
     let here : (k : ℕ) → k ≡ i → get_or (insert xs i y) k d ≡ y = λ k h. ap (λ n. get_or (insert xs i y) n d) h ∙ get_or-insert_at xs i y d within in
@@ -83,7 +83,7 @@ ordered_with xs i y ordered within before behind a b d ab long =
         | inr b_other ↦ elim (cases_lt a i) [
           | inl a_left ↦ rw (left a a_left, right b (omega (arith, b_not, b_other))) (ordered a (b - 1) d (omega (arith, a_left, b_not, b_other)) (omega (arith, size, b_not, b_other)))
           | inr a_not ↦ elim (cases_eq a i) [
-            | inl a_here ↦ rw (here a a_here, right b (omega (arith, b_not, b_other))) (let late = leb-false _ _ (behind (b - 1) d (omega (arith, b_not, b_other)) (omega (arith, size, b_not, b_other))) in omega (arith, late))
+            | inl a_here ↦ rw (here a a_here, right b (omega (arith, b_not, b_other))) (let late = leb-false _ _ (following (b - 1) d (omega (arith, b_not, b_other)) (omega (arith, size, b_not, b_other))) in omega (arith, late))
             | inr a_other ↦ rw (right a (omega (arith, a_not, a_other)), right b (omega (arith, b_not, b_other))) (ordered (a - 1) (b - 1) d (omega (arith, a_not, a_other, b_not, b_other)) (omega (arith, size, b_not, b_other)))
           ]
         ]

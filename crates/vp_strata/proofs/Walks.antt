@@ -20,9 +20,9 @@ pub event_at : (ls : List (List Timed)) (number place : ℕ) (d : Timed) → num
 event_at ls number place d within fits = get_or-flat_map (λ c. c) ls number place [] d within fits
 
 -- the same, at a place after so many, by the events of its chunk
-pub event_behind : (ls : List (List Timed)) (es : List Timed) (number place index : ℕ) (e d : Timed) → position ls number place ≡ index → index < length (joined ls) → (number < length ls → place < length (get_or ls number [])) → es ≡ get_or ls number [] → e ≡ get_or es place e
+pub event_after : (ls : List (List Timed)) (es : List Timed) (number place index : ℕ) (e d : Timed) → position ls number place ≡ index → index < length (joined ls) → (number < length ls → place < length (get_or ls number [])) → es ≡ get_or ls number [] → e ≡ get_or es place e
     → get_or (joined ls) index d ≡ e
-event_behind ls es number place index e d at less fits is here =
+event_after ls es number place index e d at less fits is here =
     let within = number_within ls number place index at less in
     let read : e ≡ get_or es place d = get_or_read es place e (omega (arith, fits within, ap length is)) here d in
     ap (λ n. get_or (joined ls) n d) (sym at) ∙ event_at ls number place d within (fits within) ∙ ap (λ c. get_or c place d) (sym is) ∙ sym read

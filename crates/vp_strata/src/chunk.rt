@@ -83,7 +83,7 @@ impl FutureChunk {
     }
 
     /// The events from a place on.
-    pub fn from(&self, place: usize) -> &[Timed]
+    pub fn events_from(&self, place: usize) -> &[Timed]
         requires { place ≤ length self.now }
         ensures { result.now ≡ drop place self.now }
     {

@@ -226,11 +226,11 @@ impl FutureChunks {
         requires { number < length self.now }
         ensures { result.now ≡ slice_index_or self.now number [] }
     {
-        self.chunks[number].from(first_place(self.taken, number))
+        self.chunks[number].events_from(first_place(self.taken, number))
     }
 
     /// Where the event stands that comes after one of a chunk: after the last of a chunk comes the first of the next.
-    fn behind(&self, number: usize, place: usize) -> (usize, usize)
+    fn following_position(&self, number: usize, place: usize) -> (usize, usize)
         requires number { number < length self.now }
         requires within { place < length (slice_index_or self.now number []) }
         ensures position { position self.now result.0 result.1
@@ -264,8 +264,8 @@ impl FutureChunks {
             if !self.events(first.0)[first.1].is_same(&other.events(second.0)[second.1]) {
                 return false;
             }
-            first = self.behind(first.0, first.1);
-            second = other.behind(second.0, second.1);
+            first = self.following_position(first.0, first.1);
+            second = other.following_position(second.0, second.1);
         }
         true
     }

@@ -1,7 +1,7 @@
 ghost use Rattle.std.specs.Prelude.{◌≡◌, ◌+◌, length, true, IfErr, IfOk, IfSome};
-ghost use Rattle.vp_strata.specs.declared.fault.StrataError.TheVariants.{NoMemory};
+ghost use Rattle.vp_strata.specs.declared.error.StrataError.TheVariants.{NoMemory};
 
-use crate::fault::StrataError;
+use crate::error::StrataError;
 use crate::future::FutureRegion;
 use crate::strata::Strata;
 use std::alloc::Global;
@@ -12,7 +12,7 @@ use vp_list::are_same;
 /// The events of a queue as they were when a copy of it was kept. Its future events are shared with the queue, chunk by chunk. A contract
 /// sees the queue and the number of processes.
 #[derive(Drop)]
-pub struct KeptStrata {
+pub struct StrataCheckpoint {
     /// The active updates of nonblocking assignments.
     pub(crate) assignments: Vec<NonblockingUpdate>,
     /// The other active events.
@@ -23,7 +23,7 @@ pub struct KeptStrata {
     pub(crate) processes: usize,
 }
 
-impl Model for KeptStrata {
+impl Model for StrataCheckpoint {
     ghost use Rattle.std.specs.Prelude.{◌++◌, map};
     ghost use Rattle.std.specs.List.{All};
     ghost use Rattle.vp_active.specs.declared.event.Event.TheVariants.{Nonblocking};
@@ -45,10 +45,10 @@ impl Model for KeptStrata {
     ghost invariant = { λ k. All (λ e. IsPushed k.processes e) k.active.items };
 }
 
-impl KeptStrata {
+impl StrataCheckpoint {
     /// Whether two copies are the same: of as many processes, with the same events in the same order. It takes time for each event of one of
     /// them, and no memory.
-    pub fn is_same(&self, other: &KeptStrata) -> bool
+    pub fn is_same(&self, other: &StrataCheckpoint) -> bool
         ensures same { result ≡ true → self.now ≡ other.now }
         ensures differs { self.now ≡ other.now → result ≡ true }
     {
@@ -60,7 +60,7 @@ impl KeptStrata {
     }
 
     /// Whether the active events of two copies are the same.
-    fn has_same_active(&self, other: &KeptStrata) -> bool
+    fn has_same_active(&self, other: &StrataCheckpoint) -> bool
         ensures same { result ≡ true → self.now.queue.active ≡ other.now.queue.active }
         ensures differs { self.now.queue.active ≡ other.now.queue.active → result ≡ true }
     {

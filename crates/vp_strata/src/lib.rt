@@ -8,14 +8,14 @@ mod chunk;
 mod chunks;
 mod comparison;
 mod copies;
+mod error;
 mod event;
-mod fault;
 mod future;
 mod kept;
 mod strata;
 
+pub use error::StrataError;
 pub use event::Delayed;
-pub use fault::StrataError;
-pub use kept::KeptStrata;
+pub use kept::StrataCheckpoint;
 pub use strata::{Strata, TIME_LIMIT};
 pub use vp_active::{Event, NonblockingUpdate};

@@ -1,14 +1,14 @@
 ghost use Rattle.std.specs.Prelude.{◌≡◌, ◌<◌, ◌≤◌, ◌+◌, ◌==◌, ◌++◌, ◌∷◌, [], drop, length, option_and_then, slice_get, Err, IfErr, IfOk, IsOk, OnErr, OnOk};
-ghost use Rattle.vp_strata.specs.declared.fault.StrataError.TheVariants.{NoMemory, TimeLimit};
+ghost use Rattle.vp_strata.specs.declared.error.StrataError.TheVariants.{NoMemory, TimeLimit};
 ghost use Rattle.vp_active.specs.declared.event.Event.TheVariants.{Evaluation, NetUpdate};
 ghost use Rattle.vp_active.specs.Events.{eligible_places};
 ghost use Rattle.vp_strata.specs.Queues.{activated, advanced, first_time, inactive_activated, is_done, no_events, nonblocking_activated, peeked, put_in, ready, scheduled, taken, with_active, with_future, with_inactive, with_nonblocking};
 
 use crate::copies::{append, copied};
+use crate::error::StrataError;
 use crate::event::{Delayed, Timed};
-use crate::fault::StrataError;
 use crate::future::FutureRegion;
-use crate::kept::KeptStrata;
+use crate::kept::StrataCheckpoint;
 use std::alloc::{AllocError, Global};
 use std::collections::VecDeque;
 use std::marker::Model;
@@ -81,12 +81,12 @@ impl Strata {
 
     /// A copy of the events as they are, which shares the future ones. An `Err` is want of memory (701). It costs what is active, inactive
     /// and nonblocking, and a count for each chunk of 64 future events, or fewer.
-    pub fn keep(&self, alloc: Global) -> Result<KeptStrata, StrataError>
+    pub fn checkpoint(&self, alloc: Global) -> Result<StrataCheckpoint, StrataError>
         ensures queue { IfOk result (λ k. k.queue ≡ self.now.queue) }
         ensures processes { IfOk result (λ k. k.processes ≡ self.now.processes) }
         ensures memory { IfErr result (λ e. e ≡ NoMemory) }
     {
-        Ok(KeptStrata {
+        Ok(StrataCheckpoint {
             assignments: copied(alloc, &self.assignments)?,
             active: self.active.copied_events(alloc)?,
             inactive: copied(alloc, &self.inactive)?,
@@ -98,7 +98,7 @@ impl Strata {
 
     /// The events are again those that were kept, of a queue of as many processes. An `Err` is want of memory (701), and changes no event.
     /// It costs what the events do that were and are active, inactive and nonblocking, and a count for each chunk of future events.
-    pub fn restore(&mut self, kept: &KeptStrata) -> Result<(), StrataError>
+    pub fn restore(&mut self, kept: &StrataCheckpoint) -> Result<(), StrataError>
         requires { self.old.processes ≡ kept.now.processes }
         ensures queue { OnOk result (self.new.queue ≡ kept.now.queue) }
         ensures unchanged { OnErr result (self.new.queue ≡ self.old.queue) }
@@ -115,7 +115,7 @@ impl Strata {
     }
 
     /// The events are again those that were kept, so many of them active, inactive or nonblocking; the future ones are given.
-    fn put_back(&mut self, kept: &KeptStrata, count: usize, future: FutureRegion)
+    fn put_back(&mut self, kept: &StrataCheckpoint, count: usize, future: FutureRegion)
         requires processes { self.old.processes ≡ kept.now.processes }
         requires count { count ≡ length kept.now.queue.active + length kept.now.queue.inactive
             + length kept.now.queue.nonblocking }

@@ -6,9 +6,9 @@ use Rattle.std.specs.List.{join_by, join_with_byte}
 use Rattle.std.proofs.lemmas.List.{append-nil, reverse-reverse}
 use Rattle.vp_elab.specs.Tree.{dotted}
 
-map-reverse_aux : {X Y : Type 0} (f : X → Y) (xs behind : List X) → map f (reverse_aux xs behind) ≡ reverse_aux (map f xs) (map f behind)
-map-reverse_aux f [] behind = refl
-map-reverse_aux f (x ∷ xs) behind = map-reverse_aux f xs (x ∷ behind)
+map-reverse_aux : {X Y : Type 0} (f : X → Y) (xs following : List X) → map f (reverse_aux xs following) ≡ reverse_aux (map f xs) (map f following)
+map-reverse_aux f [] following = refl
+map-reverse_aux f (x ∷ xs) following = map-reverse_aux f xs (x ∷ following)
 
 joined : {X : Type 0} (f : X → List ℕ) (xs : List X) → join_by f (46 ∷ []) xs ≡ join_with_byte 46 (map f xs)
 joined f [] = refl

@@ -1,5 +1,5 @@
 pub mod Paths
-pub mod Lacking
+pub mod Missing
 pub mod NamedSteps
 pub mod Numbers
 pub mod Walks

@@ -84,13 +84,13 @@ in_none names path none = ap (is_in_seen names) none ∙ not_in_none names
 names_end : (path above : List SeenStep) (s : SeenStep) → path ≡ above ++ s ∷ [] → names_of path ≡ names_of above ++ s.name ∷ []
 names_end path above s is = ap names_of is ∙ map-append (λ (t : SeenStep). t.name) above (s ∷ [])
 
-last_behind : (t s : SeenStep) (above : List SeenStep) → last_name (names_of (t ∷ (above ++ s ∷ []))) ≡ s.name
-last_behind t s [] = refl
-last_behind t s (u ∷ above) = last_behind u s above
+last_after : (t s : SeenStep) (above : List SeenStep) → last_name (names_of (t ∷ (above ++ s ∷ []))) ≡ s.name
+last_after t s [] = refl
+last_after t s (u ∷ above) = last_after u s above
 
 last_end : (above : List SeenStep) (s : SeenStep) → last_name (names_of (above ++ s ∷ [])) ≡ s.name
 last_end [] s = refl
-last_end (t ∷ above) s = last_behind t s above
+last_end (t ∷ above) s = last_after t s above
 
 -- the last name is that of the last step
 pub last_is : (path above : List SeenStep) (s : SeenStep) → path ≡ above ++ s ∷ [] → last_name (names_of path) ≡ s.name

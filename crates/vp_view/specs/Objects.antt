@@ -33,5 +33,5 @@ abbrev pub known_value : List (Option (List Bit)) → ℕ → List Bit
 known_value values o = option_map_or (λ x. option_map_or (λ bits. bits) x (Unknown ∷ [])) (slice_get values o) (Unknown ∷ [])
 
 -- rights lack the right to watch
-abbrev pub lacks_watch : Rights → Bool
-lacks_watch his = not (has right.Watch (set_of his))
+abbrev pub is_unwatchable : Rights → Bool
+is_unwatchable his = not (has right.Watch (set_of his))

@@ -11,11 +11,11 @@ use Rattle.vp_pragma.specs.declared.rights.Right.TheVariants as right
 use Rattle.vp_pragma.specs.Rights.{has}
 use Rattle.vp_elab.specs.declared.object.Kind.{Kind}
 use Rattle.vp_elab.specs.Tree.{below, dotted}
-use Rattle.vp_policy.specs.declared.denial.Barrier.{Barrier}
-use Rattle.vp_policy.specs.declared.denial.Barrier.TheVariants as barrier
-use Rattle.vp_policy.specs.Denials.{DenialWords}
+use Rattle.vp_policy.specs.declared.denial.ShownBarrier.{ShownBarrier}
+use Rattle.vp_policy.specs.declared.denial.ShownBarrier.TheVariants as barrier
+use Rattle.vp_policy.specs.Denials.{DenialText}
 use Rattle.vp_policy.specs.View.{SeenStep, SeenViewport, View}
-use Rattle.vp_vpi.specs.declared.races.SeenRace.{SeenRace}
+use Rattle.vp_vpi.specs.declared.races.ShownRace.{ShownRace}
 use Rattle.vp_vpi.specs.Observers.{Absent, Denied, Found, Lookup, Observer, is_readable}
 
 -- ---- denials
@@ -31,11 +31,11 @@ has_entry_seen v zero = false
 has_entry_seen v (suc n) = option_map_or (λ e. e.1) (slice_get v.envelopes n) false
 
 -- what keeps the user out of an envelope by his grant
-abbrev pub barrier_by_grant : View → (envelope : ℕ) → Barrier
+abbrev pub barrier_by_grant : View → (envelope : ℕ) → ShownBarrier
 barrier_by_grant v envelope = if (envelope == 0) || has_entry_seen v envelope then barrier.Grant else barrier.Envelope
 
 -- what keeps him out at a step of these viewports
-abbrev pub barrier_at : View → (envelope : ℕ) → List SeenViewport → Barrier
+abbrev pub barrier_at : View → (envelope : ℕ) → List SeenViewport → ShownBarrier
 barrier_at v envelope [] = barrier_by_grant v envelope
 barrier_at v envelope (w ∷ ws) = barrier.Viewport
 
@@ -45,7 +45,7 @@ first_object [] = None
 first_object (w ∷ ws) = Some w.object
 
 -- why a right is denied at a step, in words
-abbrev pub words_at : View → Right → SeenStep → DenialWords
+abbrev pub words_at : View → Right → SeenStep → DenialText
 words_at v r s = record {
   by = barrier_at v s.envelope s.viewports;
   envelope = s.envelope;
@@ -55,7 +55,7 @@ words_at v r s = record {
 }
 
 -- why a right on the object with this path is denied: by the first step after which it is lacking; none if it is the user's
-abbrev pub denial_seen : View → Right → List SeenStep → Option DenialWords
+abbrev pub denial_seen : View → Right → List SeenStep → Option DenialText
 denial_seen v r [] = None
 denial_seen v r (s ∷ path) = if has r s.rights then denial_seen v r path else Some (words_at v r s)
 
@@ -64,7 +64,7 @@ abbrev pub path_seen : View → ℕ → List SeenStep
 path_seen v o = option_map_or (λ node. node.path) (slice_get v.nodes o) []
 
 -- why a right on the object of a number is denied
-abbrev pub denied_seen : View → Right → ℕ → Option DenialWords
+abbrev pub denied_seen : View → Right → ℕ → Option DenialText
 denied_seen v r o = denial_seen v r (path_seen v o)
 
 -- the object of a number is there and listed
@@ -173,7 +173,7 @@ value_seen v values o =
     then Some (option_map_or (λ x. option_map_or (λ bits. bits) x (Unknown ∷ [])) (slice_get values o) (Unknown ∷ [])) else None
 
 -- what can be looked up in a view, the values that are known, the time, whether $finish was executed, and the races that are shown
-abbrev pub observer_seen : View → List (Option (List Bit)) → (time : ℕ) → (finished : Bool) → List SeenRace → Observer
+abbrev pub observer_seen : View → List (Option (List Bit)) → (time : ℕ) → (finished : Bool) → List ShownRace → Observer
 observer_seen v values time finished races = record {
   named = λ scope name. walk_seen v Absent scope (parts 46 name);
   listed = listed_in_seen v;

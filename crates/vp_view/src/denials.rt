@@ -4,10 +4,10 @@ ghost use Rattle.vp_policy.specs.SeenObjects.{envelope_shown, own_step, viewport
 ghost use Rattle.vp_view.specs.Objects.{envelope_at};
 ghost use Rattle.vp_view.specs.Seen.{author_seen, barrier_at, barrier_by_grant, denied_seen, first_object, has_entry_seen, words_at};
 
-use crate::path::first_lacking;
+use crate::path::first_missing_step;
 use std::alloc::{AllocError, Global};
 use vp_list::{SharedText, Text};
-use vp_policy::{Barrier, DenialWords, SeenEnvelope, SeenObject, SeenViewport, View};
+use vp_policy::{DenialText, SeenEnvelope, SeenObject, SeenViewport, ShownBarrier, View};
 use vp_pragma::Right;
 
 /// The envelope of a number; none of the open text.
@@ -40,24 +40,24 @@ fn has_entry(view: &View, envelope: u8) -> bool
 }
 
 /// What keeps the user out of an envelope by his grant.
-pub fn barrier_by_grant(view: &View, envelope: u8) -> Barrier
+pub fn barrier_by_grant(view: &View, envelope: u8) -> ShownBarrier
     ensures { result ≡ barrier_by_grant view.now envelope }
 {
     if envelope == 0 || has_entry(view, envelope) {
-        Barrier::Grant
+        ShownBarrier::Grant
     } else {
-        Barrier::Envelope
+        ShownBarrier::Envelope
     }
 }
 
 /// What keeps the user out at a step of these viewports.
-fn barrier_at(view: &View, envelope: u8, viewports: &[SeenViewport]) -> Barrier
+fn barrier_at(view: &View, envelope: u8, viewports: &[SeenViewport]) -> ShownBarrier
     ensures { result ≡ barrier_at view.now envelope (map viewport_shown viewports.now) }
 {
     if viewports.is_empty() {
         barrier_by_grant(view, envelope)
     } else {
-        Barrier::Viewport
+        ShownBarrier::Viewport
     }
 }
 
@@ -81,7 +81,7 @@ fn words_at(
     view: &View,
     right: Right,
     object: &SeenObject,
-) -> Result<DenialWords, AllocError>
+) -> Result<DenialText, AllocError>
     ensures { IfOk result
         (λ words. words ≡ words_at view.now right (own_step object.now)) }
 {
@@ -90,7 +90,7 @@ fn words_at(
     let barrier = barrier_at(view, envelope, viewports);
     let author = author(view, envelope)?;
     let object = first_object(alloc, viewports)?;
-    DenialWords::new(alloc, barrier, envelope, right, author, object)
+    DenialText::new(alloc, barrier, envelope, right, author, object)
 }
 
 /// Why a right on the object of a number is denied, if it is. Takes memory for a denial alone.
@@ -99,11 +99,11 @@ pub fn denied(
     view: &View,
     right: Right,
     number: u32,
-) -> Result<Option<DenialWords>, AllocError>
+) -> Result<Option<DenialText>, AllocError>
     ensures words { IfOk result (λ words. words ≡ denied_seen view.now right number) }
     ensures denial { OnErr result (IsSome (denied_seen view.now right number)) }
 {
-    match first_lacking(view, right, number) {
+    match first_missing_step(view, right, number) {
         Some(object) => Ok(Some(words_at(alloc, view, right, object)?)),
         None => Ok(None),
     }

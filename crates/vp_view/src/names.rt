@@ -12,7 +12,7 @@ use crate::path::{is_listed, last_step, object_at};
 use std::alloc::{AllocError, Global};
 use vp_elab::ObjectId;
 use vp_list::{Sequence, first_part};
-use vp_policy::{DenialWords, View};
+use vp_policy::{DenialText, View};
 use vp_pragma::Right;
 use vp_vpi::Found;
 
@@ -111,7 +111,7 @@ fn unlisted(alloc: Global, view: &View, scope: Option<u32>) -> Result<Found, All
     let envelope = *envelope;
     let barrier = barrier_by_grant(view, envelope);
     let author = author(view, envelope)?;
-    let words = DenialWords::new(alloc, barrier, envelope, Right::List, author, None)?;
+    let words = DenialText::new(alloc, barrier, envelope, Right::List, author, None)?;
     Ok(Found::Denied(words))
 }
 
@@ -125,11 +125,11 @@ pub fn look(alloc: Global, view: &View, scope: Option<u32>, name: &str) -> Resul
     let mut scope = scope;
     let mut rest = name;
     loop {
-        let (part, behind) = first_part(rest, '.');
+        let (part, following) = first_part(rest, '.');
         let Some(number) = find_listed(view, scope, part) else {
             return unlisted(alloc, view, scope);
         };
-        match behind {
+        match following {
             Some(further) => rest = further,
             None => return Ok(Found::Object(ObjectId(number))),
         }

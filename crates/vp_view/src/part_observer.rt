@@ -6,14 +6,14 @@ ghost use Rattle.vp_view.specs.Seen.{observer_seen};
 use crate::denials::denied;
 use crate::names::{closed, listed, look};
 use crate::path::{full_name, name, object_at};
-use crate::races::{lines_of, race_told};
+use crate::races::{lines_of, race_details};
 use std::alloc::{AllocError, Global};
 use vp_bits::Bits;
 use vp_elab::{Kind, ObjectId};
 use vp_list::{Sequence, Text};
-use vp_policy::{DenialWords, View};
+use vp_policy::{DenialText, View};
 use vp_pragma::Right;
-use vp_vpi::{Found, Observe, RaceLine, RaceTold, SeenRace, Shared};
+use vp_vpi::{Found, Observe, RaceDetails, RaceLine, Shared, ShownRace};
 
 /// A view, with the values that its user knows, the time, whether `$finish` was executed, and the races that he is shown.
 #[derive(Drop)]
@@ -24,7 +24,7 @@ pub struct PartObserver<'a> {
     /// In time units.
     time: u64,
     finished: bool,
-    races: &'a [Shared<SeenRace>],
+    races: &'a [Shared<ShownRace>],
 }
 
 impl<'a> PartObserver<'a> {
@@ -34,7 +34,7 @@ impl<'a> PartObserver<'a> {
         values: &'a [Option<Bits>],
         time: u64,
         finished: bool,
-        races: &'a [Shared<SeenRace>],
+        races: &'a [Shared<ShownRace>],
     ) -> PartObserver<'a>
         ensures observer { ⟦<PartObserver<'a> as Observe>⟧.observer result
             ≡ observer_seen view.now values.now time finished races.now }
@@ -99,7 +99,7 @@ impl Observe for PartObserver<'_> {
         alloc: Global,
         right: Right,
         object: ObjectId,
-    ) -> Result<Option<DenialWords>, AllocError> {
+    ) -> Result<Option<DenialText>, AllocError> {
         denied(alloc, self.view, right, object.0)
     }
 
@@ -159,7 +159,7 @@ impl Observe for PartObserver<'_> {
         lines_of(alloc, self.races, from)
     }
 
-    fn race(&self, alloc: Global, number: u64) -> Result<Option<RaceTold>, AllocError> {
-        race_told(alloc, self.races, number)
+    fn race(&self, alloc: Global, number: u64) -> Result<Option<RaceDetails>, AllocError> {
+        race_details(alloc, self.races, number)
     }
 }

@@ -2,7 +2,7 @@
 ghost use Rattle.std.specs.Prelude.{◌≡◌, ◌<◌, ◌++◌, ◌∷◌, [], IfOk, IfSome, MatchOption, find, map, not, option_map, reverse, slice_get, take};
 ghost use Rattle.vp_pragma.specs.Rights.{has};
 ghost use Rattle.vp_elab.specs.Tree.{dotted};
-ghost use Rattle.vp_policy.specs.SeenObjects.{node_behind, own_step, path_to};
+ghost use Rattle.vp_policy.specs.SeenObjects.{node_after, own_step, path_to};
 ghost use Rattle.vp_view.specs.Objects.{before, most_steps};
 ghost use Rattle.vp_view.specs.Seen.{last_name, listed_seen, names_seen, path_seen};
 
@@ -14,7 +14,7 @@ use vp_pragma::Right;
 /// The object of a number, if there is one.
 pub fn object_at(view: &View, number: u32) -> Option<&SeenObject>
     ensures { let nodes = view.now.nodes in MatchOption result (slice_get nodes number ≡ None)
-        (λ o. slice_get nodes number ≡ Some (node_behind (take number nodes) o.now)) }
+        (λ o. slice_get nodes number ≡ Some (node_after (take number nodes) o.now)) }
 {
     view.objects().get(number as usize)
 }
@@ -40,7 +40,7 @@ pub fn last_step(view: &View, scope: Option<u32>) -> Option<(&SeenObject, Option
 }
 
 /// The first step to the object of a number at which a right is lacking, if there is one.
-pub fn first_lacking(view: &View, right: Right, number: u32) -> Option<&SeenObject>
+pub fn first_missing_step(view: &View, right: Right, number: u32) -> Option<&SeenObject>
     ensures { option_map (λ o. own_step o.now) result
         ≡ find (λ s. not (has right s.rights)) (path_seen view.now number) }
 {
@@ -59,7 +59,7 @@ pub fn first_lacking(view: &View, right: Right, number: u32) -> Option<&SeenObje
 pub fn is_listed(view: &View, number: u32) -> bool
     ensures { result ≡ listed_seen view.now number }
 {
-    object_at(view, number).is_some() && first_lacking(view, Right::List, number).is_none()
+    object_at(view, number).is_some() && first_missing_step(view, Right::List, number).is_none()
 }
 
 /// The name of the object of a number; empty where no object is.

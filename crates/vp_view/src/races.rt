@@ -1,10 +1,10 @@
 // The races that a user is shown.
 ghost use Rattle.std.specs.Prelude.{◌≡◌, ◌-◌, IfOk, IsSome, OnErr, drop, max, option_copied, option_map, take};
-ghost use Rattle.vp_vpi.specs.Calls.{line_of, lines_from, race_told, shown_at};
+ghost use Rattle.vp_vpi.specs.Calls.{line_of, lines_from, race_details, shown_at};
 
 use std::alloc::{AllocError, Global};
 use vp_list::{Sequence, Text};
-use vp_vpi::{RaceLine, RaceTold, SeenRace, Shared};
+use vp_vpi::{RaceDetails, RaceLine, Shared, ShownRace};
 
 /// At most so many races are told in one list.
 const RACE_LIMIT: usize = 100;
@@ -21,7 +21,7 @@ fn copies_of(alloc: Global, texts: &[Text]) -> Result<Sequence<Text>, AllocError
 }
 
 /// A race in a list, by its number there. Takes memory.
-fn line_of(alloc: Global, number: u64, race: &SeenRace) -> Result<RaceLine, AllocError>
+fn line_of(alloc: Global, number: u64, race: &ShownRace) -> Result<RaceLine, AllocError>
     ensures { IfOk result (λ line. line ≡ line_of number race.now) }
 {
     Ok(RaceLine {
@@ -35,7 +35,7 @@ fn line_of(alloc: Global, number: u64, race: &SeenRace) -> Result<RaceLine, Allo
 /// The races from a number on, at most 100; they are numbered from 1. Takes memory.
 pub fn lines_of(
     alloc: Global,
-    races: &[Shared<SeenRace>],
+    races: &[Shared<ShownRace>],
     from: u64,
 ) -> Result<Sequence<RaceLine>, AllocError>
     ensures { IfOk result (λ lines. lines
@@ -55,7 +55,7 @@ pub fn lines_of(
 }
 
 /// The race of a number, if there is one.
-fn race_at(races: &[Shared<SeenRace>], number: u64) -> Option<&SeenRace>
+fn race_at(races: &[Shared<ShownRace>], number: u64) -> Option<&ShownRace>
     ensures { option_copied result ≡ shown_at races.now number }
 {
     let before = number.checked_sub(1)?;
@@ -63,19 +63,19 @@ fn race_at(races: &[Shared<SeenRace>], number: u64) -> Option<&SeenRace>
 }
 
 /// The race of a number with its steps, if there is one. Takes memory for a race alone.
-pub fn race_told(
+pub fn race_details(
     alloc: Global,
-    races: &[Shared<SeenRace>],
+    races: &[Shared<ShownRace>],
     number: u64,
-) -> Result<Option<RaceTold>, AllocError>
+) -> Result<Option<RaceDetails>, AllocError>
     ensures race { IfOk result
-        (λ race. race ≡ option_map (race_told number) (shown_at races.now number)) }
+        (λ race. race ≡ option_map (race_details number) (shown_at races.now number)) }
     ensures there { OnErr result (IsSome (shown_at races.now number)) }
 {
     let Some(race) = race_at(races, number) else {
         return Ok(None);
     };
-    Ok(Some(RaceTold {
+    Ok(Some(RaceDetails {
         line: line_of(alloc, number, race)?,
         first_steps: copies_of(alloc, race.first_steps.as_slice())?,
         second_steps: copies_of(alloc, race.second_steps.as_slice())?,

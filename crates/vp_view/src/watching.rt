@@ -2,18 +2,18 @@
 ghost use Rattle.std.specs.Prelude.{◌≡◌, ℕ, IfOk, is_some, slice_get, false};
 ghost use Rattle.std.specs.Option.{option_map_or};
 ghost use Rattle.vp_view.specs.Seen.{denied_seen};
-ghost use Rattle.vp_view.specs.Objects.{lacks_watch};
+ghost use Rattle.vp_view.specs.Objects.{is_unwatchable};
 
-use crate::path::first_lacking;
+use crate::path::first_missing_step;
 use std::alloc::{AllocError, Global};
 use vp_policy::View;
 use vp_pragma::{Right, Rights};
 
 /// The watch right on the object of a number, if its user has it at every step to the object.
 fn watch_right(view: &View, number: u32) -> Rights
-    ensures { lacks_watch result ≡ is_some (denied_seen view.now Right.Watch number) }
+    ensures { is_unwatchable result ≡ is_some (denied_seen view.now Right.Watch number) }
 {
-    match first_lacking(view, Right::Watch, number) {
+    match first_missing_step(view, Right::Watch, number) {
         Some(_) => Rights::none(),
         None => Rights::every(),
     }
@@ -22,7 +22,7 @@ fn watch_right(view: &View, number: u32) -> Rights
 /// Rights, by the numbers of the objects of a view, that lack the right to watch where it is denied. Takes memory.
 pub fn watch_rights(alloc: Global, view: &View) -> Result<Vec<Rights>, AllocError>
     ensures { IfOk result (λ rights. (o : ℕ)
-        → option_map_or lacks_watch (slice_get rights.items o) false
+        → option_map_or is_unwatchable (slice_get rights.items o) false
         ≡ is_some (denied_seen view.now Right.Watch o)) }
 {
     let mut rights = Vec::new(alloc);

@@ -2,10 +2,10 @@
 use Rattle.std.proofs.Common.{ℕ, List, Option, Some, Result, Ok, Err}
 use Rattle.vp_elab.specs.declared.object.ObjectId.{ObjectId}
 use Rattle.vp_pragma.specs.declared.rights.Right.TheVariants as right
-use Rattle.vp_vpi.specs.declared.fault.VpiError.{VpiError}
+use Rattle.vp_vpi.specs.declared.error.VpiError.{VpiError}
 use Rattle.vp_vpi.specs.Calls.{Refuses, allowed, scope_of, then_by}
 use Rattle.vp_vpi.specs.Observers.{Observer}
-use Rattle.vp_vpi.specs.Seats.{object_of}
+use Rattle.vp_vpi.specs.SessionStates.{object_of}
 
 -- what refuses an answer refuses what comes next of it
 refused_next : {A B : Type 0} (due : Result A VpiError) (next : A → Result B VpiError) (e : VpiError) → Refuses due e → Refuses (then_by due next) e
@@ -13,5 +13,5 @@ refused_next (Ok x) next e told = absurd told
 refused_next (Err refusal) next e told = told
 
 -- what refuses its object refuses a scope
-pub scope_refused : (eyes : Observer) (handles : List (Option ObjectId)) (handle : ℕ) (e : VpiError) → Refuses (allowed eyes right.List (object_of handles handle)) e → Refuses (scope_of eyes handles (Some handle)) e
-scope_refused eyes handles handle e told = refused_next (allowed eyes right.List (object_of handles handle)) _ e told
+pub scope_refused : (observation : Observer) (handles : List (Option ObjectId)) (handle : ℕ) (e : VpiError) → Refuses (allowed observation right.List (object_of handles handle)) e → Refuses (scope_of observation handles (Some handle)) e
+scope_refused observation handles handle e told = refused_next (allowed observation right.List (object_of handles handle)) _ e told

@@ -7,25 +7,25 @@ use Rattle.std.proofs.lemmas.List.{append-nil, take-append-le, take_all}
 use Rattle.vp_vpi.specs.declared.races.RaceLine.{RaceLine}
 use Rattle.vp_elab.specs.Tree.{Tree}
 use Rattle.vp_policy.specs.Users.{Member}
-use Rattle.vp_race.specs.Segments.{Told}
-use Rattle.vp_vpi.specs.Calls.{line_of, lines_from, race_told, shown_at}
-use Rattle.vp_vpi.specs.declared.races.SeenRace.{SeenRace}
+use Rattle.vp_race.specs.Segments.{FindingState}
+use Rattle.vp_vpi.specs.Calls.{line_of, lines_from, race_details, shown_at}
+use Rattle.vp_vpi.specs.declared.races.ShownRace.{ShownRace}
 use Rattle.vp_vpi.specs.Races.{is_shown, race_seen, races_seen}
 
 -- the races that are told from a number on, of those after so many
-abbrev pub told_from : (from number : ℕ) → List SeenRace → List RaceLine
+abbrev pub told_from : (from number : ℕ) → List ShownRace → List RaceLine
 told_from from number [] = []
 told_from from number (s ∷ ss) = (if nat_le from (suc number) then line_of (suc number) s ∷ [] else []) ++ told_from from (suc number) ss
 
-drop_nil : (n : ℕ) (ss : List SeenRace) → ss ≡ [] → drop n ss ≡ []
+drop_nil : (n : ℕ) (ss : List ShownRace) → ss ≡ [] → drop n ss ≡ []
 drop_nil n [] h = drop_of_length-le [] (omega arith)
 drop_nil n (s ∷ ss) h = cc
 
-told_by :
-    (b : Bool) (from number : ℕ) (s : SeenRace) (ss : List SeenRace) → nat_le from (suc number) ≡ b
+reply_with :
+    (b : Bool) (from number : ℕ) (s : ShownRace) (ss : List ShownRace) → nat_le from (suc number) ≡ b
     → told_from from (suc number) ss ≡ lines_from (max (suc (suc number)) from) (drop (from - suc (suc number)) ss)
     → (if b then line_of (suc number) s ∷ [] else []) ++ told_from from (suc number) ss ≡ lines_from (max (suc number) from) (drop (from - suc number) (s ∷ ss))
-told_by true from number s ss is h =
+reply_with true from number s ss is h =
     let small : from ≤ suc number = leb-true from (suc number) is in
     let next : max (suc (suc number)) from ≡ suc (suc number) = omega (arith, small) in
     let here : max (suc number) from ≡ suc number = omega (arith, small) in
@@ -33,7 +33,7 @@ told_by true from number s ss is h =
     let no : from - suc number ≡ 0 = omega (arith, small) in
     ap (λ ls. line_of (suc number) s ∷ ls) (h ∙ ap (λ n. lines_from n (drop (from - suc (suc number)) ss)) next ∙ ap (λ n. lines_from (suc (suc number)) (drop n ss)) none)
     ∙ sym (ap (λ n. lines_from n (drop (from - suc number) (s ∷ ss))) here ∙ ap (λ n. lines_from (suc number) (drop n (s ∷ ss))) no)
-told_by false from number s ss is h =
+reply_with false from number s ss is h =
     let large : suc number < from = leb-false from (suc number) is in
     let next : max (suc (suc number)) from ≡ max (suc number) from = omega (arith, large) in
     let more : from - suc number ≡ suc (from - suc (suc number)) = omega (arith, large) in
@@ -41,9 +41,9 @@ told_by false from number s ss is h =
     ∙ sym (ap (λ n. lines_from (max (suc number) from) (drop n (s ∷ ss))) more)
 
 -- told one by one they are those from a number on
-pub told_all : (from number : ℕ) (races : List SeenRace) → told_from from number races ≡ lines_from (max (suc number) from) (drop (from - suc number) races)
+pub told_all : (from number : ℕ) (races : List ShownRace) → told_from from number races ≡ lines_from (max (suc number) from) (drop (from - suc number) races)
 told_all from number [] = sym (ap (lines_from (max (suc number) from)) (drop_nil (from - suc number) [] refl))
-told_all from number (s ∷ ss) = told_by (nat_le from (suc number)) from number s ss refl (told_all from (suc number) ss)
+told_all from number (s ∷ ss) = reply_with (nat_le from (suc number)) from number s ss refl (told_all from (suc number) ss)
 
 -- the race of a number, as it is shown
 pub shown_map : {A B : Type 0} (f : A → B) (xs : List A) (number : ℕ) → shown_at (map f xs) number ≡ option_map f (shown_at xs number)
@@ -59,9 +59,9 @@ whole n all lines rest h few (inr many) = ap (take n) h ∙ take-append-le n lin
 
 -- the race of a number, which is shown
 pub race_at :
-    (tree : Tree) (u : Member) (book : List Told) (number : ℕ) (f : Told)
+    (tree : Tree) (u : Member) (book : List FindingState) (number : ℕ) (f : FindingState)
     → shown_at (filter (is_shown tree u) book) number ≡ Some f
-    → option_map (race_told number) (shown_at (races_seen tree u book) number) ≡ Some (race_told number (race_seen tree u f))
+    → option_map (race_details number) (shown_at (races_seen tree u book) number) ≡ Some (race_details number (race_seen tree u f))
 race_at tree u book number f h =
-    ap (option_map (race_told number))
+    ap (option_map (race_details number))
     (shown_map (race_seen tree u) (filter (is_shown tree u) book) number ∙ ap (option_map (race_seen tree u)) h)

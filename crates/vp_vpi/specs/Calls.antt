@@ -9,10 +9,10 @@ use Rattle.vp_elab.specs.declared.object.Kind.{Kind}
 use Rattle.vp_elab.specs.declared.object.Kind.TheVariants as kind
 use Rattle.vp_elab.specs.declared.object.ObjectId.{ObjectId}
 use Rattle.vp_elab.specs.Tree.{type_name}
-use Rattle.vp_policy.specs.Denials.{DenialWords}
+use Rattle.vp_policy.specs.Denials.{DenialText}
 use Rattle.vp_notify.specs.Registry as registry
-use Rattle.vp_vpi.specs.declared.fault.VpiError.{VpiError}
-use Rattle.vp_vpi.specs.declared.fault.VpiError.TheVariants as error
+use Rattle.vp_vpi.specs.declared.error.VpiError.{VpiError}
+use Rattle.vp_vpi.specs.declared.error.VpiError.TheVariants as error
 use Rattle.vp_vpi.specs.declared.iteration.ListedObject.{ListedObject}
 use Rattle.vp_vpi.specs.declared.iteration.Listing.{Listing}
 use Rattle.vp_vpi.specs.declared.property.NumberProperty.{NumberProperty}
@@ -23,10 +23,10 @@ use Rattle.vp_vpi.specs.declared.property.VectorWord.{VectorWord}
 use Rattle.vp_vpi.specs.declared.property.PutValue.{PutValue}
 use Rattle.vp_vpi.specs.declared.property.PutValue.TheVariants as put
 use Rattle.vp_vpi.specs.declared.races.RaceLine.{RaceLine}
-use Rattle.vp_vpi.specs.declared.races.RaceTold.{RaceTold}
-use Rattle.vp_vpi.specs.declared.races.SeenRace.{SeenRace}
+use Rattle.vp_vpi.specs.declared.races.RaceDetails.{RaceDetails}
+use Rattle.vp_vpi.specs.declared.races.ShownRace.{ShownRace}
 use Rattle.vp_vpi.specs.Observers.{Absent, Denied, Found, Lookup, Observer, is_readable}
-use Rattle.vp_vpi.specs.Seats.{handle_to, has_room, is_full, next_handle, object_of}
+use Rattle.vp_vpi.specs.SessionStates.{handle_to, has_room, is_full, next_handle, object_of}
 
 -- what comes next of a value; a refusal stays
 abbrev pub then_by : {A B : Type 0} → Result A VpiError → (A → Result B VpiError) → Result B VpiError
@@ -39,13 +39,13 @@ or_refusal None e = Err e
 or_refusal (Some x) e = Ok x
 
 -- an object on which a right is not denied; or the denial
-abbrev pub undenied : ℕ → Option DenialWords → Result ℕ VpiError
+abbrev pub undenied : ℕ → Option DenialText → Result ℕ VpiError
 undenied o None = Ok o
 undenied o (Some words) = Err (error.Denied words)
 
 -- the object of a handle, on which the user has a right; or the refusal that it is no handle, or the denial, in this order (profile)
 abbrev pub allowed : Observer → Right → Option ℕ → Result ℕ VpiError
-allowed eyes r found = then_by (or_refusal found error.BadHandle) (λ o. undenied o (eyes.denied r o))
+allowed observation r found = then_by (or_refusal found error.BadHandle) (λ o. undenied o (observation.denied r o))
 
 -- ---- names
 
@@ -58,10 +58,10 @@ is_module (Some k) = false
 -- the scope of a handle, which is a module; none: the top modules are its names; or the refusal of the handle, the denial of list,
 -- the wrong kind, in this order (profile)
 abbrev pub scope_of : Observer → List (Option ObjectId) → (handle : Option ℕ) → Result (Option ℕ) VpiError
-scope_of eyes handles None = Ok None
-scope_of eyes handles (Some handle) =
-    then_by (allowed eyes right.List (object_of handles handle))
-    (λ o. if is_module (eyes.kind o) then Ok (Some o) else Err error.WrongKind)
+scope_of observation handles None = Ok None
+scope_of observation handles (Some handle) =
+    then_by (allowed observation right.List (object_of handles handle))
+    (λ o. if is_module (observation.kind o) then Ok (Some o) else Err error.WrongKind)
 
 -- the object of the handle that a look-up makes; or the denial, too many handles, no such name, in this order (profile)
 abbrev pub object_found : List (Option ObjectId) → Lookup → Result ℕ VpiError
@@ -71,8 +71,8 @@ object_found handles (Found o) = if is_full handles then Err error.TooManyHandle
 
 -- the object of the handle that a name in a scope makes; or the refusal of the scope, then those of the name (profile)
 abbrev pub handle_of : Observer → List (Option ObjectId) → (scope : Option ℕ) → (name : List ℕ) → Result ℕ VpiError
-handle_of eyes handles scope name =
-    then_by (scope_of eyes handles scope) (λ above. object_found handles (eyes.named above name))
+handle_of observation handles scope name =
+    then_by (scope_of observation handles scope) (λ above. object_found handles (observation.named above name))
 
 -- ---- iterations
 
@@ -94,7 +94,7 @@ is_of k (Some found) = is_same k found
 
 -- the objects of a kind that are listed in a scope, rising (clause 26.6.1, profile)
 abbrev pub listed_of : Observer → Kind → (scope : Option ℕ) → List ℕ
-listed_of eyes k scope = filter (λ o. is_of k (eyes.kind o)) (eyes.listed scope)
+listed_of observation k scope = filter (λ o. is_of k (observation.kind o)) (observation.listed scope)
 
 -- the objects of an iteration, each with its name and the handle that is made of it, from this handle on
 abbrev pub items_from : (name : ℕ → List ℕ) → (handle : ℕ) → List ℕ → List ListedObject
@@ -108,49 +108,49 @@ pub record Iterated : Type 0 where
 
 -- an iteration over these objects: it tells the numbers of the envelopes that are closed in its scope, too (profile)
 abbrev pub iteration : Observer → List (Option ObjectId) → (scope : Option ℕ) → List ℕ → Iterated
-iteration eyes handles scope objects = record {
-  listing = record { closed = eyes.closed scope; items = items_from eyes.name (next_handle handles) objects };
+iteration observation handles scope objects = record {
+  listing = record { closed = observation.closed scope; items = items_from observation.name (next_handle handles) objects };
   handles = map handle_to objects;
 }
 
 -- an iteration over these objects, if there is room for a handle of each: it makes all of them or none (profile)
 abbrev pub iteration_in_room : Observer → List (Option ObjectId) → (scope : Option ℕ) → List ℕ → Result Iterated VpiError
-iteration_in_room eyes handles scope objects =
-    if has_room (length objects) handles then Ok (iteration eyes handles scope objects) else Err error.TooManyHandles
+iteration_in_room observation handles scope objects =
+    if has_room (length objects) handles then Ok (iteration observation handles scope objects) else Err error.TooManyHandles
 
 -- the iteration over the objects of a kind in the scope of a handle, or over the top modules; or the refusal of the scope, or too
 -- many handles, in this order (profile)
 abbrev pub iterated : Observer → List (Option ObjectId) → Kind → (scope : Option ℕ) → Result Iterated VpiError
-iterated eyes handles k scope =
-    then_by (scope_of eyes handles scope) (λ above. iteration_in_room eyes handles above (listed_of eyes k above))
+iterated observation handles k scope =
+    then_by (scope_of observation handles scope) (λ above. iteration_in_room observation handles above (listed_of observation k above))
 
 -- ---- properties
 
 -- a number of an object: its size, if it has a value, or its line (clause 26.6)
 abbrev pub number_at : Observer → NumberProperty → ℕ → Result ℕ VpiError
-number_at eyes number.Size o = if is_readable (eyes.kind o) then Ok (eyes.width o) else Err error.WrongKind
-number_at eyes number.Line o = Ok (eyes.line o)
+number_at observation number.Size o = if is_readable (observation.kind o) then Ok (observation.width o) else Err error.WrongKind
+number_at observation number.Line o = Ok (observation.line o)
 
 -- the number of a handle's object; or its refusal, the denial of list, the wrong kind, in this order (profile)
 abbrev pub number_of : Observer → NumberProperty → Option ℕ → Result ℕ VpiError
-number_of eyes p found = then_by (allowed eyes right.List found) (number_at eyes p)
+number_of observation p found = then_by (allowed observation right.List found) (number_at observation p)
 
 -- a text of an object: the name of its type, its name, its full name, or the name of its definition, if it is a module (clause 26.6)
 abbrev pub text_at : Observer → TextProperty → ℕ → Result (List ℕ) VpiError
-text_at eyes text.Type o = or_refusal (option_map type_name (eyes.kind o)) error.WrongKind
-text_at eyes text.Name o = Ok (eyes.name o)
-text_at eyes text.FullName o = Ok (eyes.full_name o)
-text_at eyes text.DefinitionName o = or_refusal (eyes.definition o) error.WrongKind
+text_at observation text.Type o = or_refusal (option_map type_name (observation.kind o)) error.WrongKind
+text_at observation text.Name o = Ok (observation.name o)
+text_at observation text.FullName o = Ok (observation.full_name o)
+text_at observation text.DefinitionName o = or_refusal (observation.definition o) error.WrongKind
 
 -- the text of a handle's object; or its refusal, the denial of list, the wrong kind, in this order (profile)
 abbrev pub text_of : Observer → TextProperty → Option ℕ → Result (List ℕ) VpiError
-text_of eyes p found = then_by (allowed eyes right.List found) (text_at eyes p)
+text_of observation p found = then_by (allowed observation right.List found) (text_at observation p)
 
 -- ---- values
 
 -- the value of a handle's object; or its refusal, the denial of read, the wrong kind, in this order (profile)
 abbrev pub value_of : Observer → Option ℕ → Result (List Bit) VpiError
-value_of eyes found = then_by (allowed eyes right.Read found) (λ o. or_refusal (eyes.value o) error.WrongKind)
+value_of observation found = then_by (allowed observation right.Read found) (λ o. or_refusal (observation.value o) error.WrongKind)
 
 -- how many words of 32 bits a vector of a width has (clause 27)
 abbrev pub word_count : ℕ → ℕ
@@ -197,17 +197,17 @@ is_reg (Some k) = false
 
 -- what a put of these bits sets of an object; or that they are none, or that $finish was executed, in this order (profile)
 abbrev pub set_by : Observer → ℕ → Option (List Bit) → Result (ℕ × List Bit) VpiError
-set_by eyes o None = Err error.BadValue
-set_by eyes o (Some bits) = if eyes.finished then Err error.Finished else Ok (o, bits)
+set_by observation o None = Err error.BadValue
+set_by observation o (Some bits) = if observation.finished then Err error.Finished else Ok (o, bits)
 
 -- what a put sets of an object; or the wrong kind, then the refusals of the value (profile)
 abbrev pub put_at : Observer → PutValue → ℕ → Result (ℕ × List Bit) VpiError
-put_at eyes v o = if is_reg (eyes.kind o) then set_by eyes o (put_bits (eyes.width o) v) else Err error.WrongKind
+put_at observation v o = if is_reg (observation.kind o) then set_by observation o (put_bits (observation.width o) v) else Err error.WrongKind
 
 -- the object that a put sets, and its value; or the refusal of the handle, the denial of put, then those of the object and the value
 -- (profile)
 abbrev pub put_of : Observer → PutValue → Option ℕ → Result (ℕ × List Bit) VpiError
-put_of eyes v found = then_by (allowed eyes right.Put found) (put_at eyes v)
+put_of observation v found = then_by (allowed observation right.Put found) (put_at observation v)
 
 -- ---- callbacks
 
@@ -221,22 +221,22 @@ is_watchable (Some k) = false
 -- the object of a handle, whose changes the user may watch; or the refusal of the handle, the denial of watch, the wrong kind, in
 -- this order (profile)
 abbrev pub watchable_of : Observer → Option ℕ → Result ℕ VpiError
-watchable_of eyes found =
-    then_by (allowed eyes right.Watch found) (λ o. if is_watchable (eyes.kind o) then Ok o else Err error.WrongKind)
+watchable_of observation found =
+    then_by (allowed observation right.Watch found) (λ o. if is_watchable (observation.kind o) then Ok o else Err error.WrongKind)
 
 -- the object that a callback is registered on; or the refusals of the object, then too many callbacks (clause 27.33, profile)
 abbrev pub watched_of : Observer → registry.RegistryState → Option ℕ → Result ℕ VpiError
-watched_of eyes r found =
-    then_by (watchable_of eyes found) (λ o. if registry.is_full r then Err error.TooManyCallbacks else Ok o)
+watched_of observation r found =
+    then_by (watchable_of observation found) (λ o. if registry.is_full r then Err error.TooManyCallbacks else Ok o)
 
 -- ---- races
 
 -- a race in a list, by its number there
-abbrev pub line_of : (number : ℕ) → SeenRace → RaceLine
+abbrev pub line_of : (number : ℕ) → ShownRace → RaceLine
 line_of number seen = record { name = seen.name; number = number; time = seen.time; values = seen.values }
 
 -- races in a list, by their numbers from one on
-abbrev pub lines_from : (number : ℕ) → List SeenRace → List RaceLine
+abbrev pub lines_from : (number : ℕ) → List ShownRace → List RaceLine
 lines_from number [] = []
 lines_from number (seen ∷ rest) = line_of number seen ∷ lines_from (suc number) rest
 
@@ -246,7 +246,7 @@ race_limit = 100
 
 -- the races that are told from a number on, of those that are shown, which are numbered from 1; from 0 on is from 1 on (profile)
 abbrev pub lines_of : Observer → (from : ℕ) → List RaceLine
-lines_of eyes from = take race_limit (lines_from (max 1 from) (drop (from - 1) eyes.races))
+lines_of observation from = take race_limit (lines_from (max 1 from) (drop (from - 1) observation.races))
 
 -- the race of a number among those that are shown, if there is one
 abbrev pub shown_at : {A : Type 0} → List A → (number : ℕ) → Option A
@@ -254,12 +254,12 @@ shown_at races zero = None
 shown_at races (suc n) = slice_get races n
 
 -- a race with its steps, by its number
-abbrev pub race_told : (number : ℕ) → SeenRace → RaceTold
-race_told number seen = record { line = line_of number seen; first_steps = seen.first_steps; second_steps = seen.second_steps }
+abbrev pub race_details : (number : ℕ) → ShownRace → RaceDetails
+race_details number seen = record { line = line_of number seen; first_steps = seen.first_steps; second_steps = seen.second_steps }
 
 -- the race of a number; or that there is none (profile)
-abbrev pub race_of : Observer → (number : ℕ) → Result RaceTold VpiError
-race_of eyes number = or_refusal (option_map (race_told number) (shown_at eyes.races number)) error.NoSuchRace
+abbrev pub race_of : Observer → (number : ℕ) → Result RaceDetails VpiError
+race_of observation number = or_refusal (option_map (race_details number) (shown_at observation.races number)) error.NoSuchRace
 
 -- ---- handles
 

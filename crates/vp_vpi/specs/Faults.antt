@@ -1,9 +1,9 @@
 -- The numbers of the refusals of a session's calls.
 use Rattle.std.specs.Prelude.{ℕ}
-use Rattle.vp_notify.specs.declared.fault.NotifyError.{NotifyError}
-use Rattle.vp_notify.specs.declared.fault.NotifyError.TheVariants as notify
-use Rattle.vp_vpi.specs.declared.fault.VpiError.{VpiError}
-use Rattle.vp_vpi.specs.declared.fault.VpiError.TheVariants.{BadHandle, Denied, WrongKind, BadValue, Finished, TooManyHandles, NoSuchName, TooManyCallbacks, NoSuchCallback, NoSuchRace, NoMemory}
+use Rattle.vp_notify.specs.declared.error.NotifyError.{NotifyError}
+use Rattle.vp_notify.specs.declared.error.NotifyError.TheVariants as notify
+use Rattle.vp_vpi.specs.declared.error.VpiError.{VpiError}
+use Rattle.vp_vpi.specs.declared.error.VpiError.TheVariants.{BadHandle, Denied, WrongKind, BadValue, Finished, TooManyHandles, NoSuchName, TooManyCallbacks, NoSuchCallback, NoSuchRace, NoMemory}
 
 -- the number of a refusal (profile)
 abbrev pub code_of : VpiError → ℕ

@@ -4,5 +4,5 @@ pub mod Observers
 pub mod Lookups
 pub mod Races
 pub mod Calls
-pub mod Seats
+pub mod SessionStates
 pub mod Renumbered

@@ -8,18 +8,18 @@ use Rattle.vp_pragma.specs.declared.rights.Right.{Right}
 use Rattle.vp_pragma.specs.declared.rights.Right.TheVariants as right
 use Rattle.vp_elab.specs.declared.object.Kind.{Kind}
 use Rattle.vp_elab.specs.Tree.{Tree, definition_at, full_name_at, has_value, name_at}
-use Rattle.vp_policy.specs.Denials.{DenialWords}
+use Rattle.vp_policy.specs.Denials.{DenialText}
 use Rattle.vp_policy.specs.declared.denial.Look.{Look}
 use Rattle.vp_policy.specs.declared.denial.Look.TheVariants as look
 use Rattle.vp_policy.specs.Users.{Member}
 use Rattle.vp_policy.specs.Filter.{closed_in, denial_at, listed, look_in, words_of}
 use Rattle.vp_race.specs.States as sim
-use Rattle.vp_vpi.specs.declared.races.SeenRace.{SeenRace}
+use Rattle.vp_vpi.specs.declared.races.ShownRace.{ShownRace}
 
 -- what is found under a name: an object, a denial in words, or nothing
 pub data Lookup : Type 0 where
   Found : ℕ → Lookup
-  Denied : DenialWords → Lookup
+  Denied : DenialText → Lookup
   Absent : Lookup
 
 -- what a session can look up: what is found under a dotted name in a scope, which is an object or contains the top modules; the
@@ -31,7 +31,7 @@ pub record Observer : Type 0 where
   pub named : (scope : Option ℕ) → List ℕ → Lookup
   pub listed : (scope : Option ℕ) → List ℕ
   pub closed : (scope : Option ℕ) → List ℕ
-  pub denied : Right → ℕ → Option DenialWords
+  pub denied : Right → ℕ → Option DenialText
   pub kind : ℕ → Option Kind
   pub width : ℕ → ℕ
   pub line : ℕ → ℕ
@@ -42,7 +42,7 @@ pub record Observer : Type 0 where
   pub may_run : Bool
   pub time : ℕ
   pub finished : Bool
-  pub races : List SeenRace
+  pub races : List ShownRace
 
 -- what the filter finds under a name, in words
 abbrev pub lookup_of : Tree → Look → Lookup
@@ -98,5 +98,5 @@ observer_of run u = record {
 }
 
 -- the same with the races that are shown
-abbrev pub with_races : List SeenRace → Observer → Observer
-with_races races eyes = record eyes { races = races }
+abbrev pub with_races : List ShownRace → Observer → Observer
+with_races races observation = record observation { races = races }

@@ -8,9 +8,9 @@ use Rattle.vp_elab.specs.Tree.{Tree, full_name_at}
 use Rattle.vp_policy.specs.Filter.{denial_at}
 use Rattle.vp_policy.specs.Users.{Member}
 use Rattle.vp_race.specs.Orders.{sources_of}
-use Rattle.vp_race.specs.Segments.{Told, value_behind}
+use Rattle.vp_race.specs.Segments.{FindingState, value_after}
 use Rattle.vp_race.specs.States.{State}
-use Rattle.vp_vpi.specs.declared.races.SeenRace.{SeenRace}
+use Rattle.vp_vpi.specs.declared.races.ShownRace.{ShownRace}
 use Rattle.vp_vpi.specs.Observers.{Observer, kind_at, observer_of, with_races}
 
 -- a kind is that of a net or a reg: a step of such an object is that of a connection, which is named by its port
@@ -28,24 +28,24 @@ abbrev pub steps_seen : Tree → Member → List ObjectId → List (List ℕ)
 steps_seen tree u sources = map (λ o. step_name tree o.0) (filter (λ o. is_none (denial_at tree u right.List o.0)) sources)
 
 -- a user is shown a race if he has the race right on its object
-abbrev pub is_shown : Tree → Member → Told → Bool
+abbrev pub is_shown : Tree → Member → FindingState → Bool
 is_shown tree u f = is_none (denial_at tree u right.Race f.object.0)
 
 -- a race as a user is shown it
-abbrev pub race_seen : Tree → Member → Told → SeenRace
+abbrev pub race_seen : Tree → Member → FindingState → ShownRace
 race_seen tree u f = record {
   name = full_name_at tree f.object.0;
   time = f.segment.start.time;
   values =
-      (value_behind f.segment.start f.segment.order f.object.0, value_behind f.segment.start f.second f.object.0);
+      (value_after f.segment.start f.segment.order f.object.0, value_after f.segment.start f.second f.object.0);
   first_steps = steps_seen tree u (sources_of f.segment.start f.segment.order);
   second_steps = steps_seen tree u (sources_of f.segment.start f.second);
 }
 
 -- the races of a book that a user is shown, in the order in which they were booked
-abbrev pub races_seen : Tree → Member → List Told → List SeenRace
+abbrev pub races_seen : Tree → Member → List FindingState → List ShownRace
 races_seen tree u book = map (race_seen tree u) (filter (is_shown tree u) book)
 
 -- what a session can look up of a simulation and a book of races, by a user of its policy
-abbrev pub observer_with : State → Member → List Told → Observer
+abbrev pub observer_with : State → Member → List FindingState → Observer
 observer_with run u book = with_races (races_seen run.design.tree u book) (observer_of run u)

@@ -4,7 +4,7 @@ ghost use Rattle.std.specs.Prelude.{◌≡◌, true};
 use crate::iteration::{ListedObject, Listing, SharedListing};
 use crate::notices::SharedNotices;
 use crate::property::{PutValue, VectorWord};
-use crate::races::{RaceLine, RaceTold};
+use crate::races::{RaceDetails, RaceLine};
 use vp_list::Same;
 use vp_notify::PolledNotice;
 
@@ -66,8 +66,8 @@ impl Same for RaceLine {
     }
 }
 
-impl Same for RaceTold {
-    fn is_same(&self, other: &RaceTold) -> bool {
+impl Same for RaceDetails {
+    fn is_same(&self, other: &RaceDetails) -> bool {
         self.line.is_same(&other.line)
             && self.first_steps.is_same(&other.first_steps)
             && self.second_steps.is_same(&other.second_steps)

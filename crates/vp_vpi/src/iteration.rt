@@ -1,7 +1,7 @@
 // What an iteration over a scope tells, and the handles that it makes (docs/FORMATS.md, "Lines").
 ghost use Rattle.std.specs.Prelude.{◌≡◌, ℕ, suc, ◌+◌, ◌≤◌, List, filter, length, map, IfOk};
 ghost use Rattle.vp_vpi.specs.Calls.{is_of, is_same, items_from};
-ghost use Rattle.vp_vpi.specs.Seats.{handle_to, number_limit};
+ghost use Rattle.vp_vpi.specs.SessionStates.{handle_to, number_limit};
 
 use crate::observer::Observe;
 use std::alloc::{AllocError, Global};
@@ -88,24 +88,24 @@ impl Iteration {
     /// An iteration over these objects: it tells these numbers of envelopes, and the handles after the last one. Takes memory.
     pub(crate) fn new<E: Observe>(
         alloc: Global,
-        eyes: &E,
+        observation: &E,
         closed: Sequence<u8>,
         last: u32,
         objects: &[ObjectId],
     ) -> Result<Iteration, AllocError>
-        requires sound { E.is_sound eyes.now }
+        requires sound { E.is_sound observation.now }
         requires room { last + length objects.now ≤ number_limit }
         ensures iteration { let ids : List ℕ = map (λ o. o.0) objects.now in
             IfOk result (λ i. i ≡ record {
               listing = record {
                 closed = closed;
-                items = items_from (E.observer eyes.now).name (suc last) ids;
+                items = items_from (E.observer observation.now).name (suc last) ids;
               };
               handles = map handle_to ids;
             }) }
         ensures count { IfOk result (λ i. length i.handles ≡ length objects.now) }
     {
-        let items = items_behind(alloc, eyes, last, objects)?;
+        let items = listed_items(alloc, observation, last, objects)?;
         let listing = SharedListing::new(alloc, Listing { closed, items })?;
         let handles = handles_to(alloc, objects)?;
         Ok(Iteration { listing, handles })
@@ -146,17 +146,17 @@ fn is_of(kind: Kind, found: Option<Kind>) -> bool
 /// Those objects that are of a kind. Takes memory.
 pub fn of_kind<E: Observe>(
     alloc: Global,
-    eyes: &E,
+    observation: &E,
     kind: Kind,
     objects: &[ObjectId],
 ) -> Result<Sequence<ObjectId>, AllocError>
-    requires { E.is_sound eyes.now }
+    requires { E.is_sound observation.now }
     ensures { IfOk result (λ ids. map (λ o. o.0) ids
-        ≡ filter (λ o. is_of kind ((E.observer eyes.now).kind o)) (map (λ o. o.0) objects.now)) }
+        ≡ filter (λ o. is_of kind ((E.observer observation.now).kind o)) (map (λ o. o.0) objects.now)) }
 {
     let mut ids = Vec::new(alloc);
     for object in objects {
-        if is_of(kind, eyes.kind(*object)) {
+        if is_of(kind, observation.kind(*object)) {
             ids.push(*object)?;
         }
     }
@@ -164,22 +164,22 @@ pub fn of_kind<E: Observe>(
 }
 
 /// The objects with their names, and with the handles after the last one. Takes memory.
-fn items_behind<E: Observe>(
+fn listed_items<E: Observe>(
     alloc: Global,
-    eyes: &E,
+    observation: &E,
     last: u32,
     objects: &[ObjectId],
 ) -> Result<Sequence<ListedObject>, AllocError>
-    requires sound { E.is_sound eyes.now }
+    requires sound { E.is_sound observation.now }
     requires room { last + length objects.now ≤ number_limit }
     ensures { IfOk result (λ items. items
-        ≡ items_from (E.observer eyes.now).name (suc last) (map (λ o. o.0) objects.now)) }
+        ≡ items_from (E.observer observation.now).name (suc last) (map (λ o. o.0) objects.now)) }
 {
     let mut items = Vec::new(alloc);
     for object in objects {
         items.push(ListedObject {
             handle: last + items.len() as u32 + 1,
-            name: Text::copy(alloc, eyes.name(*object))?,
+            name: Text::copy(alloc, observation.name(*object))?,
         })?;
     }
     Ok(Sequence::from_vec(items))

@@ -2,7 +2,7 @@
 #![tactic(auto)]
 
 mod comparison;
-mod fault;
+mod error;
 mod iteration;
 mod notices;
 mod observer;
@@ -13,14 +13,14 @@ mod session;
 mod shown_races;
 mod user_observer;
 
-pub use fault::VpiError;
+pub use error::VpiError;
 pub use iteration::{Iteration, ListedObject, Listing, SharedListing};
 pub use notices::SharedNotices;
 pub use observer::{Found, Observe};
 pub use property::{NumberProperty, PutValue, TextProperty, VectorWord};
-pub use races::{RaceLine, RaceTold, SeenRace};
+pub use races::{RaceDetails, RaceLine, ShownRace};
 pub use session::{HANDLE_LIMIT, Session};
 pub use shown_races::{is_race_shown, seen_race, seen_races};
 pub use user_observer::UserObserver;
-pub use vp_policy::{Access, DenialWords, UserId};
+pub use vp_policy::{Access, DenialText, UserId};
 pub use vp_race::Shared;

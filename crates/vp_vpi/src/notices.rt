@@ -14,7 +14,7 @@ pub struct SharedNotices {
 
 impl Model for SharedNotices {
     ghost use Rattle.std.specs.Arc.{arc_value};
-    ghost use Rattle.vp_vpi.specs.Seats.{Polled};
+    ghost use Rattle.vp_vpi.specs.SessionStates.{Polled};
 
     ghost Value = { Polled };
 

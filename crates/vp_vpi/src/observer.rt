@@ -1,15 +1,15 @@
 // What a session looks up: where its names lead, what is denied, and what it may know of the objects.
 ghost use Rattle.std.specs.Prelude.{◌≡◌, ℕ, None, Option, map, option_map, IfOk, IsSome, IsTrue, OnErr};
-ghost use Rattle.vp_vpi.specs.Calls.{lines_of, race_told, shown_at};
+ghost use Rattle.vp_vpi.specs.Calls.{lines_of, race_details, shown_at};
 ghost use Rattle.vp_vpi.specs.Lookups.{found_shown, is_denial};
 ghost use Rattle.vp_vpi.specs.Observers.{Observer};
 
-use crate::races::{RaceLine, RaceTold};
+use crate::races::{RaceDetails, RaceLine};
 use std::alloc::{AllocError, Global};
 use vp_bits::Bits;
 use vp_elab::{Kind, ObjectId};
 use vp_list::{Sequence, Text};
-use vp_policy::DenialWords;
+use vp_policy::DenialText;
 use vp_pragma::Right;
 
 /// What is found under a name.
@@ -18,7 +18,7 @@ pub enum Found {
     /// An object.
     Object(ObjectId),
     /// It is denied, in these words.
-    Denied(DenialWords),
+    Denied(DenialText),
     /// Nothing, and nothing is hidden there.
     Absent,
 }
@@ -61,7 +61,7 @@ pub trait Observe {
         alloc: Global,
         right: Right,
         object: ObjectId,
-    ) -> Result<Option<DenialWords>, AllocError>
+    ) -> Result<Option<DenialText>, AllocError>
         requires { is_sound self.now }
         ensures words { IfOk result
             (λ words. words ≡ (observer self.now).denied right object.0) }
@@ -124,9 +124,9 @@ pub trait Observe {
         ensures { IfOk result (λ lines. lines ≡ lines_of (observer self.now) from) };
 
     /// The race of a number among those that are shown, with its steps, if there is one. Takes memory for a race alone.
-    fn race(&self, alloc: Global, number: u64) -> Result<Option<RaceTold>, AllocError>
+    fn race(&self, alloc: Global, number: u64) -> Result<Option<RaceDetails>, AllocError>
         requires { is_sound self.now }
         ensures race { IfOk result (λ race. race
-            ≡ option_map (race_told number) (shown_at (observer self.now).races number)) }
+            ≡ option_map (race_details number) (shown_at (observer self.now).races number)) }
         ensures there { OnErr result (IsSome (shown_at (observer self.now).races number)) };
 }

@@ -1,13 +1,13 @@
 // What a user is told of races (docs/FORMATS.md, "Lines").
 ghost use Rattle.std.specs.Prelude.{◌≡◌};
-ghost use Rattle.vp_vpi.specs.Calls.{race_told};
+ghost use Rattle.vp_vpi.specs.Calls.{race_details};
 
 use vp_bits::Bits;
 use vp_list::{Sequence, Text};
 
 /// A race as a user is shown it, which his list numbers.
 #[derive(Drop)]
-pub struct SeenRace {
+pub struct ShownRace {
     /// The full name of its net or reg.
     pub name: Text,
     /// The time of its segment, in time units.
@@ -36,7 +36,7 @@ pub struct RaceLine {
 
 /// A race with the steps of both orders that the user may list.
 #[derive(Drop)]
-pub struct RaceTold {
+pub struct RaceDetails {
     pub line: RaceLine,
     /// Those of the run's order: the full name of each one's process, or `port ` and the full name of the port of a connection.
     pub first_steps: Sequence<Text>,
@@ -44,12 +44,12 @@ pub struct RaceTold {
     pub second_steps: Sequence<Text>,
 }
 
-impl SeenRace {
+impl ShownRace {
     /// The race of this number in a list, with its steps.
-    pub fn numbered(self, number: u64) -> RaceTold
-        ensures { result ≡ race_told number self }
+    pub fn numbered(self, number: u64) -> RaceDetails
+        ensures { result ≡ race_details number self }
     {
-        RaceTold {
+        RaceDetails {
             line: RaceLine {
                 name: self.name,
                 number,

@@ -2,13 +2,13 @@ ghost use Rattle.std.specs.Option.{option_flatten};
 ghost use Rattle.std.specs.Prelude.{◌≡◌, [], count_by, is_some, length, map, None, option_map, slice_get, slice_set, Ok, IfErr, IfOk, IsOkAnd, IsOkUnless, IsSome, IsTrue, OnErr, OnOk};
 ghost use Rattle.vp_vpi.specs.Lookups.{found_shown};
 ghost use Rattle.vp_vpi.specs.Calls.{Explains, ExplainsIteration, Refuses, allowed, handle_of, iterated, iteration, listed_of, number_of, object_found, put_of, same_of, scope_of, text_at, text_of, value_of};
-ghost use Rattle.vp_vpi.specs.Seats.{has_room, new_seat, next_handle, object_of, with_handle, with_handles, without_handle};
+ghost use Rattle.vp_vpi.specs.SessionStates.{has_room, new_session_state, next_handle, object_of, with_handle, with_handles, without_handle};
 
 mod callbacks;
 mod races;
 mod renumbering;
 
-use crate::fault::VpiError;
+use crate::error::VpiError;
 use crate::iteration::{Iteration, of_kind};
 use crate::observer::{Found, Observe};
 use crate::property::{NumberProperty, PutValue, TextProperty};
@@ -40,9 +40,9 @@ pub struct Session {
 
 impl Model for Session {
     ghost use Rattle.std.specs.Prelude.{◌≡◌, count_by, is_some};
-    ghost use Rattle.vp_vpi.specs.Seats.{Seat};
+    ghost use Rattle.vp_vpi.specs.SessionStates.{SessionState};
 
-    ghost Value = { Seat };
+    ghost Value = { SessionState };
 
     ghost view = { λ s. record {
       user = s.user.0;
@@ -81,7 +81,7 @@ fn open_in(handles: &[Option<ObjectId>]) -> usize
 impl Session {
     /// A session without handles and callbacks; or want of memory (1107).
     pub fn new(alloc: Global, user: UserId) -> Result<Session, VpiError>
-        ensures session { IfOk result (λ s. s ≡ new_seat user.0) }
+        ensures session { IfOk result (λ s. s ≡ new_session_state user.0) }
         ensures refused { IsOkUnless result VpiError.NoMemory }
     {
         let registry = Registry::new(alloc)?;
@@ -120,17 +120,22 @@ impl Session {
 
     /// The object of a handle, on which the user has a right. Refused where the number is no handle (1101), or the user lacks the
     /// right (1109), or for want of memory (1107).
-    fn allowed<E: Observe>(&self, eyes: &E, handle: u32, right: Right) -> Result<ObjectId, VpiError>
-        requires { E.is_sound eyes.now }
-        ensures ok { IfOk result (λ o. allowed (E.observer eyes.now) right
+    fn allowed<E: Observe>(
+        &self,
+        observation: &E,
+        handle: u32,
+        right: Right,
+    ) -> Result<ObjectId, VpiError>
+        requires { E.is_sound observation.now }
+        ensures ok { IfOk result (λ o. allowed (E.observer observation.now) right
             (object_of self.now.handles handle) ≡ Ok o.0) }
-        ensures refused { IfErr result (λ e. Refuses (allowed (E.observer eyes.now) right
+        ensures refused { IfErr result (λ e. Refuses (allowed (E.observer observation.now) right
             (object_of self.now.handles handle)) e) }
     {
         let Some(object) = self.object(handle) else {
             return Err(VpiError::BadHandle);
         };
-        match eyes.denied(self.alloc, right, object) {
+        match observation.denied(self.alloc, right, object) {
             Ok(None) => Ok(object),
             Ok(Some(words)) => Err(VpiError::Denied(words)),
             Err(_) => Err(VpiError::NoMemory),
@@ -139,18 +144,22 @@ impl Session {
 
     /// The scope of a handle, which is a module; without a handle that of the top modules. Refused where the number is no handle
     /// (1101), the user may not list it (1109), or it is no module (1102), or for want of memory (1107).
-    fn scope<E: Observe>(&self, eyes: &E, handle: Option<u32>) -> Result<Option<ObjectId>, VpiError>
-        requires { E.is_sound eyes.now }
-        ensures ok { IfOk result (λ scope. scope_of (E.observer eyes.now) self.now.handles handle
+    fn scope<E: Observe>(
+        &self,
+        observation: &E,
+        handle: Option<u32>,
+    ) -> Result<Option<ObjectId>, VpiError>
+        requires { E.is_sound observation.now }
+        ensures ok { IfOk result (λ scope. scope_of (E.observer observation.now) self.now.handles handle
             ≡ Ok (option_map (λ o. o.0) scope)) }
         ensures refused { IfErr result
-            (λ e. Refuses (scope_of (E.observer eyes.now) self.now.handles handle) e) }
+            (λ e. Refuses (scope_of (E.observer observation.now) self.now.handles handle) e) }
     {
         let Some(handle) = handle else {
             return Ok(None);
         };
-        let object = self.allowed(eyes, handle, Right::List)?;
-        match eyes.kind(object) {
+        let object = self.allowed(observation, handle, Right::List)?;
+        match observation.kind(object) {
             Some(Kind::Module) => Ok(Some(object)),
             _ => Err(VpiError::WrongKind),
         }
@@ -174,18 +183,18 @@ impl Session {
     /// The object of a dotted name in a scope, for which there is room for a handle; the refusals are those of its handle.
     fn named<E: Observe>(
         &self,
-        eyes: &E,
+        observation: &E,
         scope: Option<u32>,
         name: &str,
     ) -> Result<ObjectId, VpiError>
-        requires { E.is_sound eyes.now }
+        requires { E.is_sound observation.now }
         ensures ok { IfOk result
-            (λ o. handle_of (E.observer eyes.now) self.now.handles scope name.now ≡ Ok o.0) }
+            (λ o. handle_of (E.observer observation.now) self.now.handles scope name.now ≡ Ok o.0) }
         ensures refused { IfErr result
-            (λ e. Refuses (handle_of (E.observer eyes.now) self.now.handles scope name.now) e) }
+            (λ e. Refuses (handle_of (E.observer observation.now) self.now.handles scope name.now) e) }
     {
-        let above = self.scope(eyes, scope)?;
-        match eyes.find(self.alloc, above, name) {
+        let above = self.scope(observation, scope)?;
+        match observation.find(self.alloc, above, name) {
             Ok(found) => self.room_for(found),
             Err(_) => Err(VpiError::NoMemory),
         }
@@ -197,20 +206,20 @@ impl Session {
     /// as it was.
     pub fn handle_by_name<E: Observe>(
         &mut self,
-        eyes: &E,
+        observation: &E,
         scope: Option<u32>,
         name: &str,
     ) -> Result<u32, VpiError>
-        requires { E.is_sound eyes.now }
+        requires { E.is_sound observation.now }
         ensures handle { IfOk result (λ handle. handle ≡ next_handle self.old.handles) }
         ensures made { OnOk result
-            (IsOkAnd (handle_of (E.observer eyes.now) self.old.handles scope name.now)
+            (IsOkAnd (handle_of (E.observer observation.now) self.old.handles scope name.now)
             (λ o. self.new ≡ with_handle o self.old)) }
         ensures refused { IfErr result
-            (λ e. Explains (handle_of (E.observer eyes.now) self.old.handles scope name.now) e) }
+            (λ e. Explains (handle_of (E.observer observation.now) self.old.handles scope name.now) e) }
         ensures unchanged { OnErr result (self.new ≡ self.old) }
     {
-        let object = self.named(eyes, scope, name)?;
+        let object = self.named(observation, scope, name)?;
         self.handles.push(Some(object))?;
         self.open_handles += 1;
         Ok(self.handles.len() as u32)
@@ -219,34 +228,34 @@ impl Session {
     /// The objects of a kind that are listed to the user in a scope.
     fn listed<E: Observe>(
         &self,
-        eyes: &E,
+        observation: &E,
         kind: Kind,
         scope: Option<ObjectId>,
     ) -> Result<Sequence<ObjectId>, AllocError>
-        requires { E.is_sound eyes.now }
+        requires { E.is_sound observation.now }
         ensures { IfOk result (λ ids. map (λ o. o.0) ids
-            ≡ listed_of (E.observer eyes.now) kind (option_map (λ o. o.0) scope)) }
+            ≡ listed_of (E.observer observation.now) kind (option_map (λ o. o.0) scope)) }
     {
-        let objects = eyes.listed(self.alloc, scope)?;
-        of_kind(self.alloc, eyes, kind, objects.as_slice())
+        let objects = observation.listed(self.alloc, scope)?;
+        of_kind(self.alloc, observation, kind, objects.as_slice())
     }
 
     /// An iteration over these objects of a scope, for whose handles there is room.
     fn iteration<E: Observe>(
         &self,
-        eyes: &E,
+        observation: &E,
         scope: Option<ObjectId>,
         objects: &[ObjectId],
     ) -> Result<Iteration, AllocError>
-        requires sound { E.is_sound eyes.now }
+        requires sound { E.is_sound observation.now }
         requires room { IsTrue (has_room (length objects.now) self.now.handles) }
-        ensures iteration { IfOk result (λ i. i ≡ iteration (E.observer eyes.now) self.now.handles
+        ensures iteration { IfOk result (λ i. i ≡ iteration (E.observer observation.now) self.now.handles
             (option_map (λ o. o.0) scope) (map (λ o. o.0) objects.now)) }
         ensures count { IfOk result (λ i. length i.handles ≡ length objects.now) }
     {
-        let closed = eyes.closed(self.alloc, scope)?;
+        let closed = observation.closed(self.alloc, scope)?;
         let last = self.handles.len() as u32;
-        Iteration::new(self.alloc, eyes, closed, last, objects)
+        Iteration::new(self.alloc, observation, closed, last, objects)
     }
 
     /// An iteration over the objects of a kind in the scope of a handle, or over the top modules: of a list that is made at once,
@@ -254,23 +263,23 @@ impl Session {
     /// or is no module (1102), with too many handles (1105), or for want of memory (1107), which may come before 1105.
     pub fn iterate<E: Observe>(
         &self,
-        eyes: &E,
+        observation: &E,
         kind: Kind,
         scope: Option<u32>,
     ) -> Result<Iteration, VpiError>
-        requires { E.is_sound eyes.now }
+        requires { E.is_sound observation.now }
         ensures ok { IfOk result
-            (λ i. iterated (E.observer eyes.now) self.now.handles kind scope ≡ Ok i) }
+            (λ i. iterated (E.observer observation.now) self.now.handles kind scope ≡ Ok i) }
         ensures room { IfOk result (λ i. IsTrue (has_room (length i.handles) self.now.handles)) }
         ensures refused { IfErr result (λ e. ExplainsIteration
-            (iterated (E.observer eyes.now) self.now.handles kind scope) e) }
+            (iterated (E.observer observation.now) self.now.handles kind scope) e) }
     {
-        let above = self.scope(eyes, scope)?;
-        let objects = self.listed(eyes, kind, above)?;
+        let above = self.scope(observation, scope)?;
+        let objects = self.listed(observation, kind, above)?;
         if !self.has_room(objects.len()) {
             return Err(VpiError::TooManyHandles);
         }
-        Ok(self.iteration(eyes, above, objects.as_slice())?)
+        Ok(self.iteration(observation, above, objects.as_slice())?)
     }
 
     /// Makes the handles of an iteration, all of them; or none, for want of memory.
@@ -288,20 +297,20 @@ impl Session {
     /// such number (1102), or for want of memory (1107).
     pub fn get<E: Observe>(
         &self,
-        eyes: &E,
+        observation: &E,
         handle: u32,
         property: NumberProperty,
     ) -> Result<u32, VpiError>
-        requires { E.is_sound eyes.now }
-        ensures ok { IfOk result (λ n. number_of (E.observer eyes.now) property
+        requires { E.is_sound observation.now }
+        ensures ok { IfOk result (λ n. number_of (E.observer observation.now) property
             (object_of self.now.handles handle) ≡ Ok n) }
-        ensures refused { IfErr result (λ e. Explains (number_of (E.observer eyes.now) property
+        ensures refused { IfErr result (λ e. Explains (number_of (E.observer observation.now) property
             (object_of self.now.handles handle)) e) }
     {
-        let object = self.allowed(eyes, handle, Right::List)?;
-        match (property, eyes.kind(object)) {
-            (NumberProperty::Line, _) => Ok(eyes.line(object)),
-            (NumberProperty::Size, Some(kind)) if kind.has_value() => Ok(eyes.width(object)),
+        let object = self.allowed(observation, handle, Right::List)?;
+        match (property, observation.kind(object)) {
+            (NumberProperty::Line, _) => Ok(observation.line(object)),
+            (NumberProperty::Size, Some(kind)) if kind.has_value() => Ok(observation.width(object)),
             (NumberProperty::Size, _) => Err(VpiError::WrongKind),
         }
     }
@@ -309,24 +318,24 @@ impl Session {
     /// A text of an object.
     fn text<E: Observe>(
         &self,
-        eyes: &E,
+        observation: &E,
         object: ObjectId,
         property: TextProperty,
     ) -> Result<Text, VpiError>
-        requires { E.is_sound eyes.now }
+        requires { E.is_sound observation.now }
         ensures ok { IfOk result
-            (λ t. text_at (E.observer eyes.now) property object.0 ≡ Ok t) }
+            (λ t. text_at (E.observer observation.now) property object.0 ≡ Ok t) }
         ensures refused { IfErr result
-            (λ e. Explains (text_at (E.observer eyes.now) property object.0) e) }
+            (λ e. Explains (text_at (E.observer observation.now) property object.0) e) }
     {
         match property {
-            TextProperty::Type => match eyes.kind(object) {
+            TextProperty::Type => match observation.kind(object) {
                 Some(kind) => Ok(Text::copy(self.alloc, kind.type_name())?),
                 None => Err(VpiError::WrongKind),
             },
-            TextProperty::Name => Ok(Text::copy(self.alloc, eyes.name(object))?),
-            TextProperty::FullName => Ok(eyes.full_name(self.alloc, object)?),
-            TextProperty::DefinitionName => match eyes.definition(object) {
+            TextProperty::Name => Ok(Text::copy(self.alloc, observation.name(object))?),
+            TextProperty::FullName => Ok(observation.full_name(self.alloc, object)?),
+            TextProperty::DefinitionName => match observation.definition(object) {
                 Some(name) => Ok(Text::copy(self.alloc, name)?),
                 None => Err(VpiError::WrongKind),
             },
@@ -337,32 +346,32 @@ impl Session {
     /// (1109), or it has no such text (1102), or for want of memory (1107).
     pub fn get_str<E: Observe>(
         &self,
-        eyes: &E,
+        observation: &E,
         handle: u32,
         property: TextProperty,
     ) -> Result<SharedText, VpiError>
-        requires { E.is_sound eyes.now }
-        ensures ok { IfOk result (λ t. text_of (E.observer eyes.now) property
+        requires { E.is_sound observation.now }
+        ensures ok { IfOk result (λ t. text_of (E.observer observation.now) property
             (object_of self.now.handles handle) ≡ Ok t) }
-        ensures refused { IfErr result (λ e. Explains (text_of (E.observer eyes.now) property
+        ensures refused { IfErr result (λ e. Explains (text_of (E.observer observation.now) property
             (object_of self.now.handles handle)) e) }
     {
-        let object = self.allowed(eyes, handle, Right::List)?;
-        let text = self.text(eyes, object, property)?;
+        let object = self.allowed(observation, handle, Right::List)?;
+        let text = self.text(observation, object, property)?;
         Ok(SharedText::new(self.alloc, text)?)
     }
 
     /// The value of a handle's object. Refused where the number is no handle (1101), the user lacks the right to read (1109), or the
     /// object is no net, reg or parameter (1102), or for want of memory (1107).
-    pub fn get_value<E: Observe>(&self, eyes: &E, handle: u32) -> Result<Bits, VpiError>
-        requires { E.is_sound eyes.now }
-        ensures ok { IfOk result (λ value. value_of (E.observer eyes.now)
+    pub fn get_value<E: Observe>(&self, observation: &E, handle: u32) -> Result<Bits, VpiError>
+        requires { E.is_sound observation.now }
+        ensures ok { IfOk result (λ value. value_of (E.observer observation.now)
             (object_of self.now.handles handle) ≡ Ok value) }
-        ensures refused { IfErr result (λ e. Explains (value_of (E.observer eyes.now)
+        ensures refused { IfErr result (λ e. Explains (value_of (E.observer observation.now)
             (object_of self.now.handles handle)) e) }
     {
-        let object = self.allowed(eyes, handle, Right::Read)?;
-        match eyes.value(object) {
+        let object = self.allowed(observation, handle, Right::Read)?;
+        match observation.value(object) {
             Some(bits) => Ok(bits),
             None => Err(VpiError::WrongKind),
         }
@@ -373,24 +382,24 @@ impl Session {
     /// executed (1104), or for want of memory (1107).
     pub fn put_value<E: Observe>(
         &self,
-        eyes: &E,
+        observation: &E,
         handle: u32,
         value: &PutValue,
     ) -> Result<(ObjectId, Bits), VpiError>
-        requires { E.is_sound eyes.now }
-        ensures ok { IfOk result (λ p. put_of (E.observer eyes.now) value.now
+        requires { E.is_sound observation.now }
+        ensures ok { IfOk result (λ p. put_of (E.observer observation.now) value.now
             (object_of self.now.handles handle) ≡ Ok (p.0.0, p.1)) }
-        ensures refused { IfErr result (λ e. Refuses (put_of (E.observer eyes.now) value.now
+        ensures refused { IfErr result (λ e. Refuses (put_of (E.observer observation.now) value.now
             (object_of self.now.handles handle)) e) }
     {
-        let object = self.allowed(eyes, handle, Right::Put)?;
-        let Some(Kind::Reg) = eyes.kind(object) else {
+        let object = self.allowed(observation, handle, Right::Put)?;
+        let Some(Kind::Reg) = observation.kind(object) else {
             return Err(VpiError::WrongKind);
         };
-        let Some(bits) = put_bits(eyes.width(object), value) else {
+        let Some(bits) = put_bits(observation.width(object), value) else {
             return Err(VpiError::BadValue);
         };
-        if eyes.finished() {
+        if observation.finished() {
             return Err(VpiError::Finished);
         }
         Ok((object, bits))

@@ -4,7 +4,7 @@ ghost use Rattle.vp_policy.specs.PolicyState.{Fits};
 ghost use Rattle.vp_policy.specs.Users.{member_at};
 ghost use Rattle.vp_vpi.specs.Races.{is_shown, race_seen, races_seen, step_name, steps_seen};
 
-use crate::races::SeenRace;
+use crate::races::ShownRace;
 use std::alloc::{AllocError, Global};
 use vp_elab::{Design, Kind, ObjectId};
 use vp_list::{Sequence, Text};
@@ -62,12 +62,12 @@ pub fn seen_race(
     policy: &Policy,
     user: UserId,
     finding: &Finding,
-) -> Result<SeenRace, AllocError>
+) -> Result<ShownRace, AllocError>
     requires { Fits policy.now design.now.tree }
     ensures { let member = member_at policy.now.members user.0 in
         IfOk result (λ race. race ≡ race_seen design.now.tree member finding.now) }
 {
-    Ok(SeenRace {
+    Ok(ShownRace {
         name: design.full_name(alloc, finding.object())?,
         time: finding.segment().time(),
         values: finding.values(),
@@ -83,7 +83,7 @@ pub fn seen_races(
     policy: &Policy,
     user: UserId,
     book: &[Shared<Finding>],
-) -> Result<Sequence<Shared<SeenRace>>, AllocError>
+) -> Result<Sequence<Shared<ShownRace>>, AllocError>
     requires { Fits policy.now design.now.tree }
     ensures { let member = member_at policy.now.members user.0 in
         IfOk result (λ races. races ≡ races_seen design.now.tree member book.now) }

@@ -6,13 +6,13 @@ ghost use Rattle.vp_vpi.specs.Calls.{line_of, shown_at};
 ghost use Rattle.vp_vpi.specs.Races.{is_shown, observer_with, race_seen};
 
 use crate::observer::{Found, Observe};
-use crate::races::{RaceLine, RaceTold};
+use crate::races::{RaceDetails, RaceLine};
 use crate::shown_races::{is_race_shown, seen_race};
 use std::alloc::{AllocError, Global};
 use vp_bits::Bits;
 use vp_elab::{Kind, ObjectId};
 use vp_list::{Sequence, Text};
-use vp_policy::{DenialWords, Look, Policy, UserId};
+use vp_policy::{DenialText, Look, Policy, UserId};
 use vp_pragma::Right;
 use vp_race::{Book, Finding, Sim};
 
@@ -141,9 +141,9 @@ impl Observe for UserObserver<'_> {
         alloc: Global,
         right: Right,
         object: ObjectId,
-    ) -> Result<Option<DenialWords>, AllocError> {
+    ) -> Result<Option<DenialText>, AllocError> {
         let design = self.sim.design();
-        match self.policy.lacking(design, self.user, object, right) {
+        match self.policy.missing_right(design, self.user, object, right) {
             Some(denial) => Ok(Some(denial.words(alloc, design)?)),
             None => Ok(None),
         }
@@ -210,7 +210,7 @@ impl Observe for UserObserver<'_> {
         Ok(Sequence::from_vec(lines))
     }
 
-    fn race(&self, alloc: Global, number: u64) -> Result<Option<RaceTold>, AllocError> {
+    fn race(&self, alloc: Global, number: u64) -> Result<Option<RaceDetails>, AllocError> {
         let Some(finding) = self.finding_at(number) else {
             return Ok(None);
         };

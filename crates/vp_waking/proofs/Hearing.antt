@@ -15,7 +15,7 @@ use Rattle.vp_expr.specs.Tables.{tables_of}
 use Rattle.vp_waking.specs.declared.waiting.Waiting.{Waiting}
 use Rattle.vp_waking.specs.declared.waiting.Waiting.TheVariants as wait
 use Rattle.vp_waking.specs.Listening.{AreAllListeners, AreHeard, AreKept, AreListeners, IsHeard, Listening, has, is_about, listeners_of, may_listen, with_number_at}
-use Rattle.vp_waking.specs.Waking.{Term, any_of, awaited_by, object_at, roused, roused_one, terms_of, wait_of}
+use Rattle.vp_waking.specs.Waking.{Term, any_of, awaited_by, object_at, woken_state, woken_one, terms_of, wait_of}
 use Rattle.vp_waking.proofs.Rising.{all_with, has_more, has_self, rise_with}
 
 -- the listeners, as they are shown
@@ -173,12 +173,12 @@ no_listeners tables object = record {
 }
 
 -- who is woken waits no more
-pub heard_roused : (tables : Tables) (lists : List (List ℕ)) (waiting : List Waiting) (processes : List ℕ) → AreHeard tables lists waiting → AreHeard tables lists (roused waiting processes)
-heard_roused tables lists waiting [] all = all
-heard_roused tables lists waiting (p ∷ ps) all =
-    heard_roused tables lists (roused_one waiting p) ps (heard_set tables lists waiting p wait.Nothing all (heard_nothing tables lists wait.Nothing p refl))
+pub heard_woken : (tables : Tables) (lists : List (List ℕ)) (waiting : List Waiting) (processes : List ℕ) → AreHeard tables lists waiting → AreHeard tables lists (woken_state waiting processes)
+heard_woken tables lists waiting [] all = all
+heard_woken tables lists waiting (p ∷ ps) all =
+    heard_woken tables lists (woken_one waiting p) ps (heard_set tables lists waiting p wait.Nothing all (heard_nothing tables lists wait.Nothing p refl))
 
 -- as many wait
-pub length_roused : (waiting : List Waiting) (processes : List ℕ) → length (roused waiting processes) ≡ length waiting
-length_roused waiting [] = refl
-length_roused waiting (p ∷ ps) = length_roused (roused_one waiting p) ps ∙ length-set waiting p wait.Nothing
+pub length_woken : (waiting : List Waiting) (processes : List ℕ) → length (woken_state waiting processes) ≡ length waiting
+length_woken waiting [] = refl
+length_woken waiting (p ∷ ps) = length_woken (woken_one waiting p) ps ∙ length-set waiting p wait.Nothing

@@ -23,14 +23,14 @@ with_by a b n ns number = if a then number ∷ n ∷ ns else if b then n ∷ ns 
 before : (n number : ℕ) → number < n → nat_lt number n ≡ true
 before n number h = grind (arith, nat_tests)
 
-behind : (n number : ℕ) → n ≤ number → nat_lt number n ≡ false
-behind n number h = grind (arith, nat_tests)
+following : (n number : ℕ) → n ≤ number → nat_lt number n ≡ false
+following n number h = grind (arith, nat_tests)
 
 is_before : (n number : ℕ) → nat_lt number n ≡ true → number < n
 is_before n number h = grind (arith, nat_tests)
 
-is_behind : (n number : ℕ) → nat_lt number n ≡ false → n ≤ number
-is_behind n number h = grind (arith, nat_tests)
+is_after : (n number : ℕ) → nat_lt number n ≡ false → n ≤ number
+is_after n number h = grind (arith, nat_tests)
 
 -- where a number is to stand, by the numbers before it and those from there on
 pub placed : (ns : List ℕ) (i number : ℕ) → i ≤ length ns → ((k : ℕ) → k < i → get_or ns k 0 < number) → ((k : ℕ) → i ≤ k → k < length ns → number < get_or ns k 0) → insert ns i number ≡ with_number ns number
@@ -42,19 +42,19 @@ placed (n ∷ ns) (suc i) number w less more =
     let first : n < number = less 0 (omega arith) in
     let rest = placed ns i number (omega arith) (λ k h. less (suc k) (omega arith)) (λ k h l. more (suc k) (omega arith) (omega arith)) in
     ap (λ (l : List ℕ). n ∷ l) rest
-    ∙ sym (ap (λ a. with_by a (n == number) n ns number) (behind n number (omega arith)) ∙ ap (λ b. with_by false b n ns number) (ne_eqb n number (λ e. omega arith)))
+    ∙ sym (ap (λ a. with_by a (n == number) n ns number) (following n number (omega arith)) ∙ ap (λ b. with_by false b n ns number) (ne_eqb n number (λ e. omega arith)))
 
 -- a number that stands there already
 pub found : (ns : List ℕ) (i number : ℕ) → AllPairs (λ x y. x < y) ns → i < length ns → get_or ns i 0 ≡ number → ns ≡ with_number ns number
 found [] i number rise w at = absurd (omega arith)
 found (n ∷ ns) zero number rise w at =
     let same : n ≡ number = at in
-    sym (ap (λ a. with_by a (n == number) n ns number) (behind n number (omega arith)) ∙ ap (λ b. with_by false b n ns number) (eq-eqb n number same))
+    sym (ap (λ a. with_by a (n == number) n ns number) (following n number (omega arith)) ∙ ap (λ b. with_by false b n ns number) (eq-eqb n number same))
 found (n ∷ ns) (suc i) number rise w at =
     let first : n < number = subst (λ x. n < x) at (rise_head n ns rise i 0 (omega arith)) in
     let rest = found ns i number (rise_tail n ns rise) (omega arith) at in
     ap (λ (l : List ℕ). n ∷ l) rest
-    ∙ sym (ap (λ a. with_by a (n == number) n ns number) (behind n number (omega arith)) ∙ ap (λ b. with_by false b n ns number) (ne_eqb n number (λ e. omega arith)))
+    ∙ sym (ap (λ a. with_by a (n == number) n ns number) (following n number (omega arith)) ∙ ap (λ b. with_by false b n ns number) (ne_eqb n number (λ e. omega arith)))
 
 or_more : (a b c : Bool) → (b ≡ true → c ≡ true) → (a || b) ≡ true → (a || c) ≡ true
 or_more true b c h e = refl
@@ -97,7 +97,7 @@ rise_by true b n ns number ta tb rest h =
     AllPairs-cons (λ x y. x < y) number (n ∷ ns) (All-cons (λ x. number < x) n ns first (All-weaker (λ x. n < x) (λ x. number < x) (λ x l. omega arith) ns (rise_head n ns h))) h
 rise_by false true n ns number ta tb rest h = h
 rise_by false false n ns number ta tb rest h =
-    let below : n ≤ number = is_behind n number ta in
+    let below : n ≤ number = is_after n number ta in
     let other = eqb-false n number tb in
     let first : n < number = omega (arith, other) in
     AllPairs-cons (λ x y. x < y) n (with_number ns number) (all_with (λ x. n < x) ns number first (rise_head n ns h)) (rest (rise_tail n ns h))

@@ -20,7 +20,7 @@ use Rattle.vp_waking.specs.declared.change.Change.{Change}
 use Rattle.vp_waking.specs.declared.waiting.Waiting.{Waiting}
 use Rattle.vp_waking.specs.declared.waiting.Waiting.TheVariants as wait
 use Rattle.vp_waking.specs.Listening.{AreHeard, AreListeners, has, is_about, listeners_of, listens_to, may_listen}
-use Rattle.vp_waking.specs.Waking.{Term, any_of, awaited_by, is_continuous, is_of, object_at, roused, roused_one, terms_of, wait_of, wakes, wakes_at, with_evaluations, woken_alone, woken_by}
+use Rattle.vp_waking.specs.Waking.{Term, any_of, awaited_by, is_continuous, is_of, object_at, woken_state, woken_one, terms_of, wait_of, wakes, wakes_at, with_evaluations, woken_alone, woken_by}
 use Rattle.vp_waking.proofs.Rising.{rise_head, rise_tail}
 
 -- a test of what is made of things
@@ -141,11 +141,11 @@ woken_listeners tables lists old change waiting fit heard =
     ∙ ap (filter (wakes_at tables old change waiting)) (sym (below_upto (length tables.processes)))
 
 -- who waits, where others are roused
-roused_other : (waiting : List Waiting) (ps : List ℕ) (p : ℕ) → All (λ q. q < p) ps → wait_of (roused waiting ps) p ≡ wait_of waiting p
-roused_other waiting [] p h = refl
-roused_other waiting (q ∷ qs) p h =
+woken_other : (waiting : List Waiting) (ps : List ℕ) (p : ℕ) → All (λ q. q < p) ps → wait_of (woken_state waiting ps) p ≡ wait_of waiting p
+woken_other waiting [] p h = refl
+woken_other waiting (q ∷ qs) p h =
     let first : q < p = All-head (λ q. q < p) q qs h in
-    roused_other (roused_one waiting q) qs p (All-tail (λ q. q < p) q qs h) ∙ get_or-set_other waiting q p wait.Nothing wait.Nothing (λ e. omega (arith, e))
+    woken_other (woken_one waiting q) qs p (All-tail (λ q. q < p) q qs h) ∙ get_or-set_other waiting q p wait.Nothing wait.Nothing (λ e. omega (arith, e))
 
 get_or-default : (ns : List ℕ) (i d e : ℕ) → i < length ns → get_or ns i d ≡ get_or ns i e
 get_or-default [] i d e h = absurd (omega arith)
@@ -160,11 +160,11 @@ before_all ns i rise within k d w =
     subst (λ x. x < get_or ns i 0) (sym (get_or-take i ns k d less)) before
 
 -- the next listener, where those before it are woken
-next_alone : (tables : Tables) (old : List Bit) (change : Change) (waiting : List Waiting) (ns : List ℕ) (i : ℕ) → AllPairs (λ x y. x < y) ns → i < length ns → woken_alone tables old change (roused waiting (filter (wakes_at tables old change waiting) (take i ns))) (get_or ns i 0) ≡ cond (wakes_at tables old change waiting (get_or ns i 0)) (get_or ns i 0 ∷ []) []
+next_alone : (tables : Tables) (old : List Bit) (change : Change) (waiting : List Waiting) (ns : List ℕ) (i : ℕ) → AllPairs (λ x y. x < y) ns → i < length ns → woken_alone tables old change (woken_state waiting (filter (wakes_at tables old change waiting) (take i ns))) (get_or ns i 0) ≡ cond (wakes_at tables old change waiting (get_or ns i 0)) (get_or ns i 0 ∷ []) []
 next_alone tables old change waiting ns i rise within =
     let p = wakes_at tables old change waiting in
     let n = get_or ns i 0 in
-    ap (λ (w : Waiting). cond (wakes tables old change w n) (n ∷ []) []) (roused_other waiting (filter p (take i ns)) n (All-filter p (λ x. x < n) (take i ns) (before_all ns i rise within)))
+    ap (λ (w : Waiting). cond (wakes tables old change w n) (n ∷ []) []) (woken_other waiting (filter p (take i ns)) n (All-filter p (λ x. x < n) (take i ns) (before_all ns i rise within)))
 
 -- what the next listener does, as the code sees it
 abbrev pub Alone : Tables → List Bit → Change → (ns : List ℕ) → (waiting : List Waiting) → (now : List Waiting) → (i : ℕ) → (alone : List ℕ) → Type 0
@@ -173,7 +173,7 @@ Alone tables old change ns waiting now i alone = alone ≡ cond (wakes_at tables
 pub alone_is :
     (t tables : Tables) (old : List Bit) (change : Change) (waiting now : List Waiting) (items ns : List ℕ) (i : ℕ)
     → t ≡ tables → items ≡ ns → AllPairs (λ x y. x < y) ns → i < length items
-    → now ≡ roused waiting (filter (wakes_at tables old change waiting) (take i ns))
+    → now ≡ woken_state waiting (filter (wakes_at tables old change waiting) (take i ns))
     → Alone tables old change ns waiting now i (woken_alone t old change now (get_or items i 0))
 alone_is t tables old change waiting now items ns i et ei rise within en =
     ap (λ (u : Tables). woken_alone u old change now (get_or items i 0)) et
@@ -185,14 +185,14 @@ alone_is t tables old change waiting now items ns i et ei rise within en =
 pub waiting_more :
     (tables : Tables) (old : List Bit) (change : Change) (waiting now new : List Waiting) (ns alone : List ℕ) (i : ℕ)
     → i < length ns → Alone tables old change ns waiting now i alone
-    → now ≡ roused waiting (filter (wakes_at tables old change waiting) (take i ns)) → new ≡ roused now alone
-    → new ≡ roused waiting (filter (wakes_at tables old change waiting) (take (i + 1) ns))
+    → now ≡ woken_state waiting (filter (wakes_at tables old change waiting) (take i ns)) → new ≡ woken_state now alone
+    → new ≡ woken_state waiting (filter (wakes_at tables old change waiting) (take (i + 1) ns))
 waiting_more tables old change waiting now new ns alone i within is en e =
     let p = wakes_at tables old change waiting in
     let one = cond (p (get_or ns i 0)) (get_or ns i 0 ∷ []) [] in
-    e ∙ ap (λ (w : List Waiting). roused w alone) en ∙ ap (roused (roused waiting (filter p (take i ns)))) is
-    ∙ sym (fold-append roused_one waiting (filter p (take i ns)) one)
-    ∙ ap (roused waiting) (sym (filter_more p ns i 0 within))
+    e ∙ ap (λ (w : List Waiting). woken_state w alone) en ∙ ap (woken_state (woken_state waiting (filter p (take i ns)))) is
+    ∙ sym (fold-append woken_one waiting (filter p (take i ns)) one)
+    ∙ ap (woken_state waiting) (sym (filter_more p ns i 0 within))
 
 evaluations_more : (q : Queue) (ps qs : List ℕ) → with_evaluations (with_evaluations q ps) qs ≡ with_evaluations q (ps ++ qs)
 evaluations_more q ps qs =

@@ -28,9 +28,9 @@ abbrev pub set_change : List (List Bit) → (object : ℕ) → Option ℕ → (v
 set_change values object place value = set_change_of object (slice_get values object) place value
 
 -- the values after a change
-abbrev pub values_behind : List (List Bit) → Option Change → List (List Bit)
-values_behind values None = values
-values_behind values (Some change) = slice_set values change.object.0 change.value
+abbrev pub values_with : List (List Bit) → Option Change → List (List Bit)
+values_with values None = values
+values_with values (Some change) = slice_set values change.object.0 change.value
 
 -- the net that a process drives; a procedure drives none (clauses 6.1 and 12.3.9.2)
 abbrev pub net_of : Process → Option ObjectId

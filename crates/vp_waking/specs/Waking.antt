@@ -135,12 +135,12 @@ abbrev pub woken_alone : Tables → (old : List Bit) → Change → List Waiting
 woken_alone tables old change waiting process = if wakes_at tables old change waiting process then process ∷ [] else []
 
 -- a process waits no more
-abbrev pub roused_one : List Waiting → (process : ℕ) → List Waiting
-roused_one waiting process = slice_set waiting process Nothing
+abbrev pub woken_one : List Waiting → (process : ℕ) → List Waiting
+woken_one waiting process = slice_set waiting process Nothing
 
 -- processes wait no more
-abbrev pub roused : List Waiting → (processes : List ℕ) → List Waiting
-roused waiting processes = fold roused_one waiting processes
+abbrev pub woken_state : List Waiting → (processes : List ℕ) → List Waiting
+woken_state waiting processes = fold woken_one waiting processes
 
 -- the queue after these processes were woken: they are evaluated (clause 11.3)
 abbrev pub with_evaluations : Queue → (processes : List ℕ) → Queue

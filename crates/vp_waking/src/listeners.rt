@@ -126,7 +126,7 @@ impl Listeners {
     }
 
     /// The listeners of an object, to which each of them may listen.
-    pub fn of(&self, object: usize) -> &[usize]
+    pub fn processes_on(&self, object: usize) -> &[usize]
         ensures listeners { result.now ≡ listeners_of self.now.lists object }
         ensures fit { AreListeners (tables_of self.now.design) object
             (listeners_of self.now.lists object) }

@@ -2,7 +2,7 @@ ghost use Rattle.std.specs.Prelude.{◌≡◌, ◌≤◌, ◌+◌, length, map, 
 ghost use Rattle.std.specs.List.{list_any};
 ghost use Rattle.vp_expr.specs.Tables.{awaited_of, tables_of};
 ghost use Rattle.vp_waking.specs.Listening.{AreHeard, listeners_of, may_listen};
-ghost use Rattle.vp_waking.specs.Waking.{counts, first_bit, is_continuous, is_negedge, is_of, is_posedge, located, roused, roused_one, statement_terms, terms_of, wakes, wakes_at, with_evaluations, woken_alone, woken_by};
+ghost use Rattle.vp_waking.specs.Waking.{counts, first_bit, is_continuous, is_negedge, is_of, is_posedge, located, woken_state, woken_one, statement_terms, terms_of, wakes, wakes_at, with_evaluations, woken_alone, woken_by};
 
 use crate::change::Change;
 use crate::listeners::Listeners;
@@ -134,7 +134,7 @@ fn wake_one(
     requires listens { may_listen (tables_of checked.now) change.now.object.0 process ≡ true }
     requires room { 1 ≤ queue.old.spare }
     ensures waiting { waiting.new
-        ≡ roused waiting.old (woken_alone (tables_of checked.now) old change.now
+        ≡ woken_state waiting.old (woken_alone (tables_of checked.now) old change.now
         waiting.old process) }
     ensures queue { queue.new.queue
         ≡ with_evaluations queue.old.queue
@@ -168,14 +168,14 @@ pub fn wake(
         waiting.old }
     requires whole { length waiting.old ≡ length (tables_of listeners.now.design).processes }
     ensures waiting { waiting.new
-        ≡ roused waiting.old (woken_by (tables_of listeners.now.design) old change.now
+        ≡ woken_state waiting.old (woken_by (tables_of listeners.now.design) old change.now
         waiting.old) }
     ensures queue { queue.new.queue
         ≡ with_evaluations queue.old.queue
         (woken_by (tables_of listeners.now.design) old change.now waiting.old) }
     ensures processes { queue.new.processes ≡ queue.old.processes }
 {
-    for process in listeners.of(change.object.0 as usize) {
+    for process in listeners.processes_on(change.object.0 as usize) {
         wake_one(listeners.checked(), queue, waiting, old, change, *process);
     }
 }

@@ -6,7 +6,7 @@ use Rattle.vp_answer.specs.declared.request.Request.TheVariants as request
 use Rattle.vp_answer.specs.declared.reply.Refusal.TheVariants as refusal
 use Rattle.vp_answer.specs.declared.reply.Reply.TheVariants as reply
 use Rattle.vp_wire.specs.declared.dialogue.Stage.TheVariants.{Before, Closed, Open}
-use Rattle.vp_wire.specs.Dialogue.{Calls, Tells, lines_of, stage_behind, turn_of_request, whole_lines}
+use Rattle.vp_wire.specs.Dialogue.{Calls, Tells, lines_of, stage_after, turn_of_request, whole_lines}
 
 two_lines : lines_of (codes "a\nb\n") ≡ codes "a" ∷ codes "b" ∷ []
 two_lines = refl
@@ -34,24 +34,24 @@ grants = request.Grant (record { token = codes "op"; user = codes "ann"; envelop
 grant_before_open : turn_of_request Before grants ≡ Calls grants
 grant_before_open = refl
 
-granted_before_open : stage_behind Before grants reply.Done ≡ Before
+granted_before_open : stage_after Before grants reply.Done ≡ Before
 granted_before_open = refl
 
 -- after a close the caller is asked, and says that no session is open
-behind_close : turn_of_request Closed request.Time ≡ Calls request.Time
-behind_close = refl
+after_close : turn_of_request Closed request.Time ≡ Calls request.Time
+after_close = refl
 
-refused_open : stage_behind Before (request.Open (codes "ann") (codes "t2")) (reply.Error refusal.BadToken) ≡ Before
+refused_open : stage_after Before (request.Open (codes "ann") (codes "t2")) (reply.Error refusal.BadToken) ≡ Before
 refused_open = refl
 
 -- both answers to an `open` are written alike, and after either the session is open
-opened_open : stage_behind Before (request.Open (codes "ann") (codes "t1")) (reply.Opened (record { user = record { 0 = 0 }; opens = 1 })) ≡ Open
+opened_open : stage_after Before (request.Open (codes "ann") (codes "t1")) (reply.Opened (record { user = record { 0 = 0 }; opens = 1 })) ≡ Open
 opened_open = refl
 
-done_open : stage_behind Before (request.Open (codes "ann") (codes "t1")) reply.Done ≡ Open
+done_open : stage_after Before (request.Open (codes "ann") (codes "t1")) reply.Done ≡ Open
 done_open = refl
 
-done_close : stage_behind Open request.Close reply.Done ≡ Closed
+done_close : stage_after Open request.Close reply.Done ≡ Closed
 done_close = refl
 
 -- a line that was only begun is no whole line

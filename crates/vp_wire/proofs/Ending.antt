@@ -12,7 +12,7 @@ use Rattle.vp_answer.specs.declared.request.Request.{Request}
 use Rattle.vp_answer.specs.declared.reply.Reply.{Reply}
 use Rattle.vp_wire.specs.declared.dialogue.Dialogue.{Dialogue}
 use Rattle.vp_wire.specs.declared.dialogue.Stage.TheVariants.{Before}
-use Rattle.vp_wire.specs.declared.fault.WireError.TheVariants as fault
+use Rattle.vp_wire.specs.declared.error.WireError.TheVariants as fault
 use Rattle.vp_wire.specs.Dialogue.{AreWhole, IsDialogue, IsOut, IsWhole, Point, Stops, lines_of, turn_of, without_empty_end}
 use Rattle.vp_wire.specs.Reading.{IsBegun, Progress, AnswersLine}
 use Rattle.vp_wire.proofs.Answering.{answers_more, concat_more}

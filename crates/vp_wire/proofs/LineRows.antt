@@ -7,7 +7,7 @@ use Rattle.serde_json.proofs.OnLiterals.{serde_json_on_literals}
 use Rattle.vp_bits.specs.declared.bit.Bit.TheVariants.{Zero, One, Unknown, HighImpedance}
 use Rattle.vp_pragma.specs.declared.rights.Right.TheVariants as right
 use Rattle.vp_pragma.specs.Rights.{RightSet, nothing, with_right}
-use Rattle.vp_policy.specs.declared.denial.Barrier.TheVariants as by
+use Rattle.vp_policy.specs.declared.denial.ShownBarrier.TheVariants as by
 use Rattle.vp_answer.specs.declared.request.Request.TheVariants as request
 use Rattle.vp_answer.specs.declared.request.ValueFormat.TheVariants as format
 use Rattle.vp_answer.specs.declared.reply.Refusal.TheVariants as refusal

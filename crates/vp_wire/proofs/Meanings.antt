@@ -7,8 +7,8 @@ use Rattle.serde_json.specs.Read.{read}
 use Rattle.std.specs.Prelude.{◌⊎◌, IfErr}
 use Rattle.std.specs.Result.{IfOk}
 use Rattle.vp_answer.specs.declared.request.Request.{Request}
-use Rattle.vp_wire.specs.declared.fault.WireError.{WireError}
-use Rattle.vp_wire.specs.declared.fault.WireError.TheVariants as fault
+use Rattle.vp_wire.specs.declared.error.WireError.{WireError}
+use Rattle.vp_wire.specs.declared.error.WireError.TheVariants as fault
 use Rattle.vp_wire.specs.Lines.{meaning_of, meaning_of_value, request_of, Asks, NotJson, NotRequest}
 
 -- a line of which a JSON value is read is what the value says

@@ -1,16 +1,16 @@
 -- The parts of bytes read one after another, and the lines of an input by its parts.
 use Rattle.std.proofs.Common.{◌≡◌, ◌∙◌, ℕ, ◌≤◌, ◌==◌, Bool, true, false, cond, List, [], ◌∷◌, ◌++◌, length, Option, Some, None, refl, ap, arith, subst, sym}
 use Rattle.std.proofs.lemmas.List.{append-nil}
-use Rattle.vp_list.specs.Texts.{begun, behind_part, parts}
+use Rattle.vp_list.specs.Texts.{begun, part_and_rest, parts}
 use Rattle.vp_list.specs.laws.Texts.{parts_some}
 use Rattle.vp_wire.specs.Dialogue.{lines_of, whole_lines, without_empty_end, without_last}
 
 -- ---- parts
 
 -- a byte in front of a part
-begun_behind : (byte : ℕ) (part : List ℕ) (rest : Option (List ℕ)) → begun byte (behind_part 10 part rest) ≡ behind_part 10 (byte ∷ part) rest
-begun_behind byte part None = refl
-begun_behind byte part (Some rest) = refl
+begun_after : (byte : ℕ) (part : List ℕ) (rest : Option (List ℕ)) → begun byte (part_and_rest 10 part rest) ≡ part_and_rest 10 (byte ∷ part) rest
+begun_after byte part None = refl
+begun_after byte part (Some rest) = refl
 
 begun_only : (byte : ℕ) (bytes : List ℕ) (ps : List (List ℕ)) → 1 ≤ length ps → begun byte ps ≡ (byte ∷ bytes) ∷ [] → ps ≡ bytes ∷ []
 begun_only byte bytes [] h e = absurd (omega arith)
@@ -21,13 +21,13 @@ only_by byte bytes true e = cc
 only_by byte bytes false e = (begun_only byte bytes (parts 10 bytes) (parts_some 10 bytes) e, refl)
 
 -- bytes without a newline stand in front of the first part of what follows
-pub joined_part : (front bytes part : List ℕ) (rest : Option (List ℕ)) → parts 10 front ≡ front ∷ [] → parts 10 bytes ≡ behind_part 10 part rest → parts 10 (front ++ bytes) ≡ behind_part 10 (front ++ part) rest
+pub joined_part : (front bytes part : List ℕ) (rest : Option (List ℕ)) → parts 10 front ≡ front ∷ [] → parts 10 bytes ≡ part_and_rest 10 part rest → parts 10 (front ++ bytes) ≡ part_and_rest 10 (front ++ part) rest
 joined_part [] bytes part rest none cut = cut
 joined_part (byte ∷ front) bytes part rest none cut =
     let parted = only_by byte front (byte == 10) none in
     ap (λ (b : Bool). cond b ([] ∷ parts 10 (front ++ bytes)) (begun byte (parts 10 (front ++ bytes)))) parted.1
     ∙ ap (begun byte) (joined_part front bytes part rest parted.0 cut)
-    ∙ begun_behind byte (front ++ part) rest
+    ∙ begun_after byte (front ++ part) rest
 
 one_part : (last part : List ℕ) (parts : List (List ℕ)) → part ∷ parts ≡ last ∷ [] → (part ≡ last) × (parts ≡ [])
 one_part last part ps e = (cc, cc)
@@ -79,35 +79,35 @@ end_more line [] h = absurd (omega arith)
 end_more [] (l ∷ ls) h = refl
 end_more (b ∷ bs) (l ∷ ls) h = refl
 
-some_behind : (lines more : List (List ℕ)) → 1 ≤ length more → 1 ≤ length (lines ++ more)
-some_behind [] more h = h
-some_behind (l ∷ ls) more h = omega arith
+some_after : (lines more : List (List ℕ)) → 1 ≤ length more → 1 ≤ length (lines ++ more)
+some_after [] more h = h
+some_after (l ∷ ls) more h = omega arith
 
 -- only at the end an empty line is none
-pub end_behind : (lines more : List (List ℕ)) → 1 ≤ length more → without_empty_end (lines ++ more) ≡ lines ++ without_empty_end more
-end_behind [] more h = refl
-end_behind (l ∷ ls) more h = end_more l (ls ++ more) (some_behind ls more h) ∙ ap (λ (ms : List (List ℕ)). l ∷ ms) (end_behind ls more h)
+pub end_after : (lines more : List (List ℕ)) → 1 ≤ length more → without_empty_end (lines ++ more) ≡ lines ++ without_empty_end more
+end_after [] more h = refl
+end_after (l ∷ ls) more h = end_more l (ls ++ more) (some_after ls more h) ∙ ap (λ (ms : List (List ℕ)). l ∷ ms) (end_after ls more h)
 
 last_more : (line : List ℕ) (lines : List (List ℕ)) → 1 ≤ length lines → without_last (line ∷ lines) ≡ line ∷ without_last lines
 last_more line [] h = absurd (omega arith)
 last_more line (l ∷ ls) h = refl
 
-last_behind : (lines : List (List ℕ)) (last : List ℕ) → without_last (lines ++ last ∷ []) ≡ lines
-last_behind [] last = refl
-last_behind (l ∷ ls) last = last_more l (ls ++ last ∷ []) (some_behind ls (last ∷ []) (omega arith)) ∙ ap (λ (ms : List (List ℕ)). l ∷ ms) (last_behind ls last)
+last_after : (lines : List (List ℕ)) (last : List ℕ) → without_last (lines ++ last ∷ []) ≡ lines
+last_after [] last = refl
+last_after (l ∷ ls) last = last_more l (ls ++ last ∷ []) (some_after ls (last ∷ []) (omega arith)) ∙ ap (λ (ms : List (List ℕ)). l ∷ ms) (last_after ls last)
 
 -- the whole lines of an input are all parts but the last
 pub whole_by_parts : (input : List ℕ) (lines : List (List ℕ)) (last : List ℕ) → parts 10 input ≡ lines ++ last ∷ [] → whole_lines input ≡ lines
-whole_by_parts input lines last cut = ap without_last cut ∙ last_behind lines last
+whole_by_parts input lines last cut = ap without_last cut ∙ last_after lines last
 
 -- the lines of an input that ends in a newline
 pub lines_ended : (input : List ℕ) (lines : List (List ℕ)) → parts 10 input ≡ lines ++ [] ∷ [] → lines_of input ≡ lines
-lines_ended input lines cut = ap without_empty_end cut ∙ end_behind lines ([] ∷ []) (omega arith) ∙ append-nil lines
+lines_ended input lines cut = ap without_empty_end cut ∙ end_after lines ([] ∷ []) (omega arith) ∙ append-nil lines
 
 -- the lines of an input whose last line lacks its newline
 pub lines_open : (input : List ℕ) (lines : List (List ℕ)) (byte : ℕ) (bytes : List ℕ) → parts 10 input ≡ lines ++ (byte ∷ bytes) ∷ [] → lines_of input ≡ lines ++ (byte ∷ bytes) ∷ []
-lines_open input lines byte bytes cut = ap without_empty_end cut ∙ end_behind lines ((byte ∷ bytes) ∷ []) (omega arith)
+lines_open input lines byte bytes cut = ap without_empty_end cut ∙ end_after lines ((byte ∷ bytes) ∷ []) (omega arith)
 
 -- parts are the first lines of an input where another part follows
 pub lines_first : (input : List ℕ) (lines more : List (List ℕ)) → parts 10 input ≡ lines ++ more → 1 ≤ length more → lines_of input ≡ lines ++ without_empty_end more
-lines_first input lines more cut h = ap without_empty_end cut ∙ end_behind lines more h
+lines_first input lines more cut h = ap without_empty_end cut ∙ end_after lines more h

@@ -5,22 +5,22 @@ use Rattle.std.proofs.KnownBytes.{Appends-trans}
 use Rattle.std.specs.Io.KnownBytes.{Appends}
 use Rattle.std.specs.Result.{IfOk, IsErr, MatchResult}
 use Rattle.std.specs.List.{concat}
-use Rattle.vp_list.specs.Texts.{behind_part, parts}
+use Rattle.vp_list.specs.Texts.{part_and_rest, parts}
 use Rattle.vp_list.specs.laws.Texts.{parts_some}
 use Rattle.vp_answer.specs.declared.request.Request.{Request}
 use Rattle.vp_answer.specs.declared.reply.Reply.{Reply}
 use Rattle.vp_wire.specs.declared.dialogue.Dialogue.{Dialogue}
-use Rattle.vp_wire.specs.declared.fault.WireError.TheVariants as fault
+use Rattle.vp_wire.specs.declared.error.WireError.TheVariants as fault
 use Rattle.vp_wire.specs.declared.line.Line.{Line}
 use Rattle.vp_wire.specs.Dialogue.{IsFront, Stops, turn_of, without_empty_end}
-use Rattle.vp_wire.specs.Failures.{failures_behind, one_more}
+use Rattle.vp_wire.specs.Failures.{failures_after, one_more}
 use Rattle.vp_wire.specs.Reading.{IsBegun, Progress, AnswersLine, Writes}
 use Rattle.vp_wire.proofs.Answering.{answers_more, concat_more}
 use Rattle.vp_wire.proofs.Parting.{joined_part, lines_first}
 
 -- bytes without a newline are gathered
 pub gathered : {C : Type 0} {calls : C → Request → Reply → C → Type 0} {unread still_unread held holds : Option (List ℕ)} {first now : C} (d : Dialogue) (line : Line) (bytes piece : List ℕ)
-    → Progress calls unread still_unread held holds first d now (Some bytes) → parts 10 bytes ≡ behind_part 10 piece None → bytes ≡ piece
+    → Progress calls unread still_unread held holds first d now (Some bytes) → parts 10 bytes ≡ part_and_rest 10 piece None → bytes ≡ piece
     → ((begun : List ℕ) → IsBegun d.line begun → IsBegun line (begun ++ piece))
     → Progress calls unread still_unread held holds first (record d { line = line }) now None
 gathered d line bytes piece p cut whole gathers =
@@ -40,7 +40,7 @@ gathered d line bytes piece p cut whole gathers =
     }
 
 -- the parts of what was read after one line more
-line_more : (input begun bytes piece rest : List ℕ) (lines : List (List ℕ)) → parts 10 input ≡ lines ++ parts 10 (begun ++ bytes) → parts 10 begun ≡ begun ∷ [] → parts 10 bytes ≡ behind_part 10 piece (Some rest) → parts 10 input ≡ (lines ++ (begun ++ piece) ∷ []) ++ parts 10 rest
+line_more : (input begun bytes piece rest : List ℕ) (lines : List (List ℕ)) → parts 10 input ≡ lines ++ parts 10 (begun ++ bytes) → parts 10 begun ≡ begun ∷ [] → parts 10 bytes ≡ part_and_rest 10 piece (Some rest) → parts 10 input ≡ (lines ++ (begun ++ piece) ∷ []) ++ parts 10 rest
 line_more input begun bytes piece rest lines cut none parted =
     cut ∙ ap (λ (ps : List (List ℕ)). lines ++ ps) (joined_part begun bytes piece (Some rest) none parted)
     ∙ sym (append_assoc lines ((begun ++ piece) ∷ []) (parts 10 rest))
@@ -57,7 +57,7 @@ rest_shorter bytes piece rest whole = rw whole (rw length-append (omega arith))
 
 -- a line is answered
 pub answered : {C T E : Type 0} {calls : C → Request → Reply → C → Type 0} {unread still_unread held mid holds : Option (List ℕ)} {first before now : C} (d e : Dialogue) (line : Line) (bytes piece rest : List ℕ) (result : Result T E) (x : T)
-    → Progress calls unread still_unread held mid first d before (Some bytes) → parts 10 bytes ≡ behind_part 10 piece (Some rest)
+    → Progress calls unread still_unread held mid first d before (Some bytes) → parts 10 bytes ≡ part_and_rest 10 piece (Some rest)
     → ((begun : List ℕ) → IsBegun d.line begun → IsBegun line (begun ++ piece))
     → ((begun : List ℕ) → IsBegun line begun → AnswersLine calls (turn_of d.stage begun) (record { stage = d.stage; caller = before }) (record { stage = e.stage; caller = now }) result mid holds)
     → result ≡ Ok x → IsBegun e.line [] → e.lines ≡ d.lines + 1
@@ -81,7 +81,7 @@ answered {C} {calls = calls} {held = held} {mid = mid} {holds = holds} d e line 
 
 -- a line was answered, and the writer failed
 pub failed : {C T E : Type 0} {calls : C → Request → Reply → C → Type 0} {unread still_unread held mid holds : Option (List ℕ)} {first before now : C} (d e : Dialogue) (line : Line) (bytes piece rest : List ℕ) (result : Result T E) (x : E)
-    → Progress calls unread still_unread held mid first d before (Some bytes) → parts 10 bytes ≡ behind_part 10 piece (Some rest)
+    → Progress calls unread still_unread held mid first d before (Some bytes) → parts 10 bytes ≡ part_and_rest 10 piece (Some rest)
     → ((begun : List ℕ) → IsBegun d.line begun → IsBegun line (begun ++ piece))
     → ((begun : List ℕ) → IsBegun line begun → AnswersLine calls (turn_of d.stage begun) (record { stage = d.stage; caller = before }) (record { stage = e.stage; caller = now }) result mid holds)
     → result ≡ Err x
@@ -114,7 +114,7 @@ none_ok P (Ok x) none = cc
 none_ok P (Err e) is = tt
 
 -- after an error one failure more is counted
-pub failures_err : {T E : Type 0} (n : ℕ) (result : Result T E) → IsErr result → failures_behind n result ≡ one_more n
+pub failures_err : {T E : Type 0} (n : ℕ) (result : Result T E) → IsErr result → failures_after n result ≡ one_more n
 failures_err n (Ok x) none = cc
 failures_err n (Err e) is = refl
 

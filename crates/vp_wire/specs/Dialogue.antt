@@ -11,8 +11,8 @@ use Rattle.vp_answer.specs.declared.reply.Reply.{Reply}
 use Rattle.vp_answer.specs.declared.reply.Reply.TheVariants as reply
 use Rattle.vp_wire.specs.declared.dialogue.Stage.{Stage}
 use Rattle.vp_wire.specs.declared.dialogue.Stage.TheVariants.{Before, Open, Closed}
-use Rattle.vp_wire.specs.declared.fault.WireError.{WireError}
-use Rattle.vp_wire.specs.declared.fault.WireError.TheVariants as fault
+use Rattle.vp_wire.specs.declared.error.WireError.{WireError}
+use Rattle.vp_wire.specs.declared.error.WireError.TheVariants as fault
 use Rattle.vp_wire.specs.Lines.{Meaning, NotJson, NotRequest, Asks, line_of, meaning_of, only}
 
 -- ---- lines
@@ -89,11 +89,11 @@ error_line text = compact_text (only (codes "error") (string text)) ++ 10 ∷ []
 
 -- how far the session is after a request and its reply: an `open` that was answered ok, in either form, opens it, a `close` that
 -- was done closes it
-abbrev pub stage_behind : Stage → Request → Reply → Stage
-stage_behind stage (request.Open user token) (reply.Opened session) = Open
-stage_behind stage (request.Open user token) reply.Done = Open
-stage_behind stage request.Close reply.Done = Closed
-stage_behind stage r answer = stage
+abbrev pub stage_after : Stage → Request → Reply → Stage
+stage_after stage (request.Open user token) (reply.Opened session) = Open
+stage_after stage (request.Open user token) reply.Done = Open
+stage_after stage request.Close reply.Done = Closed
+stage_after stage r answer = stage
 
 -- ---- a dialogue with a caller
 
@@ -111,7 +111,7 @@ pub record Asked {C : Type 0} (calls : C → Request → Reply → C → Type 0)
   pub reply : Reply
   pub called : calls p.caller r reply q.caller
   pub is_reply_line : IsReplyLine (line_of reply) reply_line
-  pub stage : q.stage ≡ stage_behind p.stage r reply
+  pub stage : q.stage ≡ stage_after p.stage r reply
 
 -- a line is answered, from one point of a dialogue to the next: by its error, or by the caller's reply, who is not asked where
 -- there is no memory for the request

@@ -1,7 +1,7 @@
 -- The numbers of the faults of lines.
 use Rattle.std.specs.Prelude.{ℕ}
-use Rattle.vp_wire.specs.declared.fault.WireError.{WireError}
-use Rattle.vp_wire.specs.declared.fault.WireError.TheVariants.{BadJson, BadRequest, LineTooLong, ReadFault, WriteFault, TurnLimit, NoMemory}
+use Rattle.vp_wire.specs.declared.error.WireError.{WireError}
+use Rattle.vp_wire.specs.declared.error.WireError.TheVariants.{BadJson, BadRequest, LineTooLong, ReadFault, WriteFault, TurnLimit, NoMemory}
 
 -- the number of a fault (profile)
 abbrev pub code_of : WireError → ℕ

@@ -12,9 +12,9 @@ use Rattle.vp_bits.specs.Digits.{digit_of}
 use Rattle.vp_bits.specs.Vector.{aval_of, bval_of}
 use Rattle.vp_pragma.specs.Rights.{RightSet, name_of}
 use Rattle.vp_elab.specs.Tree.{kind_of_name}
-use Rattle.vp_policy.specs.declared.denial.Barrier.{Barrier}
-use Rattle.vp_policy.specs.declared.denial.Barrier.TheVariants as by
-use Rattle.vp_policy.specs.Denials.{DenialWords}
+use Rattle.vp_policy.specs.declared.denial.ShownBarrier.{ShownBarrier}
+use Rattle.vp_policy.specs.declared.denial.ShownBarrier.TheVariants as by
+use Rattle.vp_policy.specs.Denials.{DenialText}
 use Rattle.vp_policy.specs.File.{each_of, opened_by}
 use Rattle.vp_policy.specs.Filter.{run_denied}
 use Rattle.vp_notify.specs.declared.notice.PolledNotice.{PolledNotice}
@@ -27,8 +27,8 @@ use Rattle.vp_vpi.specs.declared.property.TextProperty.TheVariants as text
 use Rattle.vp_vpi.specs.declared.property.VectorWord.{VectorWord}
 use Rattle.vp_vpi.specs.declared.property.PutValue.TheVariants as put
 use Rattle.vp_vpi.specs.declared.races.RaceLine.{RaceLine}
-use Rattle.vp_vpi.specs.declared.races.RaceTold.{RaceTold}
-use Rattle.vp_vpi.specs.Seats.{Polled}
+use Rattle.vp_vpi.specs.declared.races.RaceDetails.{RaceDetails}
+use Rattle.vp_vpi.specs.SessionStates.{Polled}
 use Rattle.vp_answer.specs.declared.request.ValueFormat.{ValueFormat}
 use Rattle.vp_answer.specs.declared.request.ValueFormat.TheVariants as format
 use Rattle.vp_answer.specs.declared.request.Request.{Request}
@@ -41,7 +41,7 @@ use Rattle.vp_answer.specs.Refusals.{text_of}
 -- ---- replies
 
 -- what keeps a user out, in a line (profile)
-abbrev pub by_text : Barrier → List ℕ
+abbrev pub by_text : ShownBarrier → List ℕ
 by_text by.Viewport = codes "viewport"
 by_text by.Envelope = codes "envelope"
 by_text by.Grant = codes "grant"
@@ -65,7 +65,7 @@ denial_members author by envelope name right =
     (with_object name (member (codes "right") (string right) no_members))))
 
 -- a denial as JSON (profile)
-abbrev pub denial_data : DenialWords → Data
+abbrev pub denial_data : DenialText → Data
 denial_data words =
     only (codes "denied")
     (object (denial_members words.author (by_text words.by) words.envelope words.object (name_of words.right)))
@@ -171,11 +171,11 @@ abbrev pub steps_data : List (List ℕ) → Data
 steps_data steps = array (items_of (map string steps))
 
 -- the steps of both orders of a race as JSON
-abbrev pub both_steps_data : RaceTold → Data
+abbrev pub both_steps_data : RaceDetails → Data
 both_steps_data r = array (item (steps_data r.first_steps) (item (steps_data r.second_steps) no_items))
 
 -- a race with its steps as JSON, its keys in the order of their bytes (profile)
-abbrev pub race_data : RaceTold → Data
+abbrev pub race_data : RaceDetails → Data
 race_data r =
     object (member (codes "name") (string r.line.name)
     (member (codes "no") (number (unsigned r.line.number))

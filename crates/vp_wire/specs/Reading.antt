@@ -9,7 +9,7 @@ use Rattle.vp_answer.specs.declared.request.Request.TheVariants as request
 use Rattle.vp_answer.specs.declared.reply.Reply.{Reply}
 use Rattle.vp_wire.specs.declared.dialogue.Dialogue.{Dialogue}
 use Rattle.vp_wire.specs.declared.dialogue.Stage.TheVariants.{Before}
-use Rattle.vp_wire.specs.declared.fault.WireError.TheVariants as fault
+use Rattle.vp_wire.specs.declared.error.WireError.TheVariants as fault
 use Rattle.vp_wire.specs.declared.line.Kept.{Kept}
 use Rattle.vp_wire.specs.declared.line.Kept.TheVariants as kept
 use Rattle.vp_wire.specs.declared.line.Line.{Line}

@@ -2,7 +2,7 @@
 ghost use Rattle.std.specs.Prelude.{◌≡◌, ◌≤◌, ◌<◌, ◌+◌, ◌%◌, ◌^◌, length, ℕ, List, IfOk, IfNone, IfSome, OnErr, OnOk, take};
 ghost use Rattle.std.specs.Io.KnownBytes.{Appends, Consumes, IsAtEnd, Keeps};
 ghost use Rattle.vp_wire.specs.Dialogue.{IsFront};
-ghost use Rattle.vp_wire.specs.Failures.{failures_behind};
+ghost use Rattle.vp_wire.specs.Failures.{failures_after};
 
 use std::io::{ErrorKind, Read, Write};
 
@@ -62,7 +62,7 @@ impl<R: Read> Counted<R> {
         ensures failed { OnErr result
             (Keeps (R.remaining self.old.inner) (R.remaining self.new.inner)) }
         ensures asked { self.new.asked ≡ (self.old.asked + 1) % 2 ^ 64 }
-        ensures failures { self.new.failures ≡ failures_behind self.old.failures result }
+        ensures failures { self.new.failures ≡ failures_after self.old.failures result }
     {
         self.asked = self.asked.wrapping_add(1);
         match self.inner.read(buffer) {
@@ -82,7 +82,7 @@ impl<W: Write> Counted<W> {
         ensures failed { OnErr result
             ((front : List ℕ) × IsFront front bytes.now
             × Appends (W.contents self.old.inner) (W.contents self.new.inner) front) }
-        ensures failures { self.new.failures ≡ failures_behind self.old.failures result }
+        ensures failures { self.new.failures ≡ failures_after self.old.failures result }
     {
         let mut rest = bytes;
         for _ in 0..WRITE_LIMIT {
@@ -103,7 +103,7 @@ impl<W: Write> Counted<W> {
     pub fn flush(&mut self) -> Result<(), Failed>
         ensures bytes { Keeps (W.contents self.old.inner) (W.contents self.new.inner) }
         ensures asked { self.new.asked ≡ self.old.asked }
-        ensures failures { self.new.failures ≡ failures_behind self.old.failures result }
+        ensures failures { self.new.failures ≡ failures_after self.old.failures result }
     {
         match self.inner.flush() {
             Ok(()) => Ok(()),

@@ -2,12 +2,12 @@ ghost use Rattle.std.specs.Prelude.{◌≡◌, ◌≤◌, ◌<◌, ◌+◌, ◌^
 ghost use Rattle.std.specs.Io.KnownBytes.{IsAtEnd};
 ghost use Rattle.vp_answer.specs.declared.request.Request.{Request};
 ghost use Rattle.vp_answer.specs.declared.reply.Reply.{Reply};
-ghost use Rattle.vp_wire.specs.Dialogue.{Answers, Asked, Closes, IsDialogue, IsWhole, Point, Stops, is_grant, is_opening, stage_behind, turn_of, turn_of_request};
-ghost use Rattle.vp_wire.specs.Failures.{failures_behind, one_more, reader_failures, writer_failures};
+ghost use Rattle.vp_wire.specs.Dialogue.{Answers, Asked, Closes, IsDialogue, IsWhole, Point, Stops, is_grant, is_opening, stage_after, turn_of, turn_of_request};
+ghost use Rattle.vp_wire.specs.Failures.{failures_after, one_more, reader_failures, writer_failures};
 ghost use Rattle.vp_wire.specs.Reading.{Finishes, Goes, IsBegun, Progress, Takes, AnswersLine, is_closing, point_of, remaining_size, reply_text, turn_by};
 
 use crate::counted::{Counted, Failed};
-use crate::fault::WireError;
+use crate::error::WireError;
 use crate::line::{Line, LineError};
 use crate::replies::reply_line;
 use std::alloc::Global;
@@ -64,9 +64,9 @@ impl Stage {
     }
 
     /// The stage after a request, which opens the session or closes it or does neither, and its reply.
-    fn behind(self, opens: bool, closes: bool, reply: &Reply) -> Stage
+    fn after(self, opens: bool, closes: bool, reply: &Reply) -> Stage
         ensures { (r : Request) → opens ≡ is_opening r → closes ≡ is_closing r
-            → result ≡ stage_behind self r reply.now }
+            → result ≡ stage_after self r reply.now }
     {
         match reply {
             Reply::Opened(_) | Reply::Done if opens => Stage::Open,
@@ -114,7 +114,7 @@ fn ask<C: Caller>(
         Ok(line) => Ok(line),
         Err(_) => Err(LineError::NoMemory),
     };
-    (stage.behind(opens, closes, &reply), line)
+    (stage.after(opens, closes, &reply), line)
 }
 
 /// A dialogue: the line that is being read, and what came before.
@@ -172,7 +172,7 @@ impl Dialogue {
             (W.contents writer.new.inner) }
         ensures begun { IsBegun self.new.line [] }
         ensures lines { self.new.lines ≡ self.old.lines + 1 }
-        ensures failures { writer.new.failures ≡ failures_behind writer.old.failures result }
+        ensures failures { writer.new.failures ≡ failures_after writer.old.failures result }
     {
         self.lines += 1;
         match self.reply_line(caller) {
@@ -197,11 +197,11 @@ impl Dialogue {
             ≤ self.old.lines + length bytes.now) }
         ensures shorter { IfOk result (λ remaining.
             IfSome remaining (λ l. length l.now < length bytes.now)) }
-        ensures failures { writer.new.failures ≡ failures_behind writer.old.failures result }
+        ensures failures { writer.new.failures ≡ failures_after writer.old.failures result }
     {
-        let (piece, behind) = first_piece(bytes, b'\n');
-        self.line.gather(piece);
-        let Some(rest) = behind else {
+        let (piece, after) = first_piece(bytes, b'\n');
+        self.line.push_bytes(piece);
+        let Some(rest) = after else {
             return Ok(None);
         };
         self.answer(writer, caller)?;
@@ -220,7 +220,7 @@ impl Dialogue {
             (W.contents writer.old.inner) (W.contents writer.new.inner) bytes.now result
             (λ u. None) }
         ensures lines { OnOk result (self.new.lines ≤ self.old.lines + length bytes.now) }
-        ensures failures { writer.new.failures ≡ failures_behind writer.old.failures result }
+        ensures failures { writer.new.failures ≡ failures_after writer.old.failures result }
     {
         let mut remaining = Some(bytes);
         while let Some(rest) = remaining {
@@ -238,7 +238,7 @@ impl Dialogue {
         requires { self.old.lines + 1 < 2 ^ 64 }
         ensures whole { Finishes C.calls self.old caller.old self.new caller.new
             (W.contents writer.old.inner) (W.contents writer.new.inner) result }
-        ensures failures { writer.new.failures ≡ failures_behind writer.old.failures result }
+        ensures failures { writer.new.failures ≡ failures_after writer.old.failures result }
     {
         if self.line.has_begun() {
             self.answer(writer, caller)
@@ -256,7 +256,7 @@ impl Dialogue {
         requires { self.old.lines + 1 < 2 ^ 64 }
         ensures whole { Finishes C.calls self.old caller.old self.new caller.new
             (W.contents writer.old.inner) (W.contents writer.new.inner) result }
-        ensures failures { writer.new.failures ≡ failures_behind writer.old.failures result }
+        ensures failures { writer.new.failures ≡ failures_after writer.old.failures result }
     {
         self.answer_last(writer, caller)?;
         writer.flush()
@@ -274,7 +274,7 @@ impl Dialogue {
             (W.contents writer.old.inner) (W.contents writer.new.inner) bytes.now result
             (λ u. None) }
         ensures lines { OnOk result (self.new.lines ≤ self.old.lines + length bytes.now) }
-        ensures failures { writer.new.failures ≡ failures_behind writer.old.failures result }
+        ensures failures { writer.new.failures ≡ failures_after writer.old.failures result }
     {
         self.take(bytes, writer, caller)?;
         writer.flush()

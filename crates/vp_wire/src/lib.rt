@@ -3,14 +3,14 @@
 
 mod counted;
 mod dialogue;
-mod fault;
+mod error;
 mod line;
 mod replies;
 mod requests;
 
 pub use counted::{Counted, Failed};
 pub use dialogue::{Caller, Ended, Stage, TURN_LIMIT, session};
-pub use fault::WireError;
+pub use error::WireError;
 pub use line::LINE_LIMIT;
 pub use replies::{reply_line, reply_text};
 pub use requests::request;

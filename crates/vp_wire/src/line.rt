@@ -4,7 +4,7 @@ ghost use Rattle.vp_wire.specs.Dialogue.{error_line, turn_of};
 ghost use Rattle.vp_wire.specs.Reading.{IsBegun, text_of, turn_by};
 
 use crate::dialogue::Stage;
-use crate::fault::WireError;
+use crate::error::WireError;
 use crate::requests::request;
 use std::alloc::Global;
 use vp_answer::Request;
@@ -79,7 +79,7 @@ impl Line {
     }
 
     /// Adds bytes to the line.
-    pub fn gather(&mut self, bytes: &[u8])
+    pub fn push_bytes(&mut self, bytes: &[u8])
         ensures { (begun : List ℕ) → IsBegun self.old begun
             → IsBegun self.new (begun ++ bytes.now) }
     {

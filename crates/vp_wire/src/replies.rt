@@ -4,15 +4,15 @@ ghost use Rattle.serde_json.specs.Data.{array, put as with_member, string};
 ghost use Rattle.serde_json.specs.View.{items_of, members_view, view};
 ghost use Rattle.vp_wire.specs.Lines.{both_steps_data, by_text, callback_data, data_of, denial_data, denial_members, digits_data, done_data, error_data, handle_data, job_data, line_of, listed_data, listing_data, notice_data, number_data, numbers_data, only, pair_data, polled_data, race_data, race_line_data, races_data, run_denial_data, same_data, steps_data, text_data, time_data, values_data, vector_data, words_data, words_of};
 
-use crate::fault::WireError;
+use crate::error::WireError;
 use serde_json::{Map, Value, put};
 use std::alloc::{AllocError, Global};
 use vp_answer::{Refusal, Reply};
 use vp_bits::Bits;
 use vp_list::Text;
 use vp_notify::PolledNotice;
-use vp_policy::{Barrier, DenialWords};
-use vp_vpi::{ListedObject, Listing, RaceLine, RaceTold, SharedNotices};
+use vp_policy::{DenialText, ShownBarrier};
+use vp_vpi::{ListedObject, Listing, RaceDetails, RaceLine, SharedNotices};
 
 /// An object of one member.
 fn only(alloc: Global, key: &str, value: Value) -> Result<Value, AllocError>
@@ -253,7 +253,7 @@ fn steps_value(alloc: Global, steps: &[Text]) -> Result<Value, AllocError>
 }
 
 /// The steps of both orders of a race.
-fn both_steps(alloc: Global, race: &RaceTold) -> Result<Value, AllocError>
+fn both_steps(alloc: Global, race: &RaceDetails) -> Result<Value, AllocError>
     ensures { IfOk result (λ v. view v ≡ both_steps_data race.now) }
 {
     let mut items = Vec::new(alloc);
@@ -263,7 +263,7 @@ fn both_steps(alloc: Global, race: &RaceTold) -> Result<Value, AllocError>
 }
 
 /// A race with its steps.
-fn race_value(alloc: Global, race: &RaceTold) -> Result<Value, AllocError>
+fn race_value(alloc: Global, race: &RaceDetails) -> Result<Value, AllocError>
     ensures { IfOk result (λ v. view v ≡ race_data race.now) }
 {
     let mut members = Map::new(alloc);
@@ -285,13 +285,13 @@ fn job_value(alloc: Global, job: u64) -> Result<Value, AllocError>
 }
 
 /// What keeps a user out, in a line.
-fn by_text(by: Barrier) -> &'static str
+fn by_text(by: ShownBarrier) -> &'static str
     ensures { result.now ≡ by_text by }
 {
     match by {
-        Barrier::Viewport => "viewport",
-        Barrier::Envelope => "envelope",
-        Barrier::Grant => "grant",
+        ShownBarrier::Viewport => "viewport",
+        ShownBarrier::Envelope => "envelope",
+        ShownBarrier::Grant => "grant",
     }
 }
 
@@ -328,7 +328,7 @@ fn denial_members(
 }
 
 /// A denial, in its words.
-fn denied(alloc: Global, words: &DenialWords) -> Result<Value, AllocError>
+fn denied(alloc: Global, words: &DenialText) -> Result<Value, AllocError>
     ensures { IfOk result (λ v. view v ≡ denial_data words.now) }
 {
     let by = by_text(words.by());

@@ -5,7 +5,7 @@ ghost use Rattle.vp_json.specs.Keys.{has_keys};
 ghost use Rattle.vp_policy.specs.File.{each_of};
 ghost use Rattle.vp_wire.specs.Lines.{access_at, asked_of_op, close_request, compare_request, digits_request, format_at, format_of, free_request, from_at, get_request, get_str_request, grant_of_words, grant_request, handle_request, iterate_request, meaning_of, number_at, number_if, number_in, number_property, open_request, poll_request, put_request, race_request, races_request, request_of, request_of_op, run_request, text_property, time_at, time_request, unwatch_request, value_request, vector_request, watch_request, word_in, words_at, Asks, NotJson, NotRequest};
 
-use crate::fault::WireError;
+use crate::error::WireError;
 use serde_json::Value;
 use std::alloc::{AllocError, Global};
 use vp_answer::{GrantChange, Request, ValueFormat};

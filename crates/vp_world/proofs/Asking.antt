@@ -9,12 +9,12 @@ use Rattle.vp_elab.specs.declared.object.ObjectId.{ObjectId}
 use Rattle.vp_policy.specs.PolicyState.{PolicyState}
 use Rattle.vp_race.specs.Booking.{BookState}
 use Rattle.vp_race.specs.Recording.{Recorded, Segments, with_step}
-use Rattle.vp_race.specs.Segments.{Told}
-use Rattle.vp_sim.specs.declared.fault.SimError.{SimError}
+use Rattle.vp_race.specs.Segments.{FindingState}
+use Rattle.vp_sim.specs.declared.error.SimError.{SimError}
 use Rattle.vp_sim.specs.States as sim
-use Rattle.vp_sim.specs.laws.Designs.{behind_step}
+use Rattle.vp_sim.specs.laws.Designs.{after_step}
 use Rattle.vp_vpi.specs.Observers.{Observer}
-use Rattle.vp_vpi.specs.Seats.{Seat}
+use Rattle.vp_vpi.specs.SessionStates.{SessionState}
 use Rattle.vp_waking.specs.declared.change.Change.{Change}
 use Rattle.vp_answer.specs.declared.answering.Answer.{Answer}
 use Rattle.vp_world.specs.declared.putting.AnswerWithChange.{AnswerWithChange}
@@ -25,11 +25,11 @@ use Rattle.vp_answer.specs.declared.reply.Reply.TheVariants as reply
 use Rattle.vp_world.specs.declared.session.OpenSession.{OpenSession}
 use Rattle.vp_answer.specs.Answers.{Response, respond}
 use Rattle.vp_answer.specs.Given.{IsGiven, put_shown}
-use Rattle.vp_world.specs.Given.{Gives, eyes_in}
+use Rattle.vp_world.specs.Given.{Gives, observer_in}
 use Rattle.vp_world.specs.History.{asked, asked_at, asked_in, change_of, changed_by, changed_in, noticed, outcome_of_put, raised, segments_of_put, state_asked, stepped, with_state}
 use Rattle.vp_world.specs.Shown.{session_shown, shown}
 use Rattle.vp_answer.specs.laws.Puts.{put_only}
-use Rattle.vp_world.specs.Worlds.{SessionState, Standing, State}
+use Rattle.vp_world.specs.Worlds.{OpenSessionState, WorldState, State}
 
 -- the session of a place, as it is shown
 session_found : (sessions : List OpenSession) (place : ℕ) (session : OpenSession) → place < length sessions → session ≡ slice_index_or sessions place session → slice_get (map session_shown sessions) place ≡ Some (session_shown session)
@@ -40,19 +40,19 @@ session_found sessions place session within is =
 
 -- the place of a session that is shown is one of the list
 pub within_shown :
-    (run : Recorded) (book : List Told) (first policy : PolicyState) (limits : Limits) (sessions : List OpenSession) (opens : List ℕ) (goal : Option ℕ) (place : ℕ) (w : Standing)
+    (run : Recorded) (book : List FindingState) (first policy : PolicyState) (limits : Limits) (sessions : List OpenSession) (opens : List ℕ) (goal : Option ℕ) (place : ℕ) (w : WorldState)
     → shown run book first policy limits sessions opens goal ≡ w → place < length w.state.sessions → place < length sessions
 within_shown run book first policy limits sessions opens goal place w is within =
     subst (λ n. place < n) (length-map sessions session_shown) (subst (λ v. place < length v.state.sessions) (sym is) within)
 
 -- an open session with another seat
-abbrev pub seated : OpenSession → Seat → OpenSession
-seated session seat = record { id = session.id; session = seat }
+abbrev pub with_session : OpenSession → SessionState → OpenSession
+with_session session session_state = record { id = session.id; session = session_state }
 
 -- a session that is set back as it was
-pub set_same : (sessions : List OpenSession) (place : ℕ) (session : OpenSession) (new : Seat) → new ≡ session.session → session ≡ slice_index_or sessions place session → slice_set sessions place (seated session new) ≡ sessions
+pub set_same : (sessions : List OpenSession) (place : ℕ) (session : OpenSession) (new : SessionState) → new ≡ session.session → session ≡ slice_index_or sessions place session → slice_set sessions place (with_session session new) ≡ sessions
 set_same sessions place session new same at =
-    ap (λ (seat : Seat). slice_set sessions place (seated session seat)) same
+    ap (λ (session_state : SessionState). slice_set sessions place (with_session session session_state)) same
     ∙ ap (λ s. slice_set sessions place s) at
     ∙ set-get_or sessions place session
 
@@ -84,23 +84,23 @@ with_change a change = record { reply = a.reply; entry_reply = a.entry_reply; go
 
 -- an answer, and what its put does, give what comes of a request
 pub put_gives :
-    (eyes : Observer) (seat : Seat) (r : Request) (old new : Recorded) (session : Seat) (a : Answer) (change : Option Change)
-    → IsGiven (respond eyes seat r) session a → outcome_of_put old.simulation (put_shown a.put) ≡ sim.Goes new.simulation change
+    (observation : Observer) (session_state : SessionState) (r : Request) (old new : Recorded) (session : SessionState) (a : Answer) (change : Option Change)
+    → IsGiven (respond observation session_state r) session a → outcome_of_put old.simulation (put_shown a.put) ≡ sim.Goes new.simulation change
     → new.segments ≡ segments_of_put old.segments (put_shown a.put) new.simulation
-    → Gives (respond eyes seat r) old new session (with_change a change)
-put_gives eyes seat r old new session a change given goes closes =
-    let due = respond eyes seat r in
+    → Gives (respond observation session_state r) old new session (with_change a change)
+put_gives observation session_state r old new session a change given goes closes =
+    let due = respond observation session_state r in
     let put : outcome_of_put old.simulation due.put ≡ sim.Goes new.simulation change = ap (outcome_of_put old.simulation) (sym given.put) ∙ goes in
     record {
       gives_reply = given.gives_reply;
       gives_entry = given.gives_entry;
       goal = given.goal;
-      seat = given.seat;
+      session_state = given.session_state;
       put = put;
       segments = closes ∙ ap (λ p. segments_of_put old.segments p new.simulation) given.put;
       gives_done =
           done_by due.put old.simulation new.simulation change a.reply put
-          (λ p is. given.gives_reply ∙ (put_only eyes seat r p is).is_done);
+          (λ p is. given.gives_reply ∙ (put_only observation session_state r p is).is_done);
     }
 
 -- a put that is there, as it is shown
@@ -110,18 +110,18 @@ put_there (Some p) there = ((p.0.0, p.1), refl)
 
 -- a request with a put leaves its session as it was
 pub put_keeps :
-    (eyes : Observer) (seat : Seat) (r : Request) (session : Seat) (a : Answer)
-    → IsGiven (respond eyes seat r) session a → IsSome a.put → session ≡ seat
-put_keeps eyes seat r session a given there =
+    (observation : Observer) (session_state : SessionState) (r : Request) (session : SessionState) (a : Answer)
+    → IsGiven (respond observation session_state r) session a → IsSome a.put → session ≡ session_state
+put_keeps observation session_state r session a given there =
     let p = put_there a.put there in
-    given.seat ∙ (put_only eyes seat r p.0 (sym given.put ∙ p.1)).same
+    given.session_state ∙ (put_only observation session_state r p.0 (sym given.put ∙ p.1)).same
 
 -- what comes of a request of a session of this seat
-abbrev pub due_of : Recorded → BookState → (policy : PolicyState) → Seat → Request → Response
-due_of run book policy seat r = respond (eyes_in run book policy seat.user) seat r
+abbrev pub due_of : Recorded → BookState → (policy : PolicyState) → SessionState → Request → Response
+due_of run book policy session_state r = respond (observer_in run book policy session_state.user) session_state r
 
 -- a world with this design, simulation, segments and sessions
-abbrev pub with_run : Standing → Elaborated → sim.State → Segments → List SessionState → Standing
+abbrev pub with_run : WorldState → Elaborated → sim.State → Segments → List OpenSessionState → WorldState
 with_run w design run segments sessions = record {
   opening = record w.opening { design = design };
   state = record w.state { run = run; segments = segments; sessions = sessions };
@@ -130,11 +130,11 @@ with_run w design run segments sessions = record {
 -- what is known of the fields of a world in which a session of a place is asked
 module _
     (run : Recorded) (book : BookState) (first policy : PolicyState) (limits : Limits) (sessions : List OpenSession) (opens : List ℕ) (goal : Option ℕ)
-    (place : ℕ) (session : OpenSession) (r : Request) (w : Standing)
+    (place : ℕ) (session : OpenSession) (r : Request) (w : WorldState)
     (is : shown run book.races first policy limits sessions opens goal ≡ w) (inside : place < length w.state.sessions)
     (at : session ≡ slice_index_or sessions place session)
   where
-    abbrev old : Standing
+    abbrev old : WorldState
     old = shown run book.races first policy limits sessions opens goal
 
     abbrev pub due : Response
@@ -143,57 +143,57 @@ module _
     found : slice_get (map session_shown sessions) place ≡ Some (session_shown session)
     found = session_found sessions place session (within_shown run book.races first policy limits sessions opens goal place w is inside) at
 
-    pub told_given : (run' : Recorded) (new : Seat) (a : AnswerWithChange) → Gives due run run' new a → a.reply ≡ asked_in w place r
+    pub told_given : (run' : Recorded) (new : SessionState) (a : AnswerWithChange) → Gives due run run' new a → a.reply ≡ asked_in w place r
     told_given run' new a given =
-        given.gives_reply ∙ ap (λ there. asked old.state there r) (sym found) ∙ ap (λ (v : Standing). asked_in v place r) is
+        given.gives_reply ∙ ap (λ there. asked old.state there r) (sym found) ∙ ap (λ (v : WorldState). asked_in v place r) is
 
-    pub kept_given : (run' : Recorded) (new : Seat) (a : AnswerWithChange) → Gives due run run' new a → a.entry_reply ≡ asked_in w place r
+    pub kept_given : (run' : Recorded) (new : SessionState) (a : AnswerWithChange) → Gives due run run' new a → a.entry_reply ≡ asked_in w place r
     kept_given run' new a given =
-        given.gives_entry ∙ ap (λ there. asked old.state there r) (sym found) ∙ ap (λ (v : Standing). asked_in v place r) is
+        given.gives_entry ∙ ap (λ there. asked old.state there r) (sym found) ∙ ap (λ (v : WorldState). asked_in v place r) is
 
-    pub changed_given : (run' : Recorded) (new : Seat) (a : AnswerWithChange) → Gives due run run' new a → a.change ≡ changed_in w place r
+    pub changed_given : (run' : Recorded) (new : SessionState) (a : AnswerWithChange) → Gives due run run' new a → a.change ≡ changed_in w place r
     changed_given run' new a given =
-        sym (ap change_of given.put) ∙ ap (λ there. changed_by old.state there r) (sym found) ∙ ap (λ (v : Standing). changed_in v place r) is
+        sym (ap change_of given.put) ∙ ap (λ there. changed_by old.state there r) (sym found) ∙ ap (λ (v : WorldState). changed_in v place r) is
 
     -- the state in which the session has this seat, and this is the goal
-    abbrev with_seat : Seat → Option ℕ → State
-    with_seat seat goal' = record old.state {
-      sessions = slice_set (map session_shown sessions) place (record { id = session.id; seat = seat });
+    abbrev with_session_state : SessionState → Option ℕ → State
+    with_session_state session_state goal' = record old.state {
+      sessions = slice_set (map session_shown sessions) place (record { id = session.id; session_state = session_state });
       goal = goal';
     }
 
     pub state_given :
-        (run' : Recorded) (new : Seat) (told : List OpenSession) (goal' : Option ℕ) (a : AnswerWithChange) → Gives due run run' new a → goal' ≡ raised goal a.goal
-        → map session_shown told ≡ noticed a.change run'.simulation.time (map session_shown (slice_set sessions place (seated session new)))
+        (run' : Recorded) (new : SessionState) (told : List OpenSession) (goal' : Option ℕ) (a : AnswerWithChange) → Gives due run run' new a → goal' ≡ raised goal a.goal
+        → map session_shown told ≡ noticed a.change run'.simulation.time (map session_shown (slice_set sessions place (with_session session new)))
         → shown run' book.races first policy limits told opens goal' ≡ with_state w (asked_at w.state (Some place) r)
     state_given run' new told goal' a given raises tells =
         let next = run'.simulation in
         let segments : sim.State → Segments = segments_of_put run.segments due.put in
-        let between : Seat → Option ℕ → Standing = λ seat goal'. record old { state = with_seat seat goal' } in
-        let behind : Seat → Option ℕ → sim.Outcome → Standing = λ seat goal' o. with_state old (stepped (with_seat seat goal') segments o) in
-        ap (with_run (between new goal') next.design next run'.segments) (tells ∙ ap (noticed a.change next.time) (map-set session_shown sessions place (seated session new)))
-        ∙ ap (λ d. with_run (between new goal') d next run'.segments (noticed a.change next.time (with_seat new goal').sessions)) (ap (design_in run.simulation) (sym given.put) ∙ put_design run.simulation due.put)
-        ∙ ap (λ (s : Segments). with_run (between new goal') run.simulation.design next s (noticed a.change next.time (with_seat new goal').sessions)) given.segments
-        ∙ ap (behind new goal') (sym given.put)
-        ∙ ap (λ seat. behind seat goal' (outcome_of_put run.simulation due.put)) given.seat
-        ∙ ap (λ goal'. behind due.seat goal' (outcome_of_put run.simulation due.put)) (raises ∙ ap (raised goal) given.goal)
+        let between : SessionState → Option ℕ → WorldState = λ session_state goal'. record old { state = with_session_state session_state goal' } in
+        let following : SessionState → Option ℕ → sim.Outcome → WorldState = λ session_state goal' o. with_state old (stepped (with_session_state session_state goal') segments o) in
+        ap (with_run (between new goal') next.design next run'.segments) (tells ∙ ap (noticed a.change next.time) (map-set session_shown sessions place (with_session session new)))
+        ∙ ap (λ d. with_run (between new goal') d next run'.segments (noticed a.change next.time (with_session_state new goal').sessions)) (ap (design_in run.simulation) (sym given.put) ∙ put_design run.simulation due.put)
+        ∙ ap (λ (s : Segments). with_run (between new goal') run.simulation.design next s (noticed a.change next.time (with_session_state new goal').sessions)) given.segments
+        ∙ ap (following new goal') (sym given.put)
+        ∙ ap (λ session_state. following session_state goal' (outcome_of_put run.simulation due.put)) given.session_state
+        ∙ ap (λ goal'. following due.session_state goal' (outcome_of_put run.simulation due.put)) (raises ∙ ap (raised goal) given.goal)
         ∙ ap (λ there. with_state old (state_asked old.state place there r)) (sym found)
         ∙ ap (λ v. with_state v (asked_at v.state (Some place) r)) is
 
 -- the world after a step
 pub step_shown :
-    (old new : Recorded) (book : List Told) (first policy : PolicyState) (limits : Limits) (sessions told : List OpenSession) (opens : List ℕ) (goal : Option ℕ)
-    (k : ℕ) (change : Option Change) (w : Standing)
+    (old new : Recorded) (book : List FindingState) (first policy : PolicyState) (limits : Limits) (sessions told : List OpenSession) (opens : List ℕ) (goal : Option ℕ)
+    (k : ℕ) (change : Option Change) (w : WorldState)
     → shown old book first policy limits sessions opens goal ≡ w → sim.step old.simulation k ≡ sim.Goes new.simulation change
     → new.segments ≡ with_step old.segments k new.simulation
     → map session_shown told ≡ noticed change new.simulation.time (map session_shown sessions)
     → shown new book first policy limits told opens goal ≡ with_state w (stepped w.state (with_step w.state.segments k) (sim.step w.state.run k))
 step_shown old new book first policy limits sessions told opens goal k change w is goes closes tells =
-    let was : Standing = shown old book first policy limits sessions opens goal in
+    let was : WorldState = shown old book first policy limits sessions opens goal in
     let next = new.simulation in
-    let notices : List SessionState = noticed change next.time (map session_shown sessions) in
+    let notices : List OpenSessionState = noticed change next.time (map session_shown sessions) in
     ap (with_run was next.design next new.segments) tells
-    ∙ ap (λ (d : Elaborated). with_run was d next new.segments notices) (behind_step old.simulation next k change goes)
+    ∙ ap (λ (d : Elaborated). with_run was d next new.segments notices) (after_step old.simulation next k change goes)
     ∙ ap (λ (s : Segments). with_run was old.simulation.design next s notices) closes
     ∙ ap (λ (o : sim.Outcome). with_state was (stepped was.state (with_step old.segments k) o)) (sym goes)
-    ∙ ap (λ (v : Standing). with_state v (stepped v.state (with_step v.state.segments k) (sim.step v.state.run k))) is
+    ∙ ap (λ (v : WorldState). with_state v (stepped v.state (with_step v.state.segments k) (sim.step v.state.run k))) is

@@ -13,8 +13,8 @@ use Rattle.vp_world.specs.declared.event.Event.{Event}
 use Rattle.vp_world.specs.declared.event.Event.TheVariants as event
 use Rattle.vp_answer.specs.declared.request.Request.{Request}
 use Rattle.vp_world.specs.Entries.{Entry}
-use Rattle.vp_world.specs.History.{after, asked_at, closed_at, granted_to, opened_by, outcome_of_put, raised, response_of, segments_of_put, state_asked, state_behind, stepped}
-use Rattle.vp_world.specs.Worlds.{Opening, SessionState, State, index_of, start}
+use Rattle.vp_world.specs.History.{after, asked_at, closed_at, granted_to, opened_by, outcome_of_put, raised, response_of, segments_of_put, state_asked, state_after, stepped}
+use Rattle.vp_world.specs.Worlds.{Opening, OpenSessionState, State, index_of, start}
 
 -- at most one segment more is closed
 abbrev ClosesOne : Segments → Segments → Type 0
@@ -39,12 +39,12 @@ outcome_closes s segments (sim.Goes run change) closes = closes run
 outcome_closes s segments (sim.Refuses e) closes = omega arith
 
 -- by a request of an open session
-session_closes : (s : State) (place : ℕ) (there : Option SessionState) (r : Request) → ClosesOne s.segments (state_asked s place there r).segments
+session_closes : (s : State) (place : ℕ) (there : Option OpenSessionState) (r : Request) → ClosesOne s.segments (state_asked s place there r).segments
 session_closes s place None r = omega arith
 session_closes s place (Some session) r =
-    let given = response_of s session.seat r in
+    let given = response_of s session.session_state r in
     outcome_closes
-    (record s { sessions = slice_set s.sessions place (record session { seat = given.seat }); goal = raised s.goal given.goal })
+    (record s { sessions = slice_set s.sessions place (record session { session_state = given.session_state }); goal = raised s.goal given.goal })
     (segments_of_put s.segments given.put) (outcome_of_put s.run given.put) (put_closes s.segments given.put)
 
 -- by a request
@@ -89,5 +89,5 @@ events_close opening s [] = omega arith
 events_close opening s (e ∷ log) = omega (arith, events_close opening (after opening s e.event) log, event_closes opening s e.event)
 
 -- after a log at most as many segments closed as it has entries
-pub count_within : (opening : Opening) (log : List Entry) → (state_behind opening log).segments.count ≤ length log
+pub count_within : (opening : Opening) (log : List Entry) → (state_after opening log).segments.count ≤ length log
 count_within opening log = omega (arith, events_close opening (start opening) log)

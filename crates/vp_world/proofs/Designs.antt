@@ -10,7 +10,7 @@ use Rattle.vp_race.specs.Orders.{is_over}
 use Rattle.vp_race.specs.Recording.{Recorded, Segments, closed_run, kept_limit, kept_of, next_job, with_anew, with_step}
 use Rattle.vp_race.specs.Segments.{Run}
 use Rattle.vp_sim.specs.States as sim
-use Rattle.vp_sim.specs.laws.Designs.{behind_put, behind_step}
+use Rattle.vp_sim.specs.laws.Designs.{after_put, after_step}
 use Rattle.vp_policy.specs.PolicyState.{Fits, PolicyState}
 use Rattle.vp_waking.specs.declared.change.Change.{Change}
 use Rattle.vp_world.specs.History.{outcome_of_put, segments_of_put}
@@ -58,7 +58,7 @@ goes_of old k next same of =
 pub stepped_of : (old new : Recorded) (k : ℕ) (change : Option Change) → sim.step old.simulation k ≡ sim.Goes new.simulation change → new.segments ≡ with_step old.segments k new.simulation → AreOfDesign old → AreOfDesign new
 stepped_of old new k change goes is of =
     of_same new (with_step old.segments k new.simulation) is
-    (goes_of old k new.simulation (behind_step old.simulation new.simulation k change goes) of)
+    (goes_of old k new.simulation (after_step old.simulation new.simulation k change goes) of)
 
 -- after a put, if there is one
 pub put_leaves : (old new : Recorded) (p : Option (ℕ × List Bit)) (change : Option Change) → outcome_of_put old.simulation p ≡ sim.Goes new.simulation change → new.segments ≡ segments_of_put old.segments p new.simulation → AreOfDesign old → AreOfDesign new
@@ -67,13 +67,13 @@ put_leaves old new None change goes is of =
     of_same new old.segments is (subst (λ (s : sim.State). AreOfDesign (with_segments s old.segments)) same of)
 put_leaves old new (Some p) change goes is of =
     of_same new (with_anew old.segments new.simulation) is
-    (anew_of old new.simulation (behind_put old.simulation new.simulation p.0 p.1 change goes) of)
+    (anew_of old new.simulation (after_put old.simulation new.simulation p.0 p.1 change goes) of)
 
 -- ---- a policy that fits
 
 -- fits after a step
 pub fits_stepped : (policy : PolicyState) (old new : Recorded) (k : ℕ) (change : Option Change) → sim.step old.simulation k ≡ sim.Goes new.simulation change → Fits policy old.simulation.design.tree → Fits policy new.simulation.design.tree
-fits_stepped policy old new k change goes fits = fits ∙ ap (λ (d : Elaborated). d.tree) (sym (behind_step old.simulation new.simulation k change goes))
+fits_stepped policy old new k change goes fits = fits ∙ ap (λ (d : Elaborated). d.tree) (sym (after_step old.simulation new.simulation k change goes))
 
 -- and after a put, if there is one
 pub fits_put : (policy : PolicyState) (old new : Recorded) (p : Option (ℕ × List Bit)) (change : Option Change) → outcome_of_put old.simulation p ≡ sim.Goes new.simulation change → Fits policy old.simulation.design.tree → Fits policy new.simulation.design.tree
@@ -81,7 +81,7 @@ fits_put policy old new None change goes fits =
     let same : old.simulation ≡ new.simulation = cc in
     fits ∙ ap (λ (s : sim.State). s.design.tree) same
 fits_put policy old new (Some p) change goes fits =
-    fits ∙ ap (λ (d : Elaborated). d.tree) (sym (behind_put old.simulation new.simulation p.0 p.1 change goes))
+    fits ∙ ap (λ (d : Elaborated). d.tree) (sym (after_put old.simulation new.simulation p.0 p.1 change goes))
 
 -- ---- the kept segment of a number
 

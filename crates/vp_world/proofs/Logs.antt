@@ -1,16 +1,16 @@
 -- A log with one entry more.
 use Rattle.std.proofs.Common.{◌≡◌, ◌∙◌, Bool, List, [], ◌∷◌, ◌++◌, Option, Some, None, Result, Err, ℕ, refl, sym, ap, subst, append_assoc, append-nil}
 use Rattle.std.specs.Prelude.{fold}
-use Rattle.vp_world.specs.declared.fault.WorldError.TheVariants as world_error
+use Rattle.vp_world.specs.declared.error.WorldError.TheVariants as world_error
 use Rattle.vp_list.specs.Refusals.{Explains}
 use Rattle.vp_waking.specs.declared.change.Change.{Change}
 use Rattle.vp_world.specs.declared.event.Event.{Event}
-use Rattle.vp_world.specs.declared.fault.WorldError.{WorldError}
+use Rattle.vp_world.specs.declared.error.WorldError.{WorldError}
 use Rattle.vp_answer.specs.declared.reply.Reply.{Reply}
 use Rattle.vp_world.specs.Entries.{Entry}
 use Rattle.vp_world.specs.Events.{IsWellFormed}
-use Rattle.vp_world.specs.History.{Applies, IsLegal, Keeps, after, answer, changed, entry_of, refusal_behind, refused_by, state_behind, with_entry}
-use Rattle.vp_world.specs.Worlds.{Logged, Opening, Standing, State, start}
+use Rattle.vp_world.specs.History.{Applies, IsLegal, Keeps, after, answer, changed, entry_of, refusal_after, refused_by, state_after, with_entry}
+use Rattle.vp_world.specs.Worlds.{WorldLog, Opening, WorldState, State, start}
 
 -- a left fold of one item more
 pub fold_more : {A B : Type 0} (f : B → A → B) (a : B) (xs : List A) (y : A) → fold f a (xs ++ y ∷ []) ≡ f (fold f a xs) y
@@ -18,15 +18,15 @@ fold_more f a [] y = refl
 fold_more f a (x ∷ xs) y = fold_more f (f a x) xs y
 
 -- the state that it leads to
-pub state_more : (opening : Opening) (log : List Entry) (e : Entry) → state_behind opening (log ++ e ∷ []) ≡ after opening (state_behind opening log) e.event
+pub state_more : (opening : Opening) (log : List Entry) (e : Entry) → state_after opening (log ++ e ∷ []) ≡ after opening (state_after opening log) e.event
 state_more opening log e = fold_more (λ s (x : Entry). after opening s x.event) (start opening) log e
 
 -- it is legal, if the entry is
-pub legal_more : (opening : Opening) (before log : List Entry) (e : Entry) → IsLegal opening before log → IsWellFormed opening.design e.event → refusal_behind opening (before ++ log) e.event ≡ None → e ≡ entry_of opening (state_behind opening (before ++ log)) e.event → IsLegal opening before (log ++ e ∷ [])
+pub legal_more : (opening : Opening) (before log : List Entry) (e : Entry) → IsLegal opening before log → IsWellFormed opening.design e.event → refusal_after opening (before ++ log) e.event ≡ None → e ≡ entry_of opening (state_after opening (before ++ log)) e.event → IsLegal opening before (log ++ e ∷ [])
 legal_more opening before [] e legal formed accepted is = (
   formed,
-  subst (λ l. refusal_behind opening l e.event ≡ None) (append-nil before) accepted,
-  subst (λ l. e ≡ entry_of opening (state_behind opening l) e.event) (append-nil before) is,
+  subst (λ l. refusal_after opening l e.event ≡ None) (append-nil before) accepted,
+  subst (λ l. e ≡ entry_of opening (state_after opening l) e.event) (append-nil before) is,
   tt,
 )
 legal_more opening before (x ∷ log) e (first_formed, first_accepted, first_is, legal) formed accepted is =
@@ -35,13 +35,13 @@ legal_more opening before (x ∷ log) e (first_formed, first_accepted, first_is,
       first_accepted,
       first_is,
       legal_more opening (before ++ x ∷ []) log e legal formed
-          (subst (λ l. refusal_behind opening l e.event ≡ None) same accepted)
-          (subst (λ l. e ≡ entry_of opening (state_behind opening l) e.event) same is),
+          (subst (λ l. refusal_after opening l e.event ≡ None) same accepted)
+          (subst (λ l. e ≡ entry_of opening (state_after opening l) e.event) same is),
     )
 
 -- an entry by its parts
-pub entry_is : (opening : Opening) (s behind : State) (e : Entry) → s ≡ behind → e.reply ≡ answer opening s e.event → e.change ≡ changed s e.event → e.time ≡ (after opening s e.event).run.time → e.finished ≡ (after opening s e.event).run.finished → e ≡ entry_of opening behind e.event
-entry_is opening s behind e is reply change time finished =
+pub entry_is : (opening : Opening) (s following : State) (e : Entry) → s ≡ following → e.reply ≡ answer opening s e.event → e.change ≡ changed s e.event → e.time ≡ (after opening s e.event).run.time → e.finished ≡ (after opening s e.event).run.finished → e ≡ entry_of opening following e.event
+entry_is opening s following e is reply change time finished =
     ap (λ (r : Reply). (let x : Entry = record { event = e.event; reply = r; change = e.change; time = e.time; finished = e.finished } in x)) reply
     ∙ ap (λ (c : Option Change). (let x : Entry = record { event = e.event; reply = answer opening s e.event; change = c; time = e.time; finished = e.finished } in x)) change
     ∙ ap (λ (t : ℕ). (let x : Entry = record { event = e.event; reply = answer opening s e.event; change = changed s e.event; time = t; finished = e.finished } in x)) time
@@ -49,7 +49,7 @@ entry_is opening s behind e is reply change time finished =
     ∙ ap (λ (b : State). entry_of opening b e.event) is
 
 -- a world keeps its log with one entry more
-pub keeps_more : (w next : Standing) (log more : List Entry) (e : Entry) → Keeps w log → next ≡ record { opening = w.opening; state = after w.opening w.state e.event } → more ≡ log ++ e ∷ [] → IsWellFormed w.opening.design e.event → refusal_behind w.opening log e.event ≡ None → e ≡ entry_of w.opening (state_behind w.opening log) e.event → Keeps next more
+pub keeps_more : (w next : WorldState) (log more : List Entry) (e : Entry) → Keeps w log → next ≡ record { opening = w.opening; state = after w.opening w.state e.event } → more ≡ log ++ e ∷ [] → IsWellFormed w.opening.design e.event → refusal_after w.opening log e.event ≡ None → e ≡ entry_of w.opening (state_after w.opening log) e.event → Keeps next more
 keeps_more w next log more e keeps is added formed accepted entry =
     subst (λ n. Keeps n more) (sym is)
     (subst (λ l. Keeps (record { opening = w.opening; state = after w.opening w.state e.event }) l) (sym added)
@@ -59,7 +59,7 @@ keeps_more w next log more e keeps is added formed accepted entry =
     }))
 
 -- an event that is refused so leaves the world
-pub refused_so : {A : Type 0} (v : Logged) (happens : Event) (r : Result A WorldError) (e : WorldError) → r ≡ Err e → refused_by v happens ≡ Some e → Applies v happens r v
+pub refused_so : {A : Type 0} (v : WorldLog) (happens : Event) (r : Result A WorldError) (e : WorldError) → r ≡ Err e → refused_by v happens ≡ Some e → Applies v happens r v
 refused_so v happens r e is told =
     subst (λ x. Applies v happens x v) (sym is)
     (record {
@@ -70,8 +70,8 @@ refused_so v happens r e is told =
     })
 
 -- a world is seen with one entry more
-pub seen_more : (w next : Standing) (log more : List Entry) (e : Entry) (v : Logged) → (let seen : Logged = record { opening = w.opening; log = log } in seen ≡ v) → next ≡ record { opening = w.opening; state = next.state } → more ≡ log ++ e ∷ [] → e ≡ entry_of w.opening (state_behind w.opening log) e.event → (let now : Logged = record { opening = next.opening; log = more } in now ≡ with_entry v e.event)
+pub seen_more : (w next : WorldState) (log more : List Entry) (e : Entry) (v : WorldLog) → (let seen : WorldLog = record { opening = w.opening; log = log } in seen ≡ v) → next ≡ record { opening = w.opening; state = next.state } → more ≡ log ++ e ∷ [] → e ≡ entry_of w.opening (state_after w.opening log) e.event → (let now : WorldLog = record { opening = next.opening; log = more } in now ≡ with_entry v e.event)
 seen_more w next log more e v is same added entry =
-    ap (λ (s : Standing). (let now : Logged = record { opening = s.opening; log = more } in now)) same
-    ∙ ap (λ (l : List Entry). (let now : Logged = record { opening = w.opening; log = l } in now)) (added ∙ ap (λ (x : Entry). log ++ x ∷ []) entry)
-    ∙ ap (λ (x : Logged). with_entry x e.event) is
+    ap (λ (s : WorldState). (let now : WorldLog = record { opening = s.opening; log = more } in now)) same
+    ∙ ap (λ (l : List Entry). (let now : WorldLog = record { opening = w.opening; log = l } in now)) (added ∙ ap (λ (x : Entry). log ++ x ∷ []) entry)
+    ∙ ap (λ (x : WorldLog). with_entry x e.event) is

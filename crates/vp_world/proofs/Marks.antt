@@ -9,11 +9,11 @@ use Rattle.vp_notify.specs.Registry.{RegistryState, due, is_on, notice_of, with_
 use Rattle.vp_policy.specs.PolicyState.{PolicyState}
 use Rattle.vp_policy.specs.Users.{member_at}
 use Rattle.vp_vpi.specs.Observers.{is_watch_denied}
-use Rattle.vp_vpi.specs.Seats.{Seat, retired}
+use Rattle.vp_vpi.specs.SessionStates.{SessionState, retired}
 use Rattle.vp_waking.specs.declared.change.Change.{Change}
 use Rattle.vp_world.specs.declared.session.OpenSession.{OpenSession}
 use Rattle.vp_world.specs.Marks.{all_marked, are_marked, is_marked, is_watched, may_be_watched}
-use Rattle.vp_world.specs.Shown.{retired_open, told_open}
+use Rattle.vp_world.specs.Shown.{retired_open, notified_session}
 
 -- ---- two tests
 
@@ -101,11 +101,11 @@ sessions_marked watched object mark (s ∷ sessions) marked says =
 -- ---- open sessions
 
 -- one more
-pub marked_behind : (watched : List Bool) (sessions : List OpenSession) (s : OpenSession) → all_marked watched sessions ≡ true → are_marked watched s.session.registry.callbacks ≡ true → all_marked watched (sessions ++ s ∷ []) ≡ true
-marked_behind watched [] s marked own = both (are_marked watched s.session.registry.callbacks) true own refl
-marked_behind watched (x ∷ sessions) s marked own =
+pub marked_after : (watched : List Bool) (sessions : List OpenSession) (s : OpenSession) → all_marked watched sessions ≡ true → are_marked watched s.session.registry.callbacks ≡ true → all_marked watched (sessions ++ s ∷ []) ≡ true
+marked_after watched [] s marked own = both (are_marked watched s.session.registry.callbacks) true own refl
+marked_after watched (x ∷ sessions) s marked own =
     let parts = both_parts (are_marked watched x.session.registry.callbacks) (all_marked watched sessions) marked in
-    both (are_marked watched x.session.registry.callbacks) (all_marked watched (sessions ++ s ∷ [])) parts.0 (marked_behind watched sessions s parts.1 own)
+    both (are_marked watched x.session.registry.callbacks) (all_marked watched (sessions ++ s ∷ [])) parts.0 (marked_after watched sessions s parts.1 own)
 
 -- one less
 pub marked_without : (watched : List Bool) (sessions : List OpenSession) (place : ℕ) → all_marked watched sessions ≡ true → all_marked watched (remove sessions place) ≡ true
@@ -141,12 +141,12 @@ due_keeps r None time = refl
 due_keeps r (Some change) time = notices_keep r (map (notice_of change time) (filter (is_on change.object.0) r.callbacks))
 
 -- and so their marks
-pub told_marked : (watched : List Bool) (change : Option Change) (time : ℕ) (sessions : List OpenSession) → all_marked watched sessions ≡ true → all_marked watched (map (told_open change time) sessions) ≡ true
+pub told_marked : (watched : List Bool) (change : Option Change) (time : ℕ) (sessions : List OpenSession) → all_marked watched sessions ≡ true → all_marked watched (map (notified_session change time) sessions) ≡ true
 told_marked watched change time [] marked = refl
 told_marked watched change time (s ∷ sessions) marked =
     let own = s.session.registry in
     let parts = both_parts (are_marked watched own.callbacks) (all_marked watched sessions) marked in
-    both (are_marked watched (due own change time).callbacks) (all_marked watched (map (told_open change time) sessions))
+    both (are_marked watched (due own change time).callbacks) (all_marked watched (map (notified_session change time) sessions))
     (ap (are_marked watched) (due_keeps own change time) ∙ parts.0)
     (told_marked watched change time sessions parts.1)
 
@@ -167,14 +167,14 @@ none_on watched object (c ∷ callbacks) quiet marked =
     ap (λ b. cond b (c ∷ filter (is_on object) callbacks) (filter (is_on object) callbacks)) off ∙ rest
 
 -- a change of such an object is told to nobody
-pub quiet_told : (watched : List Bool) (change : Change) (time : ℕ) (sessions : List OpenSession) → may_be_watched watched change.object.0 ≡ false → all_marked watched sessions ≡ true → map (told_open (Some change) time) sessions ≡ sessions
+pub quiet_told : (watched : List Bool) (change : Change) (time : ℕ) (sessions : List OpenSession) → may_be_watched watched change.object.0 ≡ false → all_marked watched sessions ≡ true → map (notified_session (Some change) time) sessions ≡ sessions
 quiet_told watched change time [] quiet marked = refl
 quiet_told watched change time (s ∷ sessions) quiet marked =
     let own = s.session.registry in
     let parts = both_parts (are_marked watched own.callbacks) (all_marked watched sessions) marked in
     let none = none_on watched change.object.0 own.callbacks quiet parts.0 in
     let state : RegistryState → OpenSession = λ r. record { id = s.id; session = record s.session { registry = r } } in
-    ap (λ cs. state (fold with_notice own (map (notice_of change time) cs)) ∷ map (told_open (Some change) time) sessions) none
+    ap (λ cs. state (fold with_notice own (map (notice_of change time) cs)) ∷ map (notified_session (Some change) time) sessions) none
     ∙ ap (λ more. s ∷ more) (quiet_told watched change time sessions quiet parts.1)
 
 -- the callbacks of the session in a place
@@ -187,10 +187,10 @@ marked_at watched (x ∷ sessions) (suc place) s within at marked =
     marked_at watched sessions place s (omega (arith, within)) at (both_parts (are_marked watched x.session.registry.callbacks) (all_marked watched sessions) marked).1
 
 -- out of one of two sessions callbacks are taken
-retired_marked_by : (watched : List Bool) (gone : ℕ → Bool) (seat : Seat) (his : Bool) → are_marked watched seat.registry.callbacks ≡ true
-    → (let left : Seat = (if his then retired gone seat else seat) in are_marked watched left.registry.callbacks ≡ true)
-retired_marked_by watched gone seat true marked = are_marked_filter watched (λ c. not (gone c.object.0)) seat.registry.callbacks marked
-retired_marked_by watched gone seat false marked = marked
+retired_marked_by : (watched : List Bool) (gone : ℕ → Bool) (session_state : SessionState) (his : Bool) → are_marked watched session_state.registry.callbacks ≡ true
+    → (let left : SessionState = (if his then retired gone session_state else session_state) in are_marked watched left.registry.callbacks ≡ true)
+retired_marked_by watched gone session_state true marked = are_marked_filter watched (λ c. not (gone c.object.0)) session_state.registry.callbacks marked
+retired_marked_by watched gone session_state false marked = marked
 
 -- open sessions after a change of what a user is granted
 pub retired_marked : (watched : List Bool) (policy : PolicyState) (user : ℕ) (sessions : List OpenSession) → all_marked watched sessions ≡ true → all_marked watched (map (retired_open policy user) sessions) ≡ true

@@ -4,18 +4,18 @@ use Rattle.vp_policy.specs.PolicyState.{PolicyState}
 use Rattle.vp_waking.specs.declared.change.Change.{Change}
 use Rattle.vp_world.specs.declared.session.OpenSession.{OpenSession}
 use Rattle.vp_world.specs.History.{noticed, retired_for}
-use Rattle.vp_world.specs.Shown.{retired_open, session_shown, told_open}
-use Rattle.vp_world.specs.Worlds.{SessionState}
+use Rattle.vp_world.specs.Shown.{retired_open, session_shown, notified_session}
+use Rattle.vp_world.specs.Worlds.{OpenSessionState}
 
 -- no change is told
-pub noticed_none : (time : ℕ) (sessions : List SessionState) → noticed None time sessions ≡ sessions
+pub noticed_none : (time : ℕ) (sessions : List OpenSessionState) → noticed None time sessions ≡ sessions
 noticed_none time [] = refl
 noticed_none time (s ∷ sessions) = ap (λ told. s ∷ told) (noticed_none time sessions)
 
 -- sessions that are told of a change, as they are shown
-pub told_shown : (change : Option Change) (time : ℕ) (sessions : List OpenSession) → map session_shown (map (told_open change time) sessions) ≡ noticed change time (map session_shown sessions)
+pub told_shown : (change : Option Change) (time : ℕ) (sessions : List OpenSession) → map session_shown (map (notified_session change time) sessions) ≡ noticed change time (map session_shown sessions)
 told_shown change time [] = refl
-told_shown change time (s ∷ sessions) = ap (λ more. session_shown (told_open change time s) ∷ more) (told_shown change time sessions)
+told_shown change time (s ∷ sessions) = ap (λ more. session_shown (notified_session change time s) ∷ more) (told_shown change time sessions)
 
 -- sessions after a change of what a user is granted, as they are shown
 pub retired_shown : (policy : PolicyState) (user : ℕ) (sessions : List OpenSession) → map session_shown (map (retired_open policy user) sessions) ≡ map (retired_for policy user) (map session_shown sessions)

@@ -1,13 +1,13 @@
 -- An error of the simulation explains its refusal.
 use Rattle.std.proofs.Common.{◌≡◌, ◌≢◌, ◌∙◌, ℕ, refl, sym, ap}
-use Rattle.vp_world.specs.declared.fault.WorldError.TheVariants as world_error
+use Rattle.vp_world.specs.declared.error.WorldError.TheVariants as world_error
 use Rattle.vp_list.specs.Refusals.{Explains}
-use Rattle.vp_sim.specs.declared.fault.SimError.{SimError}
-use Rattle.vp_sim.specs.declared.fault.SimError.TheVariants.{Finished, Idle, SlotNotDone, NoSuchChoice, TimeLimit, NoMemory}
+use Rattle.vp_sim.specs.declared.error.SimError.{SimError}
+use Rattle.vp_sim.specs.declared.error.SimError.TheVariants.{Finished, Idle, SlotNotDone, NoSuchChoice, TimeLimit, NoMemory}
 use Rattle.vp_sim.specs.States as sim
 use Rattle.vp_sim.specs.States.{Outcome, Goes, Refuses, State, advance, step}
 use Rattle.vp_sim.specs.laws.Refusals.{IsOwn, advance_own, step_own}
-use Rattle.vp_world.specs.declared.fault.WorldError.TheVariants.{Sim}
+use Rattle.vp_world.specs.declared.error.WorldError.TheVariants.{Sim}
 use Rattle.vp_world.specs.Faults.{error_of}
 use Rattle.vp_world.specs.History.{refusal_of_outcome}
 

@@ -4,12 +4,12 @@ use Rattle.std.specs.Prelude.{if◌then◌else◌, slice_get}
 use Rattle.std.specs.Option.{option_map_or}
 use Rattle.std.proofs.lemmas.List.Elements.{All-nil, All-push, All-weaker}
 use Rattle.vp_policy.specs.Users.{login_of, user_of}
-use Rattle.vp_race.specs.declared.fault.RaceError.{RaceError}
-use Rattle.vp_race.specs.declared.fault.RaceError.TheVariants.{SegmentGone}
+use Rattle.vp_race.specs.declared.error.RaceError.{RaceError}
+use Rattle.vp_race.specs.declared.error.RaceError.TheVariants.{SegmentGone}
 use Rattle.vp_race.specs.Booking.{BookState, refusal_of_finding, refusal_of_race}
 use Rattle.vp_race.specs.Recording.{Segments, kept_of}
 use Rattle.vp_race.specs.Same.{same_run}
-use Rattle.vp_race.specs.Segments.{Run, Told}
+use Rattle.vp_race.specs.Segments.{Run, FindingState}
 use Rattle.vp_sim.specs.States as sim
 use Rattle.vp_answer.specs.declared.request.GrantChange.{GrantChange}
 use Rattle.vp_world.specs.declared.event.Event.{Event}
@@ -17,8 +17,8 @@ use Rattle.vp_world.specs.declared.event.Event.TheVariants as event
 use Rattle.vp_answer.specs.declared.request.Request.{Request}
 use Rattle.vp_world.specs.Entries.{Entry}
 use Rattle.vp_world.specs.Events.{IsWellFormed}
-use Rattle.vp_world.specs.History.{IsLegal, IsReached, after, asked_at, book_refusal, closed_at, granted_to, is_log_full, opened_by, refusal_behind, refusal_of, refusal_of_booking, state_asked, state_behind, stepped}
-use Rattle.vp_world.specs.Worlds.{Opening, SessionState, State, index_of}
+use Rattle.vp_world.specs.History.{IsLegal, IsReached, after, asked_at, book_refusal, closed_at, granted_to, is_log_full, opened_by, refusal_after, refusal_of, refusal_of_booking, state_asked, state_after, stepped}
+use Rattle.vp_world.specs.Worlds.{Opening, OpenSessionState, State, index_of}
 use Rattle.vp_world.proofs.Logs.{state_more}
 
 -- ---- what books nothing
@@ -35,7 +35,7 @@ granted_book : (s : State) (change : GrantChange) (o : Option ℕ) → (option_m
 granted_book s change None = refl
 granted_book s change (Some u) = refl
 
-session_book : (s : State) (place : ℕ) (o : Option SessionState) (r : Request) → (state_asked s place o r).book ≡ s.book
+session_book : (s : State) (place : ℕ) (o : Option OpenSessionState) (r : Request) → (state_asked s place o r).book ≡ s.book
 session_book s place None r = refl
 session_book s place (Some session) r = stepped_book _ _ _
 
@@ -54,7 +54,7 @@ chosen true o none = refl
 chosen false o none = absurd (cc)
 
 -- the kept segment of a finding that a book takes
-kept_there : (book : BookState) (kept : Option Run) (f : Told) → refusal_of_finding book kept f ≡ None → (run : Run) × (kept ≡ Some run) × (same_run run f.segment ≡ true)
+kept_there : (book : BookState) (kept : Option Run) (f : FindingState) → refusal_of_finding book kept f ≡ None → (run : Run) × (kept ≡ Some run) × (same_run run f.segment ≡ true)
 kept_there book None f none = absurd (cc)
 kept_there book (Some run) f none = (run, refl, chosen (same_run run f.segment) (refusal_of_race book f) none)
 
@@ -67,7 +67,7 @@ not_refused false (Some e) h = absurd (cc)
 -- ---- after one entry more
 
 -- a race stays reached
-stays : (opening : Opening) (log : List Entry) (e : Entry) (f : Told) → IsReached opening log f → IsReached opening (log ++ e ∷ []) f
+stays : (opening : Opening) (log : List Entry) (e : Entry) (f : FindingState) → IsReached opening log f → IsReached opening (log ++ e ∷ []) f
 stays opening log e f r = record {
   race = r.race;
   before = r.before;
@@ -79,35 +79,35 @@ stays opening log e f r = record {
 }
 
 -- and so do all
-all_stay : (opening : Opening) (log : List Entry) (e : Entry) (book : List Told) → All (IsReached opening log) book → All (IsReached opening (log ++ e ∷ [])) book
+all_stay : (opening : Opening) (log : List Entry) (e : Entry) (book : List FindingState) → All (IsReached opening log) book → All (IsReached opening (log ++ e ∷ [])) book
 all_stay opening log e book all = All-weaker (IsReached opening log) (IsReached opening (log ++ e ∷ [])) (stays opening log e) book all
 
 -- the races after an event
-behind_event :
+after_event :
     (opening : Opening) (log : List Entry) (e : Entry) (happens : Event) → IsWellFormed opening.design happens
-    → refusal_of opening (is_log_full opening log) (state_behind opening log) happens ≡ None → All (IsReached opening log) (state_behind opening log).book
-    → All (IsReached opening (log ++ e ∷ [])) (after opening (state_behind opening log) happens).book
-behind_event opening log e (event.Open name token) formed none all =
-    let s = state_behind opening log in
+    → refusal_of opening (is_log_full opening log) (state_after opening log) happens ≡ None → All (IsReached opening log) (state_after opening log).book
+    → All (IsReached opening (log ++ e ∷ [])) (after opening (state_after opening log) happens).book
+after_event opening log e (event.Open name token) formed none all =
+    let s = state_after opening log in
     subst (All (IsReached opening (log ++ e ∷ []))) (sym (opened_book s (login_of s.policy.members name token))) (all_stay opening log e s.book all)
-behind_event opening log e (event.Ask id request) formed none all =
-    let s = state_behind opening log in
+after_event opening log e (event.Ask id request) formed none all =
+    let s = state_after opening log in
     subst (All (IsReached opening (log ++ e ∷ []))) (sym (asked_book s (index_of s.sessions id) request)) (all_stay opening log e s.book all)
-behind_event opening log e (event.Close id) formed none all =
-    let s = state_behind opening log in
+after_event opening log e (event.Close id) formed none all =
+    let s = state_after opening log in
     subst (All (IsReached opening (log ++ e ∷ []))) (sym (closed_book s (index_of s.sessions id))) (all_stay opening log e s.book all)
-behind_event opening log e (event.Grant change) formed none all =
-    let s = state_behind opening log in
+after_event opening log e (event.Grant change) formed none all =
+    let s = state_after opening log in
     subst (All (IsReached opening (log ++ e ∷ []))) (sym (granted_book s change (user_of s.policy.members change.user))) (all_stay opening log e s.book all)
-behind_event opening log e (event.Step k) formed none all =
-    let s = state_behind opening log in
+after_event opening log e (event.Step k) formed none all =
+    let s = state_after opening log in
     subst (All (IsReached opening (log ++ e ∷ []))) (sym (stepped_book s _ (sim.step s.run k))) (all_stay opening log e s.book all)
-behind_event opening log e event.Advance formed none all =
-    let s = state_behind opening log in
+after_event opening log e event.Advance formed none all =
+    let s = state_after opening log in
     subst (All (IsReached opening (log ++ e ∷ []))) (sym (stepped_book s _ (sim.advance s.run))) (all_stay opening log e s.book all)
-behind_event opening log e event.TakeJob formed none all = all_stay opening log e (state_behind opening log).book all
-behind_event opening log e (event.Book f) formed none all =
-    let s = state_behind opening log in
+after_event opening log e event.TakeJob formed none all = all_stay opening log e (state_after opening log).book all
+after_event opening log e (event.Book f) formed none all =
+    let s = state_after opening log in
     let there = kept_there (record { races = s.book; limit = opening.limits.book }) (kept_of s.segments f.segment.number) f (not_refused (is_log_full opening log) (book_refusal opening s f) none) in
     let new : IsReached opening (log ++ e ∷ []) f = record {
       race = formed.1;
@@ -121,22 +121,22 @@ behind_event opening log e (event.Book f) formed none all =
     All-push (IsReached opening (log ++ e ∷ [])) s.book f (all_stay opening log e s.book all) new
 
 -- the races after one entry more of a legal log
-behind_entry :
-    (opening : Opening) (log : List Entry) (e : Entry) → IsWellFormed opening.design e.event → refusal_behind opening log e.event ≡ None
-    → All (IsReached opening log) (state_behind opening log).book → All (IsReached opening (log ++ e ∷ [])) (state_behind opening (log ++ e ∷ [])).book
-behind_entry opening log e formed none all =
-    subst (λ (s : State). All (IsReached opening (log ++ e ∷ [])) s.book) (sym (state_more opening log e)) (behind_event opening log e e.event formed none all)
+after_entry :
+    (opening : Opening) (log : List Entry) (e : Entry) → IsWellFormed opening.design e.event → refusal_after opening log e.event ≡ None
+    → All (IsReached opening log) (state_after opening log).book → All (IsReached opening (log ++ e ∷ [])) (state_after opening (log ++ e ∷ [])).book
+after_entry opening log e formed none all =
+    subst (λ (s : State). All (IsReached opening (log ++ e ∷ [])) s.book) (sym (state_more opening log e)) (after_event opening log e e.event formed none all)
 
 -- those after the rest of a legal log
-behind_rest :
-    (opening : Opening) (before log : List Entry) → IsLegal opening before log → All (IsReached opening before) (state_behind opening before).book
-    → All (IsReached opening (before ++ log)) (state_behind opening (before ++ log)).book
-behind_rest opening before [] legal all =
-    subst (λ (l : List Entry). All (IsReached opening l) (state_behind opening l).book) (sym (append-nil before)) all
-behind_rest opening before (e ∷ log) (formed, accepted, is, legal) all =
-    subst (λ (l : List Entry). All (IsReached opening l) (state_behind opening l).book) (append_assoc before (e ∷ []) log)
-    (behind_rest opening (before ++ e ∷ []) log legal (behind_entry opening before e formed accepted all))
+after_rest :
+    (opening : Opening) (before log : List Entry) → IsLegal opening before log → All (IsReached opening before) (state_after opening before).book
+    → All (IsReached opening (before ++ log)) (state_after opening (before ++ log)).book
+after_rest opening before [] legal all =
+    subst (λ (l : List Entry). All (IsReached opening l) (state_after opening l).book) (sym (append-nil before)) all
+after_rest opening before (e ∷ log) (formed, accepted, is, legal) all =
+    subst (λ (l : List Entry). All (IsReached opening l) (state_after opening l).book) (append_assoc before (e ∷ []) log)
+    (after_rest opening (before ++ e ∷ []) log legal (after_entry opening before e formed accepted all))
 
 -- each race in the book is reached
-pub all_reached : (opening : Opening) (log : List Entry) → IsLegal opening [] log → All (IsReached opening log) (state_behind opening log).book
-all_reached opening log legal = behind_rest opening [] log legal (All-nil (IsReached opening []))
+pub all_reached : (opening : Opening) (log : List Entry) → IsLegal opening [] log → All (IsReached opening log) (state_after opening log).book
+all_reached opening log legal = after_rest opening [] log legal (All-nil (IsReached opening []))

@@ -7,20 +7,20 @@ use Rattle.vp_elab.specs.Built.{Elaborated}
 use Rattle.vp_policy.specs.PolicyState.{PolicyState}
 use Rattle.vp_policy.specs.Regrants.{regranted}
 use Rattle.vp_race.specs.Recording.{Recorded, Segments, first_segments}
-use Rattle.vp_race.specs.Segments.{Told}
+use Rattle.vp_race.specs.Segments.{FindingState}
 use Rattle.vp_sim.specs.States as sim
-use Rattle.vp_vpi.specs.Seats.{new_seat}
+use Rattle.vp_vpi.specs.SessionStates.{new_session_state}
 use Rattle.vp_answer.specs.declared.request.GrantChange.{GrantChange}
 use Rattle.vp_world.specs.declared.limits.Limits.{Limits}
 use Rattle.vp_world.specs.declared.session.OpenSession.{OpenSession}
 use Rattle.vp_world.specs.History.{granted_to, next_session, opened_by, under_policy, with_state}
 use Rattle.vp_world.specs.Shown.{retired_open, session_shown, shown}
-use Rattle.vp_world.specs.Worlds.{SessionState, Standing, State, start}
+use Rattle.vp_world.specs.Worlds.{OpenSessionState, WorldState, State, start}
 use Rattle.vp_world.proofs.Lists.{map-remove, replicate_is}
 use Rattle.vp_world.proofs.Noticing.{retired_shown}
 
 -- a state with this simulation
-abbrev state_with : sim.State → Segments → List Told → PolicyState → List SessionState → List ℕ → State
+abbrev state_with : sim.State → Segments → List FindingState → PolicyState → List OpenSessionState → List ℕ → State
 state_with run segments book policy sessions opens = record {
   run = run;
   segments = segments;
@@ -33,7 +33,7 @@ state_with run segments book policy sessions opens = record {
 
 -- a world of new fields stands at the start
 pub fresh_shown :
-    (design : Elaborated) (r : Recorded) (book : List Told) (first policy : PolicyState) (limits : Limits) (sessions : List OpenSession) (opens : List ℕ)
+    (design : Elaborated) (r : Recorded) (book : List FindingState) (first policy : PolicyState) (limits : Limits) (sessions : List OpenSession) (opens : List ℕ)
     → r.simulation ≡ sim.start design → r.segments ≡ first_segments r.simulation → book ≡ [] → policy ≡ first → sessions ≡ []
     → opens ≡ replicate {A = ℕ} (length first.members) 0
     → state_with r.simulation r.segments book policy (map session_shown sessions) opens
@@ -41,32 +41,32 @@ pub fresh_shown :
 fresh_shown design r book first policy limits sessions opens at_start segments unbooked same none zeros =
     ap (λ s. state_with r.simulation r.segments book policy (map session_shown s) opens) none
     ∙ ap (λ (p : PolicyState). state_with r.simulation r.segments book p [] opens) same
-    ∙ ap (λ (b : List Told). state_with r.simulation r.segments b first [] opens) unbooked
+    ∙ ap (λ (b : List FindingState). state_with r.simulation r.segments b first [] opens) unbooked
     ∙ ap (λ (o : List ℕ). state_with r.simulation r.segments [] first [] o) (zeros ∙ replicate_is first.members)
     ∙ ap (λ (s : Segments). state_with r.simulation s [] first [] (map (λ u. 0) first.members)) segments
     ∙ ap (λ (s : sim.State). state_with s (first_segments s) [] first [] (map (λ u. 0) first.members)) at_start
     ∙ ap (λ (d : Elaborated). start (record { design = d; policy = first; limits = limits })) (ap (λ (s : sim.State). s.design) (sym at_start))
 
 -- a world with other sessions and counts
-abbrev pub with_sessions : Standing → List SessionState → List ℕ → Standing
+abbrev pub with_sessions : WorldState → List OpenSessionState → List ℕ → WorldState
 with_sessions w sessions opens = record { opening = w.opening; state = record w.state { sessions = sessions; opens = opens } }
 
 -- a session is taken out
 pub closed_shown :
-    (r : Recorded) (book : List Told) (first policy : PolicyState) (limits : Limits) (sessions left : List OpenSession) (opens : List ℕ) (goal : Option ℕ) (place : ℕ) (w : Standing)
+    (r : Recorded) (book : List FindingState) (first policy : PolicyState) (limits : Limits) (sessions left : List OpenSession) (opens : List ℕ) (goal : Option ℕ) (place : ℕ) (w : WorldState)
     → shown r book first policy limits sessions opens goal ≡ w → left ≡ remove sessions place
     → shown r book first policy limits left opens goal
     ≡ record { opening = w.opening; state = record w.state { sessions = remove w.state.sessions place } }
 closed_shown r book first policy limits sessions left opens goal place w is taken =
     ap (λ s. shown r book first policy limits s opens goal) taken
     ∙ ap (λ s. with_sessions (shown r book first policy limits sessions opens goal) s opens) (map-remove session_shown sessions place)
-    ∙ ap (λ (v : Standing). with_sessions v (remove v.state.sessions place) v.state.opens) is
+    ∙ ap (λ (v : WorldState). with_sessions v (remove v.state.sessions place) v.state.opens) is
 
 -- a session is opened
 pub opened_shown :
-    (r : Recorded) (book : List Told) (first policy : PolicyState) (limits : Limits) (sessions more : List OpenSession) (opens counts : List ℕ) (goal : Option ℕ) (session : OpenSession) (user : ℕ) (w : Standing)
+    (r : Recorded) (book : List FindingState) (first policy : PolicyState) (limits : Limits) (sessions more : List OpenSession) (opens counts : List ℕ) (goal : Option ℕ) (session : OpenSession) (user : ℕ) (w : WorldState)
     → shown r book first policy limits sessions opens goal ≡ w
-    → session_shown session ≡ record { id = next_session w.state user; seat = new_seat user }
+    → session_shown session ≡ record { id = next_session w.state user; session_state = new_session_state user }
     → more ≡ sessions ++ session ∷ []
     → counts ≡ slice_set opens user (slice_index w.state.opens user + 1)
     → shown r book first policy limits more counts goal ≡ record { opening = w.opening; state = opened_by w.state user }
@@ -74,12 +74,12 @@ opened_shown r book first policy limits sessions more opens counts goal session 
     ap (λ s. shown r book first policy limits s counts goal) added
     ∙ ap (λ c. shown r book first policy limits (sessions ++ session ∷ []) c goal) counted
     ∙ ap (λ s. with_sessions (shown r book first policy limits sessions opens goal) s (slice_set opens user (slice_index w.state.opens user + 1)))
-    (map-append session_shown sessions (session ∷ []) ∙ ap (λ (s : SessionState). map session_shown sessions ++ s ∷ []) new)
-    ∙ ap (λ (v : Standing). with_sessions v (v.state.sessions ++ record { id = next_session w.state user; seat = new_seat user } ∷ []) (slice_set v.state.opens user (slice_index w.state.opens user + 1))) is
+    (map-append session_shown sessions (session ∷ []) ∙ ap (λ (s : OpenSessionState). map session_shown sessions ++ s ∷ []) new)
+    ∙ ap (λ (v : WorldState). with_sessions v (v.state.sessions ++ record { id = next_session w.state user; session_state = new_session_state user } ∷ []) (slice_set v.state.opens user (slice_index w.state.opens user + 1))) is
 
 -- a user's grant is changed
 pub granted_shown :
-    (r : Recorded) (book : List Told) (first policy changed : PolicyState) (limits : Limits) (sessions left : List OpenSession) (opens : List ℕ) (goal : Option ℕ) (change : GrantChange) (user : ℕ) (w : Standing)
+    (r : Recorded) (book : List FindingState) (first policy changed : PolicyState) (limits : Limits) (sessions left : List OpenSession) (opens : List ℕ) (goal : Option ℕ) (change : GrantChange) (user : ℕ) (w : WorldState)
     → shown r book first policy limits sessions opens goal ≡ w
     → changed ≡ regranted policy user change.envelope change.access
     → left ≡ map (retired_open changed user) sessions
@@ -89,4 +89,4 @@ granted_shown r book first policy changed limits sessions left opens goal change
     ap (λ ss. shown r book first changed limits ss opens goal) retires
     ∙ ap (λ ss. with_state s (record s.state { policy = changed; sessions = ss })) (retired_shown changed user sessions)
     ∙ ap (λ (p : PolicyState). with_state s (under_policy s.state user p)) regrants
-    ∙ ap (λ (v : Standing). with_state v (granted_to v.state change user)) is
+    ∙ ap (λ (v : WorldState). with_state v (granted_to v.state change user)) is

@@ -21,7 +21,7 @@ use Rattle.vp_operand.specs.Arena.{sizes_in}
 use Rattle.vp_sim.specs.Tables.{tables_of}
 use Rattle.vp_sim.specs.Effects.{effect_at}
 use Rattle.vp_sim.specs.Walking.{flow_of}
-use Rattle.vp_policy.specs.declared.denial.Barrier.TheVariants as by
+use Rattle.vp_policy.specs.declared.denial.ShownBarrier.TheVariants as by
 use Rattle.vp_policy.specs.Users.{Member}
 use Rattle.vp_vpi.specs.declared.property.PutValue.TheVariants.{Digits}
 use Rattle.vp_answer.specs.declared.request.SessionId.{SessionId}
@@ -29,12 +29,12 @@ use Rattle.vp_answer.specs.declared.request.Request.TheVariants as request
 use Rattle.vp_answer.specs.declared.request.ValueFormat.TheVariants as format
 use Rattle.vp_world.specs.declared.event.Event.{Event}
 use Rattle.vp_world.specs.declared.event.Event.TheVariants as event
-use Rattle.vp_world.specs.declared.fault.WorldError.TheVariants as error
+use Rattle.vp_world.specs.declared.error.WorldError.TheVariants as error
 use Rattle.vp_answer.specs.declared.reply.Refusal.TheVariants as refusal
 use Rattle.vp_answer.specs.declared.reply.Reply.{Reply}
 use Rattle.vp_answer.specs.declared.reply.Reply.TheVariants as reply
 use Rattle.vp_waking.specs.declared.change.Change.{Change}
-use Rattle.vp_sim.specs.declared.fault.SimError.TheVariants as sim
+use Rattle.vp_sim.specs.declared.error.SimError.TheVariants as sim
 use Rattle.vp_world.specs.Entries.{Entry}
 use Rattle.vp_world.specs.Worlds.{Opening, State, start}
 use Rattle.vp_world.specs.History.{IsLegal, after, answer, refusal_of}
@@ -141,16 +141,16 @@ abbrev steps : ℕ → Event
 steps k = event.Step k
 
 -- the state after these events
-abbrev behind : List Event → State
-behind events = fold (after opening) (start opening) events
+abbrev following : List Event → State
+following events = fold (after opening) (start opening) events
 
 -- what an event is answered after others
 abbrev answered : List Event → Event → Reply
-answered events e = answer opening (behind events) e
+answered events e = answer opening (following events) e
 
 -- why an event is refused after others, whose log is not full
 abbrev refused : List Event → Event → Option error.the_data
-refused events e = refusal_of opening false (behind events) e
+refused events e = refusal_of opening false (following events) e
 
 opened : answered [] opens ≡ reply.Opened first
 opened = refl
@@ -164,9 +164,9 @@ second_handle = refl
 value_read : answered (opens ∷ asks (codes "top.a") ∷ []) (reads 1) ≡ reply.Value (Unknown ∷ [])
 value_read = refl
 
-value_behind_a_step : answered (opens ∷ asks (codes "top.a") ∷ runs ∷ steps 0 ∷ []) (reads 1) ≡ reply.Value (One ∷ [])
+value_after_a_step : answered (opens ∷ asks (codes "top.a") ∷ runs ∷ steps 0 ∷ []) (reads 1) ≡ reply.Value (One ∷ [])
 unfolding digits is_utf8 chars encode sizes_in tables_of effect_at
-value_behind_a_step = refl
+value_after_a_step = refl
 
 time_read : answered (opens ∷ []) (event.Ask first request.Time) ≡ reply.Time 0 false
 time_read = refl
@@ -238,8 +238,8 @@ grants_to user envelope access = grants (codes "op") user envelope access
 granted_name : answered (opens ∷ grants_to (codes "ann") 1 reading ∷ []) (asks (codes "top.k")) ≡ reply.Handle 1
 granted_name = refl
 
-absent_behind_a_grant : answered (opens ∷ grants_to (codes "ann") 1 reading ∷ []) (asks (codes "top.zz")) ≡ reply.Error refusal.NoSuchName
-absent_behind_a_grant = refl
+absent_after_a_grant : answered (opens ∷ grants_to (codes "ann") 1 reading ∷ []) (asks (codes "top.zz")) ≡ reply.Error refusal.NoSuchName
+absent_after_a_grant = refl
 
 -- after an empty one both are denied by the grant
 abbrev hidden_by_grant : Reply
@@ -248,8 +248,8 @@ hidden_by_grant = reply.Denied (record { by = by.Grant; envelope = 1; right = ri
 ended_name : answered (opens ∷ grants_to (codes "ann") 1 reading ∷ grants_to (codes "ann") 1 nothing ∷ []) (asks (codes "top.k")) ≡ hidden_by_grant
 ended_name = refl
 
-absent_behind_its_end : answered (opens ∷ grants_to (codes "ann") 1 nothing ∷ []) (asks (codes "top.zz")) ≡ hidden_by_grant
-absent_behind_its_end = refl
+absent_after_its_end : answered (opens ∷ grants_to (codes "ann") 1 nothing ∷ []) (asks (codes "top.zz")) ≡ hidden_by_grant
+absent_after_its_end = refl
 
 -- the reasons why one is refused, each before the next
 bad_operator : refused [] (grants (codes "no") (codes "zed") 2 nothing) ≡ Some error.BadOperator
@@ -258,10 +258,10 @@ bad_operator = refl
 no_such_user : refused [] (grants (codes "op") (codes "zed") 2 nothing) ≡ Some error.NoSuchUser
 no_such_user = refl
 
-no_such_envelope : refusal_of opening true (behind []) (grants (codes "op") (codes "ann") 2 nothing) ≡ Some error.NoSuchEnvelope
+no_such_envelope : refusal_of opening true (following []) (grants (codes "op") (codes "ann") 2 nothing) ≡ Some error.NoSuchEnvelope
 no_such_envelope = refl
 
-grant_at_a_full_log : refusal_of opening true (behind []) (grants (codes "op") (codes "ann") 1 nothing) ≡ Some error.LogFull
+grant_at_a_full_log : refusal_of opening true (following []) (grants (codes "op") (codes "ann") 1 nothing) ≡ Some error.LogFull
 grant_at_a_full_log = refl
 
 -- ---- two sessions of one user, who may watch and put
@@ -288,41 +288,41 @@ watching =
     ∷ event.Ask second (request.Handle (codes "top.a") None) ∷ event.Ask second (request.Watch 1) ∷ []
 
 -- what an event is answered after a put of the first session
-abbrev answered_behind_a_put : Event → Reply
-answered_behind_a_put e =
+abbrev answered_after_a_put : Event → Reply
+answered_after_a_put e =
     answer shared (after shared (fold (after shared) (start shared) watching) (event.Ask first (request.Put 1 (Digits (codes "1"))))) e
 
 -- the second is told of it, and the first has nothing to be told
-put_told : answered_behind_a_put (event.Ask second request.Poll) ≡ reply.Notices (record { notices = record { callback = 1; time = 0; value = One ∷ [] } ∷ []; lost = 0 })
+put_told : answered_after_a_put (event.Ask second request.Poll) ≡ reply.Notices (record { notices = record { callback = 1; time = 0; value = One ∷ [] } ∷ []; lost = 0 })
 unfolding digits is_utf8 chars encode sizes_in tables_of effect_at
 put_told = refl
 
-put_not_told : answered_behind_a_put (event.Ask first request.Poll) ≡ reply.Notices (record { notices = []; lost = 0 })
+put_not_told : answered_after_a_put (event.Ask first request.Poll) ≡ reply.Notices (record { notices = []; lost = 0 })
 unfolding digits is_utf8 chars encode sizes_in tables_of effect_at
 put_not_told = refl
 
 -- a grant that ends takes what waits along, and the callback
-abbrev answered_behind_an_end : Event → Reply
-answered_behind_an_end e =
+abbrev answered_after_an_end : Event → Reply
+answered_after_an_end e =
     answer shared
     (fold (after shared) (start shared)
     (watching ++ event.Ask first (request.Put 1 (Digits (codes "1"))) ∷ grants_to (codes "bob") 0 (with_right right.List nothing) ∷ [])) e
 
-nothing_waits : answered_behind_an_end (event.Ask second request.Poll) ≡ reply.Notices (record { notices = []; lost = 0 })
+nothing_waits : answered_after_an_end (event.Ask second request.Poll) ≡ reply.Notices (record { notices = []; lost = 0 })
 unfolding digits is_utf8 chars encode sizes_in tables_of effect_at
 nothing_waits = refl
 
-callback_gone : answered_behind_an_end (event.Ask second (request.Unwatch 1)) ≡ reply.Error refusal.NoSuchCallback
+callback_gone : answered_after_an_end (event.Ask second (request.Unwatch 1)) ≡ reply.Error refusal.NoSuchCallback
 unfolding digits is_utf8 chars encode sizes_in tables_of effect_at
 callback_gone = refl
 
 -- ---- logs
 
 -- a full log is told before the goal, and after a session that is not open
-log_full_first : refusal_of opening true (behind (opens ∷ [])) (steps 0) ≡ Some error.LogFull
+log_full_first : refusal_of opening true (following (opens ∷ [])) (steps 0) ≡ Some error.LogFull
 log_full_first = refl
 
-not_open_first : refusal_of opening true (behind []) (reads 1) ≡ Some error.NotOpen
+not_open_first : refusal_of opening true (following []) (reads 1) ≡ Some error.NotOpen
 not_open_first = refl
 
 -- a log with the definition's replies is legal

@@ -2,8 +2,8 @@
 use Rattle.std.specs.Prelude.{ℕ, Bool, Option, Some, None}
 use Rattle.std.specs.Arc.{arc_value}
 use Rattle.vp_waking.specs.declared.change.Change.{Change}
-use Rattle.vp_world.specs.declared.entry.Happening.{Happening}
-use Rattle.vp_world.specs.declared.entry.Happening.TheVariants as happening
+use Rattle.vp_world.specs.declared.entry.LoggedEvent.{LoggedEvent}
+use Rattle.vp_world.specs.declared.entry.LoggedEvent.TheVariants as happening
 use Rattle.vp_world.specs.declared.event.Event.{Event}
 use Rattle.vp_world.specs.declared.event.Event.TheVariants as event
 use Rattle.vp_answer.specs.declared.reply.Reply.{Reply}
@@ -20,7 +20,7 @@ pub record Entry : Type 0 where
 -- ---- what is seen of the fields of an entry
 
 -- the event of what happened
-abbrev pub event_in : Happening → Event
+abbrev pub event_in : LoggedEvent → Event
 event_in (happening.Open login session) = event.Open (arc_value login).user (arc_value login).token
 event_in (happening.Ask asked reply) = event.Ask (arc_value asked).session (arc_value asked).request
 event_in (happening.Put asked change) = event.Ask (arc_value asked).session (arc_value asked).request
@@ -33,7 +33,7 @@ event_in (happening.TakeJob number) = event.TakeJob
 event_in (happening.Book finding) = event.Book finding
 
 -- its reply
-abbrev pub reply_in : Happening → Reply
+abbrev pub reply_in : LoggedEvent → Reply
 reply_in (happening.Open login session) = reply.Opened session
 reply_in (happening.Ask asked reply) = reply
 reply_in (happening.Put asked change) = reply.Done
@@ -46,7 +46,7 @@ reply_in (happening.TakeJob number) = reply.Job number
 reply_in (happening.Book finding) = reply.Done
 
 -- what it changed
-abbrev pub change_in : Happening → Option Change
+abbrev pub change_in : LoggedEvent → Option Change
 change_in (happening.Open login session) = None
 change_in (happening.Ask asked reply) = None
 change_in (happening.Put asked change) = Some change
@@ -59,7 +59,7 @@ change_in (happening.TakeJob number) = None
 change_in (happening.Book finding) = None
 
 -- an entry of what happened
-abbrev pub entry_shown : Happening → (time : ℕ) → (finished : Bool) → Entry
+abbrev pub entry_shown : LoggedEvent → (time : ℕ) → (finished : Bool) → Entry
 entry_shown h time finished = record {
   event = event_in h;
   reply = reply_in h;

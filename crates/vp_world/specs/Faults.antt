@@ -1,11 +1,11 @@
 -- The numbers of the refusals of an event.
 use Rattle.std.specs.Prelude.{ℕ}
-use Rattle.vp_race.specs.declared.fault.RaceError.{RaceError}
-use Rattle.vp_race.specs.declared.fault.RaceError.TheVariants as race
-use Rattle.vp_sim.specs.declared.fault.SimError.{SimError}
-use Rattle.vp_sim.specs.declared.fault.SimError.TheVariants as sim
-use Rattle.vp_world.specs.declared.fault.WorldError.{WorldError}
-use Rattle.vp_world.specs.declared.fault.WorldError.TheVariants.{BadToken, SessionsFull, NotOpen, BadOperator, NoSuchUser, NoSuchEnvelope, LogFull, BeyondGoal, NoJob, Sim, Race, NoMemory}
+use Rattle.vp_race.specs.declared.error.RaceError.{RaceError}
+use Rattle.vp_race.specs.declared.error.RaceError.TheVariants as race
+use Rattle.vp_sim.specs.declared.error.SimError.{SimError}
+use Rattle.vp_sim.specs.declared.error.SimError.TheVariants as sim
+use Rattle.vp_world.specs.declared.error.WorldError.{WorldError}
+use Rattle.vp_world.specs.declared.error.WorldError.TheVariants.{BadToken, SessionsFull, NotOpen, BadOperator, NoSuchUser, NoSuchEnvelope, LogFull, BeyondGoal, NoJob, Sim, Race, NoMemory}
 
 -- the number of a refusal (profile)
 abbrev pub code_of : WorldError → ℕ

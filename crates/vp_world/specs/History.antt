@@ -8,28 +8,28 @@ use Rattle.vp_policy.specs.PolicyState.{PolicyState}
 use Rattle.vp_policy.specs.Regrants.{is_operator, regranted}
 use Rattle.vp_policy.specs.Users.{Member, login_of, member_at, user_of}
 use Rattle.vp_waking.specs.declared.change.Change.{Change}
-use Rattle.vp_race.specs.declared.fault.RaceError.{RaceError}
+use Rattle.vp_race.specs.declared.error.RaceError.{RaceError}
 use Rattle.vp_race.specs.Booking.{refusal_of_finding}
 use Rattle.vp_race.specs.Recording.{Segments, kept_of, next_job, with_anew, with_job, with_step}
 use Rattle.vp_race.specs.Same.{same_run}
-use Rattle.vp_race.specs.Segments.{IsRaceOf, Run, Told}
+use Rattle.vp_race.specs.Segments.{IsRaceOf, Run, FindingState}
 use Rattle.vp_sim.specs.States as sim
 use Rattle.vp_vpi.specs.Observers.{Observer, is_watch_denied}
 use Rattle.vp_vpi.specs.Races.{observer_with}
-use Rattle.vp_vpi.specs.Seats.{Seat, new_seat, retired, with_due}
+use Rattle.vp_vpi.specs.SessionStates.{SessionState, new_session_state, retired, with_due}
 use Rattle.vp_world.specs.Entries.{Entry}
 use Rattle.vp_answer.specs.declared.request.GrantChange.{GrantChange}
 use Rattle.vp_answer.specs.declared.request.SessionId.{SessionId}
 use Rattle.vp_answer.specs.declared.request.Request.{Request}
 use Rattle.vp_world.specs.declared.event.Event.{Event}
 use Rattle.vp_world.specs.declared.event.Event.TheVariants as event
-use Rattle.vp_world.specs.declared.fault.WorldError.{WorldError}
-use Rattle.vp_world.specs.declared.fault.WorldError.TheVariants as error
+use Rattle.vp_world.specs.declared.error.WorldError.{WorldError}
+use Rattle.vp_world.specs.declared.error.WorldError.TheVariants as error
 use Rattle.vp_answer.specs.declared.reply.Refusal.TheVariants as refusal
 use Rattle.vp_answer.specs.declared.reply.Reply.{Reply}
 use Rattle.vp_answer.specs.declared.reply.Reply.TheVariants as reply
 use Rattle.vp_world.specs.Events.{IsWellFormed}
-use Rattle.vp_world.specs.Worlds.{Logged, Opening, SessionState, Standing, State, index_of, start}
+use Rattle.vp_world.specs.Worlds.{WorldLog, Opening, OpenSessionState, WorldState, State, index_of, start}
 use Rattle.vp_answer.specs.Answers.{Response, respond}
 
 -- ---- refusals
@@ -73,15 +73,15 @@ refusal_of_outcome (sim.Goes run change) = None
 refusal_of_outcome (sim.Refuses e) = Some (error.Sim e)
 
 -- a time lies beyond the goal; each does where there is none (profile)
-abbrev pub is_beyond : Option ℕ → ℕ → Bool
-is_beyond None t = true
-is_beyond (Some goal) t = nat_lt goal t
+abbrev pub is_past_goal : Option ℕ → ℕ → Bool
+is_past_goal None t = true
+is_past_goal (Some goal) t = nat_lt goal t
 
 -- the time of the next event lies beyond the goal; without a goal it does, also where there is no such event (profile)
-abbrev pub is_next_beyond : Option ℕ → Option ℕ → Bool
-is_next_beyond None next = true
-is_next_beyond (Some goal) None = false
-is_next_beyond (Some goal) (Some t) = nat_lt goal t
+abbrev pub is_next_past_goal : Option ℕ → Option ℕ → Bool
+is_next_past_goal None next = true
+is_next_past_goal (Some goal) None = false
+is_next_past_goal (Some goal) (Some t) = nat_lt goal t
 
 -- why a step or an advance is refused: a full log, a goal that does not reach so far, then the simulation's refusal (profile)
 abbrev pub refusal_of_step : Bool → Bool → sim.Outcome → Option WorldError
@@ -94,7 +94,7 @@ abbrev pub refusal_of_job : Bool → Option Run → Option WorldError
 refusal_of_job full job = if full then Some error.LogFull else if is_none job then Some error.NoJob else None
 
 -- why the book refuses a finding, if it does: beside the kept segment of its number (profile)
-abbrev pub book_refusal : Opening → State → Told → Option RaceError
+abbrev pub book_refusal : Opening → State → FindingState → Option RaceError
 book_refusal opening s f =
     refusal_of_finding (record { races = s.book; limit = opening.limits.book }) (kept_of s.segments f.segment.number) f
 
@@ -109,9 +109,9 @@ refusal_of opening full s (event.Open name token) = refusal_of_open opening full
 refusal_of opening full s (event.Ask id request) = refusal_of_session full (index_of s.sessions id)
 refusal_of opening full s (event.Close id) = refusal_of_session full (index_of s.sessions id)
 refusal_of opening full s (event.Grant change) = refusal_of_grant full s.policy change
-refusal_of opening full s (event.Step k) = refusal_of_step full (is_beyond s.goal s.run.time) (sim.step s.run k)
+refusal_of opening full s (event.Step k) = refusal_of_step full (is_past_goal s.goal s.run.time) (sim.step s.run k)
 refusal_of opening full s event.Advance =
-    refusal_of_step full (is_next_beyond s.goal (sim.next_time s.run)) (sim.advance s.run)
+    refusal_of_step full (is_next_past_goal s.goal (sim.next_time s.run)) (sim.advance s.run)
 refusal_of opening full s event.TakeJob = refusal_of_job full (next_job s.segments)
 refusal_of opening full s (event.Book finding) = refusal_of_booking full (book_refusal opening s finding)
 
@@ -122,21 +122,21 @@ abbrev pub next_session : State → ℕ → SessionId
 next_session s u = record { user = record { 0 = u }; opens = slice_index s.opens u + 1 }
 
 -- what a user can look up: the simulation, and the races of the book that he is shown
-abbrev pub eyes_of : State → Member → Observer
-eyes_of s u = observer_with s.run u s.book
+abbrev pub observer_at : State → Member → Observer
+observer_at s u = observer_with s.run u s.book
 
 -- what comes of a request of a session: its user looks into the simulation, and the policy in force says what he sees
-abbrev pub response_of : State → Seat → Request → Response
-response_of s seat r = respond (eyes_of s (member_at s.policy.members seat.user)) seat r
+abbrev pub response_of : State → SessionState → Request → Response
+response_of s session_state r = respond (observer_at s (member_at s.policy.members session_state.user)) session_state r
 
 -- the open session of a name
-abbrev pub session_of : List SessionState → SessionId → Option SessionState
+abbrev pub session_of : List OpenSessionState → SessionId → Option OpenSessionState
 session_of sessions id = option_and_then (slice_get sessions) (index_of sessions id)
 
 -- the reply to a request of an open session
-abbrev pub asked : State → Option SessionState → Request → Reply
+abbrev pub asked : State → Option OpenSessionState → Request → Reply
 asked s None r = reply.Error refusal.NotOpen
-asked s (Some session) r = (response_of s session.seat r).reply
+asked s (Some session) r = (response_of s session.session_state r).reply
 
 -- the reply to an event that is accepted
 abbrev pub answer : Opening → State → Event → Reply
@@ -166,9 +166,9 @@ segments_of_put segments None run = segments
 segments_of_put segments (Some p) run = with_anew segments run
 
 -- what a request of an open session changes
-abbrev pub changed_by : State → Option SessionState → Request → Option Change
+abbrev pub changed_by : State → Option OpenSessionState → Request → Option Change
 changed_by s None r = None
-changed_by s (Some session) r = change_of (outcome_of_put s.run (response_of s session.seat r).put)
+changed_by s (Some session) r = change_of (outcome_of_put s.run (response_of s session.session_state r).put)
 
 -- what an event that is accepted changes
 abbrev pub changed : State → Event → Option Change
@@ -186,7 +186,7 @@ changed s (event.Book finding) = None
 -- the state with one session more, of a user
 abbrev pub opened_by : State → ℕ → State
 opened_by s u = record s {
-  sessions = s.sessions ++ record { id = next_session s u; seat = new_seat u } ∷ [];
+  sessions = s.sessions ++ record { id = next_session s u; session_state = new_session_state u } ∷ [];
   opens = slice_set s.opens u (slice_index s.opens u + 1);
 }
 
@@ -201,11 +201,11 @@ raised goal None = goal
 raised goal (Some until) = Some (later goal until)
 
 -- an open session after a change at a time, which is due to its callbacks (clause 27.33)
-abbrev pub with_notice : Option Change → (time : ℕ) → SessionState → SessionState
-with_notice change time s = record s { seat = with_due change time s.seat }
+abbrev pub with_notice : Option Change → (time : ℕ) → OpenSessionState → OpenSessionState
+with_notice change time s = record s { session_state = with_due change time s.session_state }
 
 -- the open sessions after a change at a time: each of them is told, whoever made it (profile)
-abbrev pub noticed : Option Change → (time : ℕ) → List SessionState → List SessionState
+abbrev pub noticed : Option Change → (time : ℕ) → List OpenSessionState → List OpenSessionState
 noticed change time sessions = map (with_notice change time) sessions
 
 -- the state after what the simulation does, of whose change the open sessions are told; the segments after it are a matter of what it did. A refusal
@@ -219,16 +219,16 @@ stepped s segments (sim.Goes run change) = record s {
 stepped s segments (sim.Refuses e) = s
 
 -- the state after what comes of a request of the session in a place: the session is as the request leaves it, and then the put is made
-abbrev pub with_response : State → ℕ → SessionState → Response → State
+abbrev pub with_response : State → ℕ → OpenSessionState → Response → State
 with_response s place session given =
     stepped
-    (record s { sessions = slice_set s.sessions place (record session { seat = given.seat }); goal = raised s.goal given.goal })
+    (record s { sessions = slice_set s.sessions place (record session { session_state = given.session_state }); goal = raised s.goal given.goal })
     (segments_of_put s.segments given.put) (outcome_of_put s.run given.put)
 
 -- the state after a request of the session in a place
-abbrev pub state_asked : State → ℕ → Option SessionState → Request → State
+abbrev pub state_asked : State → ℕ → Option OpenSessionState → Request → State
 state_asked s place None r = s
-state_asked s place (Some session) r = with_response s place session (response_of s session.seat r)
+state_asked s place (Some session) r = with_response s place session (response_of s session.session_state r)
 
 -- the state after a request of a session, which is open in a place
 abbrev pub asked_at : State → Option ℕ → Request → State
@@ -242,9 +242,9 @@ closed_at s (Some place) = record s { sessions = remove s.sessions place }
 
 -- an open session after a change of what the user of a number is granted: if it is his, what he may not watch any more is taken out of
 -- it (profile)
-abbrev pub retired_for : PolicyState → (user : ℕ) → SessionState → SessionState
+abbrev pub retired_for : PolicyState → (user : ℕ) → OpenSessionState → OpenSessionState
 retired_for policy user s = record s {
-  seat = (if s.seat.user == user then retired (is_watch_denied policy.tree (member_at policy.members user)) s.seat else s.seat);
+  session_state = (if s.session_state.user == user then retired (is_watch_denied policy.tree (member_at policy.members user)) s.session_state else s.session_state);
 }
 
 -- the state in which another policy is in force, after a change of what the user of a number is granted
@@ -260,7 +260,7 @@ abbrev pub with_job_taken : State → State
 with_job_taken s = record s { segments = option_map_or (with_job s.segments) (next_job s.segments) s.segments }
 
 -- the state after a booking
-abbrev pub with_booked : State → Told → State
+abbrev pub with_booked : State → FindingState → State
 with_booked s finding = record s { book = s.book ++ finding ∷ [] }
 
 -- the state after an event that is accepted
@@ -277,16 +277,16 @@ after opening s (event.Book finding) = with_booked s finding
 -- ---- logs
 
 -- the state that a log leads to: a left fold of its events
-abbrev pub state_behind : Opening → List Entry → State
-state_behind opening log = fold (λ s e. after opening s e.event) (start opening) log
+abbrev pub state_after : Opening → List Entry → State
+state_after opening log = fold (λ s e. after opening s e.event) (start opening) log
 
 -- a log has as many entries as the limit allows (profile)
 abbrev pub is_log_full : Opening → List Entry → Bool
 is_log_full opening log = nat_le opening.limits.log (length log)
 
 -- the refusal of an event after a log; none where it is accepted
-abbrev pub refusal_behind : Opening → List Entry → Event → Option WorldError
-refusal_behind opening log e = refusal_of opening (is_log_full opening log) (state_behind opening log) e
+abbrev pub refusal_after : Opening → List Entry → Event → Option WorldError
+refusal_after opening log e = refusal_of opening (is_log_full opening log) (state_after opening log) e
 
 -- the entry of an event that is accepted in a state: its reply, what it changed, and the time and $finish after it
 abbrev pub entry_of : Opening → State → Event → Entry
@@ -298,41 +298,41 @@ entry_of opening s e =
 abbrev pub IsLegal : Opening → List Entry → List Entry → Type 0
 IsLegal opening before [] = Unit {0}
 IsLegal opening before (e ∷ log) =
-    IsWellFormed opening.design e.event × (refusal_behind opening before e.event ≡ None)
-    × (e ≡ entry_of opening (state_behind opening before) e.event) × IsLegal opening (before ++ e ∷ []) log
+    IsWellFormed opening.design e.event × (refusal_after opening before e.event ≡ None)
+    × (e ≡ entry_of opening (state_after opening before) e.event) × IsLegal opening (before ++ e ∷ []) log
 
 -- a race that is booked in a log: a race of its segment, which was kept after the first entries of the log
-pub record IsReached (opening : Opening) (log : List Entry) (f : Told) : Type 0 where
+pub record IsReached (opening : Opening) (log : List Entry) (f : FindingState) : Type 0 where
   pub race : IsRaceOf f
   pub before : List Entry
   pub rest : List Entry
   pub cut : log ≡ before ++ rest
   pub run : Run
-  pub kept : kept_of (state_behind opening before).segments f.segment.number ≡ Some run
+  pub kept : kept_of (state_after opening before).segments f.segment.number ≡ Some run
   pub same : same_run run f.segment ≡ true
 
 -- a world that stands so has this log: its state is that which the log leads to, and the log is legal
-pub record Keeps (w : Standing) (log : List Entry) : Type 0 where
-  pub state : w.state ≡ state_behind w.opening log
+pub record Keeps (w : WorldState) (log : List Entry) : Type 0 where
+  pub state : w.state ≡ state_after w.opening log
   pub legal : IsLegal w.opening [] log
 
 -- ---- a world, by its opening and its log
 
 -- the refusal of an event by a world; none where it is accepted
-abbrev pub refused_by : Logged → Event → Option WorldError
-refused_by w e = refusal_behind w.opening w.log e
+abbrev pub refused_by : WorldLog → Event → Option WorldError
+refused_by w e = refusal_after w.opening w.log e
 
 -- the reply of a world to an event that it accepts
-abbrev pub answered_by : Logged → Event → Reply
-answered_by w e = answer w.opening (state_behind w.opening w.log) e
+abbrev pub answered_by : WorldLog → Event → Reply
+answered_by w e = answer w.opening (state_after w.opening w.log) e
 
 -- the world with the entry of an event more
-abbrev pub with_entry : Logged → Event → Logged
-with_entry w e = record w { log = w.log ++ entry_of w.opening (state_behind w.opening w.log) e ∷ [] }
+abbrev pub with_entry : WorldLog → Event → WorldLog
+with_entry w e = record w { log = w.log ++ entry_of w.opening (state_after w.opening w.log) e ∷ [] }
 
 -- an event is applied to a world, which becomes another: it is accepted and logged; or refused by the first reason that holds, or, where
 -- none does, for want of memory, and the world stays as it was
-pub record Applies {T : Type 0} (w : Logged) (e : Event) (result : Result T WorldError) (v : Logged) : Type 0 where
+pub record Applies {T : Type 0} (w : WorldLog) (e : Event) (result : Result T WorldError) (v : WorldLog) : Type 0 where
   pub accepted : OnOk result (refused_by w e ≡ None)
   pub logged : OnOk result (v ≡ with_entry w e)
   pub refused : IfErr result (Explains error.NoMemory (refused_by w e))
@@ -341,25 +341,25 @@ pub record Applies {T : Type 0} (w : Logged) (e : Event) (result : Result T Worl
 -- ---- a world without its log, by how it began and its state
 
 -- the world in another state
-abbrev pub with_state : Standing → State → Standing
+abbrev pub with_state : WorldState → State → WorldState
 with_state w s = record w { state = s }
 
 -- the refusal of an event, after a log that is full or not
-abbrev pub refusal_in : Standing → Bool → Event → Option WorldError
+abbrev pub refusal_in : WorldState → Bool → Event → Option WorldError
 refusal_in w full e = refusal_of w.opening full w.state e
 
 -- the reply to a request of the session in a place
-abbrev pub asked_in : Standing → ℕ → Request → Reply
+abbrev pub asked_in : WorldState → ℕ → Request → Reply
 asked_in w place r = asked w.state (slice_get w.state.sessions place) r
 
 -- what a request of the session in a place changes
-abbrev pub changed_in : Standing → ℕ → Request → Option Change
+abbrev pub changed_in : WorldState → ℕ → Request → Option Change
 changed_in w place r = changed_by w.state (slice_get w.state.sessions place) r
 
 -- the refusal of a step, after a log that is full or not, by its outcome
-abbrev pub due_step : Standing → Bool → sim.Outcome → Option WorldError
-due_step w full outcome = refusal_of_step full (is_beyond w.state.goal w.state.run.time) outcome
+abbrev pub step_refusal : WorldState → Bool → sim.Outcome → Option WorldError
+step_refusal w full outcome = refusal_of_step full (is_past_goal w.state.goal w.state.run.time) outcome
 
 -- the refusal of an advance, after a log that is full or not, by its outcome
-abbrev pub due_advance : Standing → Bool → sim.Outcome → Option WorldError
-due_advance w full outcome = refusal_of_step full (is_next_beyond w.state.goal (sim.next_time w.state.run)) outcome
+abbrev pub advance_refusal : WorldState → Bool → sim.Outcome → Option WorldError
+advance_refusal w full outcome = refusal_of_step full (is_next_past_goal w.state.goal (sim.next_time w.state.run)) outcome

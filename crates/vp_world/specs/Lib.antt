@@ -2,7 +2,7 @@ pub use Rattle.vp_elab.specs.Tree
 pub use Rattle.vp_policy.specs.Users
 pub use Rattle.vp_policy.specs.Filter
 pub use Rattle.vp_vpi.specs.Observers
-pub use Rattle.vp_vpi.specs.Seats
+pub use Rattle.vp_vpi.specs.SessionStates
 pub use Rattle.vp_vpi.specs.Calls
 pub mod Events
 pub mod Faults

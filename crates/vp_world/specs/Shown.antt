@@ -3,21 +3,21 @@ use Rattle.std.specs.Prelude.{◌≡◌, ℕ, ◌==◌, if◌then◌else◌, Lis
 use Rattle.vp_policy.specs.PolicyState.{PolicyState}
 use Rattle.vp_policy.specs.Users.{member_at}
 use Rattle.vp_race.specs.Recording.{Recorded}
-use Rattle.vp_race.specs.Segments.{Run, Told}
+use Rattle.vp_race.specs.Segments.{Run, FindingState}
 use Rattle.vp_vpi.specs.Observers.{is_watch_denied}
-use Rattle.vp_vpi.specs.Seats.{retired, with_due}
+use Rattle.vp_vpi.specs.SessionStates.{retired, with_due}
 use Rattle.vp_waking.specs.declared.change.Change.{Change}
 use Rattle.vp_world.specs.declared.limits.Limits.{Limits}
 use Rattle.vp_world.specs.declared.session.OpenSession.{OpenSession}
-use Rattle.vp_world.specs.Worlds.{SessionState, Standing}
+use Rattle.vp_world.specs.Worlds.{OpenSessionState, WorldState}
 
 -- an open session
-abbrev pub session_shown : OpenSession → SessionState
-session_shown s = record { id = s.id; seat = s.session }
+abbrev pub session_shown : OpenSession → OpenSessionState
+session_shown s = record { id = s.id; session_state = s.session }
 
 -- an open session that is told of a change at a time
-abbrev pub told_open : Option Change → (time : ℕ) → OpenSession → OpenSession
-told_open change time s = record { id = s.id; session = with_due change time s.session }
+abbrev pub notified_session : Option Change → (time : ℕ) → OpenSession → OpenSession
+notified_session change time s = record { id = s.id; session = with_due change time s.session }
 
 -- an open session out of which, if it is a user's, is taken what he may not watch by a policy
 abbrev pub retired_open : PolicyState → (user : ℕ) → OpenSession → OpenSession
@@ -28,7 +28,7 @@ retired_open policy user s = record {
 }
 
 -- how a world of these fields began, and its state: of the two policies, the first opened it and the second is in force
-abbrev pub shown : Recorded → (book : List Told) → (first policy : PolicyState) → Limits → List OpenSession → List ℕ → Option ℕ → Standing
+abbrev pub shown : Recorded → (book : List FindingState) → (first policy : PolicyState) → Limits → List OpenSession → List ℕ → Option ℕ → WorldState
 shown r book first policy limits sessions opens goal = record {
   opening = record { design = r.simulation.design; policy = first; limits = limits };
   state = record {

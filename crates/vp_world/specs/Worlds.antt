@@ -4,9 +4,9 @@ use Rattle.std.specs.List.{position}
 use Rattle.vp_elab.specs.Built.{Elaborated}
 use Rattle.vp_policy.specs.PolicyState.{PolicyState}
 use Rattle.vp_race.specs.Recording.{Segments, first_segments}
-use Rattle.vp_race.specs.Segments.{Told}
+use Rattle.vp_race.specs.Segments.{FindingState}
 use Rattle.vp_sim.specs.States as sim
-use Rattle.vp_vpi.specs.Seats.{Seat}
+use Rattle.vp_vpi.specs.SessionStates.{SessionState}
 use Rattle.vp_world.specs.Entries.{Entry}
 use Rattle.vp_answer.specs.declared.request.SessionId.{SessionId}
 use Rattle.vp_world.specs.declared.limits.Limits.{Limits}
@@ -18,28 +18,28 @@ pub record Opening : Type 0 where
   pub limits : Limits
 
 -- an open session: its name; its user and his handles
-pub record SessionState : Type 0 where
+pub record OpenSessionState : Type 0 where
   pub id : SessionId
-  pub seat : Seat
+  pub session_state : SessionState
 
 -- the state of a world: the state of its simulation, the segments of its run, the races in its book, the policy in force, its open sessions, how
 -- often each user has opened one, and the goal, the time until which the simulation may run, if there is one (profile)
 pub record State : Type 0 where
   pub run : sim.State
   pub segments : Segments
-  pub book : List Told
+  pub book : List FindingState
   pub policy : PolicyState
-  pub sessions : List SessionState
+  pub sessions : List OpenSessionState
   pub opens : List ℕ
   pub goal : Option ℕ
 
 -- how a world began, and its state
-pub record Standing : Type 0 where
+pub record WorldState : Type 0 where
   pub opening : Opening
   pub state : State
 
 -- a world: how it began, and its log
-pub record Logged : Type 0 where
+pub record WorldLog : Type 0 where
   pub opening : Opening
   pub log : List Entry
 
@@ -48,7 +48,7 @@ abbrev pub same_session : SessionId → SessionId → Bool
 same_session a b = (a.user.0 == b.user.0) && (a.opens == b.opens)
 
 -- where the open session of a name stands among the open sessions; none where it is not open
-abbrev pub index_of : List SessionState → SessionId → Option ℕ
+abbrev pub index_of : List OpenSessionState → SessionId → Option ℕ
 index_of sessions id = position (λ s. same_session s.id id) sessions
 
 -- a state in which nothing has happened: the opening policy is in force

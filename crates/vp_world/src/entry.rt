@@ -26,7 +26,7 @@ pub struct Asked {
 
 /// What happened, with its reply and what it changed. What is rare is held apart, so that the entry of a step is small.
 #[derive(Drop)]
-pub enum Happening {
+pub enum LoggedEvent {
     /// A user opened this session.
     Open {
         login: Arc<Login>,
@@ -71,7 +71,7 @@ pub enum Happening {
     },
 }
 
-impl Happening {
+impl LoggedEvent {
     ghost use Rattle.std.specs.Prelude.{◌≡◌, IfSome};
     ghost use Rattle.std.specs.Arc.{arc_value};
     ghost use Rattle.vp_world.specs.declared.event.Event.TheVariants as event;
@@ -79,7 +79,7 @@ impl Happening {
     ghost use Rattle.vp_world.specs.Entries.{change_in, event_in, reply_in};
 
     /// A session asked, was answered so, and changed this; only what is done changes something.
-    pub fn of_asked(asked: Arc<Asked>, answer: Reply, change: Option<Change>) -> Happening
+    pub fn of_asked(asked: Arc<Asked>, answer: Reply, change: Option<Change>) -> LoggedEvent
         requires { IfSome change (λ c. answer ≡ reply.Done) }
         ensures event { event_in result
             ≡ event.Ask (arc_value asked).session (arc_value asked).request }
@@ -87,8 +87,8 @@ impl Happening {
         ensures change { change_in result ≡ change }
     {
         match change {
-            Some(change) => Happening::Put { asked, change },
-            None => Happening::Ask {
+            Some(change) => LoggedEvent::Put { asked, change },
+            None => LoggedEvent::Ask {
                 asked,
                 reply: answer,
             },
@@ -100,7 +100,7 @@ impl Happening {
 /// after it.
 #[derive(Drop)]
 pub struct Entry {
-    pub happening: Happening,
+    pub happening: LoggedEvent,
     /// The time after it, in time units.
     pub time: u64,
     /// Whether `$finish` was executed by then.
@@ -129,12 +129,12 @@ pub fn add_step(log: &mut Vec<Entry>, k: u32, change: Option<Change>, time: u64,
 {
     match change {
         Some(change) => log.push_reserved(Entry {
-            happening: Happening::StepWithChange { k, change },
+            happening: LoggedEvent::StepWithChange { k, change },
             time,
             finished,
         }),
         None => log.push_reserved(Entry {
-            happening: Happening::Step { k },
+            happening: LoggedEvent::Step { k },
             time,
             finished,
         }),

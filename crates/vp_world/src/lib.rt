@@ -2,17 +2,17 @@
 #![tactic(auto)]
 
 mod entry;
+mod error;
 mod event;
-mod fault;
 mod limits;
-mod present;
+mod live_world;
 mod putting;
 mod session;
 mod watching;
 mod world;
 
-pub use entry::{Asked, Entry, Happening, Login};
+pub use entry::{Asked, Entry, LoggedEvent, Login};
+pub use error::WorldError;
 pub use event::Event;
-pub use fault::WorldError;
 pub use limits::Limits;
 pub use world::World;

@@ -2,14 +2,14 @@
 ghost use Rattle.std.specs.Prelude.{◌≡◌, IfOk, IsOkUnless, IsSome, OnErr, OnOk};
 ghost use Rattle.vp_policy.specs.PolicyState.{Fits};
 ghost use Rattle.vp_sim.specs.States as sim;
-ghost use Rattle.vp_world.specs.declared.fault.WorldError.TheVariants as world_error;
+ghost use Rattle.vp_world.specs.declared.error.WorldError.TheVariants as world_error;
 ghost use Rattle.vp_answer.specs.Answers.{respond};
 ghost use Rattle.vp_answer.specs.Requests.{IsAsked};
 ghost use Rattle.vp_answer.specs.Given.{put_shown};
-ghost use Rattle.vp_world.specs.Given.{Gives, eyes_in};
+ghost use Rattle.vp_world.specs.Given.{Gives, observer_in};
 ghost use Rattle.vp_world.specs.History.{outcome_of_put, segments_of_put};
 
-use crate::fault::WorldError;
+use crate::error::WorldError;
 use vp_answer::{Reply, Request, respond};
 use vp_bits::Bits;
 use vp_elab::ObjectId;
@@ -65,14 +65,14 @@ pub fn answer_request(
 ) -> Result<AnswerWithChange, WorldError>
     requires asked { IsAsked request.now }
     requires fits { Fits policy.now run.old.simulation.design.tree }
-    ensures given { let eyes = eyes_in run.old book.now policy.now session.old.user in IfOk result
-        (Gives (respond eyes session.old request.now) run.old run.new session.new) }
+    ensures given { let observation = observer_in run.old book.now policy.now session.old.user in IfOk result
+        (Gives (respond observation session.old request.now) run.old run.new session.new) }
     ensures refused { IsOkUnless result world_error.NoMemory }
     ensures session { OnErr result (session.new ≡ session.old) }
     ensures run { OnErr result (run.new ≡ run.old) }
 {
-    let eyes = UserObserver::new(policy, session.user(), run.simulation(), book);
-    let answer = respond(session, &eyes, request)?;
+    let observation = UserObserver::new(policy, session.user(), run.simulation(), book);
+    let answer = respond(session, &observation, request)?;
     let change = make_put(run, answer.put)?;
     Ok(AnswerWithChange {
         reply: answer.reply,

@@ -1,5 +1,5 @@
 ghost use Rattle.std.specs.Prelude.{◌≡◌, ◌<◌, length, map, Some, IfSome};
-ghost use Rattle.vp_world.specs.Shown.{retired_open, session_shown, told_open};
+ghost use Rattle.vp_world.specs.Shown.{retired_open, session_shown, notified_session};
 ghost use Rattle.vp_world.specs.Worlds.{index_of, same_session};
 
 use vp_answer::SessionId;
@@ -32,7 +32,7 @@ fn is_same(a: SessionId, b: SessionId) -> bool
 }
 
 /// Where the open session of a name stands.
-pub fn place_of(sessions: &[OpenSession], id: SessionId) -> Option<usize>
+pub fn session_index(sessions: &[OpenSession], id: SessionId) -> Option<usize>
     ensures place { result ≡ index_of (map session_shown sessions.now) id }
     ensures within { IfSome result (λ place. place < length sessions.now) }
 {
@@ -45,8 +45,8 @@ pub fn place_of(sessions: &[OpenSession], id: SessionId) -> Option<usize>
 }
 
 /// A change at a time is due to the callbacks of these sessions. Takes no memory.
-pub fn tell(sessions: &mut [OpenSession], change: &Change, time: u64)
-    ensures { sessions.new ≡ map (told_open (Some change.now) time) sessions.old }
+pub fn notify_sessions(sessions: &mut [OpenSession], change: &Change, time: u64)
+    ensures { sessions.new ≡ map (notified_session (Some change.now) time) sessions.old }
 {
     for opened in sessions {
         opened.session.on_changes(Some(change), time);

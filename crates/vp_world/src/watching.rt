@@ -1,13 +1,13 @@
 // Which objects may be watched, so that a change of another one costs no look at the open sessions.
 ghost use Rattle.std.specs.Prelude.{◌≡◌, ℕ, true, map, option_copied, slice_set, Some};
 ghost use Rattle.vp_vpi.specs.Observers.{Observer};
-ghost use Rattle.vp_vpi.specs.Seats.{Seat};
+ghost use Rattle.vp_vpi.specs.SessionStates.{SessionState};
 ghost use Rattle.vp_answer.specs.Answers.{respond};
 ghost use Rattle.vp_world.specs.History.{noticed};
 ghost use Rattle.vp_world.specs.Shown.{session_shown};
 ghost use Rattle.vp_world.specs.Marks.{all_marked, are_marked, is_watch, is_watched, may_be_watched};
 
-use crate::session::{OpenSession, tell};
+use crate::session::{OpenSession, notify_sessions};
 use vp_answer::Request;
 use vp_elab::ObjectId;
 use vp_notify::Callback;
@@ -56,9 +56,9 @@ fn is_watch(request: &Request) -> bool
 
 /// After a request of a session the objects of its callbacks may be watched, if they might before.
 pub fn mark_asked(watched: &mut Vec<bool>, session: &Session, request: &Request)
-    ensures marked { (eyes : Observer) → (seat : Seat)
-        → session.now ≡ (respond eyes seat request.now).seat
-        → are_marked watched.old.items seat.registry.callbacks ≡ true
+    ensures marked { (observation : Observer) → (session_state : SessionState)
+        → session.now ≡ (respond observation session_state request.now).session_state
+        → are_marked watched.old.items session_state.registry.callbacks ≡ true
         → are_marked watched.new.items session.now.registry.callbacks ≡ true }
     ensures grown { (object : ℕ) → may_be_watched watched.old.items object ≡ true
         → may_be_watched watched.new.items object ≡ true }
@@ -85,7 +85,7 @@ fn notify_watchers(sessions: &mut [OpenSession], watched: &mut Vec<bool>, change
         ≡ noticed (Some change) time (map session_shown sessions.old) }
     ensures marked { all_marked watched.new.items sessions.new ≡ true }
 {
-    tell(sessions, &change, time);
+    notify_sessions(sessions, &change, time);
     let mark = is_watched(sessions, change.object);
     set_mark(watched, change.object, mark);
 }

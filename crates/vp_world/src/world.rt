@@ -3,17 +3,17 @@ ghost use Rattle.std.specs.Arc.{arc_value};
 ghost use Rattle.std.specs.List.{All};
 ghost use Rattle.vp_policy.specs.PolicyState.{Fits};
 ghost use Rattle.vp_world.specs.declared.event.Event.TheVariants as event;
-ghost use Rattle.vp_world.specs.declared.fault.WorldError.TheVariants.{NoMemory};
+ghost use Rattle.vp_world.specs.declared.error.WorldError.TheVariants.{NoMemory};
 ghost use Rattle.vp_race.specs.Recording.{kept_of, next_job};
 ghost use Rattle.vp_world.specs.Events.{IsWellFormed};
 ghost use Rattle.vp_answer.specs.Requests.{IsAsked};
-ghost use Rattle.vp_world.specs.History.{Applies, IsLegal, IsReached, answered_by, is_log_full, state_behind};
+ghost use Rattle.vp_world.specs.History.{Applies, IsLegal, IsReached, answered_by, is_log_full, state_after};
 
-use crate::entry::{Asked, Entry, Happening, Login, add_step};
+use crate::entry::{Asked, Entry, LoggedEvent, Login, add_step};
+use crate::error::WorldError;
 use crate::event::Event;
-use crate::fault::WorldError;
 use crate::limits::Limits;
-use crate::present::Present;
+use crate::live_world::LiveWorld;
 use std::alloc::Global;
 use std::marker::Model;
 use std::sync::Arc;
@@ -28,15 +28,15 @@ use vp_sim::Checked;
 #[derive(Drop)]
 pub struct World {
     alloc: Global,
-    present: Present,
+    present: LiveWorld,
     log: Vec<Entry>,
 }
 
 impl Model for World {
     ghost use Rattle.vp_world.specs.History.{Keeps};
-    ghost use Rattle.vp_world.specs.Worlds.{Logged};
+    ghost use Rattle.vp_world.specs.Worlds.{WorldLog};
 
-    ghost Value = { Logged };
+    ghost Value = { WorldLog };
 
     ghost view = { λ w. record { opening = w.present.opening; log = w.log.items } };
 
@@ -63,7 +63,7 @@ impl World {
             }) }
         ensures refused { IsOkUnless result NoMemory }
     {
-        let present = Present::new(alloc, checked, policy, limits)?;
+        let present = LiveWorld::new(alloc, checked, policy, limits)?;
         Ok(World {
             alloc,
             present,
@@ -125,10 +125,10 @@ impl World {
     {
         let full = self.is_full();
         self.present.check_goal(full)?;
-        if let Err(lacking) = self.log.reserve(1) {
+        if let Err(missing_right) = self.log.reserve(1) {
             // The simulation's own refusal comes before want of memory.
             self.present.check_step(k)?;
-            return Err(WorldError::from(lacking));
+            return Err(WorldError::from(missing_right));
         }
         let change = self.present.step(k)?;
         let time = self.present.time();
@@ -149,7 +149,7 @@ impl World {
             unreachable!()
         };
         self.log.push_reserved(Entry {
-            happening: Happening::TakeJob { number },
+            happening: LoggedEvent::TakeJob { number },
             time: self.present.time(),
             finished: self.present.finished(),
         });
@@ -165,9 +165,9 @@ impl World {
         if self.is_full() {
             return Err(WorldError::LogFull);
         }
-        if let Err(lacking) = self.log.reserve(1) {
+        if let Err(missing_right) = self.log.reserve(1) {
             self.present.check_booking(finding.value())?;
-            return Err(WorldError::from(lacking));
+            return Err(WorldError::from(missing_right));
         }
         let Ok(logged) = finding.try_clone() else {
             self.present.check_booking(finding.value())?;
@@ -175,7 +175,7 @@ impl World {
         };
         self.present.book(finding)?;
         self.log.push_reserved(Entry {
-            happening: Happening::Book { finding: logged },
+            happening: LoggedEvent::Book { finding: logged },
             time: self.present.time(),
             finished: self.present.finished(),
         });
@@ -185,7 +185,7 @@ impl World {
     /// The kept segment of a number; none where no segment of that number closed, or it is no longer kept.
     pub fn kept(&self, number: u64) -> Option<&Segment>
         ensures { option_copied result ≡ kept_of
-            (state_behind self.now.opening self.now.log).segments number }
+            (state_after self.now.opening self.now.log).segments number }
     {
         self.present.kept(number)
     }
@@ -193,7 +193,7 @@ impl World {
     /// The segment that the next TakeJob hands out; none where it is refused but for a full log. It is of the world's design.
     pub fn next_job(&self) -> Option<&Segment>
         ensures job { option_copied result ≡ next_job
-            (state_behind self.now.opening self.now.log).segments }
+            (state_after self.now.opening self.now.log).segments }
         ensures design { IfSome result (λ s. s.now.start.design ≡ self.now.opening.design) }
     {
         self.present.next_job()
@@ -201,7 +201,7 @@ impl World {
 
     /// The races in the book, in the order in which they were booked. Each is a race of a segment that was kept when it was booked.
     pub fn book(&self) -> &[Shared<Finding>]
-        ensures races { result.now ≡ (state_behind self.now.opening self.now.log).book }
+        ensures races { result.now ≡ (state_after self.now.opening self.now.log).book }
         ensures reached { All (λ f. IsReached self.now.opening self.now.log f) result.now }
     {
         self.present.races()
@@ -223,13 +223,13 @@ impl World {
     {
         let full = self.is_full();
         self.present.check_next_goal(full)?;
-        if let Err(lacking) = self.log.reserve(1) {
+        if let Err(missing_right) = self.log.reserve(1) {
             self.present.check_advance()?;
-            return Err(WorldError::from(lacking));
+            return Err(WorldError::from(missing_right));
         }
         self.present.advance()?;
         self.log.push_reserved(Entry {
-            happening: Happening::Advance,
+            happening: LoggedEvent::Advance,
             time: self.present.time(),
             finished: self.present.finished(),
         });
@@ -248,7 +248,7 @@ impl World {
         let login = Arc::new(self.alloc, Login { user, token })?;
         let session = self.present.open_for(number)?;
         self.log.push_reserved(Entry {
-            happening: Happening::Open { login, session },
+            happening: LoggedEvent::Open { login, session },
             time: self.present.time(),
             finished: self.present.finished(),
         });
@@ -268,7 +268,7 @@ impl World {
         let asked = Arc::new(self.alloc, Asked { session, request })?;
         let answer = self.present.ask(place, &asked.request)?;
         let entry = Entry {
-            happening: Happening::of_asked(asked, answer.entry_reply, answer.change),
+            happening: LoggedEvent::of_asked(asked, answer.entry_reply, answer.change),
             time: self.present.time(),
             finished: self.present.finished(),
         };
@@ -286,7 +286,7 @@ impl World {
         self.log.reserve(1)?;
         self.present.close(place);
         self.log.push_reserved(Entry {
-            happening: Happening::Close { session },
+            happening: LoggedEvent::Close { session },
             time: self.present.time(),
             finished: self.present.finished(),
         });
@@ -304,7 +304,7 @@ impl World {
         let change = Arc::new(self.alloc, change)?;
         self.present.grant(user, &change)?;
         self.log.push_reserved(Entry {
-            happening: Happening::Grant { change },
+            happening: LoggedEvent::Grant { change },
             time: self.present.time(),
             finished: self.present.finished(),
         });

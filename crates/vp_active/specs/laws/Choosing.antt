@@ -8,15 +8,15 @@ use Rattle.std.proofs.lemmas.Option.{slice_get-map}
 use Rattle.vp_active.specs.declared.event.Event.{Event}
 use Rattle.vp_active.specs.declared.event.Event.TheVariants.{Evaluation, NetUpdate, Nonblocking}
 use Rattle.vp_active.specs.declared.event.NonblockingUpdate.{NonblockingUpdate}
-use Rattle.vp_active.specs.Events.{eligible_behind, eligible_places, is_nonblocking}
+use Rattle.vp_active.specs.Events.{eligible_after, eligible_places, is_nonblocking}
 
 -- ---- lists
 
 -- an item after others
-pub get_behind : {X : Type 0} (xs ys : List X) (n i : ℕ) → n ≡ length xs + i → slice_get (xs ++ ys) n ≡ slice_get ys i
-get_behind [] ys n i h = ap (slice_get ys) (omega arith)
-get_behind (x ∷ xs) ys zero i h = absurd (omega arith)
-get_behind (x ∷ xs) ys (suc n) i h = get_behind xs ys n i (omega arith)
+pub get_after : {X : Type 0} (xs ys : List X) (n i : ℕ) → n ≡ length xs + i → slice_get (xs ++ ys) n ≡ slice_get ys i
+get_after [] ys n i h = ap (slice_get ys) (omega arith)
+get_after (x ∷ xs) ys zero i h = absurd (omega arith)
+get_after (x ∷ xs) ys (suc n) i h = get_after xs ys n i (omega arith)
 
 -- ---- one update
 
@@ -31,15 +31,15 @@ none p (x ∷ xs) h = none_at p x xs (p x) (none p xs) refl (sym (sum_by-cons (�
 -- ---- evaluations, and updates of nonblocking assignments
 
 -- after an update of a nonblocking assignment none is eligible
-behind_one : (older : List Event) (us : List NonblockingUpdate) → list_any is_nonblocking older ≡ true → eligible_behind older (map Nonblocking us) ≡ []
-behind_one older [] h = refl
-behind_one older (u ∷ us) h =
-    ap (λ b. cond (not b) (length older ∷ []) [] ++ eligible_behind (older ++ Nonblocking u ∷ []) (map Nonblocking us)) h
-    ∙ behind_one (older ++ Nonblocking u ∷ []) us (list_any-append is_nonblocking older (Nonblocking u ∷ []) ∙ ap (λ b. b || true) h)
+after_one : (older : List Event) (us : List NonblockingUpdate) → list_any is_nonblocking older ≡ true → eligible_after older (map Nonblocking us) ≡ []
+after_one older [] h = refl
+after_one older (u ∷ us) h =
+    ap (λ b. cond (not b) (length older ∷ []) [] ++ eligible_after (older ++ Nonblocking u ∷ []) (map Nonblocking us)) h
+    ∙ after_one (older ++ Nonblocking u ∷ []) us (list_any-append is_nonblocking older (Nonblocking u ∷ []) ∙ ap (λ b. b || true) h)
 
 -- of updates of nonblocking assignments the oldest is eligible
 pub oldest : (u : NonblockingUpdate) (us : List NonblockingUpdate) → eligible_places (map Nonblocking (u ∷ us)) ≡ 0 ∷ []
-oldest u us = ap (λ (places : List ℕ). 0 ∷ places) (behind_one (Nonblocking u ∷ []) us refl)
+oldest u us = ap (λ (places : List ℕ). 0 ∷ places) (after_one (Nonblocking u ∷ []) us refl)
 
 pub one_of_updates : (us : List NonblockingUpdate) → length (eligible_places (map Nonblocking us)) ≡ min (length us) 1
 one_of_updates [] = refl
@@ -52,16 +52,16 @@ not_second [] (suc k) h = refl
 not_second (u ∷ us) (suc k) h = ap (λ (places : List ℕ). option_and_then (slice_get (map Nonblocking (u ∷ us))) (slice_get places (suc k))) (oldest u us)
 
 -- each evaluation is eligible
-pub all_of_evaluations : (older : List Event) (ps : List ℕ) → length (eligible_behind older (map Evaluation ps)) ≡ length ps
+pub all_of_evaluations : (older : List Event) (ps : List ℕ) → length (eligible_after older (map Evaluation ps)) ≡ length ps
 all_of_evaluations older [] = refl
 all_of_evaluations older (p ∷ ps) = ap suc (all_of_evaluations (older ++ Evaluation p ∷ []) ps)
 
-place_behind : (older : List Event) (ps : List ℕ) (k n : ℕ) → length older + k ≡ n → slice_get (eligible_behind older (map Evaluation ps)) k ≡ option_map (λ p. n) (slice_get ps k)
-place_behind older [] k n h = refl
-place_behind older (p ∷ ps) zero n h = ap Some (omega arith)
-place_behind older (p ∷ ps) (suc k) n h =
+place_after : (older : List Event) (ps : List ℕ) (k n : ℕ) → length older + k ≡ n → slice_get (eligible_after older (map Evaluation ps)) k ≡ option_map (λ p. n) (slice_get ps k)
+place_after older [] k n h = refl
+place_after older (p ∷ ps) zero n h = ap Some (omega arith)
+place_after older (p ∷ ps) (suc k) n h =
     let e = length-append older (Evaluation p ∷ []) in
-    place_behind (older ++ Evaluation p ∷ []) ps k n (omega (arith, e, h))
+    place_after (older ++ Evaluation p ∷ []) ps k n (omega (arith, e, h))
 
 found_at : (ps : List ℕ) (k : ℕ) (found : Option ℕ) → slice_get ps k ≡ found → option_and_then (slice_get (map Evaluation ps)) (option_map (λ p. k) found) ≡ option_map Evaluation found
 found_at ps k None h = refl
@@ -70,7 +70,7 @@ found_at ps k (Some p) h = slice_get-map Evaluation ps k ∙ ap (option_map Eval
 -- the k-th of the evaluations
 pub evaluation_at : (ps : List ℕ) (k : ℕ) → option_and_then (slice_get (map Evaluation ps)) (slice_get (eligible_places (map Evaluation ps)) k) ≡ option_map Evaluation (slice_get ps k)
 evaluation_at ps k =
-    ap (option_and_then (slice_get (map Evaluation ps))) (place_behind [] ps k k (omega arith)) ∙ found_at ps k (slice_get ps k) refl
+    ap (option_and_then (slice_get (map Evaluation ps))) (place_after [] ps k k (omega arith)) ∙ found_at ps k (slice_get ps k) refl
 
 -- the oldest event is eligible
 pub first_eligible : (events : List Event) → 0 < length events → slice_get (eligible_places events) 0 ≡ Some 0

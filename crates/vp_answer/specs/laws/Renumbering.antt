@@ -9,30 +9,30 @@ use Rattle.vp_pragma.specs.declared.rights.Right.{Right}
 use Rattle.vp_pragma.specs.declared.rights.Right.TheVariants as right
 use Rattle.vp_elab.specs.declared.object.Kind.{Kind}
 use Rattle.vp_elab.specs.declared.object.ObjectId.{ObjectId}
-use Rattle.vp_vpi.specs.Denials.{DenialWords}
+use Rattle.vp_vpi.specs.Denials.{DenialText}
 use Rattle.vp_notify.specs.Change.{Change}
 use Rattle.vp_notify.specs.declared.notice.Notice.{Notice}
 use Rattle.vp_notify.specs.declared.registry.Callback.{Callback}
 use Rattle.vp_notify.specs.Registry as registry
-use Rattle.vp_vpi.specs.declared.fault.VpiError.{VpiError}
-use Rattle.vp_vpi.specs.declared.fault.VpiError.TheVariants as error
+use Rattle.vp_vpi.specs.declared.error.VpiError.{VpiError}
+use Rattle.vp_vpi.specs.declared.error.VpiError.TheVariants as error
 use Rattle.vp_vpi.specs.declared.property.NumberProperty.{NumberProperty}
 use Rattle.vp_vpi.specs.declared.property.NumberProperty.TheVariants as number
 use Rattle.vp_vpi.specs.declared.property.TextProperty.{TextProperty}
 use Rattle.vp_vpi.specs.declared.property.TextProperty.TheVariants as text
 use Rattle.vp_vpi.specs.declared.property.PutValue.{PutValue}
 use Rattle.vp_elab.specs.Tree.{type_name}
-use Rattle.vp_vpi.specs.Calls.{Iterated, lines_from, race_limit, race_of, race_told, shown_at, is_reg, is_watchable, put_at, put_bits, put_of, same_of, set_by, watchable_of, watched_of, allowed, handle_of, is_module, is_of, iteration, iteration_in_room, iterated, items_from, listed_of, number_at, number_of, object_found, or_refusal, scope_of, text_at, text_of, then_by, undenied, value_of}
+use Rattle.vp_vpi.specs.Calls.{Iterated, lines_from, race_limit, race_of, race_details, shown_at, is_reg, is_watchable, put_at, put_bits, put_of, same_of, set_by, watchable_of, watched_of, allowed, handle_of, is_module, is_of, iteration, iteration_in_room, iterated, items_from, listed_of, number_at, number_of, object_found, or_refusal, scope_of, text_at, text_of, then_by, undenied, value_of}
 use Rattle.vp_vpi.specs.Observers.{Absent, Denied, Found, Lookup, Observer, is_readable}
-use Rattle.vp_vpi.specs.Seats as seats
-use Rattle.vp_vpi.specs.Seats.{Seat, drained, retired, with_due, with_handle, without_callback, handle_to, has_room, is_full, next_handle, object_of, with_handles}
+use Rattle.vp_vpi.specs.SessionStates as session_states
+use Rattle.vp_vpi.specs.SessionStates.{SessionState, drained, retired, with_due, with_handle, without_callback, handle_to, has_room, is_full, next_handle, object_of, with_handles}
 use Rattle.vp_answer.specs.declared.reply.Reply.{Reply}
 use Rattle.vp_answer.specs.declared.request.Request.{Request}
 use Rattle.vp_answer.specs.declared.request.Request.TheVariants as request
 use Rattle.vp_answer.specs.declared.request.ValueFormat.{ValueFormat}
 use Rattle.vp_answer.specs.declared.request.ValueFormat.TheVariants as format
 use Rattle.vp_answer.specs.declared.reply.Reply.TheVariants as reply
-use Rattle.vp_answer.specs.Answers.{Response, unwatch_response, freed, made, only_told, polling, putting, refused, respond, response_by, scanned, told_by, value_in, watching}
+use Rattle.vp_answer.specs.Answers.{Response, unwatch_response, freed, made, only_told, polling, putting, refused, respond, response_by, scanned, reply_with, value_in, watching}
 use Rattle.vp_answer.specs.Renumbering as under
 use Rattle.vp_answer.specs.Renumbering.{IsOpen, IsSeenAs, Renumbering}
 
@@ -150,25 +150,25 @@ next_under : (n : Renumbering) (handles : List (Option ObjectId)) → next_handl
 next_under n handles = ap suc (length-map handles (under.handle n))
 
 -- more handles of a session
-with_handles_under : (n : Renumbering) (more : List (Option ObjectId)) (s : Seat) → with_handles (map (under.handle n) more) (under.seat n s) ≡ under.seat n (with_handles more s)
+with_handles_under : (n : Renumbering) (more : List (Option ObjectId)) (s : SessionState) → with_handles (map (under.handle n) more) (under.session_state n s) ≡ under.session_state n (with_handles more s)
 with_handles_under n more s =
     ap (λ hs. record { user = s.user; handles = hs; registry = under.registry n s.registry }) (sym (map-append (under.handle n) s.handles more))
 
 -- ---- rights
 
 -- an object on which a right is not denied
-undenied_under : (n : Renumbering) (o : ℕ) (d : Option DenialWords) → undenied (n.number o) d ≡ under.answer n.number (undenied o d)
+undenied_under : (n : Renumbering) (o : ℕ) (d : Option DenialText) → undenied (n.number o) d ≡ under.answer n.number (undenied o d)
 undenied_under n o None = refl
 undenied_under n o (Some words) = refl
 
 -- the same of the object of a handle
-allowed_under : (n : Renumbering) (seen eyes : Observer) → IsSeenAs n seen eyes → (r : Right) (found : Option ℕ)
-    → allowed eyes r (option_map n.number found) ≡ under.answer n.number (allowed seen r found)
-allowed_under n seen eyes alike r None = refl
-allowed_under n seen eyes alike r (Some o) = ap (undenied (n.number o)) (alike.denied r o) ∙ undenied_under n o (seen.denied r o)
+allowed_under : (n : Renumbering) (seen observation : Observer) → IsSeenAs n seen observation → (r : Right) (found : Option ℕ)
+    → allowed observation r (option_map n.number found) ≡ under.answer n.number (allowed seen r found)
+allowed_under n seen observation alike r None = refl
+allowed_under n seen observation alike r (Some o) = ap (undenied (n.number o)) (alike.denied r o) ∙ undenied_under n o (seen.denied r o)
 
 -- where it is answered, it is not denied
-undenied_ok : (o p : ℕ) (d : Option DenialWords) → undenied o d ≡ Ok p → (d ≡ None) × (o ≡ p)
+undenied_ok : (o p : ℕ) (d : Option DenialText) → undenied o d ≡ Ok p → (d ≡ None) × (o ≡ p)
 undenied_ok o p None e = (refl, cc)
 undenied_ok o p (Some words) e = absurd (cc)
 
@@ -226,13 +226,13 @@ module_under n true o = refl
 module_under n false o = refl
 
 -- the scope of a handle
-scope_under : (n : Renumbering) (seen eyes : Observer) → IsSeenAs n seen eyes → (handles : List (Option ObjectId)) (h : Option ℕ)
-    → scope_of eyes (map (under.handle n) handles) h ≡ under.answer (option_map n.number) (scope_of seen handles h)
-scope_under n seen eyes alike handles None = refl
-scope_under n seen eyes alike handles (Some h) =
-    then_under n.number (option_map n.number) (allowed eyes right.List (object_of (map (under.handle n) handles) h)) (allowed seen right.List (object_of handles h))
-    (λ o. test_module (is_module (eyes.kind o)) o) (λ o. test_module (is_module (seen.kind o)) o)
-    (ap (allowed eyes right.List) (object_under n handles h) ∙ allowed_under n seen eyes alike right.List (object_of handles h))
+scope_under : (n : Renumbering) (seen observation : Observer) → IsSeenAs n seen observation → (handles : List (Option ObjectId)) (h : Option ℕ)
+    → scope_of observation (map (under.handle n) handles) h ≡ under.answer (option_map n.number) (scope_of seen handles h)
+scope_under n seen observation alike handles None = refl
+scope_under n seen observation alike handles (Some h) =
+    then_under n.number (option_map n.number) (allowed observation right.List (object_of (map (under.handle n) handles) h)) (allowed seen right.List (object_of handles h))
+    (λ o. test_module (is_module (observation.kind o)) o) (λ o. test_module (is_module (seen.kind o)) o)
+    (ap (allowed observation right.List) (object_under n handles h) ∙ allowed_under n seen observation alike right.List (object_of handles h))
     (λ o is. ap (λ k. test_module (is_module k) (n.number o)) (alike.kind o) ∙ module_under n (is_module (seen.kind o)) o)
 
 -- ---- names
@@ -255,12 +255,12 @@ found_under n handles Absent = ap test_absent (full_under n handles) ∙ absent_
 found_under n handles (Found o) = ap (λ (b : Bool). test_full b (n.number o)) (full_under n handles) ∙ full_found n (is_full handles) o
 
 -- the object of the handle that a name makes
-handle_under : (n : Renumbering) (seen eyes : Observer) → IsSeenAs n seen eyes → (handles : List (Option ObjectId)) (scope : Option ℕ) (name : List ℕ)
-    → handle_of eyes (map (under.handle n) handles) scope name ≡ under.answer n.number (handle_of seen handles scope name)
-handle_under n seen eyes alike handles scope name =
-    then_under (option_map n.number) n.number (scope_of eyes (map (under.handle n) handles) scope) (scope_of seen handles scope)
-    (λ above. object_found (map (under.handle n) handles) (eyes.named above name)) (λ above. object_found handles (seen.named above name))
-    (scope_under n seen eyes alike handles scope)
+handle_under : (n : Renumbering) (seen observation : Observer) → IsSeenAs n seen observation → (handles : List (Option ObjectId)) (scope : Option ℕ) (name : List ℕ)
+    → handle_of observation (map (under.handle n) handles) scope name ≡ under.answer n.number (handle_of seen handles scope name)
+handle_under n seen observation alike handles scope name =
+    then_under (option_map n.number) n.number (scope_of observation (map (under.handle n) handles) scope) (scope_of seen handles scope)
+    (λ above. object_found (map (under.handle n) handles) (observation.named above name)) (λ above. object_found handles (seen.named above name))
+    (scope_under n seen observation alike handles scope)
     (λ above is.
     ap (object_found (map (under.handle n) handles)) (alike.named above (scope_open seen handles scope above is) name)
     ∙ found_under n handles (seen.named above name))
@@ -272,11 +272,11 @@ abbrev pub iterated_under : Renumbering → Iterated → Iterated
 iterated_under n i = record { listing = i.listing; handles = map (under.handle n) i.handles }
 
 -- its objects with their names
-items_under : (n : Renumbering) (seen eyes : Observer) → IsSeenAs n seen eyes → (h : ℕ) (os : List ℕ) → items_from eyes.name h (map n.number os) ≡ items_from seen.name h os
-items_under n seen eyes alike h [] = refl
-items_under n seen eyes alike h (o ∷ os) =
-    ap (λ name. record { handle = h; name = name } ∷ items_from eyes.name (suc h) (map n.number os)) (alike.name o)
-    ∙ ap (λ items. record { handle = h; name = seen.name o } ∷ items) (items_under n seen eyes alike (suc h) os)
+items_under : (n : Renumbering) (seen observation : Observer) → IsSeenAs n seen observation → (h : ℕ) (os : List ℕ) → items_from observation.name h (map n.number os) ≡ items_from seen.name h os
+items_under n seen observation alike h [] = refl
+items_under n seen observation alike h (o ∷ os) =
+    ap (λ name. record { handle = h; name = name } ∷ items_from observation.name (suc h) (map n.number os)) (alike.name o)
+    ∙ ap (λ items. record { handle = h; name = seen.name o } ∷ items) (items_under n seen observation alike (suc h) os)
 
 -- its handles
 handles_under : (n : Renumbering) (os : List ℕ) → map handle_to (map n.number os) ≡ map (under.handle n) (map handle_to os)
@@ -284,11 +284,11 @@ handles_under n [] = refl
 handles_under n (o ∷ os) = ap (λ hs. handle_to (n.number o) ∷ hs) (handles_under n os)
 
 -- an iteration over some objects
-iteration_under : (n : Renumbering) (seen eyes : Observer) → IsSeenAs n seen eyes → (handles : List (Option ObjectId)) (scope : Option ℕ) → IsOpen seen scope → (os : List ℕ)
-    → iteration eyes (map (under.handle n) handles) (option_map n.number scope) (map n.number os) ≡ iterated_under n (iteration seen handles scope os)
-iteration_under n seen eyes alike handles scope opened os =
+iteration_under : (n : Renumbering) (seen observation : Observer) → IsSeenAs n seen observation → (handles : List (Option ObjectId)) (scope : Option ℕ) → IsOpen seen scope → (os : List ℕ)
+    → iteration observation (map (under.handle n) handles) (option_map n.number scope) (map n.number os) ≡ iterated_under n (iteration seen handles scope os)
+iteration_under n seen observation alike handles scope opened os =
     let closed = alike.closed scope opened in
-    let items = ap (λ (h : ℕ). items_from eyes.name h (map n.number os)) (next_under n handles) ∙ items_under n seen eyes alike (next_handle handles) os in
+    let items = ap (λ (h : ℕ). items_from observation.name h (map n.number os)) (next_under n handles) ∙ items_under n seen observation alike (next_handle handles) os in
     let made = handles_under n os in
     cc
 
@@ -298,29 +298,29 @@ room_test n true i = refl
 room_test n false i = refl
 
 -- and where that is so under both numbers
-in_room_under : (n : Renumbering) (seen eyes : Observer) → IsSeenAs n seen eyes → (handles : List (Option ObjectId)) (scope : Option ℕ) → IsOpen seen scope → (os : List ℕ)
-    → iteration_in_room eyes (map (under.handle n) handles) (option_map n.number scope) (map n.number os) ≡ under.answer (iterated_under n) (iteration_in_room seen handles scope os)
-in_room_under n seen eyes alike handles scope opened os =
+in_room_under : (n : Renumbering) (seen observation : Observer) → IsSeenAs n seen observation → (handles : List (Option ObjectId)) (scope : Option ℕ) → IsOpen seen scope → (os : List ℕ)
+    → iteration_in_room observation (map (under.handle n) handles) (option_map n.number scope) (map n.number os) ≡ under.answer (iterated_under n) (iteration_in_room seen handles scope os)
+in_room_under n seen observation alike handles scope opened os =
     let many = length-map os n.number in
     let room = ap (λ (k : ℕ). has_room k (map (under.handle n) handles)) many ∙ room_under n (length os) handles in
-    ap (λ i. test_room (has_room (length (map n.number os)) (map (under.handle n) handles)) i) (iteration_under n seen eyes alike handles scope opened os)
+    ap (λ i. test_room (has_room (length (map n.number os)) (map (under.handle n) handles)) i) (iteration_under n seen observation alike handles scope opened os)
     ∙ ap (λ (b : Bool). test_room b (iterated_under n (iteration seen handles scope os))) room
     ∙ room_test n (has_room (length os) handles) (iteration seen handles scope os)
 
 -- an iteration over the objects of a kind in a scope
-iterated_alike : (n : Renumbering) (seen eyes : Observer) → IsSeenAs n seen eyes → (handles : List (Option ObjectId)) (k : Kind) (scope : Option ℕ)
-    → iterated eyes (map (under.handle n) handles) k scope ≡ under.answer (iterated_under n) (iterated seen handles k scope)
-iterated_alike n seen eyes alike handles k scope =
-    then_under (option_map n.number) (iterated_under n) (scope_of eyes (map (under.handle n) handles) scope) (scope_of seen handles scope)
-    (λ above. iteration_in_room eyes (map (under.handle n) handles) above (listed_of eyes k above)) (λ above. iteration_in_room seen handles above (listed_of seen k above))
-    (scope_under n seen eyes alike handles scope)
+iterated_alike : (n : Renumbering) (seen observation : Observer) → IsSeenAs n seen observation → (handles : List (Option ObjectId)) (k : Kind) (scope : Option ℕ)
+    → iterated observation (map (under.handle n) handles) k scope ≡ under.answer (iterated_under n) (iterated seen handles k scope)
+iterated_alike n seen observation alike handles k scope =
+    then_under (option_map n.number) (iterated_under n) (scope_of observation (map (under.handle n) handles) scope) (scope_of seen handles scope)
+    (λ above. iteration_in_room observation (map (under.handle n) handles) above (listed_of observation k above)) (λ above. iteration_in_room seen handles above (listed_of seen k above))
+    (scope_under n seen observation alike handles scope)
     (λ above is.
     let opened = scope_open seen handles scope above is in
     let objects =
-    ap (filter (λ o. is_of k (eyes.kind o))) (alike.listed above opened)
-    ∙ filter_under n.number (λ o. is_of k (seen.kind o)) (λ o. is_of k (eyes.kind o)) (λ o. ap (is_of k) (alike.kind o)) (seen.listed above) in
-    ap (iteration_in_room eyes (map (under.handle n) handles) (option_map n.number above)) objects
-    ∙ in_room_under n seen eyes alike handles above opened (listed_of seen k above))
+    ap (filter (λ o. is_of k (observation.kind o))) (alike.listed above opened)
+    ∙ filter_under n.number (λ o. is_of k (seen.kind o)) (λ o. is_of k (observation.kind o)) (λ o. ap (is_of k) (alike.kind o)) (seen.listed above) in
+    ap (iteration_in_room observation (map (under.handle n) handles) (option_map n.number above)) objects
+    ∙ in_room_under n seen observation alike handles above opened (listed_of seen k above))
 
 -- ---- properties
 
@@ -329,39 +329,39 @@ size_test : (k l : Option Kind) (w v : ℕ) → k ≡ l → w ≡ v → test_siz
 size_test k l w v e f = cc
 
 -- a number of an object
-number_at_under : (n : Renumbering) (seen eyes : Observer) → IsSeenAs n seen eyes → (p : NumberProperty) (o : ℕ) → number_at eyes p (n.number o) ≡ number_at seen p o
-number_at_under n seen eyes alike number.Size o = size_test (eyes.kind (n.number o)) (seen.kind o) (eyes.width (n.number o)) (seen.width o) (alike.kind o) (alike.width o)
-number_at_under n seen eyes alike number.Line o = ap Ok (alike.line o)
+number_at_under : (n : Renumbering) (seen observation : Observer) → IsSeenAs n seen observation → (p : NumberProperty) (o : ℕ) → number_at observation p (n.number o) ≡ number_at seen p o
+number_at_under n seen observation alike number.Size o = size_test (observation.kind (n.number o)) (seen.kind o) (observation.width (n.number o)) (seen.width o) (alike.kind o) (alike.width o)
+number_at_under n seen observation alike number.Line o = ap Ok (alike.line o)
 
 -- a number of a handle's object
-number_under : (n : Renumbering) (seen eyes : Observer) → IsSeenAs n seen eyes → (p : NumberProperty) (found : Option ℕ) → number_of eyes p (option_map n.number found) ≡ number_of seen p found
-number_under n seen eyes alike p found =
-    then_under n.number (λ (x : ℕ). x) (allowed eyes right.List (option_map n.number found)) (allowed seen right.List found) (number_at eyes p) (number_at seen p)
-    (allowed_under n seen eyes alike right.List found) (λ o is. number_at_under n seen eyes alike p o ∙ sym (same_answer (number_at seen p o)))
+number_under : (n : Renumbering) (seen observation : Observer) → IsSeenAs n seen observation → (p : NumberProperty) (found : Option ℕ) → number_of observation p (option_map n.number found) ≡ number_of seen p found
+number_under n seen observation alike p found =
+    then_under n.number (λ (x : ℕ). x) (allowed observation right.List (option_map n.number found)) (allowed seen right.List found) (number_at observation p) (number_at seen p)
+    (allowed_under n seen observation alike right.List found) (λ o is. number_at_under n seen observation alike p o ∙ sym (same_answer (number_at seen p o)))
     ∙ same_answer (number_of seen p found)
 
 -- a text of an object
-text_at_under : (n : Renumbering) (seen eyes : Observer) → IsSeenAs n seen eyes → (p : TextProperty) (o : ℕ) → text_at eyes p (n.number o) ≡ text_at seen p o
-text_at_under n seen eyes alike text.Type o = ap (λ k. or_refusal (option_map type_name k) error.WrongKind) (alike.kind o)
-text_at_under n seen eyes alike text.Name o = ap Ok (alike.name o)
-text_at_under n seen eyes alike text.FullName o = ap Ok (alike.full_name o)
-text_at_under n seen eyes alike text.DefinitionName o = ap (λ d. or_refusal d error.WrongKind) (alike.definition o)
+text_at_under : (n : Renumbering) (seen observation : Observer) → IsSeenAs n seen observation → (p : TextProperty) (o : ℕ) → text_at observation p (n.number o) ≡ text_at seen p o
+text_at_under n seen observation alike text.Type o = ap (λ k. or_refusal (option_map type_name k) error.WrongKind) (alike.kind o)
+text_at_under n seen observation alike text.Name o = ap Ok (alike.name o)
+text_at_under n seen observation alike text.FullName o = ap Ok (alike.full_name o)
+text_at_under n seen observation alike text.DefinitionName o = ap (λ d. or_refusal d error.WrongKind) (alike.definition o)
 
 -- a text of a handle's object
-text_under : (n : Renumbering) (seen eyes : Observer) → IsSeenAs n seen eyes → (p : TextProperty) (found : Option ℕ) → text_of eyes p (option_map n.number found) ≡ text_of seen p found
-text_under n seen eyes alike p found =
-    then_under n.number (λ (x : List ℕ). x) (allowed eyes right.List (option_map n.number found)) (allowed seen right.List found) (text_at eyes p) (text_at seen p)
-    (allowed_under n seen eyes alike right.List found) (λ o is. text_at_under n seen eyes alike p o ∙ sym (same_answer (text_at seen p o)))
+text_under : (n : Renumbering) (seen observation : Observer) → IsSeenAs n seen observation → (p : TextProperty) (found : Option ℕ) → text_of observation p (option_map n.number found) ≡ text_of seen p found
+text_under n seen observation alike p found =
+    then_under n.number (λ (x : List ℕ). x) (allowed observation right.List (option_map n.number found)) (allowed seen right.List found) (text_at observation p) (text_at seen p)
+    (allowed_under n seen observation alike right.List found) (λ o is. text_at_under n seen observation alike p o ∙ sym (same_answer (text_at seen p o)))
     ∙ same_answer (text_of seen p found)
 
 -- ---- values
 
 -- the value of a handle's object
-value_under : (n : Renumbering) (seen eyes : Observer) → IsSeenAs n seen eyes → (found : Option ℕ) → value_of eyes (option_map n.number found) ≡ value_of seen found
-value_under n seen eyes alike found =
-    then_under n.number (λ (x : List Bit). x) (allowed eyes right.Read (option_map n.number found)) (allowed seen right.Read found)
-    (λ o. or_refusal (eyes.value o) error.WrongKind) (λ o. or_refusal (seen.value o) error.WrongKind)
-    (allowed_under n seen eyes alike right.Read found)
+value_under : (n : Renumbering) (seen observation : Observer) → IsSeenAs n seen observation → (found : Option ℕ) → value_of observation (option_map n.number found) ≡ value_of seen found
+value_under n seen observation alike found =
+    then_under n.number (λ (x : List Bit). x) (allowed observation right.Read (option_map n.number found)) (allowed seen right.Read found)
+    (λ o. or_refusal (observation.value o) error.WrongKind) (λ o. or_refusal (seen.value o) error.WrongKind)
+    (allowed_under n seen observation alike right.Read found)
     (λ o is. ap (λ v. or_refusal v error.WrongKind) (alike.value o (allowed_ok seen right.Read found o is)) ∙ sym (same_answer (or_refusal (seen.value o) error.WrongKind)))
     ∙ same_answer (value_of seen found)
 
@@ -371,10 +371,10 @@ set_finished n true o bits = refl
 set_finished n false o bits = refl
 
 -- the same of bits that may be none
-set_under : (n : Renumbering) (seen eyes : Observer) → IsSeenAs n seen eyes → (o : ℕ) (bits : Option (List Bit))
-    → set_by eyes (n.number o) bits ≡ under.answer (under.put n) (set_by seen o bits)
-set_under n seen eyes alike o None = refl
-set_under n seen eyes alike o (Some bits) = ap (λ (b : Bool). test_finished b (n.number o) bits) alike.finished ∙ set_finished n seen.finished o bits
+set_under : (n : Renumbering) (seen observation : Observer) → IsSeenAs n seen observation → (o : ℕ) (bits : Option (List Bit))
+    → set_by observation (n.number o) bits ≡ under.answer (under.put n) (set_by seen o bits)
+set_under n seen observation alike o None = refl
+set_under n seen observation alike o (Some bits) = ap (λ (b : Bool). test_finished b (n.number o) bits) alike.finished ∙ set_finished n seen.finished o bits
 
 -- the same of an object that may be no reg
 reg_under : (n : Renumbering) (b : Bool) (x' : Result (ℕ × List Bit) VpiError) (x : Result (ℕ × List Bit) VpiError) → x' ≡ under.answer (under.put n) x
@@ -383,19 +383,19 @@ reg_under n true x' x e = e
 reg_under n false x' x e = refl
 
 -- what a put sets of an object
-put_at_under : (n : Renumbering) (seen eyes : Observer) → IsSeenAs n seen eyes → (v : PutValue) (o : ℕ)
-    → put_at eyes v (n.number o) ≡ under.answer (under.put n) (put_at seen v o)
-put_at_under n seen eyes alike v o =
-    ap (λ k. test_reg (is_reg k) (set_by eyes (n.number o) (put_bits (eyes.width (n.number o)) v))) (alike.kind o)
-    ∙ reg_under n (is_reg (seen.kind o)) (set_by eyes (n.number o) (put_bits (eyes.width (n.number o)) v)) (set_by seen o (put_bits (seen.width o) v))
-    (ap (λ (w : ℕ). set_by eyes (n.number o) (put_bits w v)) (alike.width o) ∙ set_under n seen eyes alike o (put_bits (seen.width o) v))
+put_at_under : (n : Renumbering) (seen observation : Observer) → IsSeenAs n seen observation → (v : PutValue) (o : ℕ)
+    → put_at observation v (n.number o) ≡ under.answer (under.put n) (put_at seen v o)
+put_at_under n seen observation alike v o =
+    ap (λ k. test_reg (is_reg k) (set_by observation (n.number o) (put_bits (observation.width (n.number o)) v))) (alike.kind o)
+    ∙ reg_under n (is_reg (seen.kind o)) (set_by observation (n.number o) (put_bits (observation.width (n.number o)) v)) (set_by seen o (put_bits (seen.width o) v))
+    (ap (λ (w : ℕ). set_by observation (n.number o) (put_bits w v)) (alike.width o) ∙ set_under n seen observation alike o (put_bits (seen.width o) v))
 
 -- what a put sets of a handle's object
-put_alike : (n : Renumbering) (seen eyes : Observer) → IsSeenAs n seen eyes → (v : PutValue) (found : Option ℕ)
-    → put_of eyes v (option_map n.number found) ≡ under.answer (under.put n) (put_of seen v found)
-put_alike n seen eyes alike v found =
-    then_under n.number (under.put n) (allowed eyes right.Put (option_map n.number found)) (allowed seen right.Put found) (put_at eyes v) (put_at seen v)
-    (allowed_under n seen eyes alike right.Put found) (λ o is. put_at_under n seen eyes alike v o)
+put_alike : (n : Renumbering) (seen observation : Observer) → IsSeenAs n seen observation → (v : PutValue) (found : Option ℕ)
+    → put_of observation v (option_map n.number found) ≡ under.answer (under.put n) (put_of seen v found)
+put_alike n seen observation alike v found =
+    then_under n.number (under.put n) (allowed observation right.Put (option_map n.number found)) (allowed seen right.Put found) (put_at observation v) (put_at seen v)
+    (allowed_under n seen observation alike right.Put found) (λ o is. put_at_under n seen observation alike v o)
 
 -- ---- numbers in order
 
@@ -424,7 +424,7 @@ by_under : (n : Renumbering) (o : ℕ) (c : Callback) → registry.is_by (n.numb
 by_under n o c = n.in_order c.object.0 o
 
 -- on a higher one
-beyond_under : (n : Renumbering) (o : ℕ) (c : Callback) → registry.is_beyond (n.number o) (under.callback n c) ≡ registry.is_beyond o c
+beyond_under : (n : Renumbering) (o : ℕ) (c : Callback) → registry.is_past_goal (n.number o) (under.callback n c) ≡ registry.is_past_goal o c
 beyond_under n o c = less_under n o c.object.0
 
 -- a callback more among those of a session
@@ -433,9 +433,9 @@ callback_with_under : (n : Renumbering) (cs : List Callback) (new : Callback)
 callback_with_under n cs new =
     let o = new.object.0 in
     let f = under.callback n in
-    ap (λ xs. xs ++ f new ∷ filter (registry.is_beyond (n.number o)) (map f cs)) (filter_under f (registry.is_by o) (registry.is_by (n.number o)) (by_under n o) cs)
-    ∙ ap (λ ys. map f (filter (registry.is_by o) cs) ++ f new ∷ ys) (filter_under f (registry.is_beyond o) (registry.is_beyond (n.number o)) (beyond_under n o) cs)
-    ∙ sym (map-append f (filter (registry.is_by o) cs) (new ∷ filter (registry.is_beyond o) cs))
+    ap (λ xs. xs ++ f new ∷ filter (registry.is_past_goal (n.number o)) (map f cs)) (filter_under f (registry.is_by o) (registry.is_by (n.number o)) (by_under n o) cs)
+    ∙ ap (λ ys. map f (filter (registry.is_by o) cs) ++ f new ∷ ys) (filter_under f (registry.is_past_goal o) (registry.is_past_goal (n.number o)) (beyond_under n o) cs)
+    ∙ sym (map-append f (filter (registry.is_by o) cs) (new ∷ filter (registry.is_past_goal o) cs))
 
 -- the same of the session's callbacks and notices
 registered_under : (n : Renumbering) (r : registry.RegistryState) (o : ℕ) → registry.registered (under.registry n r) (n.number o) ≡ under.registry n (registry.registered r o)
@@ -458,77 +458,77 @@ without_under n r c =
     (filter_under (under.callback n) (λ x. not (registry.is_numbered c x)) (λ x. not (registry.is_numbered c x)) (λ x. refl) r.callbacks)
 
 -- a handle's object, whose changes can be watched
-watchable_under : (n : Renumbering) (seen eyes : Observer) → IsSeenAs n seen eyes → (found : Option ℕ) → watchable_of eyes (option_map n.number found) ≡ under.answer n.number (watchable_of seen found)
-watchable_under n seen eyes alike found =
-    then_under n.number n.number (allowed eyes right.Watch (option_map n.number found)) (allowed seen right.Watch found)
-    (λ o. test_kind (is_watchable (eyes.kind o)) o) (λ o. test_kind (is_watchable (seen.kind o)) o)
-    (allowed_under n seen eyes alike right.Watch found)
+watchable_under : (n : Renumbering) (seen observation : Observer) → IsSeenAs n seen observation → (found : Option ℕ) → watchable_of observation (option_map n.number found) ≡ under.answer n.number (watchable_of seen found)
+watchable_under n seen observation alike found =
+    then_under n.number n.number (allowed observation right.Watch (option_map n.number found)) (allowed seen right.Watch found)
+    (λ o. test_kind (is_watchable (observation.kind o)) o) (λ o. test_kind (is_watchable (seen.kind o)) o)
+    (allowed_under n seen observation alike right.Watch found)
     (λ o is. ap (λ k. test_kind (is_watchable k) (n.number o)) (alike.kind o) ∙ kind_found n (is_watchable (seen.kind o)) o)
 
 -- a handle's object, for a callback
-watched_under : (n : Renumbering) (seen eyes : Observer) → IsSeenAs n seen eyes → (r : registry.RegistryState) (found : Option ℕ)
-    → watched_of eyes (under.registry n r) (option_map n.number found) ≡ under.answer n.number (watched_of seen r found)
-watched_under n seen eyes alike r found =
-    then_under n.number n.number (watchable_of eyes (option_map n.number found)) (watchable_of seen found)
+watched_under : (n : Renumbering) (seen observation : Observer) → IsSeenAs n seen observation → (r : registry.RegistryState) (found : Option ℕ)
+    → watched_of observation (under.registry n r) (option_map n.number found) ≡ under.answer n.number (watched_of seen r found)
+watched_under n seen observation alike r found =
+    then_under n.number n.number (watchable_of observation (option_map n.number found)) (watchable_of seen found)
     (λ o. test_callbacks (registry.is_full (under.registry n r)) o) (λ o. test_callbacks (registry.is_full r) o)
-    (watchable_under n seen eyes alike found)
+    (watchable_under n seen observation alike found)
     (λ o is. ap (λ (b : Bool). test_callbacks b (n.number o)) (room_for_callback n r) ∙ callbacks_found n (registry.is_full r) o)
 
 -- ---- what comes of a request
 
 -- what comes of an answer, or of its refusal
-response_under : {A B : Type 0} (n : Renumbering) (f : A → B) (s : Seat) (given' : B → Response) (given : A → Response) (due' : Result B VpiError) (due : Result A VpiError)
-    → due' ≡ under.answer f due → ((x : A) → given' (f x) ≡ under.response n (given x)) → response_by (under.seat n s) given' due' ≡ under.response n (response_by s given due)
-response_under n f s given' given due' (Ok x) e h = ap (response_by (under.seat n s) given') e ∙ h x
-response_under n f s given' given due' (Err r) e h = ap (response_by (under.seat n s) given') e
+response_under : {A B : Type 0} (n : Renumbering) (f : A → B) (s : SessionState) (given' : B → Response) (given : A → Response) (due' : Result B VpiError) (due : Result A VpiError)
+    → due' ≡ under.answer f due → ((x : A) → given' (f x) ≡ under.response n (given x)) → response_by (under.session_state n s) given' due' ≡ under.response n (response_by s given due)
+response_under n f s given' given due' (Ok x) e h = ap (response_by (under.session_state n s) given') e ∙ h x
+response_under n f s given' given due' (Err r) e h = ap (response_by (under.session_state n s) given') e
 
 -- the same where only a reply comes of it
-reply_under : {A : Type 0} (n : Renumbering) (s : Seat) (given : A → Reply) (due' due : Result A VpiError) → due' ≡ due
-    → told_by (under.seat n s) given due' ≡ under.response n (told_by s given due)
+reply_under : {A : Type 0} (n : Renumbering) (s : SessionState) (given : A → Reply) (due' due : Result A VpiError) → due' ≡ due
+    → reply_with (under.session_state n s) given due' ≡ under.response n (reply_with s given due)
 reply_under n s given due' due e =
-    response_under n (λ x. x) s (λ x. only_told (under.seat n s) (given x)) (λ x. only_told s (given x)) due' due (e ∙ sym (same_answer due)) (λ x. refl)
+    response_under n (λ x. x) s (λ x. only_told (under.session_state n s) (given x)) (λ x. only_told s (given x)) due' due (e ∙ sym (same_answer due)) (λ x. refl)
 
 -- what comes of a handle that is made
-made_under : (n : Renumbering) (s : Seat) (o : ℕ) → made (under.seat n s) (n.number o) ≡ under.response n (made s o)
+made_under : (n : Renumbering) (s : SessionState) (o : ℕ) → made (under.session_state n s) (n.number o) ≡ under.response n (made s o)
 made_under n s o =
-    ap (λ (h : ℕ). record { reply = reply.Handle h; seat = with_handle (n.number o) (under.seat n s); goal = None; put = None }) (next_under n s.handles)
-    ∙ ap (λ t. record { reply = reply.Handle (next_handle s.handles); seat = t; goal = None; put = None }) (with_handles_under n (handle_to o ∷ []) s)
+    ap (λ (h : ℕ). record { reply = reply.Handle h; session_state = with_handle (n.number o) (under.session_state n s); goal = None; put = None }) (next_under n s.handles)
+    ∙ ap (λ t. record { reply = reply.Handle (next_handle s.handles); session_state = t; goal = None; put = None }) (with_handles_under n (handle_to o ∷ []) s)
 
 -- of an iteration
-scanned_under : (n : Renumbering) (s : Seat) (i : Iterated) → scanned (under.seat n s) (iterated_under n i) ≡ under.response n (scanned s i)
-scanned_under n s i = ap (λ t. record { reply = reply.Listing i.listing; seat = t; goal = None; put = None }) (with_handles_under n i.handles s)
+scanned_under : (n : Renumbering) (s : SessionState) (i : Iterated) → scanned (under.session_state n s) (iterated_under n i) ≡ under.response n (scanned s i)
+scanned_under n s i = ap (λ t. record { reply = reply.Listing i.listing; session_state = t; goal = None; put = None }) (with_handles_under n i.handles s)
 
 -- handles without that of a number
-freed_handles : (n : Renumbering) (h : ℕ) (handles : List (Option ObjectId)) → seats.freed h (map (under.handle n) handles) ≡ map (under.handle n) (seats.freed h handles)
+freed_handles : (n : Renumbering) (h : ℕ) (handles : List (Option ObjectId)) → session_states.freed h (map (under.handle n) handles) ≡ map (under.handle n) (session_states.freed h handles)
 freed_handles n zero handles = refl
 freed_handles n (suc h) handles = sym (map-set (under.handle n) handles h None)
 
 -- what comes of a handle that is freed
-freed_under : (n : Renumbering) (s : Seat) (h : ℕ) → freed (under.seat n s) h ≡ under.response n (freed s h)
+freed_under : (n : Renumbering) (s : SessionState) (h : ℕ) → freed (under.session_state n s) h ≡ under.response n (freed s h)
 freed_under n s h =
-    ap (λ hs. record { reply = reply.Done; seat = record { user = s.user; handles = hs; registry = under.registry n s.registry }; goal = None; put = None }) (freed_handles n h s.handles)
+    ap (λ hs. record { reply = reply.Done; session_state = record { user = s.user; handles = hs; registry = under.registry n s.registry }; goal = None; put = None }) (freed_handles n h s.handles)
 
 -- of a callback that is registered
-watching_under : (n : Renumbering) (s : Seat) (o : ℕ) → watching (under.seat n s) (n.number o) ≡ under.response n (watching s o)
+watching_under : (n : Renumbering) (s : SessionState) (o : ℕ) → watching (under.session_state n s) (n.number o) ≡ under.response n (watching s o)
 watching_under n s o =
-    ap (λ r. record { reply = reply.Callback (s.registry.given + 1); seat = record { user = s.user; handles = map (under.handle n) s.handles; registry = r }; goal = None; put = None })
+    ap (λ r. record { reply = reply.Callback (s.registry.given + 1); session_state = record { user = s.user; handles = map (under.handle n) s.handles; registry = r }; goal = None; put = None })
     (registered_under n s.registry o)
 
 -- a session without a callback
-without_seat : (n : Renumbering) (s : Seat) (c : ℕ) → without_callback c (under.seat n s) ≡ under.seat n (without_callback c s)
-without_seat n s c = ap (λ r. record { user = s.user; handles = map (under.handle n) s.handles; registry = r }) (without_under n s.registry c)
+without_session_state : (n : Renumbering) (s : SessionState) (c : ℕ) → without_callback c (under.session_state n s) ≡ under.session_state n (without_callback c s)
+without_session_state n s c = ap (λ r. record { user = s.user; handles = map (under.handle n) s.handles; registry = r }) (without_under n s.registry c)
 
 -- what comes of its removal, where there is one and where there is none
-unwatch_test : (n : Renumbering) (s : Seat) (c : ℕ) (b : Bool)
-    → (if b then only_told (without_callback c (under.seat n s)) reply.Done else only_told (under.seat n s) (refused error.NoSuchCallback))
+unwatch_test : (n : Renumbering) (s : SessionState) (c : ℕ) (b : Bool)
+    → (if b then only_told (without_callback c (under.session_state n s)) reply.Done else only_told (under.session_state n s) (refused error.NoSuchCallback))
     ≡ under.response n (if b then only_told (without_callback c s) reply.Done else only_told s (refused error.NoSuchCallback))
-unwatch_test n s c true = ap (λ t. only_told t reply.Done) (without_seat n s c)
+unwatch_test n s c true = ap (λ t. only_told t reply.Done) (without_session_state n s c)
 unwatch_test n s c false = refl
 
 -- the same by its number
-unwatch_under : (n : Renumbering) (s : Seat) (c : ℕ) → unwatch_response (under.seat n s) c ≡ under.response n (unwatch_response s c)
+unwatch_under : (n : Renumbering) (s : SessionState) (c : ℕ) → unwatch_response (under.session_state n s) c ≡ under.response n (unwatch_response s c)
 unwatch_under n s c =
-    ap (λ (b : Bool). if b then only_told (without_callback c (under.seat n s)) reply.Done else only_told (under.seat n s) (refused error.NoSuchCallback)) (numbered_under n s.registry c)
+    ap (λ (b : Bool). if b then only_told (without_callback c (under.session_state n s)) reply.Done else only_told (under.session_state n s) (refused error.NoSuchCallback)) (numbered_under n s.registry c)
     ∙ unwatch_test n s c (registry.has_number s.registry c)
 
 -- notices as a poll gives them name no object
@@ -537,67 +537,67 @@ polled_under n [] = refl
 polled_under n (x ∷ ns) = ap (λ ps. registry.polled_notice x ∷ ps) (polled_under n ns)
 
 -- what comes of a poll
-polling_under : (n : Renumbering) (s : Seat) → polling (under.seat n s) ≡ under.response n (polling s)
+polling_under : (n : Renumbering) (s : SessionState) → polling (under.session_state n s) ≡ under.response n (polling s)
 polling_under n s =
-    ap (λ ps. only_told (under.seat n (drained s)) (reply.Notices (record { notices = ps; lost = s.registry.lost }))) (polled_under n s.registry.waiting)
+    ap (λ ps. only_told (under.session_state n (drained s)) (reply.Notices (record { notices = ps; lost = s.registry.lost }))) (polled_under n s.registry.waiting)
 
 -- what comes of a request to run, where the user may and where he may not
-run_test : (n : Renumbering) (s : Seat) (until : ℕ) (b : Bool)
-    → record { reply = if b then reply.Done else reply.RunDenied; seat = under.seat n s; goal = if b then Some until else None; put = None }
-    ≡ under.response n (record { reply = if b then reply.Done else reply.RunDenied; seat = s; goal = if b then Some until else None; put = None })
+run_test : (n : Renumbering) (s : SessionState) (until : ℕ) (b : Bool)
+    → record { reply = if b then reply.Done else reply.RunDenied; session_state = under.session_state n s; goal = if b then Some until else None; put = None }
+    ≡ under.response n (record { reply = if b then reply.Done else reply.RunDenied; session_state = s; goal = if b then Some until else None; put = None })
 run_test n s until true = refl
 run_test n s until false = refl
 
 -- what a session is answered is the same under other numbers of its objects
-pub respond_under : (n : Renumbering) (seen eyes : Observer) → IsSeenAs n seen eyes → (s : Seat) (r : Request)
-    → respond eyes (under.seat n s) r ≡ under.response n (respond seen s r)
-respond_under n seen eyes alike s (request.Open user token) = refl
-respond_under n seen eyes alike s request.Close = refl
-respond_under n seen eyes alike s (request.Grant change) = refl
-respond_under n seen eyes alike s (request.Handle name scope) =
-    response_under n n.number s (made (under.seat n s)) (made s) (handle_of eyes (map (under.handle n) s.handles) scope name) (handle_of seen s.handles scope name)
-    (handle_under n seen eyes alike s.handles scope name) (made_under n s)
-respond_under n seen eyes alike s (request.Iterate k scope) =
-    response_under n (iterated_under n) s (scanned (under.seat n s)) (scanned s) (iterated eyes (map (under.handle n) s.handles) k scope) (iterated seen s.handles k scope)
-    (iterated_alike n seen eyes alike s.handles k scope) (scanned_under n s)
-respond_under n seen eyes alike s (request.Get h p) =
-    reply_under n s reply.Number (number_of eyes p (object_of (map (under.handle n) s.handles) h)) (number_of seen p (object_of s.handles h))
-    (ap (number_of eyes p) (object_under n s.handles h) ∙ number_under n seen eyes alike p (object_of s.handles h))
-respond_under n seen eyes alike s (request.GetStr h p) =
-    reply_under n s reply.Text (text_of eyes p (object_of (map (under.handle n) s.handles) h)) (text_of seen p (object_of s.handles h))
-    (ap (text_of eyes p) (object_under n s.handles h) ∙ text_under n seen eyes alike p (object_of s.handles h))
-respond_under n seen eyes alike s (request.Value h f) =
-    reply_under n s (value_in f) (value_of eyes (object_of (map (under.handle n) s.handles) h)) (value_of seen (object_of s.handles h))
-    (ap (value_of eyes) (object_under n s.handles h) ∙ value_under n seen eyes alike (object_of s.handles h))
-respond_under n seen eyes alike s (request.Put h v) =
-    response_under n (under.put n) s (putting (under.seat n s)) (putting s) (put_of eyes v (object_of (map (under.handle n) s.handles) h)) (put_of seen v (object_of s.handles h))
-    (ap (put_of eyes v) (object_under n s.handles h) ∙ put_alike n seen eyes alike v (object_of s.handles h)) (λ x. refl)
-respond_under n seen eyes alike s (request.Compare a b) =
+pub respond_under : (n : Renumbering) (seen observation : Observer) → IsSeenAs n seen observation → (s : SessionState) (r : Request)
+    → respond observation (under.session_state n s) r ≡ under.response n (respond seen s r)
+respond_under n seen observation alike s (request.Open user token) = refl
+respond_under n seen observation alike s request.Close = refl
+respond_under n seen observation alike s (request.Grant change) = refl
+respond_under n seen observation alike s (request.Handle name scope) =
+    response_under n n.number s (made (under.session_state n s)) (made s) (handle_of observation (map (under.handle n) s.handles) scope name) (handle_of seen s.handles scope name)
+    (handle_under n seen observation alike s.handles scope name) (made_under n s)
+respond_under n seen observation alike s (request.Iterate k scope) =
+    response_under n (iterated_under n) s (scanned (under.session_state n s)) (scanned s) (iterated observation (map (under.handle n) s.handles) k scope) (iterated seen s.handles k scope)
+    (iterated_alike n seen observation alike s.handles k scope) (scanned_under n s)
+respond_under n seen observation alike s (request.Get h p) =
+    reply_under n s reply.Number (number_of observation p (object_of (map (under.handle n) s.handles) h)) (number_of seen p (object_of s.handles h))
+    (ap (number_of observation p) (object_under n s.handles h) ∙ number_under n seen observation alike p (object_of s.handles h))
+respond_under n seen observation alike s (request.GetStr h p) =
+    reply_under n s reply.Text (text_of observation p (object_of (map (under.handle n) s.handles) h)) (text_of seen p (object_of s.handles h))
+    (ap (text_of observation p) (object_under n s.handles h) ∙ text_under n seen observation alike p (object_of s.handles h))
+respond_under n seen observation alike s (request.Value h f) =
+    reply_under n s (value_in f) (value_of observation (object_of (map (under.handle n) s.handles) h)) (value_of seen (object_of s.handles h))
+    (ap (value_of observation) (object_under n s.handles h) ∙ value_under n seen observation alike (object_of s.handles h))
+respond_under n seen observation alike s (request.Put h v) =
+    response_under n (under.put n) s (putting (under.session_state n s)) (putting s) (put_of observation v (object_of (map (under.handle n) s.handles) h)) (put_of seen v (object_of s.handles h))
+    (ap (put_of observation v) (object_under n s.handles h) ∙ put_alike n seen observation alike v (object_of s.handles h)) (λ x. refl)
+respond_under n seen observation alike s (request.Compare a b) =
     reply_under n s reply.Same (same_of (object_of (map (under.handle n) s.handles) a) (object_of (map (under.handle n) s.handles) b)) (same_of (object_of s.handles a) (object_of s.handles b))
     (ap (λ x. same_of x (object_of (map (under.handle n) s.handles) b)) (object_under n s.handles a)
     ∙ ap (same_of (option_map n.number (object_of s.handles a))) (object_under n s.handles b)
     ∙ same_under n (object_of s.handles a) (object_of s.handles b))
-respond_under n seen eyes alike s (request.Free h) =
-    response_under n n.number s (λ o. freed (under.seat n s) h) (λ o. freed s h) (or_refusal (object_of (map (under.handle n) s.handles) h) error.BadHandle)
+respond_under n seen observation alike s (request.Free h) =
+    response_under n n.number s (λ o. freed (under.session_state n s) h) (λ o. freed s h) (or_refusal (object_of (map (under.handle n) s.handles) h) error.BadHandle)
     (or_refusal (object_of s.handles h) error.BadHandle)
     (ap (λ x. or_refusal x error.BadHandle) (object_under n s.handles h) ∙ refusal_or n (object_of s.handles h)) (λ o. freed_under n s h)
-respond_under n seen eyes alike s (request.Watch h) =
-    response_under n n.number s (watching (under.seat n s)) (watching s) (watched_of eyes (under.registry n s.registry) (object_of (map (under.handle n) s.handles) h))
+respond_under n seen observation alike s (request.Watch h) =
+    response_under n n.number s (watching (under.session_state n s)) (watching s) (watched_of observation (under.registry n s.registry) (object_of (map (under.handle n) s.handles) h))
     (watched_of seen s.registry (object_of s.handles h))
-    (ap (watched_of eyes (under.registry n s.registry)) (object_under n s.handles h) ∙ watched_under n seen eyes alike s.registry (object_of s.handles h)) (watching_under n s)
-respond_under n seen eyes alike s (request.Unwatch c) = unwatch_under n s c
-respond_under n seen eyes alike s request.Poll = polling_under n s
-respond_under n seen eyes alike s (request.Races from) =
-    ap (λ races. only_told (under.seat n s) (reply.Races (take race_limit (lines_from (max 1 from) (drop (from - 1) races))))) alike.races
-respond_under n seen eyes alike s (request.Race k) =
-    reply_under n s reply.Race (race_of eyes k) (race_of seen k)
-    (ap (λ races. or_refusal (option_map (race_told k) (shown_at races k)) error.NoSuchRace) alike.races)
-respond_under n seen eyes alike s (request.Run until) =
-    ap (λ (b : Bool). record { reply = if b then reply.Done else reply.RunDenied; seat = under.seat n s; goal = if b then Some until else None; put = None }) alike.may_run
+    (ap (watched_of observation (under.registry n s.registry)) (object_under n s.handles h) ∙ watched_under n seen observation alike s.registry (object_of s.handles h)) (watching_under n s)
+respond_under n seen observation alike s (request.Unwatch c) = unwatch_under n s c
+respond_under n seen observation alike s request.Poll = polling_under n s
+respond_under n seen observation alike s (request.Races from) =
+    ap (λ races. only_told (under.session_state n s) (reply.Races (take race_limit (lines_from (max 1 from) (drop (from - 1) races))))) alike.races
+respond_under n seen observation alike s (request.Race k) =
+    reply_under n s reply.Race (race_of observation k) (race_of seen k)
+    (ap (λ races. or_refusal (option_map (race_details k) (shown_at races k)) error.NoSuchRace) alike.races)
+respond_under n seen observation alike s (request.Run until) =
+    ap (λ (b : Bool). record { reply = if b then reply.Done else reply.RunDenied; session_state = under.session_state n s; goal = if b then Some until else None; put = None }) alike.may_run
     ∙ run_test n s until seen.may_run
-respond_under n seen eyes alike s request.Time =
-    ap (λ (t : ℕ). only_told (under.seat n s) (reply.Time t eyes.finished)) alike.time
-    ∙ ap (λ (b : Bool). only_told (under.seat n s) (reply.Time seen.time b)) alike.finished
+respond_under n seen observation alike s request.Time =
+    ap (λ (t : ℕ). only_told (under.session_state n s) (reply.Time t observation.finished)) alike.time
+    ∙ ap (λ (b : Bool). only_told (under.session_state n s) (reply.Time seen.time b)) alike.finished
 
 -- ---- what happens to a session without a request
 
@@ -637,11 +637,11 @@ due_registry n r (Some c) time =
     ∙ notices_under n (map (registry.notice_of c time) (filter (registry.is_on c.object.0) r.callbacks)) r
 
 -- the same of a session
-pub due_under : (n : Renumbering) (c : Option Change) (time : ℕ) (s : Seat) → with_due (option_map (under.change n) c) time (under.seat n s) ≡ under.seat n (with_due c time s)
+pub due_under : (n : Renumbering) (c : Option Change) (time : ℕ) (s : SessionState) → with_due (option_map (under.change n) c) time (under.session_state n s) ≡ under.session_state n (with_due c time s)
 due_under n c time s = ap (λ r. record { user = s.user; handles = map (under.handle n) s.handles; registry = r }) (due_registry n s.registry c time)
 
 -- a session without its callbacks and notices of objects of which a test holds, which says the same of an object under both numbers
-pub retired_under : (n : Renumbering) (gone gone' : ℕ → Bool) → ((o : ℕ) → gone' (n.number o) ≡ gone o) → (s : Seat) → retired gone' (under.seat n s) ≡ under.seat n (retired gone s)
+pub retired_under : (n : Renumbering) (gone gone' : ℕ → Bool) → ((o : ℕ) → gone' (n.number o) ≡ gone o) → (s : SessionState) → retired gone' (under.session_state n s) ≡ under.session_state n (retired gone s)
 retired_under n gone gone' same s =
     ap (λ cs. record {
       user = s.user;

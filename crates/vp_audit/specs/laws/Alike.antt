@@ -13,7 +13,7 @@ use Rattle.vp_policy.specs.Filter.{denial_at, words_of}
 use Rattle.vp_policy.specs.Users.{Member}
 use Rattle.vp_policy.specs.View.{seen_node, known_view}
 use Rattle.vp_sim.specs.States.{State}
-use Rattle.vp_race.specs.Segments.{Told}
+use Rattle.vp_race.specs.Segments.{FindingState}
 use Rattle.vp_vpi.specs.Calls.{is_module}
 use Rattle.vp_vpi.specs.Observers.{value_read, is_readable, kind_at, line_at, width_at}
 use Rattle.vp_vpi.specs.Races.{observer_with, races_seen}
@@ -45,7 +45,7 @@ none_of f None e = refl
 none_of f (Some x) e = absurd (cc)
 
 -- a scope that is open is there
-open_stands : (run : State) (u : Member) (known : List Bool) (values : List (Option (List Bit))) → IsKnown run.design run.values u known values → (time : ℕ) (finished : Bool) (book : List Told) (scope : Option ℕ)
+open_stands : (run : State) (u : Member) (known : List Bool) (values : List (Option (List Bit))) → IsKnown run.design run.values u known values → (time : ℕ) (finished : Bool) (book : List FindingState) (scope : Option ℕ)
     → IsOpen (observer_seen (known_view run.design u known) values time finished (races_seen run.design.tree u book)) scope → Stands run.design known scope
 open_stands run u known values is time finished book None opened = tt
 open_stands run u known values is time finished book (Some k) (listed, modular) =
@@ -135,7 +135,7 @@ module _ (run : State) (u : Member) (known : List Bool) (values : List (Option (
           (option_map_or (λ x. option_map_or (λ bits. bits) x (Unknown ∷ [])) (slice_get values k) (Unknown ∷ [])) readable)
 
 -- what a user looks up in a simulation and a book he looks up in the view of what is known, under other numbers
-pub seen_as : (run : State) (u : Member) (known : List Bool) (values : List (Option (List Bit))) (book : List Told) → IsKnown run.design run.values u known values
+pub seen_as : (run : State) (u : Member) (known : List Bool) (values : List (Option (List Bit))) (book : List FindingState) → IsKnown run.design run.values u known values
     → IsSeenAs (by_place known) (observer_seen (known_view run.design u known) values run.time run.finished (races_seen run.design.tree u book)) (observer_with run u book)
 seen_as run u known values book is =
     record {

@@ -14,11 +14,11 @@ use Rattle.vp_policy.specs.Users.{member_at}
 use Rattle.vp_sim.specs.States as sim
 use Rattle.vp_sim.specs.laws.Designs.{Leaves, put_leaves}
 use Rattle.vp_race.specs.Recording.{Segments}
-use Rattle.vp_race.specs.Segments.{Told}
+use Rattle.vp_race.specs.Segments.{FindingState}
 use Rattle.vp_waking.specs.declared.change.Change.{Change}
-use Rattle.vp_vpi.specs.declared.races.SeenRace.{SeenRace}
+use Rattle.vp_vpi.specs.declared.races.ShownRace.{ShownRace}
 use Rattle.vp_vpi.specs.Races.{is_shown, observer_with, race_seen, races_seen}
-use Rattle.vp_vpi.specs.Seats.{Seat, new_seat}
+use Rattle.vp_vpi.specs.SessionStates.{SessionState, new_session_state}
 use Rattle.vp_answer.specs.declared.request.Request.{Request}
 use Rattle.vp_answer.specs.declared.request.SessionId.{SessionId}
 use Rattle.vp_answer.specs.declared.reply.Refusal.TheVariants as refusal
@@ -27,14 +27,14 @@ use Rattle.vp_answer.specs.declared.reply.Reply.TheVariants as reply
 use Rattle.vp_answer.specs.Answers.{Response, respond}
 use Rattle.vp_answer.specs.Renumbering as under
 use Rattle.vp_answer.specs.laws.Renumbering.{respond_under}
-use Rattle.vp_world.specs.History.{eyes_of, asked, asked_at, change_of, changed_by, closed_at, next_session, opened_by, outcome_of_put, raised, response_of, segments_of_put, state_asked, stepped, with_booked, with_notice, with_response}
-use Rattle.vp_world.specs.Worlds.{SessionState, State, index_of, same_session}
-use Rattle.vp_audit.specs.Parts.{Asks, Closes, Opens, Own, Part, eyes_of_part, opens_behind, races_after, reply_of, response_in, sessions_behind, with_answer}
+use Rattle.vp_world.specs.History.{observer_at, asked, asked_at, change_of, changed_by, closed_at, next_session, opened_by, outcome_of_put, raised, response_of, segments_of_put, state_asked, stepped, with_booked, with_notice, with_response}
+use Rattle.vp_world.specs.Worlds.{OpenSessionState, State, index_of, same_session}
+use Rattle.vp_audit.specs.Parts.{Asks, Closes, Opens, OwnEvent, Part, observer_of_part, opens_after, races_after, reply_of, response_in, sessions_after, with_answer}
 use Rattle.vp_audit.specs.Projections.{own_if}
 use Rattle.vp_view.specs.Seen.{observer_seen}
 use Rattle.vp_audit.specs.laws.Alike.{IsKnown, seen_as}
-use Rattle.vp_audit.specs.laws.Behind.{AreWatched, watched_kept}
-use Rattle.vp_audit.specs.laws.Events.{AreSessions, IsPartOf, behind_is, is_of, map_same, part_behind, same_number, session_under, stepped_is}
+use Rattle.vp_audit.specs.laws.After.{AreWatched, watched_kept}
+use Rattle.vp_audit.specs.laws.Events.{AreSessions, IsPartOf, after_is, is_of, map_same, part_following, same_number, session_under, stepped_is}
 use Rattle.vp_audit.specs.laws.Known.{by_place}
 use Rattle.vp_audit.specs.laws.Looks.{first_passes}
 use Rattle.vp_audit.specs.laws.Sessions.{apart_remove, apart_set, stands_from, user_kept}
@@ -92,44 +92,44 @@ some_same x y e = cc
 -- ---- sessions by their names
 
 -- a session of the name of a user's is his
-same_own : (u : ℕ) (id : SessionId) → (id.user.0 == u) ≡ true → (t : SessionState) → same_session t.id id ≡ true → is_of u t ≡ true
-same_own u id own t e =
+same_own : (u : ℕ) (id : SessionId) → (id.user.0 == u) ≡ true → (t : OpenSessionState) → same_session t.id id ≡ true → is_of u t ≡ true
+same_own u id own_event t e =
     let first = same_number t.id.user.0 id.user.0 (both_first (t.id.user.0 == id.user.0) (t.id.opens == id.opens) e) in
-    ap (λ (n : ℕ). n == u) first ∙ own
+    ap (λ (n : ℕ). n == u) first ∙ own_event
 
 -- and one of another's is not
-same_other : (u : ℕ) (id : SessionId) → (id.user.0 == u) ≡ false → (t : SessionState) → same_session t.id id ≡ true → is_of u t ≡ false
+same_other : (u : ℕ) (id : SessionId) → (id.user.0 == u) ≡ false → (t : OpenSessionState) → same_session t.id id ≡ true → is_of u t ≡ false
 same_other u id other t e =
     let first = same_number t.id.user.0 id.user.0 (both_first (t.id.user.0 == id.user.0) (t.id.opens == id.opens) e) in
     ap (λ (n : ℕ). n == u) first ∙ other
 
 -- where the session of a name stands in a part
-part_position : (u : ℕ) (known : List Bool) (mine world : List SessionState) → AreSessions u known mine world → (id : SessionId)
-    → index_of mine id ≡ position (λ (t : SessionState). same_session t.id id) (filter (is_of u) world)
+part_position : (u : ℕ) (known : List Bool) (mine world : List OpenSessionState) → AreSessions u known mine world → (id : SessionId)
+    → index_of mine id ≡ position (λ (t : OpenSessionState). same_session t.id id) (filter (is_of u) world)
 part_position u known mine world are id =
-    position_from-zero (λ (t : SessionState). same_session t.id id) mine
-    ∙ sym (position_form (session_under known) (λ (t : SessionState). same_session t.id id) (λ (t : SessionState). same_session t.id id) (λ t. refl) mine 0)
-    ∙ ap (position_from (λ (t : SessionState). same_session t.id id) 0) are
-    ∙ sym (position_from-zero (λ (t : SessionState). same_session t.id id) (filter (is_of u) world))
+    position_from-zero (λ (t : OpenSessionState). same_session t.id id) mine
+    ∙ sym (position_form (session_under known) (λ (t : OpenSessionState). same_session t.id id) (λ (t : OpenSessionState). same_session t.id id) (λ t. refl) mine 0)
+    ∙ ap (position_from (λ (t : OpenSessionState). same_session t.id id) 0) are
+    ∙ sym (position_from-zero (λ (t : OpenSessionState). same_session t.id id) (filter (is_of u) world))
 
 -- no session of a user's name is open: nor in his part
-pub part_none : (u : ℕ) (known : List Bool) (mine world : List SessionState) → AreSessions u known mine world → (id : SessionId) → index_of world id ≡ None → index_of mine id ≡ None
+pub part_none : (u : ℕ) (known : List Bool) (mine world : List OpenSessionState) → AreSessions u known mine world → (id : SessionId) → index_of world id ≡ None → index_of mine id ≡ None
 part_none u known mine world are id none =
     part_position u known mine world are id
-    ∙ position_from-zero (λ (t : SessionState). same_session t.id id) (filter (is_of u) world)
-    ∙ none_of_some (λ (t : SessionState). same_session t.id id) (is_of u) world 0 (sym (position_from-zero (λ (t : SessionState). same_session t.id id) world) ∙ none) 0
+    ∙ position_from-zero (λ (t : OpenSessionState). same_session t.id id) (filter (is_of u) world)
+    ∙ none_of_some (λ (t : OpenSessionState). same_session t.id id) (is_of u) world 0 (sym (position_from-zero (λ (t : OpenSessionState). same_session t.id id) world) ∙ none) 0
 
 -- one is open: it stands in his part, under the numbers of what he knows
-pub record StandsIn (u : ℕ) (known : List Bool) (mine world : List SessionState) (id : SessionId) (place : ℕ) : Type 0 where
-  pub session : SessionState
+pub record StandsIn (u : ℕ) (known : List Bool) (mine world : List OpenSessionState) (id : SessionId) (place : ℕ) : Type 0 where
+  pub session : OpenSessionState
   pub there : slice_get world place ≡ Some session
   pub its_name : same_session session.id id ≡ true
   pub inner : ℕ
   pub found : index_of mine id ≡ Some inner
-  pub his : SessionState
+  pub his : OpenSessionState
   pub there_too : slice_get mine inner ≡ Some his
   pub is_under : session_under known his ≡ session
-  pub exchanged : (y : SessionState) → is_of u (session_under known y) ≡ true → AreSessions u known (slice_set mine inner y) (slice_set world place (session_under known y))
+  pub exchanged : (y : OpenSessionState) → is_of u (session_under known y) ≡ true → AreSessions u known (slice_set mine inner y) (slice_set world place (session_under known y))
   pub removed : AreSessions u known (remove mine inner) (remove world place)
 
 -- one that is taken out, under a form
@@ -140,10 +140,10 @@ map_remove f (x ∷ xs) zero = refl
 map_remove f (x ∷ xs) (suc i) = ap (λ ys. f x ∷ ys) (map_remove f xs i)
 
 -- so it stands in his part
-pub part_stands : (u : ℕ) (known : List Bool) (mine world : List SessionState) → AreSessions u known mine world → (id : SessionId) → (id.user.0 == u) ≡ true → (place : ℕ)
+pub part_stands : (u : ℕ) (known : List Bool) (mine world : List OpenSessionState) → AreSessions u known mine world → (id : SessionId) → (id.user.0 == u) ≡ true → (place : ℕ)
     → index_of world id ≡ Some place → StandsIn u known mine world id place
-part_stands u known mine world are id own place e =
-    let s = stands_from (λ (t : SessionState). same_session t.id id) (is_of u) (same_own u id own) world 0 place (sym (position_from-zero (λ (t : SessionState). same_session t.id id) world) ∙ e) in
+part_stands u known mine world are id own_event place e =
+    let s = stands_from (λ (t : OpenSessionState). same_session t.id id) (is_of u) (same_own u id own_event) world 0 place (sym (position_from-zero (λ (t : OpenSessionState). same_session t.id id) world) ∙ e) in
     let at : place ≡ s.index = let is = s.place_is in omega (arith, is) in
     let mapped = slice_get-map (session_under known) mine s.inner in
     let (his, his_at, his_is) = formed (session_under known) (slice_get mine s.inner) s.thing (sym mapped ∙ ap (λ ts. slice_get ts s.inner) are ∙ s.there_too) in
@@ -152,7 +152,7 @@ part_stands u known mine world are id own place e =
       there = ap (slice_get world) at ∙ s.there;
       its_name = s.passes;
       inner = s.inner;
-      found = part_position u known mine world are id ∙ position_from-zero (λ (t : SessionState). same_session t.id id) (filter (is_of u) world)
+      found = part_position u known mine world are id ∙ position_from-zero (λ (t : OpenSessionState). same_session t.id id) (filter (is_of u) world)
           ∙ s.found 0 ∙ ap Some (let e0 : 0 + s.inner ≡ s.inner = omega arith in e0);
       his = his;
       there_too = his_at;
@@ -166,18 +166,18 @@ part_stands u known mine world are id own place e =
 -- ---- what a session is answered
 
 -- what comes of a request of a session of a user's, and of his in his part
-pub response_is : (design : Elaborated) (u : ℕ) (s : State) (known : List Bool) (p : Part) → IsPartOf design u s known p → (his : Seat) → his.user ≡ u → (r : Request)
-    → response_of s (under.seat (by_place known) his) r ≡ under.response (by_place known) (respond (eyes_of_part p) his r)
+pub response_is : (design : Elaborated) (u : ℕ) (s : State) (known : List Bool) (p : Part) → IsPartOf design u s known p → (his : SessionState) → his.user ≡ u → (r : Request)
+    → response_of s (under.session_state (by_place known) his) r ≡ under.response (by_place known) (respond (observer_of_part p) his r)
 response_is design u s known p is his user r =
     let m = member_at s.policy.members u in
-    let eyes = seen_as s.run m known p.values s.book (subst (λ d. IsKnown d s.run.values m known p.values) (sym is.its_design) is.is_known) in
-    let same : eyes_of_part p ≡ observer_seen (known_view s.run.design m known) p.values s.run.time s.run.finished (races_seen s.run.design.tree m s.book) =
+    let observation = seen_as s.run m known p.values s.book (subst (λ d. IsKnown d s.run.values m known p.values) (sym is.its_design) is.is_known) in
+    let same : observer_of_part p ≡ observer_seen (known_view s.run.design m known) p.values s.run.time s.run.finished (races_seen s.run.design.tree m s.book) =
     ap (λ v. observer_seen v p.values p.time p.finished p.races) (is.view ∙ ap (λ d. known_view d m known) (sym is.its_design))
     ∙ ap (λ (n : ℕ). observer_seen (known_view s.run.design m known) p.values n p.finished p.races) is.time
     ∙ ap (λ b. observer_seen (known_view s.run.design m known) p.values s.run.time b p.races) is.finished
     ∙ ap (observer_seen (known_view s.run.design m known) p.values s.run.time s.run.finished) (is.races ∙ ap (λ (d : Elaborated). races_seen d.tree m s.book) (sym is.its_design)) in
-    ap (λ (n : ℕ). respond (observer_with s.run (member_at s.policy.members n) s.book) (under.seat (by_place known) his) r) user
-    ∙ respond_under (by_place known) (observer_seen (known_view s.run.design m known) p.values s.run.time s.run.finished (races_seen s.run.design.tree m s.book)) (observer_with s.run m s.book) eyes his r
+    ap (λ (n : ℕ). respond (observer_with s.run (member_at s.policy.members n) s.book) (under.session_state (by_place known) his) r) user
+    ∙ respond_under (by_place known) (observer_seen (known_view s.run.design m known) p.values s.run.time s.run.finished (races_seen s.run.design.tree m s.book)) (observer_with s.run m s.book) observation his r
     ∙ ap (λ e. under.response (by_place known) (respond e his r)) (sym same)
 
 -- a put, or none, changes the values by its change alone
@@ -191,20 +191,20 @@ outcome_leaves run None = refl
 outcome_leaves run (Some p) = put_leaves run p.0 p.1
 
 -- an own event, and none
-pub own_is : (u : ℕ) (id : SessionId) (own : Own) → (id.user.0 == u) ≡ true → own_if u id own ≡ Some own
-own_is u id own e = ap (λ (b : Bool). if b then Some own else None) e
+pub own_is : (u : ℕ) (id : SessionId) (own_event : OwnEvent) → (id.user.0 == u) ≡ true → own_if u id own_event ≡ Some own_event
+own_is u id own_event e = ap (λ (b : Bool). if b then Some own_event else None) e
 
 -- and of another's is not
-pub own_not : (u : ℕ) (id : SessionId) (own : Own) → (id.user.0 == u) ≡ false → own_if u id own ≡ None
-own_not u id own e = ap (λ (b : Bool). if b then Some own else None) e
+pub own_not : (u : ℕ) (id : SessionId) (own_event : OwnEvent) → (id.user.0 == u) ≡ false → own_if u id own_event ≡ None
+own_not u id own_event e = ap (λ (b : Bool). if b then Some own_event else None) e
 
 -- ---- events
 
 -- what of an event goes to a user comes to in his part: the part after it, and the reply
-pub record ComesTo (design : Elaborated) (u : ℕ) (s t : State) (known : List Bool) (p : Part) (own : Option Own) (change : Option Change) (answered : Reply) (races : List SeenRace) : Type 0 where
-  pub part : IsPartOf design u t known (part_behind p design.tree (member_at s.policy.members u) known (option_map_or (opens_behind p) own p.opens)
-      (option_map_or (sessions_behind p) own p.sessions) change t.run races)
-  pub replied : option_map (λ (o : Own). answered) own ≡ option_map (reply_of p) own
+pub record ComesTo (design : Elaborated) (u : ℕ) (s t : State) (known : List Bool) (p : Part) (own_event : Option OwnEvent) (change : Option Change) (answered : Reply) (races : List ShownRace) : Type 0 where
+  pub part : IsPartOf design u t known (part_following p design.tree (member_at s.policy.members u) known (option_map_or (opens_after p) own_event p.opens)
+      (option_map_or (sessions_after p) own_event p.sessions) change t.run races)
+  pub replied : option_map (λ (o : OwnEvent). answered) own_event ≡ option_map (reply_of p) own_event
 
 -- a step
 pub step_case : (design : Elaborated) (u : ℕ) (s : State) (known : List Bool) (p : Part) → IsPartOf design u s known p → (segments : sim.State → Segments) (o : sim.Outcome) → Changes s.run.values o
@@ -219,7 +219,7 @@ step_case design u s known p is segments o changes leaves answered =
 pub nothing_case : (design : Elaborated) (u : ℕ) (s : State) (known : List Bool) (p : Part) → IsPartOf design u s known p → (answered : Reply) → ComesTo design u s s known p None None answered p.races
 nothing_case design u s known p is answered =
     record {
-      part = behind_is design u s known p is s None p.opens p.sessions s.sessions p.races refl is.its_design refl tt (sym (map_same (with_notice None s.run.time) (λ t. refl) s.sessions))
+      part = after_is design u s known p is s None p.opens p.sessions s.sessions p.races refl is.its_design refl tt (sym (map_same (with_notice None s.run.time) (λ t. refl) s.sessions))
           is.sessions is.named is.watched refl is.opens is.races;
       replied = refl;
     }
@@ -228,37 +228,37 @@ nothing_case design u s known p is answered =
 pub asked_own : (design : Elaborated) (u : ℕ) (s : State) (known : List Bool) (p : Part) → IsPartOf design u s known p → (id : SessionId) (r : Request) → (id.user.0 == u) ≡ true → (place : ℕ)
     → index_of s.sessions id ≡ Some place
     → ComesTo design u s (asked_at s (Some place) r) known p (Some (Asks id r)) (changed_by s (slice_get s.sessions place) r) (asked s (slice_get s.sessions place) r) p.races
-asked_own design u s known p is id r own place at =
-    let i = part_stands u known p.sessions s.sessions is.sessions id own place at in
-    let user : i.his.seat.user ≡ u =
-    ap (λ (t : SessionState). t.seat.user) i.is_under
-    ∙ all_get (λ (t : SessionState). t.seat.user ≡ t.id.user.0) s.sessions place i.session is.named i.there
-    ∙ same_number i.session.id.user.0 u (same_own u id own i.session i.its_name) in
-    let mine = respond (eyes_of_part p) i.his.seat r in
-    let seats : i.session.seat ≡ under.seat (by_place known) i.his.seat = ap (λ (t : SessionState). t.seat) (sym i.is_under) in
-    let world : response_of s i.session.seat r ≡ under.response (by_place known) mine =
-    ap (λ x. response_of s x r) seats ∙ response_is design u s known p is i.his.seat user r in
+asked_own design u s known p is id r own_event place at =
+    let i = part_stands u known p.sessions s.sessions is.sessions id own_event place at in
+    let user : i.his.session_state.user ≡ u =
+    ap (λ (t : OpenSessionState). t.session_state.user) i.is_under
+    ∙ all_get (λ (t : OpenSessionState). t.session_state.user ≡ t.id.user.0) s.sessions place i.session is.named i.there
+    ∙ same_number i.session.id.user.0 u (same_own u id own_event i.session i.its_name) in
+    let mine = respond (observer_of_part p) i.his.session_state r in
+    let session_states : i.session.session_state ≡ under.session_state (by_place known) i.his.session_state = ap (λ (t : OpenSessionState). t.session_state) (sym i.is_under) in
+    let world : response_of s i.session.session_state r ≡ under.response (by_place known) mine =
+    ap (λ x. response_of s x r) session_states ∙ response_is design u s known p is i.his.session_state user r in
     let given = under.response (by_place known) mine in
-    let new : SessionState = record { id = i.his.id; seat = mine.seat } in
-    let named_new : given.seat.user ≡ i.his.id.user.0 =
-    user_kept (eyes_of_part p) i.his.seat r ∙ ap (λ (t : SessionState). t.seat.user) i.is_under
-    ∙ all_get (λ (t : SessionState). t.seat.user ≡ t.id.user.0) s.sessions place i.session is.named i.there ∙ ap (λ (t : SessionState). t.id.user.0) (sym i.is_under) in
+    let new : OpenSessionState = record { id = i.his.id; session_state = mine.session_state } in
+    let named_new : given.session_state.user ≡ i.his.id.user.0 =
+    user_kept (observer_of_part p) i.his.session_state r ∙ ap (λ (t : OpenSessionState). t.session_state.user) i.is_under
+    ∙ all_get (λ (t : OpenSessionState). t.session_state.user ≡ t.id.user.0) s.sessions place i.session is.named i.there ∙ ap (λ (t : OpenSessionState). t.id.user.0) (sym i.is_under) in
     let stays = stepped_is design u s known p is (raised s.goal mine.goal) p.opens (slice_set p.sessions i.inner new) (slice_set s.sessions place (session_under known new))
     (segments_of_put s.segments given.put) (outcome_of_put s.run given.put) (outcome_changes s.run given.put) (outcome_leaves s.run given.put)
-    (i.exchanged new (ap (λ (t : SessionState). t.id.user.0 == u) i.is_under ∙ same_own u id own i.session i.its_name))
-    (all_set (λ (t : SessionState). t.seat.user ≡ t.id.user.0) s.sessions place (session_under known new) is.named named_new)
-    (all_set (λ (t : SessionState). AreWatched p.view t.seat.registry.callbacks) p.sessions i.inner new is.watched
-    (watched_kept p.view p.values p.time p.finished p.races i.his.seat r
-    (all_get (λ (t : SessionState). AreWatched p.view t.seat.registry.callbacks) p.sessions i.inner i.his is.watched i.there_too)))
+    (i.exchanged new (ap (λ (t : OpenSessionState). t.id.user.0 == u) i.is_under ∙ same_own u id own_event i.session i.its_name))
+    (all_set (λ (t : OpenSessionState). t.session_state.user ≡ t.id.user.0) s.sessions place (session_under known new) is.named named_new)
+    (all_set (λ (t : OpenSessionState). AreWatched p.view t.session_state.registry.callbacks) p.sessions i.inner new is.watched
+    (watched_kept p.view p.values p.time p.finished p.races i.his.session_state r
+    (all_get (λ (t : OpenSessionState). AreWatched p.view t.session_state.registry.callbacks) p.sessions i.inner i.his is.watched i.there_too)))
     is.opens in
-    let ids : i.his.id ≡ i.session.id = ap (λ (t : SessionState). t.id) i.is_under in
+    let ids : i.his.id ≡ i.session.id = ap (λ (t : OpenSessionState). t.id) i.is_under in
     let after_world : asked_at s (Some place) r ≡ with_response s place i.his given =
     ap (λ x. state_asked s place x r) i.there ∙ ap (with_response s place i.session) world
-    ∙ ap (λ (n : SessionId). stepped (record s { sessions = slice_set s.sessions place (record { id = n; seat = given.seat }); goal = raised s.goal given.goal })
+    ∙ ap (λ (n : SessionId). stepped (record s { sessions = slice_set s.sessions place (record { id = n; session_state = given.session_state }); goal = raised s.goal given.goal })
     (segments_of_put s.segments given.put) (outcome_of_put s.run given.put)) (sym ids) in
     let change_is : changed_by s (slice_get s.sessions place) r ≡ change_of (outcome_of_put s.run given.put) =
     ap (λ x. changed_by s x r) i.there ∙ ap (λ (g : Response). change_of (outcome_of_put s.run g.put)) world in
-    let mine_is : sessions_behind p (Asks id r) ≡ slice_set p.sessions i.inner new =
+    let mine_is : sessions_after p (Asks id r) ≡ slice_set p.sessions i.inner new =
     ap (λ n. option_map_or (λ k. with_answer p.sessions k (slice_get p.sessions k) (response_in p (slice_get p.sessions k) r)) n p.sessions) i.found
     ∙ ap (λ x. with_answer p.sessions i.inner x (response_in p x r)) i.there_too in
     let reply_is : reply_of p (Asks id r) ≡ mine.reply =
@@ -266,32 +266,32 @@ asked_own design u s known p is id r own place at =
     ∙ ap (λ x. option_map_or (λ (g : Response). g.reply) (response_in p x r) (reply.Error refusal.NotOpen)) i.there_too in
     record {
       part =
-          subst (λ (t : State). IsPartOf design u t known (part_behind p design.tree (member_at s.policy.members u) known p.opens (sessions_behind p (Asks id r))
+          subst (λ (t : State). IsPartOf design u t known (part_following p design.tree (member_at s.policy.members u) known p.opens (sessions_after p (Asks id r))
           (changed_by s (slice_get s.sessions place) r) t.run p.races)) (sym after_world)
-          (subst (λ c. IsPartOf design u (with_response s place i.his given) known (part_behind p design.tree (member_at s.policy.members u) known p.opens (sessions_behind p (Asks id r)) c
+          (subst (λ c. IsPartOf design u (with_response s place i.his given) known (part_following p design.tree (member_at s.policy.members u) known p.opens (sessions_after p (Asks id r)) c
           (with_response s place i.his given).run p.races)) (sym change_is)
-          (subst (λ ts. IsPartOf design u (with_response s place i.his given) known (part_behind p design.tree (member_at s.policy.members u) known p.opens ts
+          (subst (λ ts. IsPartOf design u (with_response s place i.his given) known (part_following p design.tree (member_at s.policy.members u) known p.opens ts
           (change_of (outcome_of_put s.run given.put)) (with_response s place i.his given).run p.races)) (sym mine_is) stays));
       replied = ap Some (ap (λ x. asked s x r) i.there ∙ ap (λ (g : Response). g.reply) world ∙ sym reply_is);
     }
 
 -- a request of a session of another's
 pub asked_other : (design : Elaborated) (u : ℕ) (s : State) (known : List Bool) (p : Part) → IsPartOf design u s known p → (id : SessionId) (r : Request) → (id.user.0 == u) ≡ false → (place : ℕ)
-    → index_of s.sessions id ≡ Some place → (session : Option SessionState) → slice_get s.sessions place ≡ session → (answered : Reply)
+    → index_of s.sessions id ≡ Some place → (session : Option OpenSessionState) → slice_get s.sessions place ≡ session → (answered : Reply)
     → ComesTo design u s (state_asked s place session r) known p None (changed_by s session r) answered p.races
 asked_other design u s known p is id r other place at None there answered = nothing_case design u s known p is answered
 asked_other design u s known p is id r other place at (Some session) there answered =
-    let (t, t_at, t_is) = first_passes (λ (x : SessionState). same_session x.id id) s.sessions place at in
+    let (t, t_at, t_is) = first_passes (λ (x : OpenSessionState). same_session x.id id) s.sessions place at in
     let same : session ≡ t = some_same session t (sym there ∙ t_at) in
     let not_his : is_of u session ≡ false = ap (is_of u) same ∙ same_other u id other t t_is in
-    let given = response_of s session.seat r in
-    let new : SessionState = record session { seat = given.seat } in
+    let given = response_of s session.session_state r in
+    let new : OpenSessionState = record session { session_state = given.session_state } in
     record {
       part = stepped_is design u s known p is (raised s.goal given.goal) p.opens p.sessions (slice_set s.sessions place new) (segments_of_put s.segments given.put)
           (outcome_of_put s.run given.put) (outcome_changes s.run given.put) (outcome_leaves s.run given.put)
           (is.sessions ∙ sym (apart_set (is_of u) s.sessions place session new there not_his not_his))
-          (all_set (λ (x : SessionState). x.seat.user ≡ x.id.user.0) s.sessions place new is.named
-          (user_kept (eyes_of s (member_at s.policy.members session.seat.user)) session.seat r ∙ all_get (λ (x : SessionState). x.seat.user ≡ x.id.user.0) s.sessions place session is.named there))
+          (all_set (λ (x : OpenSessionState). x.session_state.user ≡ x.id.user.0) s.sessions place new is.named
+          (user_kept (observer_at s (member_at s.policy.members session.session_state.user)) session.session_state r ∙ all_get (λ (x : OpenSessionState). x.session_state.user ≡ x.id.user.0) s.sessions place session is.named there))
           is.watched is.opens;
       replied = refl;
     }
@@ -301,15 +301,15 @@ asked_other design u s known p is id r other place at (Some session) there answe
 -- a session of his is closed
 pub closed_own : (design : Elaborated) (u : ℕ) (s : State) (known : List Bool) (p : Part) → IsPartOf design u s known p → (id : SessionId) → (id.user.0 == u) ≡ true → (place : ℕ)
     → index_of s.sessions id ≡ Some place → ComesTo design u s (closed_at s (Some place)) known p (Some (Closes id)) None reply.Done p.races
-closed_own design u s known p is id own place at =
-    let i = part_stands u known p.sessions s.sessions is.sessions id own place at in
+closed_own design u s known p is id own_event place at =
+    let i = part_stands u known p.sessions s.sessions is.sessions id own_event place at in
     let t = closed_at s (Some place) in
-    let stays = behind_is design u s known p is t None p.opens (remove p.sessions i.inner) (remove s.sessions place) p.races refl is.its_design refl tt
+    let stays = after_is design u s known p is t None p.opens (remove p.sessions i.inner) (remove s.sessions place) p.races refl is.its_design refl tt
     (sym (map_same (with_notice None s.run.time) (λ x. refl) (remove s.sessions place))) i.removed
-    (all_remove (λ (x : SessionState). x.seat.user ≡ x.id.user.0) s.sessions place is.named)
-    (all_remove (λ (x : SessionState). AreWatched p.view x.seat.registry.callbacks) p.sessions i.inner is.watched) refl is.opens is.races in
+    (all_remove (λ (x : OpenSessionState). x.session_state.user ≡ x.id.user.0) s.sessions place is.named)
+    (all_remove (λ (x : OpenSessionState). AreWatched p.view x.session_state.registry.callbacks) p.sessions i.inner is.watched) refl is.opens is.races in
     record {
-      part = subst (λ ts. IsPartOf design u t known (part_behind p design.tree (member_at s.policy.members u) known p.opens ts None t.run p.races))
+      part = subst (λ ts. IsPartOf design u t known (part_following p design.tree (member_at s.policy.members u) known p.opens ts None t.run p.races))
           (sym (ap (λ n. option_map_or (remove p.sessions) n p.sessions) i.found)) stays;
       replied = refl;
     }
@@ -318,13 +318,13 @@ closed_own design u s known p is id own place at =
 pub closed_other : (design : Elaborated) (u : ℕ) (s : State) (known : List Bool) (p : Part) → IsPartOf design u s known p → (id : SessionId) → (id.user.0 == u) ≡ false → (place : ℕ)
     → index_of s.sessions id ≡ Some place → ComesTo design u s (closed_at s (Some place)) known p None None reply.Done p.races
 closed_other design u s known p is id other place at =
-    let (x, x_at, x_is) = first_passes (λ (y : SessionState). same_session y.id id) s.sessions place at in
+    let (x, x_at, x_is) = first_passes (λ (y : OpenSessionState). same_session y.id id) s.sessions place at in
     let t = closed_at s (Some place) in
     record {
-      part = behind_is design u s known p is t None p.opens p.sessions (remove s.sessions place) p.races refl is.its_design refl tt
+      part = after_is design u s known p is t None p.opens p.sessions (remove s.sessions place) p.races refl is.its_design refl tt
           (sym (map_same (with_notice None s.run.time) (λ y. refl) (remove s.sessions place)))
           (is.sessions ∙ sym (apart_remove (is_of u) s.sessions place x x_at (same_other u id other x x_is)))
-          (all_remove (λ (y : SessionState). y.seat.user ≡ y.id.user.0) s.sessions place is.named) is.watched refl is.opens is.races;
+          (all_remove (λ (y : OpenSessionState). y.session_state.user ≡ y.id.user.0) s.sessions place is.named) is.watched refl is.opens is.races;
       replied = refl;
     }
 
@@ -349,7 +349,7 @@ differ_number : (a b : ℕ) → (a == b) ≡ false → b ≡ a → ⊥
 differ_number a b e same = let self : (a == b) ≡ true = grind (arith, same) in absurd (cc)
 
 -- the sessions with one more
-opened_sessions : (u : ℕ) (known : List Bool) (mine world : List SessionState) → AreSessions u known mine world → (y : SessionState) → session_under known y ≡ y → (b : Bool) → is_of u y ≡ b
+opened_sessions : (u : ℕ) (known : List Bool) (mine world : List OpenSessionState) → AreSessions u known mine world → (y : OpenSessionState) → session_under known y ≡ y → (b : Bool) → is_of u y ≡ b
     → AreSessions u known (if b then mine ++ y ∷ [] else mine) (world ++ y ∷ [])
 opened_sessions u known mine world are y same true his =
     map-append (session_under known) mine (y ∷ []) ∙ ap (λ ts. ts ++ session_under known y ∷ []) are ∙ ap (λ t. filter (is_of u) world ++ t ∷ []) same
@@ -366,18 +366,18 @@ pub opened_own : (design : Elaborated) (u : ℕ) (s : State) (known : List Bool)
     → ComesTo design u s (opened_by s u) known p (Some (Opens (next_session s u))) None (reply.Opened (next_session s u)) p.races
 opened_own design u s known p is within =
     let t = opened_by s u in
-    let new : SessionState = record { id = next_session s u; seat = new_seat u } in
+    let new : OpenSessionState = record { id = next_session s u; session_state = new_session_state u } in
     let named : next_session s u ≡ record { user = record { 0 = u }; opens = p.opens + 1 } = ap (λ (n : ℕ). record { user = record { 0 = u }; opens = n + 1 }) (sym is.opens) in
     let self : (u == u) ≡ true = grind arith in
-    let stays = behind_is design u s known p is t None (p.opens + 1) (p.sessions ++ new ∷ []) (s.sessions ++ new ∷ []) p.races refl is.its_design refl tt
+    let stays = after_is design u s known p is t None (p.opens + 1) (p.sessions ++ new ∷ []) (s.sessions ++ new ∷ []) p.races refl is.its_design refl tt
     (sym (map_same (with_notice None s.run.time) (λ x. refl) (s.sessions ++ new ∷ [])))
     (opened_sessions u known p.sessions s.sessions is.sessions new refl true self)
-    (all_more (λ (x : SessionState). x.seat.user ≡ x.id.user.0) s.sessions new is.named refl)
-    (all_more (λ (x : SessionState). AreWatched p.view x.seat.registry.callbacks) p.sessions new is.watched (All-nil _))
+    (all_more (λ (x : OpenSessionState). x.session_state.user ≡ x.id.user.0) s.sessions new is.named refl)
+    (all_more (λ (x : OpenSessionState). AreWatched p.view x.session_state.registry.callbacks) p.sessions new is.watched (All-nil _))
     (length-set s.opens u (slice_index s.opens u + 1))
     (ap (λ (n : ℕ). n + 1) is.opens ∙ sym (index_set s.opens u (slice_index s.opens u + 1) within)) is.races in
     record {
-      part = subst (λ (n : SessionId). IsPartOf design u t known (part_behind p design.tree (member_at s.policy.members u) known (p.opens + 1) (p.sessions ++ record { id = n; seat = new_seat u } ∷ []) None t.run p.races))
+      part = subst (λ (n : SessionId). IsPartOf design u t known (part_following p design.tree (member_at s.policy.members u) known (p.opens + 1) (p.sessions ++ record { id = n; session_state = new_session_state u } ∷ []) None t.run p.races))
           named stays;
       replied = ap (λ n. Some (reply.Opened n)) named;
     }
@@ -387,12 +387,12 @@ pub opened_other : (design : Elaborated) (u : ℕ) (s : State) (known : List Boo
     → ComesTo design u s (opened_by s v) known p None None answered p.races
 opened_other design u s known p is v other answered =
     let t = opened_by s v in
-    let new : SessionState = record { id = next_session s v; seat = new_seat v } in
+    let new : OpenSessionState = record { id = next_session s v; session_state = new_session_state v } in
     record {
-      part = behind_is design u s known p is t None p.opens p.sessions (s.sessions ++ new ∷ []) p.races refl is.its_design refl tt
+      part = after_is design u s known p is t None p.opens p.sessions (s.sessions ++ new ∷ []) p.races refl is.its_design refl tt
           (sym (map_same (with_notice None s.run.time) (λ x. refl) (s.sessions ++ new ∷ [])))
           (opened_sessions u known p.sessions s.sessions is.sessions new refl false other)
-          (all_more (λ (x : SessionState). x.seat.user ≡ x.id.user.0) s.sessions new is.named refl) is.watched
+          (all_more (λ (x : OpenSessionState). x.session_state.user ≡ x.id.user.0) s.sessions new is.named refl) is.watched
           (length-set s.opens v (slice_index s.opens v + 1))
           (is.opens ∙ sym (index_kept s.opens v u (slice_index s.opens v + 1) (differ_number v u other))) is.races;
       replied = refl;
@@ -401,14 +401,14 @@ opened_other design u s known p is v other answered =
 -- ---- bookings
 
 -- a race is booked
-pub booked_case : (design : Elaborated) (u : ℕ) (s : State) (known : List Bool) (p : Part) → IsPartOf design u s known p → (finding : Told) (answered : Reply)
+pub booked_case : (design : Elaborated) (u : ℕ) (s : State) (known : List Bool) (p : Part) → IsPartOf design u s known p → (finding : FindingState) (answered : Reply)
     → ComesTo design u s (with_booked s finding) known p None None answered
     (races_after p.races (if is_shown design.tree (member_at s.policy.members u) finding then Some (race_seen design.tree (member_at s.policy.members u) finding) else None))
 booked_case design u s known p is finding answered =
     let m = member_at s.policy.members u in
     let t = with_booked s finding in
     record {
-      part = behind_is design u s known p is t None p.opens p.sessions s.sessions (races_after p.races (if is_shown design.tree m finding then Some (race_seen design.tree m finding) else None))
+      part = after_is design u s known p is t None p.opens p.sessions s.sessions (races_after p.races (if is_shown design.tree m finding then Some (race_seen design.tree m finding) else None))
           refl is.its_design refl tt (sym (map_same (with_notice None s.run.time) (λ x. refl) s.sessions)) is.sessions is.named is.watched refl is.opens
           (by_test (is_shown design.tree m finding) refl);
       replied = refl;

@@ -1,7 +1,7 @@
 -- A denial in a view is that of the design.
 use Rattle.std.proofs.Common.{◌≡◌, ℕ, zero, suc, ◌+◌, ◌<◌, ◌≤◌, Bool, false, true, List, [], ◌∷◌, ◌++◌, length, Option, Some, None, refl, ap, sym, subst, ◌∙◌, arith}
-use Rattle.vp_policy.specs.declared.denial.Barrier.TheVariants as barrier
-use Rattle.vp_policy.specs.declared.denial.By.TheVariants as by
+use Rattle.vp_policy.specs.declared.denial.ShownBarrier.TheVariants as barrier
+use Rattle.vp_policy.specs.declared.denial.DeniedBy.TheVariants as by
 use Rattle.std.specs.Prelude.{cond, slice_index_or, ◌==◌, ◌&&◌, ◌||◌, filter, if◌then◌else◌, map, option_map, slice_get}
 use Rattle.std.specs.List.{All, position_from}
 use Rattle.std.proofs.lemmas.Iterator.Adapters.{position_from-zero}
@@ -147,13 +147,13 @@ abbrev pub AreInEnvelopes : Tree → List Step → Type 0
 AreInEnvelopes tree path = All (λ s. s.envelope ≤ length tree.authors) path
 
 -- a denial of a path, in words, after steps at which the right is opened
-pub denial_behind : (design : Elaborated) (u : Member) (known : List Bool) (r : Right) (above path : List Step) → has r (rights design.tree u above) ≡ true
+pub denial_after : (design : Elaborated) (u : Member) (known : List Bool) (r : Right) (above path : List Step) → has r (rights design.tree u above) ≡ true
     → AreInEnvelopes design.tree path
     → denial_seen (known_view design u known) r (seen_path design.tree u above path) ≡ option_map (words_of design.tree) (denial design.tree u r path)
-denial_behind design u known r above [] h all = refl
-denial_behind design u known r above (s ∷ path) h all =
+denial_after design u known r above [] h all = refl
+denial_after design u known r above (s ∷ path) h all =
     by_test (has r (opened design.tree u s)) (rights_more design.tree u r above s h)
-    (λ is. denial_behind design u known r (above ++ s ∷ []) path is (λ k d l. all (suc k) d (omega arith)))
+    (λ is. denial_after design u known r (above ++ s ∷ []) path is (λ k d l. all (suc k) d (omega arith)))
   where
     by_test : (b : Bool) → has r (rights design.tree u (above ++ s ∷ [])) ≡ b
         → (has r (rights design.tree u (above ++ s ∷ [])) ≡ true → denial_seen (known_view design u known) r (seen_path design.tree u (above ++ s ∷ []) path) ≡ option_map (words_of design.tree) (denial design.tree u r path))
@@ -190,4 +190,4 @@ denied_seen_at design u known e all r k =
         → denial_seen (known_view design u known) r (option_map_or (λ n. n.path) (option_map (seen_node design u) node) [])
         ≡ option_map (words_of design.tree) (denial design.tree u r (option_map_or (λ n. n.path) node []))
     by_node None is = refl
-    by_node (Some node) is = denial_behind design u known r [] node.path (has_all r) (all (place_of known k) node is)
+    by_node (Some node) is = denial_after design u known r [] node.path (has_all r) (all (place_of known k) node is)

@@ -14,39 +14,39 @@ use Rattle.vp_sim.specs.States as sim
 use Rattle.vp_race.specs.Recording.{Segments}
 use Rattle.vp_sim.specs.laws.Designs.{Leaves}
 use Rattle.vp_waking.specs.declared.change.Change.{Change}
-use Rattle.vp_waking.specs.Changes.{values_behind}
-use Rattle.vp_vpi.specs.declared.races.SeenRace.{SeenRace}
+use Rattle.vp_waking.specs.Changes.{values_with}
+use Rattle.vp_vpi.specs.declared.races.ShownRace.{ShownRace}
 use Rattle.vp_vpi.specs.Races.{races_seen}
 use Rattle.vp_answer.specs.Renumbering as under
 use Rattle.vp_world.specs.History.{change_of, noticed, stepped, with_notice}
-use Rattle.vp_world.specs.Worlds.{SessionState, State}
+use Rattle.vp_world.specs.Worlds.{OpenSessionState, State}
 use Rattle.vp_audit.specs.Parts.{Part, session_notified, values_after}
 use Rattle.vp_audit.specs.Projections.{change_seen, other_flag, other_number}
 use Rattle.vp_audit.specs.laws.Alike.{IsKnown}
-use Rattle.vp_audit.specs.laws.Behind.{AreWatched, due_same, values_kept, watched_due}
+use Rattle.vp_audit.specs.laws.After.{AreWatched, due_same, values_kept, watched_due}
 use Rattle.vp_audit.specs.laws.Denials.{denied_seen_at}
 use Rattle.vp_audit.specs.laws.Known.{by_place}
 use Rattle.vp_audit.specs.laws.Sims.{Changes, IsWithin}
 
 -- a session is one of a user
-abbrev pub is_of : ℕ → SessionState → Bool
+abbrev pub is_of : ℕ → OpenSessionState → Bool
 is_of u t = t.id.user.0 == u
 
 -- a session under the numbers of what is known
-abbrev pub session_under : List Bool → SessionState → SessionState
-session_under known t = record { id = t.id; seat = under.seat (by_place known) t.seat }
+abbrev pub session_under : List Bool → OpenSessionState → OpenSessionState
+session_under known t = record { id = t.id; session_state = under.session_state (by_place known) t.session_state }
 
 -- a part's sessions are those of its user in a world, under the numbers of what he knows
-abbrev pub AreSessions : ℕ → List Bool → (part world : List SessionState) → Type 0
+abbrev pub AreSessions : ℕ → List Bool → (part world : List OpenSessionState) → Type 0
 AreSessions u known mine all = map (session_under known) mine ≡ filter (is_of u) all
 
 -- each session is of the user whom its name names
-abbrev pub AreNamed : List SessionState → Type 0
-AreNamed sessions = All (λ (t : SessionState). t.seat.user ≡ t.id.user.0) sessions
+abbrev pub AreNamed : List OpenSessionState → Type 0
+AreNamed sessions = All (λ (t : OpenSessionState). t.session_state.user ≡ t.id.user.0) sessions
 
 -- sessions whose callbacks are on objects that may be watched
-abbrev pub AllWatched : View → List SessionState → Type 0
-AllWatched v sessions = All (λ (t : SessionState). AreWatched v t.seat.registry.callbacks) sessions
+abbrev pub AllWatched : View → List OpenSessionState → Type 0
+AllWatched v sessions = All (λ (t : OpenSessionState). AreWatched v t.session_state.registry.callbacks) sessions
 
 -- a part is that of a user in a state of a world of a design, where he knows so much
 pub record IsPartOf (design : Elaborated) (u : ℕ) (s : State) (known : List Bool) (p : Part) : Type 0 where
@@ -104,30 +104,30 @@ same_number a b e = grind (arith, e)
 module _ (design : Elaborated) (u : ℕ) (m : Member) (known : List Bool) (all : List (List Bit)) (many : length all ≡ length design.tree.nodes) (values : List (Option (List Bit)))
     (is_known : IsKnown design all m known values) where
   -- the sessions after a change are those to which what goes to their user of it is due
-  pub sessions_due : (change : Option Change) → IsWithin all change → (time : ℕ) (mine world : List SessionState) → AllWatched (known_view design m known) mine
+  pub sessions_due : (change : Option Change) → IsWithin all change → (time : ℕ) (mine world : List OpenSessionState) → AllWatched (known_view design m known) mine
       → AreSessions u known mine world → AreSessions u known (map (session_notified (change_seen design.tree m known change) time) mine) (noticed change time world)
   sessions_due change within time mine world watched are =
       map_twice (session_notified (change_seen design.tree m known change) time) (session_under known) mine
-      ∙ map_alike (λ (t : SessionState). AreWatched (known_view design m known) t.seat.registry.callbacks)
+      ∙ map_alike (λ (t : OpenSessionState). AreWatched (known_view design m known) t.session_state.registry.callbacks)
       (λ t. session_under known (session_notified (change_seen design.tree m known change) time t)) (λ t. with_notice change time (session_under known t))
-      (λ t h. ap (λ seat. record { id = t.id; seat = seat })
-      (sym (due_same design m known is_known.long (λ r k. denied_seen_at design m known is_known.long is_known.envelopes r k) all many t.seat change time within h))) mine watched
+      (λ t h. ap (λ session_state. record { id = t.id; session_state = session_state })
+      (sym (due_same design m known is_known.long (λ r k. denied_seen_at design m known is_known.long is_known.envelopes r k) all many t.session_state change time within h))) mine watched
       ∙ sym (map_twice (session_under known) (with_notice change time) mine)
       ∙ ap (map (with_notice change time)) are
       ∙ sym (filter_form (with_notice change time) (is_of u) (λ t. refl) world)
 
   -- their callbacks are on objects that may be watched
-  pub sessions_watched : (change : Option Change) (time : ℕ) (mine : List SessionState) → AllWatched (known_view design m known) mine
+  pub sessions_watched : (change : Option Change) (time : ℕ) (mine : List OpenSessionState) → AllWatched (known_view design m known) mine
       → AllWatched (known_view design m known) (map (session_notified (change_seen design.tree m known change) time) mine)
   sessions_watched change time mine watched =
-      All-map (λ (t : SessionState). AreWatched (known_view design m known) t.seat.registry.callbacks) (session_notified (change_seen design.tree m known change) time) mine
-      (map_all (λ (t : SessionState). AreWatched (known_view design m known) t.seat.registry.callbacks)
-      (λ (t : SessionState). AreWatched (known_view design m known) (session_notified (change_seen design.tree m known change) time t).seat.registry.callbacks)
-      (λ t h. watched_due (known_view design m known) (change_seen design.tree m known change) time t.seat h) mine watched)
+      All-map (λ (t : OpenSessionState). AreWatched (known_view design m known) t.session_state.registry.callbacks) (session_notified (change_seen design.tree m known change) time) mine
+      (map_all (λ (t : OpenSessionState). AreWatched (known_view design m known) t.session_state.registry.callbacks)
+      (λ (t : OpenSessionState). AreWatched (known_view design m known) (session_notified (change_seen design.tree m known change) time t).session_state.registry.callbacks)
+      (λ t h. watched_due (known_view design m known) (change_seen design.tree m known change) time t.session_state h) mine watched)
 
   -- and what is known is so of the values after it
   pub known_kept : (change : Option Change) → IsWithin all change
-      → IsKnown design (values_behind all change) m known (values_after values (change_seen design.tree m known change))
+      → IsKnown design (values_with all change) m known (values_after values (change_seen design.tree m known change))
   known_kept change within = record {
     long = is_known.long;
     envelopes = is_known.envelopes;
@@ -140,22 +140,22 @@ module _ (design : Elaborated) (u : ℕ) (m : Member) (known : List Bool) (all :
 -- ---- after what the simulation does
 
 -- a number after another, and a flag
-pub number_behind : (a b : ℕ) → unwrap_or (other_number a b) a ≡ b
-number_behind a b = by_test (a == b) refl where
+pub number_after : (a b : ℕ) → unwrap_or (other_number a b) a ≡ b
+number_after a b = by_test (a == b) refl where
   by_test : (c : Bool) → (a == b) ≡ c → unwrap_or (if a == b then None else Some b) a ≡ b
   by_test true e = ap (λ (c : Bool). unwrap_or (if c then None else Some b) a) e ∙ same_number a b e
   by_test false e = ap (λ (c : Bool). unwrap_or (if c then None else Some b) a) e
 
 -- and whether something is so
-pub flag_behind : (a b : Bool) → unwrap_or (other_flag a b) a ≡ b
-flag_behind true true = refl
-flag_behind true false = refl
-flag_behind false true = refl
-flag_behind false false = refl
+pub flag_after : (a b : Bool) → unwrap_or (other_flag a b) a ≡ b
+flag_after true true = refl
+flag_after true false = refl
+flag_after false true = refl
+flag_after false false = refl
 
 -- the part after sessions, a change, and what an event did to the simulation and the book
-abbrev pub part_behind : Part → Tree → Member → List Bool → (opens : ℕ) → (mine : List SessionState) → Option Change → sim.State → (races : List SeenRace) → Part
-part_behind p tree m known opens mine change run races = record {
+abbrev pub part_following : Part → Tree → Member → List Bool → (opens : ℕ) → (mine : List OpenSessionState) → Option Change → sim.State → (races : List ShownRace) → Part
+part_following p tree m known opens mine change run races = record {
   view = p.view;
   opens = opens;
   sessions = map (session_notified (change_seen tree m known change) run.time) mine;
@@ -166,12 +166,12 @@ part_behind p tree m known opens mine change run races = record {
 }
 
 -- where no grant of his changes, it is his part of the world
-pub behind_is : (design : Elaborated) (u : ℕ) (s : State) (known : List Bool) (p : Part) → IsPartOf design u s known p → (t : State) (change : Option Change) (opens : ℕ) (mine world : List SessionState)
-    (races : List SeenRace) → t.policy ≡ s.policy → t.run.design ≡ design → t.run.values ≡ values_behind s.run.values change → IsWithin s.run.values change
+pub after_is : (design : Elaborated) (u : ℕ) (s : State) (known : List Bool) (p : Part) → IsPartOf design u s known p → (t : State) (change : Option Change) (opens : ℕ) (mine world : List OpenSessionState)
+    (races : List ShownRace) → t.policy ≡ s.policy → t.run.design ≡ design → t.run.values ≡ values_with s.run.values change → IsWithin s.run.values change
     → t.sessions ≡ noticed change t.run.time world → AreSessions u known mine world → AreNamed world → AllWatched p.view mine
     → length t.opens ≡ length s.opens → opens ≡ slice_index t.opens u → races ≡ races_seen design.tree (member_at s.policy.members u) t.book
-    → IsPartOf design u t known (part_behind p design.tree (member_at s.policy.members u) known opens mine change t.run races)
-behind_is design u s known p is t change opens mine world races policy its_design values within sessions are named watched counts opened shown =
+    → IsPartOf design u t known (part_following p design.tree (member_at s.policy.members u) known opens mine change t.run races)
+after_is design u s known p is t change opens mine world races policy its_design values within sessions are named watched counts opened shown =
     let m = member_at s.policy.members u in
     let watched_known = subst (λ v. AllWatched v mine) is.view watched in
     let same_member : m ≡ member_at t.policy.members u = ap (λ (q : PolicyState). member_at q.members u) (sym policy) in
@@ -180,14 +180,14 @@ behind_is design u s known p is t change opens mine world races policy its_desig
     record {
       its_design = its_design;
       its_tree = ap (λ (q : PolicyState). q.tree) policy ∙ is.its_tree;
-      many = ap length values ∙ behind_length s.run.values change ∙ is.many;
+      many = ap length values ∙ after_length s.run.values change ∙ is.many;
       view = is.view ∙ ap (λ (x : Member). known_view design x known) same_member;
       is_known = subst (λ (x : Member). IsKnown design t.run.values x known (values_after p.values (change_seen design.tree m known change))) same_member known_is;
       counts = counts ∙ is.counts ∙ ap (λ (q : PolicyState). length q.members) (sym policy);
       opens = opened;
       sessions = subst (AreSessions u known (map (session_notified (change_seen design.tree m known change) t.run.time) mine)) (sym sessions)
           (sessions_due design u m known s.run.values is.many p.values is.is_known change within t.run.time mine world watched_known are);
-      named = subst AreNamed (sym sessions) (named_behind change t.run.time world named);
+      named = subst AreNamed (sym sessions) (named_after change t.run.time world named);
       watched = subst (λ v. AllWatched v (map (session_notified (change_seen design.tree m known change) t.run.time) mine)) (sym is.view)
           (sessions_watched design u m known s.run.values is.many p.values is.is_known change t.run.time mine watched_known);
       time = refl;
@@ -195,24 +195,24 @@ behind_is design u s known p is t change opens mine world races policy its_desig
       races = shown ∙ ap (λ (x : Member). races_seen design.tree x t.book) same_member;
     }
   where
-    behind_length : (vs : List (List Bit)) (c : Option Change) → length (values_behind vs c) ≡ length vs
-    behind_length vs None = refl
-    behind_length vs (Some c) = length-set vs c.object.0 c.value
+    after_length : (vs : List (List Bit)) (c : Option Change) → length (values_with vs c) ≡ length vs
+    after_length vs None = refl
+    after_length vs (Some c) = length-set vs c.object.0 c.value
 
-    named_behind : (c : Option Change) (time : ℕ) (ts : List SessionState) → AreNamed ts → AreNamed (noticed c time ts)
-    named_behind c time ts h =
-        All-map (λ (t : SessionState). t.seat.user ≡ t.id.user.0) (with_notice c time) ts
-        (map_all (λ (t : SessionState). t.seat.user ≡ t.id.user.0) (λ (t : SessionState). (with_notice c time t).seat.user ≡ (with_notice c time t).id.user.0) (λ t e. e) ts h)
+    named_after : (c : Option Change) (time : ℕ) (ts : List OpenSessionState) → AreNamed ts → AreNamed (noticed c time ts)
+    named_after c time ts h =
+        All-map (λ (t : OpenSessionState). t.session_state.user ≡ t.id.user.0) (with_notice c time) ts
+        (map_all (λ (t : OpenSessionState). t.session_state.user ≡ t.id.user.0) (λ (t : OpenSessionState). (with_notice c time t).session_state.user ≡ (with_notice c time t).id.user.0) (λ t e. e) ts h)
 
 -- what a step of the simulation, or a put, leaves
-pub stepped_is : (design : Elaborated) (u : ℕ) (s : State) (known : List Bool) (p : Part) → IsPartOf design u s known p → (goal : Option ℕ) (opens : ℕ) (mine world : List SessionState)
+pub stepped_is : (design : Elaborated) (u : ℕ) (s : State) (known : List Bool) (p : Part) → IsPartOf design u s known p → (goal : Option ℕ) (opens : ℕ) (mine world : List OpenSessionState)
     (segments : sim.State → Segments) (o : sim.Outcome) → Changes s.run.values o → Leaves s.run.design o
     → AreSessions u known mine world → AreNamed world → AllWatched p.view mine → opens ≡ slice_index s.opens u
     → let t : State = stepped (record s { sessions = world; goal = goal }) segments o in
-    IsPartOf design u t known (part_behind p design.tree (member_at s.policy.members u) known opens mine (change_of o) t.run p.races)
+    IsPartOf design u t known (part_following p design.tree (member_at s.policy.members u) known opens mine (change_of o) t.run p.races)
 stepped_is design u s known p is goal opens mine world segments (sim.Goes run change) changes leaves are named watched opened =
-    behind_is design u s known p is (stepped (record s { sessions = world; goal = goal }) segments (sim.Goes run change)) change opens mine world p.races refl (leaves ∙ is.its_design)
+    after_is design u s known p is (stepped (record s { sessions = world; goal = goal }) segments (sim.Goes run change)) change opens mine world p.races refl (leaves ∙ is.its_design)
     changes.0 changes.1 refl are named watched refl opened is.races
 stepped_is design u s known p is goal opens mine world segments (sim.Refuses e) changes leaves are named watched opened =
-    behind_is design u s known p is (record s { sessions = world; goal = goal }) None opens mine world p.races refl is.its_design refl tt
+    after_is design u s known p is (record s { sessions = world; goal = goal }) None opens mine world p.races refl is.its_design refl tt
     (sym (map_same (with_notice None s.run.time) (λ t. refl) world)) are named watched refl opened is.races

@@ -23,22 +23,22 @@ use Rattle.vp_notify.specs.declared.notice.Notice.{Notice}
 use Rattle.vp_sim.specs.States as sim
 use Rattle.vp_vpi.specs.Observers.{is_readable, is_watch_denied, kind_at}
 use Rattle.vp_vpi.specs.Races.{races_seen}
-use Rattle.vp_vpi.specs.Seats.{Seat, retired}
+use Rattle.vp_vpi.specs.SessionStates.{SessionState, retired}
 use Rattle.vp_answer.specs.declared.request.GrantChange.{GrantChange}
 use Rattle.vp_answer.specs.Renumbering as under
 use Rattle.vp_answer.specs.laws.Renumbering.{retired_under}
 use Rattle.vp_world.specs.History.{granted_to, retired_for}
-use Rattle.vp_world.specs.Worlds.{SessionState, State}
+use Rattle.vp_world.specs.Worlds.{OpenSessionState, State}
 use Rattle.vp_audit.specs.Known.{known_also, place_of}
 use Rattle.vp_notify.specs.Renumbered.{moved_callback, moved_notice}
-use Rattle.vp_vpi.specs.Renumbered.{moved_handle, moved_seat}
+use Rattle.vp_vpi.specs.Renumbered.{moved_handle, moved_session_state}
 use Rattle.vp_audit.specs.Parts.{Part, granted_session, moved_to, part_granted, session_notified}
 use Rattle.vp_audit.specs.Projections.{granted_of, moved_numbers, number_in, values_seen}
 use Rattle.vp_view.specs.Seen.{denied_seen, kind_seen}
 use Rattle.vp_audit.specs.laws.Alike.{AreValues, IsKnown}
-use Rattle.vp_audit.specs.laws.Behind.{AreWatched, number_place}
+use Rattle.vp_audit.specs.laws.After.{AreWatched, number_place}
 use Rattle.vp_audit.specs.laws.Denials.{denied_seen_at, node_seen}
-use Rattle.vp_audit.specs.laws.Events.{AllWatched, AreNamed, AreSessions, IsPartOf, filter_form, is_of, map_alike, map_all, map_same, map_twice, part_behind, same_number, session_under}
+use Rattle.vp_audit.specs.laws.Events.{AllWatched, AreNamed, AreSessions, IsPartOf, filter_form, is_of, map_alike, map_all, map_same, map_twice, part_following, same_number, session_under}
 use Rattle.vp_audit.specs.laws.Known.{by_place}
 
 -- ---- lists
@@ -195,8 +195,8 @@ moved_is tree m known nodes e count counted k =
 -- ---- sessions under other numbers
 
 -- a session under the numbers of before is the moved one under those of now
-seat_moved : (known now : List Bool) (f : ℕ → ℕ) → ((k : ℕ) → place_of known k ≡ place_of now (f k)) → (s : Seat) → under.seat (by_place known) s ≡ under.seat (by_place now) (moved_seat f s)
-seat_moved known now f h s =
+session_state_moved : (known now : List Bool) (f : ℕ → ℕ) → ((k : ℕ) → place_of known k ≡ place_of now (f k)) → (s : SessionState) → under.session_state (by_place known) s ≡ under.session_state (by_place now) (moved_session_state f s)
+session_state_moved known now f h s =
     ap (λ hs. record { user = s.user; handles = hs; registry = under.registry (by_place known) s.registry }) (handles s.handles)
     ∙ ap (λ cs. record {
       user = s.user;
@@ -297,26 +297,26 @@ swapped : (a b : ℕ) → (a == b) ≡ false → (b == a) ≡ false
 swapped a b e = grind (arith, e)
 
 -- a session of another is untouched
-untouched : (policy : PolicyState) (v : ℕ) (t : SessionState) → (t.seat.user == v) ≡ false → retired_for policy v t ≡ t
+untouched : (policy : PolicyState) (v : ℕ) (t : OpenSessionState) → (t.session_state.user == v) ≡ false → retired_for policy v t ≡ t
 untouched policy v t e =
-    ap (λ (b : Bool). record { id = t.id; seat = if b then retired (is_watch_denied policy.tree (member_at policy.members v)) t.seat else t.seat }) e
+    ap (λ (b : Bool). record { id = t.id; session_state = if b then retired (is_watch_denied policy.tree (member_at policy.members v)) t.session_state else t.session_state }) e
 
 -- each keeps its user
-user_stays : (policy : PolicyState) (v : ℕ) (t : SessionState) (b : Bool)
-    → (if b then retired (is_watch_denied policy.tree (member_at policy.members v)) t.seat else t.seat).user ≡ t.seat.user
+user_stays : (policy : PolicyState) (v : ℕ) (t : OpenSessionState) (b : Bool)
+    → (if b then retired (is_watch_denied policy.tree (member_at policy.members v)) t.session_state else t.session_state).user ≡ t.session_state.user
 user_stays policy v t true = refl
 user_stays policy v t false = refl
 
 -- a user's own sessions are of him
-own_users : (u : ℕ) (known : List Bool) (mine world : List SessionState) → AreSessions u known mine world → AreNamed world → All (λ (t : SessionState). t.seat.user ≡ u) mine
+own_users : (u : ℕ) (known : List Bool) (mine world : List OpenSessionState) → AreSessions u known mine world → AreNamed world → All (λ (t : OpenSessionState). t.session_state.user ≡ u) mine
 own_users u known mine world are named k d l =
-    let all = all_passing (λ (t : SessionState). t.seat.user ≡ t.id.user.0) (is_of u) world named in
-    let under_all = subst (All (λ (t : SessionState). (t.seat.user ≡ t.id.user.0) × (is_of u t ≡ true))) (sym are) all in
-    let (user, own) = mapped_at mine k d l under_all in
-    user ∙ same_number (slice_index_or mine k d).id.user.0 u own
+    let all = all_passing (λ (t : OpenSessionState). t.session_state.user ≡ t.id.user.0) (is_of u) world named in
+    let under_all = subst (All (λ (t : OpenSessionState). (t.session_state.user ≡ t.id.user.0) × (is_of u t ≡ true))) (sym are) all in
+    let (user, own_event) = mapped_at mine k d l under_all in
+    user ∙ same_number (slice_index_or mine k d).id.user.0 u own_event
   where
-    mapped_at : (ts : List SessionState) (k : ℕ) (d : SessionState) → k < length ts → All (λ (t : SessionState). (t.seat.user ≡ t.id.user.0) × (is_of u t ≡ true)) (map (session_under known) ts)
-        → ((slice_index_or ts k d).seat.user ≡ (slice_index_or ts k d).id.user.0) × (is_of u (slice_index_or ts k d) ≡ true)
+    mapped_at : (ts : List OpenSessionState) (k : ℕ) (d : OpenSessionState) → k < length ts → All (λ (t : OpenSessionState). (t.session_state.user ≡ t.id.user.0) × (is_of u t ≡ true)) (map (session_under known) ts)
+        → ((slice_index_or ts k d).session_state.user ≡ (slice_index_or ts k d).id.user.0) × (is_of u (slice_index_or ts k d) ≡ true)
     mapped_at [] k d l h = absurd (omega arith)
     mapped_at (t ∷ ts) zero d l h = h 0 (session_under known t) (omega arith)
     mapped_at (t ∷ ts) (suc k) d l h = mapped_at ts k d (omega arith) (λ j e m. h (suc j) e (omega arith))
@@ -326,7 +326,7 @@ same_user : (a b : ℕ) → a ≡ b → (a == b) ≡ true
 same_user a b e = grind (arith, e)
 
 -- what is left of a session that was retired is on objects that may be watched
-retired_watched : (v : View) (s : Seat) → AreWatched v (retired (λ o. is_some (denied_seen v right.Watch o)) s).registry.callbacks
+retired_watched : (v : View) (s : SessionState) → AreWatched v (retired (λ o. is_some (denied_seen v right.Watch o)) s).registry.callbacks
 retired_watched v s =
     map_all (λ (c : Callback). Unit {0} × (not (is_some (denied_seen v right.Watch c.object.0)) ≡ true)) (λ (c : Callback). denied_seen v right.Watch c.object.0 ≡ None)
     (λ c h. not_some (denied_seen v right.Watch c.object.0) h.1)
@@ -337,7 +337,7 @@ retired_watched v s =
 
 -- what is after a change of the grant of another
 pub granted_other : (design : Elaborated) (u : ℕ) (s : State) (known : List Bool) (p : Part) → IsPartOf design u s known p → (change : GrantChange) (v : ℕ) → (v == u) ≡ false
-    → IsPartOf design u (granted_to s change v) known (part_behind p design.tree (member_at s.policy.members u) known p.opens p.sessions None s.run p.races)
+    → IsPartOf design u (granted_to s change v) known (part_following p design.tree (member_at s.policy.members u) known p.opens p.sessions None s.run p.races)
 granted_other design u s known p is change v other =
     let policy = regranted s.policy v change.envelope change.access in
     let apart = not_equal v u other in
@@ -355,13 +355,13 @@ granted_other design u s known p is change v other =
       sessions =
           ap (map (session_under known)) mine ∙ is.sessions
           ∙ sym (filter_form (retired_for policy v) (is_of u) (λ t. refl) s.sessions
-          ∙ map_alike (λ (t : SessionState). (t.seat.user ≡ t.id.user.0) × (is_of u t ≡ true)) (retired_for policy v) (λ (t : SessionState). t)
+          ∙ map_alike (λ (t : OpenSessionState). (t.session_state.user ≡ t.id.user.0) × (is_of u t ≡ true)) (retired_for policy v) (λ (t : OpenSessionState). t)
           (λ t h. untouched policy v t (ap (λ (n : ℕ). n == v) (h.0 ∙ same_number t.id.user.0 u h.1) ∙ swapped v u other)) (filter (is_of u) s.sessions)
-          (all_passing (λ (t : SessionState). t.seat.user ≡ t.id.user.0) (is_of u) s.sessions is.named)
-          ∙ map_same (λ (t : SessionState). t) (λ t. refl) (filter (is_of u) s.sessions));
-      named = All-map (λ (t : SessionState). t.seat.user ≡ t.id.user.0) (retired_for policy v) s.sessions
-          (map_all (λ (t : SessionState). t.seat.user ≡ t.id.user.0) (λ (t : SessionState). (retired_for policy v t).seat.user ≡ (retired_for policy v t).id.user.0)
-          (λ t e. user_stays policy v t (t.seat.user == v) ∙ e) s.sessions is.named);
+          (all_passing (λ (t : OpenSessionState). t.session_state.user ≡ t.id.user.0) (is_of u) s.sessions is.named)
+          ∙ map_same (λ (t : OpenSessionState). t) (λ t. refl) (filter (is_of u) s.sessions));
+      named = All-map (λ (t : OpenSessionState). t.session_state.user ≡ t.id.user.0) (retired_for policy v) s.sessions
+          (map_all (λ (t : OpenSessionState). t.session_state.user ≡ t.id.user.0) (λ (t : OpenSessionState). (retired_for policy v t).session_state.user ≡ (retired_for policy v t).id.user.0)
+          (λ t e. user_stays policy v t (t.session_state.user == v) ∙ e) s.sessions is.named);
       watched = subst (λ ts. AllWatched p.view ts) (sym mine) is.watched;
       time = refl;
       finished = refl;
@@ -414,22 +414,22 @@ granted_own design u s known p is change within =
           opens = is.opens;
           sessions =
               map_twice (granted_session g) (session_under now) p.sessions
-              ∙ map_alike (λ (x : SessionState). x.seat.user ≡ u) (λ x. session_under now (granted_session g x)) (λ x. retired_for policy u (session_under known x))
+              ∙ map_alike (λ (x : OpenSessionState). x.session_state.user ≡ u) (λ x. session_under now (granted_session g x)) (λ x. retired_for policy u (session_under known x))
               (λ x h. sym (ap (λ (b : Bool). record {
                 id = x.id;
-                seat = if b then retired (is_watch_denied policy.tree m) (under.seat (by_place known) x.seat) else under.seat (by_place known) x.seat;
-              }) (same_user x.seat.user u h)
-              ∙ ap (λ seat. record { id = x.id; seat = retired (is_watch_denied policy.tree m) seat }) (seat_moved known now mv moves x.seat)
-              ∙ ap (λ seat. record { id = x.id; seat = seat }) (retired_under (by_place now) (λ o. is_some (denied_seen g.view right.Watch o)) (is_watch_denied policy.tree m) gone (moved_seat mv x.seat))))
+                session_state = if b then retired (is_watch_denied policy.tree m) (under.session_state (by_place known) x.session_state) else under.session_state (by_place known) x.session_state;
+              }) (same_user x.session_state.user u h)
+              ∙ ap (λ session_state. record { id = x.id; session_state = retired (is_watch_denied policy.tree m) session_state }) (session_state_moved known now mv moves x.session_state)
+              ∙ ap (λ session_state. record { id = x.id; session_state = session_state }) (retired_under (by_place now) (λ o. is_some (denied_seen g.view right.Watch o)) (is_watch_denied policy.tree m) gone (moved_session_state mv x.session_state))))
               p.sessions (own_users u known p.sessions s.sessions is.sessions is.named)
               ∙ sym (map_twice (session_under known) (retired_for policy u) p.sessions)
               ∙ ap (map (retired_for policy u)) is.sessions
               ∙ sym (filter_form (retired_for policy u) (is_of u) (λ x. refl) s.sessions);
-          named = All-map (λ (x : SessionState). x.seat.user ≡ x.id.user.0) (retired_for policy u) s.sessions
-              (map_all (λ (x : SessionState). x.seat.user ≡ x.id.user.0) (λ (x : SessionState). (retired_for policy u x).seat.user ≡ (retired_for policy u x).id.user.0)
-              (λ x e. user_stays policy u x (x.seat.user == u) ∙ e) s.sessions is.named);
-          watched = All-map (λ (x : SessionState). AreWatched g.view x.seat.registry.callbacks) (granted_session g) p.sessions
-              (λ k d l. retired_watched g.view (moved_seat mv (slice_index_or p.sessions k d).seat));
+          named = All-map (λ (x : OpenSessionState). x.session_state.user ≡ x.id.user.0) (retired_for policy u) s.sessions
+              (map_all (λ (x : OpenSessionState). x.session_state.user ≡ x.id.user.0) (λ (x : OpenSessionState). (retired_for policy u x).session_state.user ≡ (retired_for policy u x).id.user.0)
+              (λ x e. user_stays policy u x (x.session_state.user == u) ∙ e) s.sessions is.named);
+          watched = All-map (λ (x : OpenSessionState). AreWatched g.view x.session_state.registry.callbacks) (granted_session g) p.sessions
+              (λ k d l. retired_watched g.view (moved_session_state mv (slice_index_or p.sessions k d).session_state));
           time = is.time;
           finished = is.finished;
           races = ap (λ (d : Elaborated). races_seen d.tree m s.book) is.its_design;

@@ -7,21 +7,21 @@ use Rattle.vp_elab.specs.Built.{Elaborated}
 use Rattle.vp_policy.specs.Users.{member_at}
 use Rattle.vp_policy.specs.View.{View, view_of}
 use Rattle.vp_waking.specs.declared.change.Change.{Change}
-use Rattle.vp_vpi.specs.declared.races.SeenRace.{SeenRace}
+use Rattle.vp_vpi.specs.declared.races.ShownRace.{ShownRace}
 use Rattle.vp_world.specs.Entries.{Entry}
-use Rattle.vp_world.specs.History.{IsLegal, after, entry_of, state_behind}
+use Rattle.vp_world.specs.History.{IsLegal, after, entry_of, state_after}
 use Rattle.vp_world.specs.Worlds.{Opening, State, start}
-use Rattle.vp_audit.specs.Parts.{Granted, Item, Own, Part, part_after, reply_of, replies_from, session_notified}
-use Rattle.vp_audit.specs.Projections.{Projection, first_part, item_if, item_of, items_from, known_at_first, known_behind, own_reply, projection, replies_of}
+use Rattle.vp_audit.specs.Parts.{GrantItem, Item, OwnEvent, Part, part_after, reply_of, replies_from, session_notified}
+use Rattle.vp_audit.specs.Projections.{Projection, first_part, item_if, item_of, items_from, known_at_first, known_after, own_reply, projection, replies_of}
 use Rattle.vp_audit.specs.laws.Events.{IsPartOf, map_same}
 use Rattle.vp_audit.specs.Openings.{IsRight}
 use Rattle.vp_audit.specs.laws.Openings.{first_is}
 use Rattle.vp_audit.specs.laws.Promise.{event_follows, item_at}
 
 -- an item that is none changes nothing, and another is told
-item_replies : (p : Part) (own : Option Own) (granted : Option Granted) (change : Option Change) (time : Option ℕ) (finished : Option Bool) (race : Option SeenRace) (rest : List Item)
-    → (let i : Item = record { own = own; granted = granted; change = change; time = time; finished = finished; race = race } in
-    replies_from p (cons_option (item_if i) rest) ≡ cons_option (option_map (reply_of p) i.own) (replies_from (part_after p i) rest))
+item_replies : (p : Part) (own_event : Option OwnEvent) (granted : Option GrantItem) (change : Option Change) (time : Option ℕ) (finished : Option Bool) (race : Option ShownRace) (rest : List Item)
+    → (let i : Item = record { own_event = own_event; granted = granted; change = change; time = time; finished = finished; race = race } in
+    replies_from p (cons_option (item_if i) rest) ≡ cons_option (option_map (reply_of p) i.own_event) (replies_from (part_after p i) rest))
 item_replies p (Some o) g c t f r rest = refl
 item_replies p None (Some g) c t f r rest = refl
 item_replies p None None (Some c) t f r rest = refl
@@ -33,20 +33,20 @@ item_replies p None None None None None None rest =
     (sym (map_same (session_notified None p.time) (λ t. refl) p.sessions))
 
 -- from a state on
-replies_follow : (opening : Opening) (design : Elaborated) (u : ℕ) (before log : List Entry) (s : State) (known : List Bool) (p : Part) → s ≡ state_behind opening before → IsPartOf design u s known p
+replies_follow : (opening : Opening) (design : Elaborated) (u : ℕ) (before log : List Entry) (s : State) (known : List Bool) (p : Part) → s ≡ state_after opening before → IsPartOf design u s known p
     → IsLegal opening before log → replies_from p (items_from opening u s known log) ≡ replies_of u log
 replies_follow opening design u before [] s known p at is legal = refl
 replies_follow opening design u before (e ∷ log) s known p at is (formed, accepted, entry, rest) =
     let t = after opening s e.event in
-    let now = known_behind u s t known e.event in
+    let now = known_after u s t known e.event in
     let is_entry : e ≡ entry_of opening s e.event = entry ∙ ap (λ x. entry_of opening x e.event) (sym at) in
     let i = item_of u s t known now e in
     let item : i ≡ item_at opening u s known e.event = ap (item_of u s t known now) is_entry in
     let next_part = event_follows opening design u s known p is e.event in
-    let next : t ≡ state_behind opening (before ++ e ∷ []) =
+    let next : t ≡ state_after opening (before ++ e ∷ []) =
     ap (λ x. after opening x e.event) at ∙ sym (fold-append (λ x y. after opening x y.event) (start opening) before (e ∷ [])) in
-    item_replies p i.own i.granted i.change i.time i.finished i.race (items_from opening u t now log)
-    ∙ ap (λ x. cons_option (option_map (reply_of p) x.own) (replies_from (part_after p x) (items_from opening u t now log))) item
+    item_replies p i.own_event i.granted i.change i.time i.finished i.race (items_from opening u t now log)
+    ∙ ap (λ x. cons_option (option_map (reply_of p) x.own_event) (replies_from (part_after p x) (items_from opening u t now log))) item
     ∙ ap (λ x. cons_option x (replies_from (part_after p (item_at opening u s known e.event)) (items_from opening u t now log))) (sym (ap (own_reply u) is_entry ∙ next_part.replied))
     ∙ ap (cons_option (own_reply u e)) (replies_follow opening design u (before ++ e ∷ []) log t now (part_after p (item_at opening u s known e.event)) next next_part.part rest)
 

@@ -14,7 +14,7 @@ use Rattle.vp_pragma.specs.Rights.{has}
 use Rattle.vp_elab.specs.Built.{Elaborated}
 use Rattle.vp_elab.specs.Tree.{Node, Step, Tree, declares_in, envelopes_in, below, children_named, find_named, is_in, is_named, last_step, names_of, path_of, step_in}
 use Rattle.vp_policy.specs.Filter.{from_found, look_in, unlisted, viewport_object, by_step, is_closed, closed, closed_in, denial, find_listed, is_listed, is_listed_at, listed, listed_in, opened, rights, walk, words_of}
-use Rattle.vp_policy.specs.declared.denial.By.TheVariants as by
+use Rattle.vp_policy.specs.declared.denial.DeniedBy.TheVariants as by
 use Rattle.vp_policy.specs.declared.denial.Look.{Look}
 use Rattle.vp_policy.specs.declared.denial.Look.TheVariants as look
 use Rattle.vp_policy.specs.Users.{Member, has_entry}
@@ -23,7 +23,7 @@ use Rattle.vp_answer.specs.Renumbering as under
 use Rattle.vp_vpi.specs.Observers.{Absent, Denied, Found, Lookup, lookup_of}
 use Rattle.vp_audit.specs.Known.{place_of}
 use Rattle.vp_view.specs.Seen.{from_seen, listed_in_seen, closed_seen, denial_seen, find_listed_seen, find_seen, is_in_seen, is_named_seen, last_name, listed_seen, names_seen, scope_seen, unlisted_seen, walk_seen}
-use Rattle.vp_audit.specs.laws.Denials.{AllInEnvelopes, author_is, denial_behind, grant_is, has_all, has_both, node_seen}
+use Rattle.vp_audit.specs.laws.Denials.{AllInEnvelopes, author_is, denial_after, grant_is, has_all, has_both, node_seen}
 use Rattle.vp_audit.specs.laws.Known.{by_place, get_marked}
 use Rattle.vp_audit.specs.laws.Names.{Differ, filter_all, found_by_names, keys, names_only}
 
@@ -240,7 +240,7 @@ module _ (design : Elaborated) (u : Member) (known : List Bool) (long : length k
           ≡ option_map_or (is_listed design.tree u) node false
       by_node None is = refl
       by_node (Some node) is =
-          ap is_none (denial_behind design u known right.List [] node.path refl (envelopes (place_of known k) node is))
+          ap is_none (denial_after design u known right.List [] node.path refl (envelopes (place_of known k) node is))
           ∙ none_mapped (words_of design.tree) (denial design.tree u right.List node.path)
           ∙ undenied_same design.tree u right.List node.path
 

@@ -11,7 +11,7 @@ use Rattle.vp_policy.specs.View.{marked}
 use Rattle.vp_notify.specs.Renumbered.{rises, rises_from}
 use Rattle.vp_audit.specs.Known.{known_also, place_of}
 use Rattle.vp_audit.specs.Projections.{moved_numbers, number_in}
-use Rattle.vp_audit.specs.laws.Behind.{number_place}
+use Rattle.vp_audit.specs.laws.After.{number_place}
 use Rattle.vp_audit.specs.laws.Grants.{below_length, marked_number, now_more, place_marked, place_past}
 use Rattle.vp_audit.specs.laws.Known.{place_in_order}
 use Rattle.vp_audit.specs.laws.Tests.{all_join, both, both_first, both_second}

@@ -13,8 +13,8 @@ use Rattle.vp_source.specs.declared.source.Source.{Source}
 use Rattle.vp_source.specs.declared.source.Module as declared
 use Rattle.vp_source.specs.declared.source.Item.{Item}
 use Rattle.vp_pragma.specs.declared.envelope.Envelope.{Envelope}
-use Rattle.vp_names.specs.declared.fault.ElabError.{ElabError}
-use Rattle.vp_names.specs.declared.fault.ElabError.TheVariants.{Duplicate}
+use Rattle.vp_names.specs.declared.error.ElabError.{ElabError}
+use Rattle.vp_names.specs.declared.error.ElabError.TheVariants.{Duplicate}
 use Rattle.vp_source.specs.Places.{line_at, word_at}
 use Rattle.vp_names.specs.Items.{definition_of, instantiated, is_among, is_top, item_name, item_place, items_in, module_named, module_number}
 use Rattle.vp_names.specs.Refusals.{first_of_two, twice, twice_in}

@@ -11,7 +11,7 @@ use Rattle.vp_sim.specs.States as sim
 use Rattle.vp_sim.specs.laws.Designs.{advance_leaves, step_leaves}
 use Rattle.vp_race.specs.Recording.{with_anew, with_step}
 use Rattle.vp_waking.specs.declared.change.Change.{Change}
-use Rattle.vp_vpi.specs.declared.races.SeenRace.{SeenRace}
+use Rattle.vp_vpi.specs.declared.races.ShownRace.{ShownRace}
 use Rattle.vp_answer.specs.declared.request.GrantChange.{GrantChange}
 use Rattle.vp_answer.specs.declared.request.Request.{Request}
 use Rattle.vp_answer.specs.declared.request.SessionId.{SessionId}
@@ -23,10 +23,10 @@ use Rattle.vp_world.specs.declared.event.Event.TheVariants as event
 use Rattle.vp_world.specs.History.{after, answer, asked, asked_at, changed, changed_by, closed_at, entry_of, granted_to, next_session, opened_by, with_job_taken, with_notice}
 use Rattle.vp_world.specs.Worlds.{Opening, State, index_of}
 use Rattle.vp_audit.specs.Known.{known_also}
-use Rattle.vp_audit.specs.Parts.{values_after, Asks, Closes, Item, Opens, Own, Part, opens_behind, part_after, part_granted, part_after_entry, races_after, reply_of, response_in, sessions_behind, session_notified, with_answer}
-use Rattle.vp_audit.specs.Projections.{change_seen, granted_of, item_of, known_behind, opened_by_reply, other_flag, other_number, own_if, own_of, own_reply, race_of_event, regrant_of}
+use Rattle.vp_audit.specs.Parts.{values_after, Asks, Closes, Item, Opens, OwnEvent, Part, opens_after, part_after, part_granted, part_after_entry, races_after, reply_of, response_in, sessions_after, session_notified, with_answer}
+use Rattle.vp_audit.specs.Projections.{change_seen, granted_of, item_of, known_after, opened_by_reply, other_flag, other_number, own_if, own_of, own_reply, race_of_event, regrant_of}
 use Rattle.vp_audit.specs.laws.Cases.{ComesTo, asked_other, asked_own, booked_case, closed_other, closed_own, nothing_case, opened_other, opened_own, own_is, own_not, part_none, step_case}
-use Rattle.vp_audit.specs.laws.Events.{IsPartOf, behind_is, flag_behind, map_same, number_behind, part_behind, same_number}
+use Rattle.vp_audit.specs.laws.Events.{IsPartOf, after_is, flag_after, map_same, number_after, part_following, same_number}
 use Rattle.vp_audit.specs.laws.Grants.{granted_other, granted_own}
 use Rattle.vp_audit.specs.laws.Sims.{advance_changes, step_changes}
 
@@ -64,53 +64,53 @@ open_case design u s known p is (Some v) within = by_test (v == u) refl where
       → ComesTo design u s (opened_by s v) known p (own_if u (next_session s v) (Opens (next_session s v))) None (reply.Opened (next_session s v)) p.races
   by_test true e =
       let same = same_number v u e in
-      subst (λ own. ComesTo design u s (opened_by s v) known p own None (reply.Opened (next_session s v)) p.races) (sym (own_is u (next_session s v) (Opens (next_session s v)) e))
+      subst (λ own_event. ComesTo design u s (opened_by s v) known p own_event None (reply.Opened (next_session s v)) p.races) (sym (own_is u (next_session s v) (Opens (next_session s v)) e))
       (subst (λ (n : ℕ). ComesTo design u s (opened_by s n) known p (Some (Opens (next_session s n))) None (reply.Opened (next_session s n)) p.races) (sym same)
       (opened_own design u s known p is (let l = within v refl in omega (arith, same, l))))
   by_test false e =
-      subst (λ own. ComesTo design u s (opened_by s v) known p own None (reply.Opened (next_session s v)) p.races) (sym (own_not u (next_session s v) (Opens (next_session s v)) e))
+      subst (λ own_event. ComesTo design u s (opened_by s v) known p own_event None (reply.Opened (next_session s v)) p.races) (sym (own_not u (next_session s v) (Opens (next_session s v)) e))
       (opened_other design u s known p is v e (reply.Opened (next_session s v)))
 
 -- a request, by the place of its session
 ask_case : (design : Elaborated) (u : ℕ) (s : State) (known : List Bool) (p : Part) → IsPartOf design u s known p → (id : SessionId) (r : Request) (place : Option ℕ) → index_of s.sessions id ≡ place
     → (b : Bool) → (id.user.0 == u) ≡ b
     → ComesTo design u s (asked_at s place r) known p (own_if u id (Asks id r)) (changed_by s (option_and_then (slice_get s.sessions) place) r) (asked s (option_and_then (slice_get s.sessions) place) r) p.races
-ask_case design u s known p is id r None at true own =
+ask_case design u s known p is id r None at true own_event =
     let gone = part_none u known p.sessions s.sessions is.sessions id at in
     let base = nothing_case design u s known p is (reply.Error refusal.NotOpen) in
-    subst (λ o. ComesTo design u s s known p o None (reply.Error refusal.NotOpen) p.races) (sym (own_is u id (Asks id r) own))
+    subst (λ o. ComesTo design u s s known p o None (reply.Error refusal.NotOpen) p.races) (sym (own_is u id (Asks id r) own_event))
     (record {
-      part = subst (λ ts. IsPartOf design u s known (part_behind p design.tree (member_at s.policy.members u) known p.opens ts None s.run p.races))
+      part = subst (λ ts. IsPartOf design u s known (part_following p design.tree (member_at s.policy.members u) known p.opens ts None s.run p.races))
           (sym (ap (λ n. option_map_or (λ k. with_answer p.sessions k (slice_get p.sessions k) (response_in p (slice_get p.sessions k) r)) n p.sessions) gone)) base.part;
       replied = ap Some (sym (ap (λ n. option_map_or (λ g. g.reply) (response_in p (option_and_then (slice_get p.sessions) n) r) (reply.Error refusal.NotOpen)) gone));
     })
-ask_case design u s known p is id r None at false own =
-    subst (λ o. ComesTo design u s s known p o None (reply.Error refusal.NotOpen) p.races) (sym (own_not u id (Asks id r) own)) (nothing_case design u s known p is (reply.Error refusal.NotOpen))
-ask_case design u s known p is id r (Some place) at true own =
-    subst (λ o. ComesTo design u s (asked_at s (Some place) r) known p o (changed_by s (slice_get s.sessions place) r) (asked s (slice_get s.sessions place) r) p.races) (sym (own_is u id (Asks id r) own))
-    (asked_own design u s known p is id r own place at)
-ask_case design u s known p is id r (Some place) at false own =
-    subst (λ o. ComesTo design u s (asked_at s (Some place) r) known p o (changed_by s (slice_get s.sessions place) r) (asked s (slice_get s.sessions place) r) p.races) (sym (own_not u id (Asks id r) own))
-    (asked_other design u s known p is id r own place at (slice_get s.sessions place) refl (asked s (slice_get s.sessions place) r))
+ask_case design u s known p is id r None at false own_event =
+    subst (λ o. ComesTo design u s s known p o None (reply.Error refusal.NotOpen) p.races) (sym (own_not u id (Asks id r) own_event)) (nothing_case design u s known p is (reply.Error refusal.NotOpen))
+ask_case design u s known p is id r (Some place) at true own_event =
+    subst (λ o. ComesTo design u s (asked_at s (Some place) r) known p o (changed_by s (slice_get s.sessions place) r) (asked s (slice_get s.sessions place) r) p.races) (sym (own_is u id (Asks id r) own_event))
+    (asked_own design u s known p is id r own_event place at)
+ask_case design u s known p is id r (Some place) at false own_event =
+    subst (λ o. ComesTo design u s (asked_at s (Some place) r) known p o (changed_by s (slice_get s.sessions place) r) (asked s (slice_get s.sessions place) r) p.races) (sym (own_not u id (Asks id r) own_event))
+    (asked_other design u s known p is id r own_event place at (slice_get s.sessions place) refl (asked s (slice_get s.sessions place) r))
 
 -- a closing, by the place of its session
 close_case : (design : Elaborated) (u : ℕ) (s : State) (known : List Bool) (p : Part) → IsPartOf design u s known p → (id : SessionId) (place : Option ℕ) → index_of s.sessions id ≡ place
     → (b : Bool) → (id.user.0 == u) ≡ b → ComesTo design u s (closed_at s place) known p (own_if u id (Closes id)) None reply.Done p.races
-close_case design u s known p is id None at true own =
+close_case design u s known p is id None at true own_event =
     let gone = part_none u known p.sessions s.sessions is.sessions id at in
     let base = nothing_case design u s known p is reply.Done in
-    subst (λ o. ComesTo design u s s known p o None reply.Done p.races) (sym (own_is u id (Closes id) own))
+    subst (λ o. ComesTo design u s s known p o None reply.Done p.races) (sym (own_is u id (Closes id) own_event))
     (record {
-      part = subst (λ ts. IsPartOf design u s known (part_behind p design.tree (member_at s.policy.members u) known p.opens ts None s.run p.races))
+      part = subst (λ ts. IsPartOf design u s known (part_following p design.tree (member_at s.policy.members u) known p.opens ts None s.run p.races))
           (sym (ap (λ n. option_map_or (remove p.sessions) n p.sessions) gone)) base.part;
       replied = refl;
     })
-close_case design u s known p is id None at false own =
-    subst (λ o. ComesTo design u s s known p o None reply.Done p.races) (sym (own_not u id (Closes id) own)) (nothing_case design u s known p is reply.Done)
-close_case design u s known p is id (Some place) at true own =
-    subst (λ o. ComesTo design u s (closed_at s (Some place)) known p o None reply.Done p.races) (sym (own_is u id (Closes id) own)) (closed_own design u s known p is id own place at)
-close_case design u s known p is id (Some place) at false own =
-    subst (λ o. ComesTo design u s (closed_at s (Some place)) known p o None reply.Done p.races) (sym (own_not u id (Closes id) own)) (closed_other design u s known p is id own place at)
+close_case design u s known p is id None at false own_event =
+    subst (λ o. ComesTo design u s s known p o None reply.Done p.races) (sym (own_not u id (Closes id) own_event)) (nothing_case design u s known p is reply.Done)
+close_case design u s known p is id (Some place) at true own_event =
+    subst (λ o. ComesTo design u s (closed_at s (Some place)) known p o None reply.Done p.races) (sym (own_is u id (Closes id) own_event)) (closed_own design u s known p is id own_event place at)
+close_case design u s known p is id (Some place) at false own_event =
+    subst (λ o. ComesTo design u s (closed_at s (Some place)) known p o None reply.Done p.races) (sym (own_not u id (Closes id) own_event)) (closed_other design u s known p is id own_event place at)
 
 -- each event that is no change of grants
 pub event_comes : (opening : Opening) (design : Elaborated) (u : ℕ) (s : State) (known : List Bool) (p : Part) → IsPartOf design u s known p → (e : Event) → IsNoGrant e
@@ -125,7 +125,7 @@ event_comes opening design u s known p is (event.Step k) n = step_case design u 
 event_comes opening design u s known p is event.Advance n = step_case design u s known p is (with_anew s.segments) (sim.advance s.run) (advance_changes s.run) (advance_leaves s.run) reply.Done
 event_comes opening design u s known p is event.TakeJob n =
     record {
-      part = behind_is design u s known p is (with_job_taken s) None p.opens p.sessions s.sessions p.races refl is.its_design refl tt (sym (map_same (with_notice None s.run.time) (λ t. refl) s.sessions))
+      part = after_is design u s known p is (with_job_taken s) None p.opens p.sessions s.sessions p.races refl is.its_design refl tt (sym (map_same (with_notice None s.run.time) (λ t. refl) s.sessions))
           is.sessions is.named is.watched refl is.opens is.races;
       replied = refl;
     }
@@ -134,23 +134,23 @@ event_comes opening design u s known p is (event.Book finding) n = booked_case d
 -- ---- items
 
 -- the part after what goes to a user of an event that is no change of his grants
-entry_part : (design : Elaborated) (u : ℕ) (s : State) (known : List Bool) (p : Part) → IsPartOf design u s known p → (t : State) (own : Option Own) (change : Option Change) (race : Option SeenRace)
-    → part_after_entry p own (record {
-      own = own;
+entry_part : (design : Elaborated) (u : ℕ) (s : State) (known : List Bool) (p : Part) → IsPartOf design u s known p → (t : State) (own_event : Option OwnEvent) (change : Option Change) (race : Option ShownRace)
+    → part_after_entry p own_event (record {
+      own_event = own_event;
       granted = None;
       change = change_seen s.run.design.tree (member_at s.policy.members u) known change;
       time = other_number s.run.time t.run.time;
       finished = other_flag s.run.finished t.run.finished;
       race = race;
     })
-    ≡ part_behind p design.tree (member_at s.policy.members u) known (option_map_or (opens_behind p) own p.opens) (option_map_or (sessions_behind p) own p.sessions) change t.run (races_after p.races race)
-entry_part design u s known p is t own change race =
+    ≡ part_following p design.tree (member_at s.policy.members u) known (option_map_or (opens_after p) own_event p.opens) (option_map_or (sessions_after p) own_event p.sessions) change t.run (races_after p.races race)
+entry_part design u s known p is t own_event change race =
     let m = member_at s.policy.members u in
-    let time : unwrap_or (other_number s.run.time t.run.time) p.time ≡ t.run.time = ap (unwrap_or (other_number s.run.time t.run.time)) is.time ∙ number_behind s.run.time t.run.time in
+    let time : unwrap_or (other_number s.run.time t.run.time) p.time ≡ t.run.time = ap (unwrap_or (other_number s.run.time t.run.time)) is.time ∙ number_after s.run.time t.run.time in
     let finished : unwrap_or (other_flag s.run.finished t.run.finished) p.finished ≡ t.run.finished =
-    ap (unwrap_or (other_flag s.run.finished t.run.finished)) is.finished ∙ flag_behind s.run.finished t.run.finished in
-    let mine = option_map_or (sessions_behind p) own p.sessions in
-    let opens = option_map_or (opens_behind p) own p.opens in
+    ap (unwrap_or (other_flag s.run.finished t.run.finished)) is.finished ∙ flag_after s.run.finished t.run.finished in
+    let mine = option_map_or (sessions_after p) own_event p.sessions in
+    let opens = option_map_or (opens_after p) own_event p.opens in
     ap (λ (d : Elaborated). record {
       view = p.view;
       opens = opens;
@@ -181,12 +181,12 @@ entry_part design u s known p is t own change race =
 
 -- what goes to a user of an event
 abbrev pub item_at : Opening → ℕ → State → List Bool → Event → Item
-item_at opening u s known e = item_of u s (after opening s e) known (known_behind u s (after opening s e) known e) (entry_of opening s e)
+item_at opening u s known e = item_of u s (after opening s e) known (known_after u s (after opening s e) known e) (entry_of opening s e)
 
 -- what comes of it: his part of the state after it, and the reply to it, if it is his own
 pub record Follows (opening : Opening) (design : Elaborated) (u : ℕ) (s : State) (known : List Bool) (p : Part) (e : Event) : Type 0 where
-  pub part : IsPartOf design u (after opening s e) (known_behind u s (after opening s e) known e) (part_after p (item_at opening u s known e))
-  pub replied : own_reply u (entry_of opening s e) ≡ option_map (reply_of p) (item_at opening u s known e).own
+  pub part : IsPartOf design u (after opening s e) (known_after u s (after opening s e) known e) (part_after p (item_at opening u s known e))
+  pub replied : own_reply u (entry_of opening s e) ≡ option_map (reply_of p) (item_at opening u s known e).own_event
 
 -- the same by what comes of an event that is no change of his grants
 follows_by : (opening : Opening) (design : Elaborated) (u : ℕ) (s : State) (known : List Bool) (p : Part) → IsPartOf design u s known p → (e : Event) → regrant_of u s.policy e ≡ None
@@ -195,12 +195,12 @@ follows_by : (opening : Opening) (design : Elaborated) (u : ℕ) (s : State) (kn
 follows_by opening design u s known p is e none comes =
     let t = after opening s e in
     let m = member_at s.policy.members u in
-    let own = own_of u e (answer opening s e) in
+    let own_event = own_of u e (answer opening s e) in
     let race = race_of_event s.run.design.tree m e in
     let races : races_after p.races (race_of_event design.tree m e) ≡ races_after p.races race = ap (λ (d : Elaborated). races_after p.races (race_of_event d.tree m e)) (sym is.its_design) in
-    let known_same : known_behind u s t known e ≡ known = ap (λ g. option_map_or (λ (x : GrantChange). known_also t.run.design.tree (member_at t.policy.members u) known t.run.design.tree.nodes) g known) none in
-    let item_same : part_after p (item_at opening u s known e) ≡ part_after_entry p own (record {
-      own = own;
+    let known_same : known_after u s t known e ≡ known = ap (λ g. option_map_or (λ (x : GrantChange). known_also t.run.design.tree (member_at t.policy.members u) known t.run.design.tree.nodes) g known) none in
+    let item_same : part_after p (item_at opening u s known e) ≡ part_after_entry p own_event (record {
+      own_event = own_event;
       granted = None;
       change = change_seen s.run.design.tree m known (changed s e);
       time = other_number s.run.time t.run.time;
@@ -208,8 +208,8 @@ follows_by opening design u s known p is e none comes =
       race = race;
     }) =
     ap (λ (g : Option GrantChange). part_after p (record {
-      own = own;
-      granted = option_map (granted_of u t known (known_behind u s t known e)) g;
+      own_event = own_event;
+      granted = option_map (granted_of u t known (known_after u s t known e)) g;
       change = change_seen s.run.design.tree m known (changed s e);
       time = other_number s.run.time t.run.time;
       finished = other_flag s.run.finished t.run.finished;
@@ -218,8 +218,8 @@ follows_by opening design u s known p is e none comes =
     record {
       part =
           subst (λ ks. IsPartOf design u t ks (part_after p (item_at opening u s known e))) (sym known_same)
-          (subst (IsPartOf design u t known) (sym (item_same ∙ entry_part design u s known p is t own (changed s e) race))
-          (subst (λ rs. IsPartOf design u t known (part_behind p design.tree m known (option_map_or (opens_behind p) own p.opens) (option_map_or (sessions_behind p) own p.sessions) (changed s e) t.run rs)) races
+          (subst (IsPartOf design u t known) (sym (item_same ∙ entry_part design u s known p is t own_event (changed s e) race))
+          (subst (λ rs. IsPartOf design u t known (part_following p design.tree m known (option_map_or (opens_after p) own_event p.opens) (option_map_or (sessions_after p) own_event p.sessions) (changed s e) t.run rs)) races
           comes.part));
       replied = comes.replied;
     }
@@ -244,16 +244,16 @@ grant_case opening design u s known p is change (Some v) at = by_test (v == u) r
       ap (λ (n : Option ℕ). if option_map_or (λ w. w == u) n false then Some change else None) at ∙ ap (λ (b : Bool). if b then Some change else None) e in
       let t = after opening s (event.Grant change) in
       let t_is : t ≡ granted_to s change u = ap (λ (n : Option ℕ). option_map_or (granted_to s change) n s) his in
-      let now_is : known_behind u s t known (event.Grant change) ≡ known_also t.run.design.tree (member_at t.policy.members u) known t.run.design.tree.nodes =
+      let now_is : known_after u s t known (event.Grant change) ≡ known_also t.run.design.tree (member_at t.policy.members u) known t.run.design.tree.nodes =
       ap (λ g. option_map_or (λ (x : GrantChange). known_also t.run.design.tree (member_at t.policy.members u) known t.run.design.tree.nodes) g known) regrant in
-      let part_is : part_after p (item_at opening u s known (event.Grant change)) ≡ part_granted p (granted_of u t known (known_behind u s t known (event.Grant change)) change) =
+      let part_is : part_after p (item_at opening u s known (event.Grant change)) ≡ part_granted p (granted_of u t known (known_after u s t known (event.Grant change)) change) =
       ap (λ (g : Option GrantChange). part_after p (record (item_at opening u s known (event.Grant change)) {
-        granted = option_map (granted_of u t known (known_behind u s t known (event.Grant change))) g;
+        granted = option_map (granted_of u t known (known_after u s t known (event.Grant change))) g;
       })) regrant in
       let base = granted_own design u s known p is change (user_within s.policy.members change.user u his) in
       record {
         part =
-            subst (λ q. IsPartOf design u t (known_behind u s t known (event.Grant change)) q) (sym part_is)
+            subst (λ q. IsPartOf design u t (known_after u s t known (event.Grant change)) q) (sym part_is)
             (subst (λ ks. IsPartOf design u t ks (part_granted p (granted_of u t known ks change))) (sym now_is)
             (subst (λ (x : State). (let now : List Bool = known_also x.run.design.tree (member_at x.policy.members u) known x.run.design.tree.nodes in
             IsPartOf design u x now (part_granted p (granted_of u x known now change)))) (sym t_is) base));

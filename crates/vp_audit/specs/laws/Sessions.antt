@@ -3,11 +3,11 @@ use Rattle.std.proofs.Common.{◌≡◌, ℕ, zero, suc, ◌+◌, Bool, false, t
 use Rattle.std.specs.Prelude.{cond, filter, if◌then◌else◌, slice_get, slice_set, Result, Ok, Err}
 use Rattle.std.specs.List.{position_from, remove}
 use Rattle.vp_notify.specs.Registry as registry
-use Rattle.vp_vpi.specs.declared.fault.VpiError.{VpiError}
-use Rattle.vp_vpi.specs.declared.fault.VpiError.TheVariants as vpi
+use Rattle.vp_vpi.specs.declared.error.VpiError.{VpiError}
+use Rattle.vp_vpi.specs.declared.error.VpiError.TheVariants as vpi
 use Rattle.vp_vpi.specs.Calls.{handle_of, iterated, number_of, or_refusal, put_of, race_of, same_of, text_of, value_of, watched_of}
 use Rattle.vp_vpi.specs.Observers.{Observer}
-use Rattle.vp_vpi.specs.Seats.{Seat, object_of}
+use Rattle.vp_vpi.specs.SessionStates.{SessionState, object_of}
 use Rattle.vp_answer.specs.declared.request.Request.{Request}
 use Rattle.vp_answer.specs.declared.request.Request.TheVariants as request
 use Rattle.vp_answer.specs.declared.reply.Reply.TheVariants as reply
@@ -118,32 +118,32 @@ apart_remove q (z ∷ xs) (suc i) x at a = ap (λ ys. if q z then z ∷ ys else 
 -- ---- a session keeps its user
 
 -- one of two
-kept_of : (b : Bool) (x y : Response) (user : ℕ) → x.seat.user ≡ user → y.seat.user ≡ user → (let r : Response = if b then x else y in r.seat.user ≡ user)
+kept_of : (b : Bool) (x y : Response) (user : ℕ) → x.session_state.user ≡ user → y.session_state.user ≡ user → (let r : Response = if b then x else y in r.session_state.user ≡ user)
 kept_of true x y user h k = h
 kept_of false x y user h k = k
 
 -- an answer or a refusal
-kept_by : {A : Type 0} (seat : Seat) (given : A → Response) (due : Result A VpiError) → ((x : A) → (given x).seat.user ≡ seat.user) → (response_by seat given due).seat.user ≡ seat.user
-kept_by seat given (Ok x) h = h x
-kept_by seat given (Err e) h = refl
+kept_by : {A : Type 0} (session_state : SessionState) (given : A → Response) (due : Result A VpiError) → ((x : A) → (given x).session_state.user ≡ session_state.user) → (response_by session_state given due).session_state.user ≡ session_state.user
+kept_by session_state given (Ok x) h = h x
+kept_by session_state given (Err e) h = refl
 
 -- so each request does
-pub user_kept : (eyes : Observer) (seat : Seat) (r : Request) → (respond eyes seat r).seat.user ≡ seat.user
-user_kept eyes seat (request.Open user token) = refl
-user_kept eyes seat request.Close = refl
-user_kept eyes seat (request.Grant change) = refl
-user_kept eyes seat (request.Handle name scope) = kept_by seat (made seat) (handle_of eyes seat.handles scope name) (λ x. refl)
-user_kept eyes seat (request.Iterate k scope) = kept_by seat (scanned seat) (iterated eyes seat.handles k scope) (λ x. refl)
-user_kept eyes seat (request.Get handle n) = kept_by seat (λ x. only_told seat (reply.Number x)) (number_of eyes n (object_of seat.handles handle)) (λ x. refl)
-user_kept eyes seat (request.GetStr handle t) = kept_by seat (λ x. only_told seat (reply.Text x)) (text_of eyes t (object_of seat.handles handle)) (λ x. refl)
-user_kept eyes seat (request.Value handle f) = kept_by seat (λ x. only_told seat (value_in f x)) (value_of eyes (object_of seat.handles handle)) (λ x. refl)
-user_kept eyes seat (request.Put handle v) = kept_by seat (putting seat) (put_of eyes v (object_of seat.handles handle)) (λ x. refl)
-user_kept eyes seat (request.Compare a b) = kept_by seat (λ x. only_told seat (reply.Same x)) (same_of (object_of seat.handles a) (object_of seat.handles b)) (λ x. refl)
-user_kept eyes seat (request.Free handle) = kept_by seat (λ o. freed seat handle) (or_refusal (object_of seat.handles handle) vpi.BadHandle) (λ x. refl)
-user_kept eyes seat (request.Watch handle) = kept_by seat (watching seat) (watched_of eyes seat.registry (object_of seat.handles handle)) (λ x. refl)
-user_kept eyes seat (request.Unwatch callback) = kept_of (registry.has_number seat.registry callback) _ _ seat.user refl refl
-user_kept eyes seat request.Poll = refl
-user_kept eyes seat (request.Races from) = refl
-user_kept eyes seat (request.Race number) = kept_by seat (λ x. only_told seat (reply.Race x)) (race_of eyes number) (λ x. refl)
-user_kept eyes seat (request.Run until) = refl
-user_kept eyes seat request.Time = refl
+pub user_kept : (observation : Observer) (session_state : SessionState) (r : Request) → (respond observation session_state r).session_state.user ≡ session_state.user
+user_kept observation session_state (request.Open user token) = refl
+user_kept observation session_state request.Close = refl
+user_kept observation session_state (request.Grant change) = refl
+user_kept observation session_state (request.Handle name scope) = kept_by session_state (made session_state) (handle_of observation session_state.handles scope name) (λ x. refl)
+user_kept observation session_state (request.Iterate k scope) = kept_by session_state (scanned session_state) (iterated observation session_state.handles k scope) (λ x. refl)
+user_kept observation session_state (request.Get handle n) = kept_by session_state (λ x. only_told session_state (reply.Number x)) (number_of observation n (object_of session_state.handles handle)) (λ x. refl)
+user_kept observation session_state (request.GetStr handle t) = kept_by session_state (λ x. only_told session_state (reply.Text x)) (text_of observation t (object_of session_state.handles handle)) (λ x. refl)
+user_kept observation session_state (request.Value handle f) = kept_by session_state (λ x. only_told session_state (value_in f x)) (value_of observation (object_of session_state.handles handle)) (λ x. refl)
+user_kept observation session_state (request.Put handle v) = kept_by session_state (putting session_state) (put_of observation v (object_of session_state.handles handle)) (λ x. refl)
+user_kept observation session_state (request.Compare a b) = kept_by session_state (λ x. only_told session_state (reply.Same x)) (same_of (object_of session_state.handles a) (object_of session_state.handles b)) (λ x. refl)
+user_kept observation session_state (request.Free handle) = kept_by session_state (λ o. freed session_state handle) (or_refusal (object_of session_state.handles handle) vpi.BadHandle) (λ x. refl)
+user_kept observation session_state (request.Watch handle) = kept_by session_state (watching session_state) (watched_of observation session_state.registry (object_of session_state.handles handle)) (λ x. refl)
+user_kept observation session_state (request.Unwatch callback) = kept_of (registry.has_number session_state.registry callback) _ _ session_state.user refl refl
+user_kept observation session_state request.Poll = refl
+user_kept observation session_state (request.Races from) = refl
+user_kept observation session_state (request.Race number) = kept_by session_state (λ x. only_told session_state (reply.Race x)) (race_of observation number) (λ x. refl)
+user_kept observation session_state (request.Run until) = refl
+user_kept observation session_state request.Time = refl

@@ -16,7 +16,7 @@ use Rattle.vp_waking.specs.declared.change.Change.{Change}
 use Rattle.std.proofs.lemmas.Option.{slice_get_within}
 use Rattle.vp_bits.specs.Vector.{resized, same_bits}
 use Rattle.vp_operand.specs.Terms.{set_in}
-use Rattle.vp_waking.specs.Changes.{change_of, net_at, set_change_of, updated_by, values_behind}
+use Rattle.vp_waking.specs.Changes.{change_of, net_at, set_change_of, updated_by, values_with}
 use Rattle.vp_sim.specs.States.{Outcome, Goes, Refuses, State, advance, advanced_to, change_by, delay_of, evaluated, happened, is_late, next_effect, performed, put, step, turn, with_activation, with_effect, with_remaining}
 
 -- a change is of an object that has a value
@@ -26,7 +26,7 @@ IsWithin values (Some c) = c.object.0 < length values
 
 -- the values to which an outcome goes on are those before it but for its change
 abbrev pub Changes : List (List Bit) → Outcome → Type 0
-Changes values (Goes s change) = (s.values ≡ values_behind values change) × IsWithin values change
+Changes values (Goes s change) = (s.values ≡ values_with values change) × IsWithin values change
 Changes values (Refuses e) = Unit {0}
 
 -- an object that has a value is within
@@ -74,7 +74,7 @@ effect_within values (effect.Proceeds next) = tt
 effect_within values effect.Finishes = tt
 
 -- and to the values
-effect_changes : (tables : Tables) (s : State) (process : ℕ) (e : Effect) → (with_effect tables s process e).values ≡ values_behind s.values (change_by s.values e)
+effect_changes : (tables : Tables) (s : State) (process : ℕ) (e : Effect) → (with_effect tables s process e).values ≡ values_with s.values (change_by s.values e)
 effect_changes tables s process effect.Nothing = refl
 effect_changes tables s process (effect.Assigns object place value) = refl
 effect_changes tables s process (effect.Defers object place value delay) = chosen (delay == 0) _ _ refl

@@ -11,8 +11,8 @@ use Rattle.vp_policy.specs.Users.{login_of, member_at}
 use Rattle.vp_policy.specs.View.{View, known_view, marked, seen_node, view_of}
 use Rattle.vp_waking.specs.declared.change.Change.{Change}
 use Rattle.vp_notify.specs.Renumbered.{rises}
-use Rattle.vp_vpi.specs.declared.races.SeenRace.{SeenRace}
-use Rattle.vp_vpi.specs.Renumbered.{moved_seat}
+use Rattle.vp_vpi.specs.declared.races.ShownRace.{ShownRace}
+use Rattle.vp_vpi.specs.Renumbered.{moved_session_state}
 use Rattle.vp_answer.specs.declared.request.GrantChange.{GrantChange}
 use Rattle.vp_answer.specs.declared.request.SessionId.{SessionId}
 use Rattle.vp_answer.specs.declared.reply.Refusal.TheVariants as refusal
@@ -20,14 +20,14 @@ use Rattle.vp_answer.specs.declared.reply.Reply.TheVariants as reply
 use Rattle.vp_world.specs.Entries.{Entry}
 use Rattle.vp_world.specs.declared.event.Event.{Event}
 use Rattle.vp_world.specs.declared.event.Event.TheVariants as event
-use Rattle.vp_world.specs.declared.fault.WorldError.TheVariants as error
-use Rattle.vp_world.specs.History.{IsLegal, after, entry_of, is_full, is_log_full, next_session, refusal_of, refusal_of_log, refusal_of_open, refusal_of_session, state_behind}
-use Rattle.vp_world.specs.Worlds.{Opening, SessionState, State, index_of, start}
+use Rattle.vp_world.specs.declared.error.WorldError.TheVariants as error
+use Rattle.vp_world.specs.History.{IsLegal, after, entry_of, is_full, is_log_full, next_session, refusal_of, refusal_of_log, refusal_of_open, refusal_of_session, state_after}
+use Rattle.vp_world.specs.Worlds.{Opening, OpenSessionState, State, index_of, start}
 use Rattle.vp_view.specs.Seen.{denied_seen}
 use Rattle.vp_audit.specs.Known.{known_also}
 use Rattle.vp_audit.specs.Openings.{IsRight}
-use Rattle.vp_audit.specs.Parts.{Asks, Closes, Granted, Item, Opens, Own, Part, eyes_of_part, granted_session, is_session_within, moved_to, part_after, part_after_entry, part_granted, response_in, session_notified, sessions_behind, takes, takes_all, takes_by, with_answer}
-use Rattle.vp_audit.specs.Projections.{first_part, granted_of, item_if, item_of, items_from, known_at_first, known_behind, opened_by_reply, own_if, projection, regrant_of}
+use Rattle.vp_audit.specs.Parts.{Asks, Closes, GrantItem, Item, Opens, OwnEvent, Part, observer_of_part, granted_session, is_session_within, moved_to, part_after, part_after_entry, part_granted, response_in, session_notified, sessions_after, takes, takes_all, takes_by, with_answer}
+use Rattle.vp_audit.specs.Projections.{first_part, granted_of, item_if, item_of, items_from, known_at_first, known_after, opened_by_reply, own_if, projection, regrant_of}
 use Rattle.vp_audit.specs.laws.Cases.{part_stands}
 use Rattle.vp_audit.specs.laws.Events.{IsPartOf, map_same, same_number}
 use Rattle.vp_audit.specs.laws.Grants.{marked_count, now_long}
@@ -35,7 +35,7 @@ use Rattle.vp_audit.specs.laws.Moved.{moved_length, moved_rise, moved_within}
 use Rattle.vp_audit.specs.laws.Openings.{first_is}
 use Rattle.vp_audit.specs.laws.Promise.{event_follows, item_at}
 use Rattle.vp_audit.specs.laws.Tests.{all_at, all_join, all_mapped, all_removed, all_set, both}
-use Rattle.vp_audit.specs.laws.Within.{moved_to_within, respond_within, seat_due, seat_moved_within, seat_retired, seen_within}
+use Rattle.vp_audit.specs.laws.Within.{moved_to_within, respond_within, session_state_due, session_state_moved_within, session_state_retired, seen_within}
 
 -- ---- the objects of a part's sessions
 
@@ -44,17 +44,17 @@ abbrev pub AreWithin : Part → Type 0
 AreWithin p = list_all (is_session_within (length p.view.nodes)) p.sessions ≡ true
 
 -- after an event of his own
-own_within : (p : Part) (own : Own) → AreWithin p → list_all (is_session_within (length p.view.nodes)) (sessions_behind p own) ≡ true
+own_within : (p : Part) (own_event : OwnEvent) → AreWithin p → list_all (is_session_within (length p.view.nodes)) (sessions_after p own_event) ≡ true
 own_within p (Opens id) h = all_join (is_session_within (length p.view.nodes)) p.sessions _ h refl
 own_within p (Asks id r) h = by_place (index_of p.sessions id) where
   n : ℕ
   n = length p.view.nodes
 
-  by_session : (k : ℕ) (t : Option SessionState) → slice_get p.sessions k ≡ t → list_all (is_session_within n) (with_answer p.sessions k t (response_in p t r)) ≡ true
+  by_session : (k : ℕ) (t : Option OpenSessionState) → slice_get p.sessions k ≡ t → list_all (is_session_within n) (with_answer p.sessions k t (response_in p t r)) ≡ true
   by_session k None at = h
   by_session k (Some t) at =
       all_set (is_session_within n) p.sessions k _ h
-      (respond_within n (eyes_of_part p) (seen_within p.view p.values p.time p.finished p.races) t.seat r (all_at (is_session_within n) p.sessions k t h at))
+      (respond_within n (observer_of_part p) (seen_within p.view p.values p.time p.finished p.races) t.session_state r (all_at (is_session_within n) p.sessions k t h at))
 
   by_place : (place : Option ℕ)
       → list_all (is_session_within n) (option_map_or (λ k. with_answer p.sessions k (slice_get p.sessions k) (response_in p (slice_get p.sessions k) r)) place p.sessions) ≡ true
@@ -66,47 +66,47 @@ own_within p (Closes id) h = by_place (index_of p.sessions id) where
   by_place (Some k) = all_removed (is_session_within (length p.view.nodes)) p.sessions k h
 
 -- after what of an entry goes to him, if that is no change of his grants
-entry_within : (p : Part) (own : Option Own) (i : Item) → AreWithin p → AreWithin (part_after_entry p own i)
-entry_within p own i h =
-    all_mapped (is_session_within n) (is_session_within n) (session_notified i.change (unwrap_or i.time p.time)) (λ t e. seat_due n i.change (unwrap_or i.time p.time) t.seat e)
-    (option_map_or (sessions_behind p) own p.sessions) (by_own own)
+entry_within : (p : Part) (own_event : Option OwnEvent) (i : Item) → AreWithin p → AreWithin (part_after_entry p own_event i)
+entry_within p own_event i h =
+    all_mapped (is_session_within n) (is_session_within n) (session_notified i.change (unwrap_or i.time p.time)) (λ t e. session_state_due n i.change (unwrap_or i.time p.time) t.session_state e)
+    (option_map_or (sessions_after p) own_event p.sessions) (by_own own_event)
   where
     n : ℕ
     n = length p.view.nodes
 
-    by_own : (own : Option Own) → list_all (is_session_within n) (option_map_or (sessions_behind p) own p.sessions) ≡ true
+    by_own : (own_event : Option OwnEvent) → list_all (is_session_within n) (option_map_or (sessions_after p) own_event p.sessions) ≡ true
     by_own None = h
     by_own (Some o) = own_within p o h
 
 -- a change of grants gives each object that was known a number among those of the new view, and these rise
-record Renumbers (p : Part) (g : Granted) : Type 0 where
+record Renumbers (p : Part) (g : GrantItem) : Type 0 where
   long : length g.moved ≡ length p.view.nodes
   rise : rises g.moved ≡ true
   among : list_all (λ n. nat_lt n (length g.view.nodes)) g.moved ≡ true
 
 -- after such a change
-granted_within : (p : Part) (g : Granted) → Renumbers p g → AreWithin p → AreWithin (part_granted p g)
+granted_within : (p : Part) (g : GrantItem) → Renumbers p g → AreWithin p → AreWithin (part_granted p g)
 granted_within p g is h =
     all_mapped (is_session_within (length p.view.nodes)) (is_session_within count) (granted_session g)
-    (λ t e. seat_retired count (λ o. is_some (denied_seen g.view right.Watch o)) (moved_seat (moved_to g.moved count) t.seat)
-    (seat_moved_within (length p.view.nodes) count (moved_to g.moved count)
-    (λ k l. moved_to_within g.moved count is.among k (ap (nat_lt k) is.long ∙ l)) t.seat e)) p.sessions h
+    (λ t e. session_state_retired count (λ o. is_some (denied_seen g.view right.Watch o)) (moved_session_state (moved_to g.moved count) t.session_state)
+    (session_state_moved_within (length p.view.nodes) count (moved_to g.moved count)
+    (λ k l. moved_to_within g.moved count is.among k (ap (nat_lt k) is.long ∙ l)) t.session_state e)) p.sessions h
   where
     count : ℕ
     count = length g.view.nodes
 
 -- after what of an entry goes to him
-after_within : (p : Part) (i : Item) → ((g : Granted) → i.granted ≡ Some g → Renumbers p g) → AreWithin p → AreWithin (part_after p i)
+after_within : (p : Part) (i : Item) → ((g : GrantItem) → i.granted ≡ Some g → Renumbers p g) → AreWithin p → AreWithin (part_after p i)
 after_within p i grants h = by_granted i.granted refl where
-  by_granted : (x : Option Granted) → i.granted ≡ x → AreWithin (option_map_or (part_granted p) x (part_after_entry p i.own i))
-  by_granted None at = entry_within p i.own i h
+  by_granted : (x : Option GrantItem) → i.granted ≡ x → AreWithin (option_map_or (part_granted p) x (part_after_entry p i.own_event i))
+  by_granted None at = entry_within p i.own_event i h
   by_granted (Some g) at = granted_within p g (grants g at) h
 
 -- ---- each event
 
 module _ (opening : Opening) (design : Elaborated) (u : ℕ) (s : State) (known : List Bool) (p : Part) (is : IsPartOf design u s known p) where
   -- what of a change of his grants goes to him
-  grant_renumbers : (e : Event) (g : Granted) → (item_at opening u s known e).granted ≡ Some g → Renumbers p g
+  grant_renumbers : (e : Event) (g : GrantItem) → (item_at opening u s known e).granted ≡ Some g → Renumbers p g
   grant_renumbers e g at = by_change (regrant_of u s.policy e) refl where
     t : State
     t = after opening s e
@@ -140,16 +140,16 @@ module _ (opening : Opening) (design : Elaborated) (u : ℕ) (s : State) (known 
 
     by_change : (x : Option GrantChange) → regrant_of u s.policy e ≡ x → Renumbers p g
     by_change None none =
-        let never : None ≡ Some g = sym (ap (option_map (granted_of u t known (known_behind u s t known e))) none) ∙ at in
+        let never : None ≡ Some g = sym (ap (option_map (granted_of u t known (known_after u s t known e))) none) ∙ at in
         absurd (cc)
     by_change (Some change) some =
-        let now_is : known_behind u s t known e ≡ now = ap (λ x. option_map_or (λ (y : GrantChange). now) x known) some in
-        let there : Some (granted_of u t known (known_behind u s t known e) change) ≡ Some g = sym (ap (option_map (granted_of u t known (known_behind u s t known e))) some) ∙ at in
-        let same : granted_of u t known (known_behind u s t known e) change ≡ g = cc in
+        let now_is : known_after u s t known e ≡ now = ap (λ x. option_map_or (λ (y : GrantChange). now) x known) some in
+        let there : Some (granted_of u t known (known_after u s t known e) change) ≡ Some g = sym (ap (option_map (granted_of u t known (known_after u s t known e))) some) ∙ at in
+        let same : granted_of u t known (known_after u s t known e) change ≡ g = cc in
         subst (Renumbers p) same (subst (λ ks. Renumbers p (granted_of u t known ks change)) (sym now_is) (by_now change))
 
   -- a change of grants is taken up
-  takes_change : AreWithin p → (x : Option Granted) → ((g : Granted) → x ≡ Some g → Renumbers p g) → takes_by p None x ≡ true
+  takes_change : AreWithin p → (x : Option GrantItem) → ((g : GrantItem) → x ≡ Some g → Renumbers p g) → takes_by p None x ≡ true
   takes_change h None grants = refl
   takes_change h (Some g) grants =
       let r = grants g refl in
@@ -180,14 +180,14 @@ module _ (opening : Opening) (design : Elaborated) (u : ℕ) (s : State) (known 
     by_full false e f = by_user (room e) (v == u) refl
 
   -- and an event of a session that is open
-  takes_session : (id : SessionId) (own : Own) → (takes_by p (Some own) None ≡ is_some (index_of p.sessions id)) → (full : Bool) → refusal_of_session full (index_of s.sessions id) ≡ None
-      → takes_by p (own_if u id own) None ≡ true
-  takes_session id own test full accepted = by_user (id.user.0 == u) refl where
+  takes_session : (id : SessionId) (own_event : OwnEvent) → (takes_by p (Some own_event) None ≡ is_some (index_of p.sessions id)) → (full : Bool) → refusal_of_session full (index_of s.sessions id) ≡ None
+      → takes_by p (own_if u id own_event) None ≡ true
+  takes_session id own_event test full accepted = by_user (id.user.0 == u) refl where
     by_place : (id.user.0 == u) ≡ true → (place : Option ℕ) → index_of s.sessions id ≡ place → refusal_of_session full place ≡ None → is_some (index_of p.sessions id) ≡ true
     by_place his None at f = absurd (cc)
     by_place his (Some place) at f = ap is_some (part_stands u known p.sessions s.sessions is.sessions id his place at).found
 
-    by_user : (b : Bool) → (id.user.0 == u) ≡ b → takes_by p (if b then Some own else None) None ≡ true
+    by_user : (b : Bool) → (id.user.0 == u) ≡ b → takes_by p (if b then Some own_event else None) None ≡ true
     by_user false e = refl
     by_user true e = test ∙ by_place e (index_of s.sessions id) refl accepted
 
@@ -205,8 +205,8 @@ module _ (opening : Opening) (design : Elaborated) (u : ℕ) (s : State) (known 
 -- ---- logs
 
 -- an item that is none changes nothing, and another is taken up
-item_taken : (p : Part) (own : Option Own) (granted : Option Granted) (change : Option Change) (time : Option ℕ) (finished : Option Bool) (race : Option SeenRace) (rest : List Item)
-    → (let i : Item = record { own = own; granted = granted; change = change; time = time; finished = finished; race = race } in
+item_taken : (p : Part) (own_event : Option OwnEvent) (granted : Option GrantItem) (change : Option Change) (time : Option ℕ) (finished : Option Bool) (race : Option ShownRace) (rest : List Item)
+    → (let i : Item = record { own_event = own_event; granted = granted; change = change; time = time; finished = finished; race = race } in
     takes p i ≡ true → takes_all (part_after p i) rest ≡ true → takes_all p (cons_option (item_if i) rest) ≡ true)
 item_taken p (Some o) g c t f r rest one others = both _ _ one others
 item_taken p None (Some g) c t f r rest one others = both _ _ one others
@@ -219,23 +219,23 @@ item_taken p None None None None None None rest one others =
     (map_same (session_notified None p.time) (λ t. refl) p.sessions) others
 
 -- from a state on
-items_taken : (opening : Opening) (design : Elaborated) (u : ℕ) (before log : List Entry) (s : State) (known : List Bool) (p : Part) → s ≡ state_behind opening before → IsPartOf design u s known p
+items_taken : (opening : Opening) (design : Elaborated) (u : ℕ) (before log : List Entry) (s : State) (known : List Bool) (p : Part) → s ≡ state_after opening before → IsPartOf design u s known p
     → AreWithin p → IsLegal opening before log → takes_all p (items_from opening u s known log) ≡ true
 items_taken opening design u before [] s known p at is h legal = refl
 items_taken opening design u before (e ∷ log) s known p at is h (formed, accepted, entry, rest) =
     let t = after opening s e.event in
-    let now = known_behind u s t known e.event in
+    let now = known_after u s t known e.event in
     let is_entry : e ≡ entry_of opening s e.event = entry ∙ ap (λ x. entry_of opening x e.event) (sym at) in
     let i = item_of u s t known now e in
     let item : i ≡ item_at opening u s known e.event = ap (item_of u s t known now) is_entry in
-    let next : t ≡ state_behind opening (before ++ e ∷ []) =
+    let next : t ≡ state_after opening (before ++ e ∷ []) =
     ap (λ x. after opening x e.event) at ∙ sym (fold-append (λ x y. after opening x y.event) (start opening) before (e ∷ [])) in
     let accepts : refusal_of opening (is_log_full opening before) s e.event ≡ None = ap (λ x. refusal_of opening (is_log_full opening before) x e.event) at ∙ accepted in
     let within : AreWithin (part_after p (item_at opening u s known e.event)) =
     after_within p (item_at opening u s known e.event) (grant_renumbers opening design u s known p is e.event) h in
     let others =
     items_taken opening design u (before ++ e ∷ []) log t now (part_after p (item_at opening u s known e.event)) next (event_follows opening design u s known p is e.event).part within rest in
-    item_taken p i.own i.granted i.change i.time i.finished i.race (items_from opening u t now log)
+    item_taken p i.own_event i.granted i.change i.time i.finished i.race (items_from opening u t now log)
     (ap (takes p) item ∙ event_taken opening design u s known p is h (is_log_full opening before) e.event accepts)
     (ap (λ x. takes_all (part_after p x) (items_from opening u t now log)) item ∙ others)
 

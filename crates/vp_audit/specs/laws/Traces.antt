@@ -10,7 +10,7 @@ use Rattle.vp_world.specs.declared.event.Event.TheVariants as event
 use Rattle.vp_world.specs.History.{after, change_of, granted_to, stepped}
 use Rattle.vp_race.specs.Recording.{with_step}
 use Rattle.vp_world.specs.Worlds.{Opening, State}
-use Rattle.vp_audit.specs.Projections.{change_seen, granted_of, is_followed, item_if, known_behind, number_in, other_flag, other_number}
+use Rattle.vp_audit.specs.Projections.{change_seen, granted_of, is_followed, item_if, known_after, number_in, other_flag, other_number}
 use Rattle.vp_audit.specs.laws.Promise.{item_at}
 
 -- a number is no other than itself, nor is a flag
@@ -29,20 +29,20 @@ pub grant_of_another : (opening : Opening) (u : ℕ) (s : State) (known : List B
     → item_if (item_at opening u s known (event.Grant change)) ≡ None
 grant_of_another opening u s known change v his other =
     let t : State = after opening s (event.Grant change) in
-    let now = known_behind u s t known (event.Grant change) in
+    let now = known_after u s t known (event.Grant change) in
     let none : (if option_map_or (λ w. w == u) (user_of s.policy.members change.user) false then Some change else None) ≡ None =
     ap (λ (n : Option ℕ). if option_map_or (λ w. w == u) n false then Some change else None) his ∙ ap (λ (b : Bool). if b then Some change else None) other in
     let run : t.run ≡ s.run = ap (λ (n : Option ℕ). (let x : State = option_map_or (granted_to s change) n s in x.run)) his in
     ap (λ (g : Option GrantChange). item_if (record {
-      own = None;
+      own_event = None;
       granted = option_map (granted_of u t known now) g;
       change = None;
       time = other_number s.run.time t.run.time;
       finished = other_flag s.run.finished t.run.finished;
       race = None;
     })) none
-    ∙ ap (λ n. item_if (record { own = None; granted = None; change = None; time = n; finished = other_flag s.run.finished t.run.finished; race = None })) (same_time s.run.time t.run.time (ap (λ (r : sim.State). r.time) run))
-    ∙ ap (λ n. item_if (record { own = None; granted = None; change = None; time = None; finished = n; race = None })) (same_flag s.run.finished t.run.finished (ap (λ (r : sim.State). r.finished) run))
+    ∙ ap (λ n. item_if (record { own_event = None; granted = None; change = None; time = n; finished = other_flag s.run.finished t.run.finished; race = None })) (same_time s.run.time t.run.time (ap (λ (r : sim.State). r.time) run))
+    ∙ ap (λ n. item_if (record { own_event = None; granted = None; change = None; time = None; finished = n; race = None })) (same_flag s.run.finished t.run.finished (ap (λ (r : sim.State). r.finished) run))
 
 -- a step that changes what a user may neither read nor watch leaves none, where the time stays and $finish is not executed
 pub hidden_step : (opening : Opening) (u : ℕ) (s : State) (known : List Bool) (k : ℕ) (run : sim.State) (c : Change) → sim.step s.run k ≡ sim.Goes run (Some c)
@@ -52,14 +52,14 @@ hidden_step opening u s known k run c goes hidden time finished =
     let m = member_at s.policy.members u in
     let d = s.run.design.tree in
     ap (λ (o : sim.Outcome). (let t : State = stepped s (with_step s.segments k) o in
-    item_if (record { own = None; granted = None; change = change_seen d m known (change_of o); time = other_number s.run.time t.run.time; finished = other_flag s.run.finished t.run.finished; race = None }))) goes
+    item_if (record { own_event = None; granted = None; change = change_seen d m known (change_of o); time = other_number s.run.time t.run.time; finished = other_flag s.run.finished t.run.finished; race = None }))) goes
     ∙ ap (λ (b : Bool). item_if (record {
-      own = None;
+      own_event = None;
       granted = None;
       change = option_map (λ (n : ℕ). record { object = record { 0 = n }; value = c.value }) (if b then number_in known c.object.0 else None);
       time = other_number s.run.time run.time;
       finished = other_flag s.run.finished run.finished;
       race = None;
     })) hidden
-    ∙ ap (λ n. item_if (record { own = None; granted = None; change = None; time = n; finished = other_flag s.run.finished run.finished; race = None })) (same_time s.run.time run.time time)
-    ∙ ap (λ n. item_if (record { own = None; granted = None; change = None; time = None; finished = n; race = None })) (same_flag s.run.finished run.finished finished)
+    ∙ ap (λ n. item_if (record { own_event = None; granted = None; change = None; time = n; finished = other_flag s.run.finished run.finished; race = None })) (same_time s.run.time run.time time)
+    ∙ ap (λ n. item_if (record { own_event = None; granted = None; change = None; time = None; finished = n; race = None })) (same_flag s.run.finished run.finished finished)

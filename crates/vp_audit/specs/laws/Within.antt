@@ -11,24 +11,24 @@ use Rattle.vp_pragma.specs.declared.rights.Right.TheVariants as right
 use Rattle.vp_elab.specs.declared.object.Kind.{Kind}
 use Rattle.vp_elab.specs.declared.object.ObjectId.{ObjectId}
 use Rattle.vp_elab.specs.Tree.{below}
-use Rattle.vp_policy.specs.Denials.{DenialWords}
+use Rattle.vp_policy.specs.Denials.{DenialText}
 use Rattle.vp_policy.specs.View.{View}
 use Rattle.vp_waking.specs.declared.change.Change.{Change}
 use Rattle.vp_notify.specs.declared.notice.Notice.{Notice}
-use Rattle.vp_notify.specs.Registry.{RegistryState, due, has_number, is_beyond, is_by, is_numbered, is_on, notice_of, registered, with_notice}
+use Rattle.vp_notify.specs.Registry.{RegistryState, due, has_number, is_past_goal, is_by, is_numbered, is_on, notice_of, registered, with_notice}
 use Rattle.vp_notify.specs.Registry as registry
 use Rattle.vp_notify.specs.Renumbered.{is_callback_within, is_notice_within, is_within, moved_callback, moved_notice, moved_registry}
-use Rattle.vp_vpi.specs.declared.fault.VpiError.{VpiError}
-use Rattle.vp_vpi.specs.declared.fault.VpiError.TheVariants as error
-use Rattle.vp_vpi.specs.declared.races.SeenRace.{SeenRace}
+use Rattle.vp_vpi.specs.declared.error.VpiError.{VpiError}
+use Rattle.vp_vpi.specs.declared.error.VpiError.TheVariants as error
+use Rattle.vp_vpi.specs.declared.races.ShownRace.{ShownRace}
 use Rattle.vp_vpi.specs.Calls.{Iterated, allowed, handle_of, is_of, is_watchable, iterated, iteration, iteration_in_room, listed_of, object_found, or_refusal, put_of, scope_of, then_by, undenied, watchable_of, watched_of}
 use Rattle.vp_vpi.specs.Observers.{Absent, Denied, Found, Lookup, Observer}
-use Rattle.vp_vpi.specs.Renumbered.{is_handle_within, is_seat_within, moved_handle, moved_seat}
-use Rattle.vp_vpi.specs.Seats.{Seat, handle_to, has_room, is_full, object_of, retired, with_due}
+use Rattle.vp_vpi.specs.Renumbered.{is_handle_within, is_session_state_within, moved_handle, moved_session_state}
+use Rattle.vp_vpi.specs.SessionStates.{SessionState, handle_to, has_room, is_full, object_of, retired, with_due}
 use Rattle.vp_answer.specs.declared.request.Request.{Request}
 use Rattle.vp_answer.specs.declared.request.Request.TheVariants as request
 use Rattle.vp_answer.specs.declared.reply.Reply.{Reply}
-use Rattle.vp_answer.specs.Answers.{freed, made, only_told, putting, respond, response_by, scanned, told_by, watching}
+use Rattle.vp_answer.specs.Answers.{freed, made, only_told, putting, respond, response_by, scanned, reply_with, watching}
 use Rattle.vp_view.specs.Seen.{children_seen, closed_seen, find_listed_seen, find_seen, from_seen, is_named_seen, listed_seen, observer_seen, scope_seen, unlisted_seen, walk_seen}
 use Rattle.vp_audit.specs.Parts.{moved_to}
 use Rattle.vp_audit.specs.laws.Tests.{all_index, all_join, all_kept, all_mapped, all_passing, all_set, both, both_first, both_second}
@@ -42,9 +42,9 @@ IsFoundIn n (Denied words) = Unit {0}
 IsFoundIn n Absent = Unit {0}
 
 -- all objects that can be looked up are among so many
-pub record IsOf (eyes : Observer) (count : ℕ) : Type 0 where
-  pub named : (scope : Option ℕ) (name : List ℕ) → IsFoundIn count (eyes.named scope name)
-  pub listed : (scope : Option ℕ) → list_all (λ o. nat_lt o count) (eyes.listed scope) ≡ true
+pub record IsOf (observation : Observer) (count : ℕ) : Type 0 where
+  pub named : (scope : Option ℕ) (name : List ℕ) → IsFoundIn count (observation.named scope name)
+  pub listed : (scope : Option ℕ) → list_all (λ o. nat_lt o count) (observation.listed scope) ≡ true
 
 -- the first that passes a test is one of the list
 position_within : {X : Type 0} (p : X → Bool) (xs : List X) (k : ℕ) → position p xs ≡ Some k → nat_lt k (length xs) ≡ true
@@ -82,7 +82,7 @@ below_within (suc n) m l =
     all_join (λ o. nat_lt o m) (below n) (n ∷ []) (below_within n m (omega (arith, l))) (both (nat_lt n m) true (grind (arith, l)) refl)
 
 -- what can be looked up in a view
-pub seen_within : (v : View) (values : List (Option (List Bit))) (time : ℕ) (finished : Bool) (races : List SeenRace) → IsOf (observer_seen v values time finished races) (length v.nodes)
+pub seen_within : (v : View) (values : List (Option (List Bit))) (time : ℕ) (finished : Bool) (races : List ShownRace) → IsOf (observer_seen v values time finished races) (length v.nodes)
 seen_within v values time finished races = record {
   named = λ scope name. walk_within v (parts 46 name) Absent scope tt;
   listed = λ scope. all_kept (λ o. nat_lt o (length v.nodes)) (listed_seen v) (children_seen v scope)
@@ -135,31 +135,31 @@ module _ (n : ℕ) where
   registered_within r o h within =
       registry_from (registered r o)
       (all_join (is_callback_within n) (filter (is_by o) r.callbacks) _ (all_kept (is_callback_within n) (is_by o) r.callbacks (registry_callbacks r h))
-      (both (nat_lt o n) (list_all (is_callback_within n) (filter (is_beyond o) r.callbacks)) within (all_kept (is_callback_within n) (is_beyond o) r.callbacks (registry_callbacks r h))))
+      (both (nat_lt o n) (list_all (is_callback_within n) (filter (is_past_goal o) r.callbacks)) within (all_kept (is_callback_within n) (is_past_goal o) r.callbacks (registry_callbacks r h))))
       (registry_notices r h)
 
   -- ---- sessions
 
-  seat_from : (s : Seat) → list_all (is_handle_within n) s.handles ≡ true → is_within n s.registry ≡ true → is_seat_within n s ≡ true
-  seat_from s e f = both (list_all (is_handle_within n) s.handles) (is_within n s.registry) e f
+  session_state_from : (s : SessionState) → list_all (is_handle_within n) s.handles ≡ true → is_within n s.registry ≡ true → is_session_state_within n s ≡ true
+  session_state_from s e f = both (list_all (is_handle_within n) s.handles) (is_within n s.registry) e f
 
-  seat_handles : (s : Seat) → is_seat_within n s ≡ true → list_all (is_handle_within n) s.handles ≡ true
-  seat_handles s h = both_first (list_all (is_handle_within n) s.handles) (is_within n s.registry) h
+  session_state_handles : (s : SessionState) → is_session_state_within n s ≡ true → list_all (is_handle_within n) s.handles ≡ true
+  session_state_handles s h = both_first (list_all (is_handle_within n) s.handles) (is_within n s.registry) h
 
-  seat_registry : (s : Seat) → is_seat_within n s ≡ true → is_within n s.registry ≡ true
-  seat_registry s h = both_second (list_all (is_handle_within n) s.handles) (is_within n s.registry) h
+  session_state_registry : (s : SessionState) → is_session_state_within n s ≡ true → is_within n s.registry ≡ true
+  session_state_registry s h = both_second (list_all (is_handle_within n) s.handles) (is_within n s.registry) h
 
   -- a session to which a change is due
-  pub seat_due : (change : Option Change) (time : ℕ) (s : Seat) → is_seat_within n s ≡ true → is_seat_within n (with_due change time s) ≡ true
-  seat_due change time s h = seat_from (with_due change time s) (seat_handles s h) (due_within change time s.registry (seat_registry s h))
+  pub session_state_due : (change : Option Change) (time : ℕ) (s : SessionState) → is_session_state_within n s ≡ true → is_session_state_within n (with_due change time s) ≡ true
+  session_state_due change time s h = session_state_from (with_due change time s) (session_state_handles s h) (due_within change time s.registry (session_state_registry s h))
 
   -- a session out of which is taken what may not be watched any more
-  pub seat_retired : (gone : ℕ → Bool) (s : Seat) → is_seat_within n s ≡ true → is_seat_within n (retired gone s) ≡ true
-  seat_retired gone s h =
-      seat_from (retired gone s) (seat_handles s h)
+  pub session_state_retired : (gone : ℕ → Bool) (s : SessionState) → is_session_state_within n s ≡ true → is_session_state_within n (retired gone s) ≡ true
+  session_state_retired gone s h =
+      session_state_from (retired gone s) (session_state_handles s h)
       (registry_from (registry.retired gone s.registry)
-      (all_kept (is_callback_within n) (λ c. not (gone c.object.0)) s.registry.callbacks (registry_callbacks s.registry (seat_registry s h)))
-      (all_kept (is_notice_within n) (λ t. not (gone t.object.0)) s.registry.waiting (registry_notices s.registry (seat_registry s h))))
+      (all_kept (is_callback_within n) (λ c. not (gone c.object.0)) s.registry.callbacks (registry_callbacks s.registry (session_state_registry s h)))
+      (all_kept (is_notice_within n) (λ t. not (gone t.object.0)) s.registry.waiting (registry_notices s.registry (session_state_registry s h))))
 
   -- ---- requests
 
@@ -188,12 +188,12 @@ module _ (n : ℕ) where
     by_place (Some o ∷ hs) zero f = both_first (nat_lt o.0 n) (list_all (is_handle_within n) hs) f
     by_place (h ∷ hs) (suc k) f = by_place hs k (both_second (is_handle_within n h) (list_all (is_handle_within n) hs) f)
 
-  module _ (eyes : Observer) (is : IsOf eyes n) where
+  module _ (observation : Observer) (is : IsOf observation n) where
     -- the object of a handle on which the user has a right
-    allowed_in : (r : Right) (found : Option ℕ) → IsSomeIn found → IsOkIn (allowed eyes r found)
+    allowed_in : (r : Right) (found : Option ℕ) → IsSomeIn found → IsOkIn (allowed observation r found)
     allowed_in r None h = tt
-    allowed_in r (Some o) h = by_denied (eyes.denied r o) where
-      by_denied : (words : Option DenialWords) → IsOkIn (undenied o words)
+    allowed_in r (Some o) h = by_denied (observation.denied r o) where
+      by_denied : (words : Option DenialText) → IsOkIn (undenied o words)
       by_denied None = h
       by_denied (Some words) = tt
 
@@ -209,30 +209,30 @@ module _ (n : ℕ) where
       by_room true = tt
       by_room false = h
 
-    handle_in : (handles : List (Option ObjectId)) (scope : Option ℕ) (name : List ℕ) → IsOkIn (handle_of eyes handles scope name)
-    handle_in handles scope name = by_scope (scope_of eyes handles scope) where
-      by_scope : (above : Result (Option ℕ) VpiError) → IsOkIn (then_by above (λ s. object_found handles (eyes.named s name)))
-      by_scope (Ok s) = found_in handles (eyes.named s name) (is.named s name)
+    handle_in : (handles : List (Option ObjectId)) (scope : Option ℕ) (name : List ℕ) → IsOkIn (handle_of observation handles scope name)
+    handle_in handles scope name = by_scope (scope_of observation handles scope) where
+      by_scope : (above : Result (Option ℕ) VpiError) → IsOkIn (then_by above (λ s. object_found handles (observation.named s name)))
+      by_scope (Ok s) = found_in handles (observation.named s name) (is.named s name)
       by_scope (Err e) = tt
 
     -- the handles of an iteration
-    iterated_in : (handles : List (Option ObjectId)) (k : Kind) (scope : Option ℕ) → AreOkIn (iterated eyes handles k scope)
-    iterated_in handles k scope = by_scope (scope_of eyes handles scope) where
-      by_room : (s : Option ℕ) (objects : List ℕ) → list_all (λ o. nat_lt o n) objects ≡ true → (b : Bool) → has_room (length objects) handles ≡ b → AreOkIn (iteration_in_room eyes handles s objects)
+    iterated_in : (handles : List (Option ObjectId)) (k : Kind) (scope : Option ℕ) → AreOkIn (iterated observation handles k scope)
+    iterated_in handles k scope = by_scope (scope_of observation handles scope) where
+      by_room : (s : Option ℕ) (objects : List ℕ) → list_all (λ o. nat_lt o n) objects ≡ true → (b : Bool) → has_room (length objects) handles ≡ b → AreOkIn (iteration_in_room observation handles s objects)
       by_room s objects all true is_room =
-          subst (λ (b : Bool). AreOkIn (if b then Ok (iteration eyes handles s objects) else Err error.TooManyHandles)) (sym is_room) (all_mapped (λ o. nat_lt o n) (is_handle_within n) handle_to (λ o h. h) objects all)
-      by_room s objects all false is_room = subst (λ (b : Bool). AreOkIn (if b then Ok (iteration eyes handles s objects) else Err error.TooManyHandles)) (sym is_room) tt
+          subst (λ (b : Bool). AreOkIn (if b then Ok (iteration observation handles s objects) else Err error.TooManyHandles)) (sym is_room) (all_mapped (λ o. nat_lt o n) (is_handle_within n) handle_to (λ o h. h) objects all)
+      by_room s objects all false is_room = subst (λ (b : Bool). AreOkIn (if b then Ok (iteration observation handles s objects) else Err error.TooManyHandles)) (sym is_room) tt
 
-      by_scope : (above : Result (Option ℕ) VpiError) → AreOkIn (then_by above (λ s. iteration_in_room eyes handles s (listed_of eyes k s)))
-      by_scope (Ok s) = by_room s (listed_of eyes k s) (all_kept (λ o. nat_lt o n) (λ o. is_of k (eyes.kind o)) (eyes.listed s) (is.listed s)) (has_room (length (listed_of eyes k s)) handles) refl
+      by_scope : (above : Result (Option ℕ) VpiError) → AreOkIn (then_by above (λ s. iteration_in_room observation handles s (listed_of observation k s)))
+      by_scope (Ok s) = by_room s (listed_of observation k s) (all_kept (λ o. nat_lt o n) (λ o. is_of k (observation.kind o)) (observation.listed s) (is.listed s)) (has_room (length (listed_of observation k s)) handles) refl
       by_scope (Err e) = tt
 
     -- the object that a callback is registered on
-    watched_in : (r : RegistryState) (found : Option ℕ) → IsSomeIn found → IsOkIn (watched_of eyes r found)
-    watched_in r found h = by_watchable (watchable_of eyes found) (by_allowed (allowed eyes right.Watch found) (allowed_in right.Watch found h)) where
-      by_allowed : (x : Result ℕ VpiError) → IsOkIn x → IsOkIn (then_by x (λ o. if is_watchable (eyes.kind o) then Ok o else Err error.WrongKind))
+    watched_in : (r : RegistryState) (found : Option ℕ) → IsSomeIn found → IsOkIn (watched_of observation r found)
+    watched_in r found h = by_watchable (watchable_of observation found) (by_allowed (allowed observation right.Watch found) (allowed_in right.Watch found h)) where
+      by_allowed : (x : Result ℕ VpiError) → IsOkIn x → IsOkIn (then_by x (λ o. if is_watchable (observation.kind o) then Ok o else Err error.WrongKind))
       by_allowed (Err e) g = tt
-      by_allowed (Ok o) g = by_kind (is_watchable (eyes.kind o)) where
+      by_allowed (Ok o) g = by_kind (is_watchable (observation.kind o)) where
         by_kind : (b : Bool) → IsOkIn (if b then Ok o else Err error.WrongKind)
         by_kind true = g
         by_kind false = tt
@@ -245,57 +245,57 @@ module _ (n : ℕ) where
         by_room false = g
 
     -- a call from which nothing but a reply comes leaves the session as it was
-    told_in : {A : Type 0} (s : Seat) (f : A → Reply) (x : Result A VpiError) → is_seat_within n s ≡ true → is_seat_within n (told_by s f x).seat ≡ true
+    told_in : {A : Type 0} (s : SessionState) (f : A → Reply) (x : Result A VpiError) → is_session_state_within n s ≡ true → is_session_state_within n (reply_with s f x).session_state ≡ true
     told_in s f (Ok y) h = h
     told_in s f (Err e) h = h
 
     -- a request of a session
-    pub respond_within : (s : Seat) (r : Request) → is_seat_within n s ≡ true → is_seat_within n (respond eyes s r).seat ≡ true
+    pub respond_within : (s : SessionState) (r : Request) → is_session_state_within n s ≡ true → is_session_state_within n (respond observation s r).session_state ≡ true
     respond_within s (request.Open user token) h = h
     respond_within s request.Close h = h
     respond_within s (request.Grant change) h = h
-    respond_within s (request.Handle name scope) h = by_found (handle_of eyes s.handles scope name) (handle_in s.handles scope name) where
-      by_found : (x : Result ℕ VpiError) → IsOkIn x → is_seat_within n (response_by s (made s) x).seat ≡ true
+    respond_within s (request.Handle name scope) h = by_found (handle_of observation s.handles scope name) (handle_in s.handles scope name) where
+      by_found : (x : Result ℕ VpiError) → IsOkIn x → is_session_state_within n (response_by s (made s) x).session_state ≡ true
       by_found (Err e) g = h
       by_found (Ok o) g =
-          seat_from (made s o).seat (all_join (is_handle_within n) s.handles (handle_to o ∷ []) (seat_handles s h) (both (nat_lt o n) true g refl)) (seat_registry s h)
-    respond_within s (request.Iterate k scope) h = by_found (iterated eyes s.handles k scope) (iterated_in s.handles k scope) where
-      by_found : (x : Result Iterated VpiError) → AreOkIn x → is_seat_within n (response_by s (scanned s) x).seat ≡ true
+          session_state_from (made s o).session_state (all_join (is_handle_within n) s.handles (handle_to o ∷ []) (session_state_handles s h) (both (nat_lt o n) true g refl)) (session_state_registry s h)
+    respond_within s (request.Iterate k scope) h = by_found (iterated observation s.handles k scope) (iterated_in s.handles k scope) where
+      by_found : (x : Result Iterated VpiError) → AreOkIn x → is_session_state_within n (response_by s (scanned s) x).session_state ≡ true
       by_found (Err e) g = h
-      by_found (Ok found) g = seat_from (scanned s found).seat (all_join (is_handle_within n) s.handles found.handles (seat_handles s h) g) (seat_registry s h)
+      by_found (Ok found) g = session_state_from (scanned s found).session_state (all_join (is_handle_within n) s.handles found.handles (session_state_handles s h) g) (session_state_registry s h)
     respond_within s (request.Get handle p) h = told_in s _ _ h
     respond_within s (request.GetStr handle p) h = told_in s _ _ h
     respond_within s (request.Value handle f) h = told_in s _ _ h
-    respond_within s (request.Put handle v) h = by_put (put_of eyes v (object_of s.handles handle)) where
-      by_put : (x : Result (ℕ × List Bit) VpiError) → is_seat_within n (response_by s (putting s) x).seat ≡ true
+    respond_within s (request.Put handle v) h = by_put (put_of observation v (object_of s.handles handle)) where
+      by_put : (x : Result (ℕ × List Bit) VpiError) → is_session_state_within n (response_by s (putting s) x).session_state ≡ true
       by_put (Ok p) = h
       by_put (Err e) = h
     respond_within s (request.Compare a b) h = told_in s _ _ h
     respond_within s (request.Free handle) h = by_found (or_refusal (object_of s.handles handle) error.BadHandle) where
-      by_handle : (k : ℕ) → is_seat_within n (freed s k).seat ≡ true
+      by_handle : (k : ℕ) → is_session_state_within n (freed s k).session_state ≡ true
       by_handle zero = h
-      by_handle (suc k) = seat_from (freed s (suc k)).seat (all_set (is_handle_within n) s.handles k None (seat_handles s h) refl) (seat_registry s h)
+      by_handle (suc k) = session_state_from (freed s (suc k)).session_state (all_set (is_handle_within n) s.handles k None (session_state_handles s h) refl) (session_state_registry s h)
 
-      by_found : (x : Result ℕ VpiError) → is_seat_within n (response_by s (λ o. freed s handle) x).seat ≡ true
+      by_found : (x : Result ℕ VpiError) → is_session_state_within n (response_by s (λ o. freed s handle) x).session_state ≡ true
       by_found (Ok o) = by_handle handle
       by_found (Err e) = h
     respond_within s (request.Watch handle) h =
-        by_found (watched_of eyes s.registry (object_of s.handles handle)) (watched_in s.registry (object_of s.handles handle) (object_in s.handles handle (seat_handles s h))) where
-          by_found : (x : Result ℕ VpiError) → IsOkIn x → is_seat_within n (response_by s (watching s) x).seat ≡ true
+        by_found (watched_of observation s.registry (object_of s.handles handle)) (watched_in s.registry (object_of s.handles handle) (object_in s.handles handle (session_state_handles s h))) where
+          by_found : (x : Result ℕ VpiError) → IsOkIn x → is_session_state_within n (response_by s (watching s) x).session_state ≡ true
           by_found (Err e) g = h
-          by_found (Ok o) g = seat_from (watching s o).seat (seat_handles s h) (registered_within s.registry o (seat_registry s h) g)
+          by_found (Ok o) g = session_state_from (watching s o).session_state (session_state_handles s h) (registered_within s.registry o (session_state_registry s h) g)
     respond_within s (request.Unwatch callback) h = by_number _ _ (has_number s.registry callback) where
       by_number : (reply other : Reply) (b : Bool)
-          → is_seat_within n (if b then only_told (record s { registry = registry.without s.registry callback }) reply else only_told s other).seat ≡ true
+          → is_session_state_within n (if b then only_told (record s { registry = registry.without s.registry callback }) reply else only_told s other).session_state ≡ true
       by_number reply other true =
-          seat_from (record s { registry = registry.without s.registry callback }) (seat_handles s h)
+          session_state_from (record s { registry = registry.without s.registry callback }) (session_state_handles s h)
           (registry_from (registry.without s.registry callback)
-          (all_kept (is_callback_within n) (λ c. not (is_numbered callback c)) s.registry.callbacks (registry_callbacks s.registry (seat_registry s h)))
-          (registry_notices s.registry (seat_registry s h)))
+          (all_kept (is_callback_within n) (λ c. not (is_numbered callback c)) s.registry.callbacks (registry_callbacks s.registry (session_state_registry s h)))
+          (registry_notices s.registry (session_state_registry s h)))
       by_number reply other false = h
     respond_within s request.Poll h =
-        seat_from (record s { registry = registry.drained s.registry }) (seat_handles s h)
-        (registry_from (registry.drained s.registry) (registry_callbacks s.registry (seat_registry s h)) refl)
+        session_state_from (record s { registry = registry.drained s.registry }) (session_state_handles s h)
+        (registry_from (registry.drained s.registry) (registry_callbacks s.registry (session_state_registry s h)) refl)
     respond_within s (request.Races from) h = h
     respond_within s (request.Race number) h = told_in s _ _ h
     respond_within s (request.Run until) h = h
@@ -304,12 +304,12 @@ module _ (n : ℕ) where
 -- ---- other numbers
 
 -- a session whose objects have other numbers: those among so many have numbers among so many now
-pub seat_moved_within : (a b : ℕ) (f : ℕ → ℕ) → ((k : ℕ) → nat_lt k a ≡ true → nat_lt (f k) b ≡ true) → (s : Seat) → is_seat_within a s ≡ true → is_seat_within b (moved_seat f s) ≡ true
-seat_moved_within a b f h s e =
-    seat_from b (moved_seat f s) (all_mapped (is_handle_within a) (is_handle_within b) (moved_handle f) handle s.handles (seat_handles a s e))
+pub session_state_moved_within : (a b : ℕ) (f : ℕ → ℕ) → ((k : ℕ) → nat_lt k a ≡ true → nat_lt (f k) b ≡ true) → (s : SessionState) → is_session_state_within a s ≡ true → is_session_state_within b (moved_session_state f s) ≡ true
+session_state_moved_within a b f h s e =
+    session_state_from b (moved_session_state f s) (all_mapped (is_handle_within a) (is_handle_within b) (moved_handle f) handle s.handles (session_state_handles a s e))
     (registry_from b (moved_registry f s.registry)
-    (all_mapped (is_callback_within a) (is_callback_within b) (moved_callback f) (λ c g. h c.object.0 g) s.registry.callbacks (registry_callbacks a s.registry (seat_registry a s e)))
-    (all_mapped (is_notice_within a) (is_notice_within b) (moved_notice f) (λ t g. h t.object.0 g) s.registry.waiting (registry_notices a s.registry (seat_registry a s e))))
+    (all_mapped (is_callback_within a) (is_callback_within b) (moved_callback f) (λ c g. h c.object.0 g) s.registry.callbacks (registry_callbacks a s.registry (session_state_registry a s e)))
+    (all_mapped (is_notice_within a) (is_notice_within b) (moved_notice f) (λ t g. h t.object.0 g) s.registry.waiting (registry_notices a s.registry (session_state_registry a s e))))
   where
     handle : (x : Option ObjectId) → is_handle_within a x ≡ true → is_handle_within b (moved_handle f x) ≡ true
     handle None g = refl

@@ -1,7 +1,7 @@
 ghost use Rattle.std.specs.Prelude.{◌≡◌, length};
 ghost use Rattle.vp_bits.specs.Tables.{bitwise, and_bit, or_bit, xor_bit, merge_bit, negated};
 
-use super::{ones, without};
+use super::{and_not, ones};
 use crate::Bits;
 
 impl Bits {
@@ -26,11 +26,11 @@ impl Bits {
     {
         // A bit that is 1 in either operand is 1; else it is x where either is x or z.
         let unknown = self.bval | other.bval;
-        let ones = without(self.aval, self.bval) | without(other.aval, other.bval);
+        let ones = and_not(self.aval, self.bval) | and_not(other.aval, other.bval);
         Bits {
             width: self.width,
             aval: ones | unknown,
-            bval: without(unknown, ones),
+            bval: and_not(unknown, ones),
         }
     }
 

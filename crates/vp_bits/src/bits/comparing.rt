@@ -1,7 +1,7 @@
 ghost use Rattle.std.specs.Prelude.{◌≡◌, [], ◌∷◌, Some, length};
 ghost use Rattle.vp_bits.specs.Comparing.{less, equal, case_equal, casez_matches, bit_of_answer};
 
-use super::without;
+use super::and_not;
 use crate::{Bit, Bits};
 
 impl Bits {
@@ -13,7 +13,7 @@ impl Bits {
         ensures { result ≡ equal self other }
     {
         let unknown = self.bval | other.bval;
-        if without(self.aval ^ other.aval, unknown) != 0 {
+        if and_not(self.aval ^ other.aval, unknown) != 0 {
             return Bits::of_bit(Bit::Zero);
         }
         if unknown != 0 {
@@ -39,8 +39,8 @@ impl Bits {
         ensures { result ≡ casez_matches self other }
     {
         let differing = (self.aval ^ other.aval) | (self.bval ^ other.bval);
-        let z = without(self.bval, self.aval) | without(other.bval, other.aval);
-        without(differing, z) == 0
+        let z = and_not(self.bval, self.aval) | and_not(other.bval, other.aval);
+        and_not(differing, z) == 0
     }
 
     /// The relation `<` on two vectors of one width, as unsigned numbers, as a vector of one bit: x

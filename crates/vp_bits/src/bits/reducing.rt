@@ -1,7 +1,7 @@
 ghost use Rattle.std.specs.Prelude.{◌≡◌};
 ghost use Rattle.vp_bits.specs.Tables.{and_of_all, or_of_all, truth, xor_of_all};
 
-use super::{ones, without};
+use super::{and_not, ones};
 use crate::{Bit, Bits};
 
 impl Bits {
@@ -24,7 +24,7 @@ impl Bits {
     pub fn reduce_or(self) -> Bits
         ensures { result ≡ or_of_all self }
     {
-        if without(self.aval, self.bval) != 0 {
+        if and_not(self.aval, self.bval) != 0 {
             return Bits::of_bit(Bit::One);
         }
         if self.bval != 0 {

@@ -3,7 +3,7 @@ ghost use Rattle.vp_bits.specs.Arithmetic.{number_of};
 ghost use Rattle.vp_bits.specs.Shaping.{shifted_left, shifted_right, concatenated, repeated, selected, with_selected};
 ghost use Rattle.vp_bits.specs.Vector.{IsWidth};
 
-use super::{lowest, ones, without};
+use super::{and_not, lowest, ones};
 use crate::Bits;
 
 impl Bits {
@@ -107,8 +107,8 @@ impl Bits {
         let places = ones(part.width) << low;
         Bits {
             width: self.width,
-            aval: without(self.aval, places) | (part.aval << low),
-            bval: without(self.bval, places) | (part.bval << low),
+            aval: and_not(self.aval, places) | (part.aval << low),
+            bval: and_not(self.bval, places) | (part.bval << low),
         }
     }
 }

@@ -5,9 +5,9 @@ use Rattle.std.specs.List.{position_from}
 use Rattle.std.proofs.lemmas.Iterator.Adapters.{position_from-zero}
 
 -- what stands after so many
-pub slice_get_behind : {A : Type 0} (xs : List A) (y : A) (ys : List A) → slice_get (xs ++ y ∷ ys) (length xs) ≡ Some y
-slice_get_behind [] y ys = refl
-slice_get_behind (x ∷ xs) y ys = slice_get_behind xs y ys
+pub slice_get_after : {A : Type 0} (xs : List A) (y : A) (ys : List A) → slice_get (xs ++ y ∷ ys) (length xs) ≡ Some y
+slice_get_after [] y ys = refl
+slice_get_after (x ∷ xs) y ys = slice_get_after xs y ys
 
 -- ---- searches
 

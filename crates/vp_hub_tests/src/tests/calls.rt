@@ -7,12 +7,12 @@ use std::thread;
 use std::time::{Clock, Duration};
 use vp_answer::{Reply, Request, ValueFormat};
 use vp_bits::Bits;
-use vp_hub::{Closed, Hub, HubError, Opens, Pass};
+use vp_hub::{Closed, Hub, HubError, NamesOpening, Pass};
 use vp_list::Text;
 use vp_vpi::PutValue;
 
 /// A user opens a session by his token.
-pub fn open<L: Opens, R: Wait>(
+pub fn open<L: NamesOpening, R: Wait>(
     rt: &R,
     hub: &Hub<L>,
     alloc: Global,
@@ -25,7 +25,7 @@ pub fn open<L: Opens, R: Wait>(
 }
 
 /// A session asks: its pass, and what it is answered.
-pub fn ask<L: Opens, R: Wait>(
+pub fn ask<L: NamesOpening, R: Wait>(
     rt: &R,
     hub: &Hub<L>,
     pass: Pass<L>,
@@ -38,7 +38,7 @@ pub fn ask<L: Opens, R: Wait>(
 }
 
 /// A session asks, and is answered anything: its pass.
-pub fn order<L: Opens, R: Wait>(
+pub fn order<L: NamesOpening, R: Wait>(
     rt: &R,
     hub: &Hub<L>,
     pass: Pass<L>,
@@ -51,7 +51,7 @@ pub fn order<L: Opens, R: Wait>(
 }
 
 /// A session has a handle of the object of a name.
-pub fn find<L: Opens, R: Wait>(
+pub fn find<L: NamesOpening, R: Wait>(
     rt: &R,
     hub: &Hub<L>,
     alloc: Global,
@@ -63,7 +63,7 @@ pub fn find<L: Opens, R: Wait>(
 }
 
 /// A session gives the object of its first handle a value, and is answered that it was done.
-pub fn put<L: Opens, R: Wait>(
+pub fn put<L: NamesOpening, R: Wait>(
     rt: &R,
     hub: &Hub<L>,
     alloc: Global,
@@ -97,7 +97,11 @@ fn value_told(reply: Reply) -> Option<Bits> {
 }
 
 /// A session is told the value of the object of its first handle.
-pub fn read<L: Opens, R: Wait>(rt: &R, hub: &Hub<L>, pass: Pass<L>) -> Option<(Pass<L>, Bits)> {
+pub fn read<L: NamesOpening, R: Wait>(
+    rt: &R,
+    hub: &Hub<L>,
+    pass: Pass<L>,
+) -> Option<(Pass<L>, Bits)> {
     let (pass, reply) = ask(rt, hub, pass, value());
     Some((pass, value_told(reply?)?))
 }
@@ -124,7 +128,7 @@ pub fn refusal_of<T: Drop>(answer: Result<T, HubError>) -> (u32, u32) {
 }
 
 /// What is left of a hub of one session.
-pub fn close<L: Opens>(hub: Hub<L>, alloc: Global, pass: Pass<L>) -> Option<Closed> {
+pub fn close<L: NamesOpening>(hub: Hub<L>, alloc: Global, pass: Pass<L>) -> Option<Closed> {
     let mut passes = Vec::new(alloc);
     passes.push(pass).ok()?;
     hub.close(passes).ok()

@@ -7,43 +7,43 @@ use std::alloc::Global;
 use std::marker::Brand;
 use std::sync::ledger::Blank;
 use vp_answer::Request;
-use vp_hub::{Desk, Opens, Pass};
+use vp_hub::{Desk, NamesOpening, Pass};
 use vp_list::Text;
-use vp_world::{Event, Happening, World};
+use vp_world::{Event, LoggedEvent, World};
 
 /// The numbers of the refusal of an opening by another token than Ann's.
-fn opening<L: Opens>(alloc: Global, desk: &mut Desk<L>) -> Option<(u32, u32)> {
+fn opening<L: NamesOpening>(alloc: Global, desk: &mut Desk<L>) -> Option<(u32, u32)> {
     let user = Text::copy(alloc, "ann").ok()?;
     let token = Text::copy(alloc, "no").ok()?;
     Some(refusal_of(desk.open(user, token)))
 }
 
 /// Ann opens a session.
-fn open<L: Opens>(alloc: Global, desk: &mut Desk<L>) -> Option<Pass<L>> {
+fn open<L: NamesOpening>(alloc: Global, desk: &mut Desk<L>) -> Option<Pass<L>> {
     let user = Text::copy(alloc, "ann").ok()?;
     let token = Text::copy(alloc, "t1").ok()?;
     desk.open(user, token).ok()
 }
 
 /// The numbers of what a session's request for the time is refused by, and its pass.
-fn call<L: Opens>(desk: &mut Desk<L>, pass: Pass<L>) -> (Pass<L>, (u32, u32)) {
+fn call<L: NamesOpening>(desk: &mut Desk<L>, pass: Pass<L>) -> (Pass<L>, (u32, u32)) {
     let (pass, answer) = desk.call(pass, Request::Time);
     (pass, refusal_of(answer))
 }
 
 /// The log has two entries: a session was opened, and asked something.
-fn has_two_entries<L: Opens>(desk: &Desk<L>) -> bool {
+fn has_two_entries<L: NamesOpening>(desk: &Desk<L>) -> bool {
     let log = desk.log();
     if log.len() != 2 {
         return false;
     }
     let (opened, asked) = (&log[0], &log[1]);
-    matches!(opened.happening, Happening::Open { .. })
-        && matches!(asked.happening, Happening::Ask { .. })
+    matches!(opened.happening, LoggedEvent::Open { .. })
+        && matches!(asked.happening, LoggedEvent::Ask { .. })
 }
 
 /// What a session's two calls, and the search for a job after them, are refused by.
-fn calls<L: Opens>(alloc: Global, desk: &mut Desk<L>) -> Option<[(u32, u32); 3]> {
+fn calls<L: NamesOpening>(alloc: Global, desk: &mut Desk<L>) -> Option<[(u32, u32); 3]> {
     let pass = open(alloc, desk)?;
     let (pass, first) = call(desk, pass);
     let (pass, second) = call(desk, pass);
@@ -52,7 +52,7 @@ fn calls<L: Opens>(alloc: Global, desk: &mut Desk<L>) -> Option<[(u32, u32); 3]>
 }
 
 /// The same, with the refusal of an opening before them, and whether the log has the two entries after them.
-fn refusals_at<L: Opens>(
+fn refusals_at<L: NamesOpening>(
     alloc: Global,
     desk: &mut Desk<L>,
 ) -> Option<((u32, u32), [(u32, u32); 3], bool)> {
@@ -62,7 +62,7 @@ fn refusals_at<L: Opens>(
 }
 
 /// The same at a desk of a world.
-fn refusals_of<L: Opens>(
+fn refusals_of<L: NamesOpening>(
     alloc: Global,
     blank: Blank,
     world: World,

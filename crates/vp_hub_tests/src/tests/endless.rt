@@ -11,8 +11,8 @@ use std::sync::ledger::Blank;
 use std::thread;
 use std::thread::Threads;
 use vp_answer::Request;
-use vp_hub::{Closed, Desk, Hub, Opens, Pass};
-use vp_world::{Entry, Happening, World};
+use vp_hub::{Closed, Desk, Hub, NamesOpening, Pass};
+use vp_world::{Entry, LoggedEvent, World};
 
 /// The log holds so many entries: enough that the simulation is not over before a thread that was woken comes to run.
 const ENTRIES: u32 = 262_144;
@@ -30,7 +30,7 @@ struct Ended {
 }
 
 /// A session asks for the time until it is refused: its pass, and the numbers of the refusal.
-fn call_on<L: Opens, R: Wait>(rt: &R, hub: &Hub<L>, pass: Pass<L>) -> (Pass<L>, (u32, u32)) {
+fn call_on<L: NamesOpening, R: Wait>(rt: &R, hub: &Hub<L>, pass: Pass<L>) -> (Pass<L>, (u32, u32)) {
     let mut pass = pass;
     for _call in 0..ENTRIES {
         let (back, answer) = hub.call(rt, pass, Request::Time);
@@ -43,7 +43,7 @@ fn call_on<L: Opens, R: Wait>(rt: &R, hub: &Hub<L>, pass: Pass<L>) -> (Pass<L>, 
 }
 
 /// A session asks so on one thread while the design runs on another: its pass, and the refusals' numbers of the run and of a call.
-fn beside<L: Opens + Send + Sync, R: Threads + Wait + Sync>(
+fn beside<L: NamesOpening + Send + Sync, R: Threads + Wait + Sync>(
     rt: &R,
     stage: &Stage<L>,
     pass: Pass<L>,
@@ -63,7 +63,7 @@ fn beside<L: Opens + Send + Sync, R: Threads + Wait + Sync>(
 }
 
 /// What is left of a hub of a world after that, and another call.
-fn end_anew_of<L: Opens + Send + Sync, R: Threads + Wait + Sync>(
+fn end_anew_of<L: NamesOpening + Send + Sync, R: Threads + Wait + Sync>(
     rt: &R,
     alloc: Global,
     blank: Blank,
@@ -100,7 +100,7 @@ fn end_anew<R: Threads + Wait + Sync>(rt: &R, alloc: Global) -> Option<Ended> {
 fn is_of_simulation(entry: &Entry) -> bool {
     matches!(
         entry.happening,
-        Happening::Step { .. } | Happening::StepWithChange { .. } | Happening::Advance
+        LoggedEvent::Step { .. } | LoggedEvent::StepWithChange { .. } | LoggedEvent::Advance
     )
 }
 

@@ -3,9 +3,9 @@
 use vp_answer::{GrantChange, Reply, Request};
 use vp_bits::Bits;
 use vp_list::Same;
-use vp_policy::Barrier;
+use vp_policy::ShownBarrier;
 use vp_pragma::Right;
-use vp_world::{Entry, Happening};
+use vp_world::{Entry, LoggedEvent};
 
 /// What Bob, who has watched `k` and given it a value, may see at a place of the log.
 #[derive(Clone, Copy)]
@@ -33,7 +33,7 @@ fn is_right_value(watch: Watch, reply: &Reply) -> bool {
         Reply::Value(bits) => watch.is_open && *bits == Bits::of_number(1, 1),
         Reply::Denied(words) => {
             !watch.is_open
-                && words.by() == Barrier::Grant
+                && words.by() == ShownBarrier::Grant
                 && words.envelope() == 1
                 && words.right() == Right::Read
         }
@@ -92,8 +92,8 @@ pub fn are_right(log: &[Entry], replies: &[Reply]) -> bool {
     let mut count = 0usize;
     for entry in log {
         match &entry.happening {
-            Happening::Grant { change } => watch = after_grant(watch, change),
-            Happening::Ask { asked, reply } if is_poll_or_read(&asked.request) => {
+            LoggedEvent::Grant { change } => watch = after_grant(watch, change),
+            LoggedEvent::Ask { asked, reply } if is_poll_or_read(&asked.request) => {
                 let is_right = is_right(watch, &asked.request, reply);
                 if !is_right || !is_at(replies, count, reply) {
                     return false;
@@ -119,7 +119,7 @@ fn is_grant_at(grants: &[GrantChange], place: usize, change: &GrantChange) -> bo
 pub fn are_logged(log: &[Entry], grants: &[GrantChange]) -> bool {
     let mut count = 0usize;
     for entry in log {
-        if let Happening::Grant { change } = &entry.happening {
+        if let LoggedEvent::Grant { change } = &entry.happening {
             if !is_grant_at(grants, count, change) {
                 return false;
             }

@@ -14,7 +14,7 @@ use std::thread;
 use std::thread::Threads;
 use std::time::Clock;
 use vp_answer::{GrantChange, Reply, Request};
-use vp_hub::{Closed, Desk, Hub, Opens, Pass};
+use vp_hub::{Closed, Desk, Hub, NamesOpening, Pass};
 use vp_list::Text;
 use vp_policy::Access;
 use vp_world::World;
@@ -27,7 +27,7 @@ const ALL: &str = "list+read+watch+put+race";
 
 /// A session's pass, and what it was told, in order.
 #[derive(Drop)]
-struct Conversation<L: Opens> {
+struct Conversation<L: NamesOpening> {
     pass: Pass<L>,
     replies: Vec<Reply>,
 }
@@ -54,7 +54,7 @@ fn change_of(alloc: Global, access: &str) -> Option<GrantChange> {
 }
 
 /// Changes Bob's grant, and gives the change where it was answered that it was done.
-fn grant<L: Opens, R: Wait>(
+fn grant<L: NamesOpening, R: Wait>(
     rt: &R,
     hub: &Hub<L>,
     alloc: Global,
@@ -69,7 +69,7 @@ fn grant<L: Opens, R: Wait>(
 }
 
 /// Grants Bob 100 times to find alone, or all, by turns, and rests after each: what was done.
-fn grants<L: Opens, R: Wait + Clock>(
+fn grants<L: NamesOpening, R: Wait + Clock>(
     rt: &R,
     hub: &Hub<L>,
     alloc: Global,
@@ -84,7 +84,7 @@ fn grants<L: Opens, R: Wait + Clock>(
 }
 
 /// A session polls, or reads `k`, and what it is told is kept.
-fn ask_next<L: Opens, R: Wait>(
+fn ask_next<L: NamesOpening, R: Wait>(
     rt: &R,
     hub: &Hub<L>,
     conversation: Conversation<L>,
@@ -99,7 +99,7 @@ fn ask_next<L: Opens, R: Wait>(
 }
 
 /// A session polls, rests and reads, 100 times.
-fn polls<L: Opens, R: Wait + Clock>(
+fn polls<L: NamesOpening, R: Wait + Clock>(
     rt: &R,
     hub: &Hub<L>,
     alloc: Global,
@@ -118,7 +118,7 @@ fn polls<L: Opens, R: Wait + Clock>(
 }
 
 /// Bob has a session which watches `k` and gives it the value 1.
-fn begin<L: Opens, R: Wait>(rt: &R, hub: &Hub<L>, alloc: Global) -> Option<Pass<L>> {
+fn begin<L: NamesOpening, R: Wait>(rt: &R, hub: &Hub<L>, alloc: Global) -> Option<Pass<L>> {
     let pass = open(rt, hub, alloc, "bob", "t2")?;
     let pass = find(rt, hub, alloc, pass, "top.u.k")?;
     let pass = order(rt, hub, pass, Request::Watch { handle: 1 })?;
@@ -126,7 +126,7 @@ fn begin<L: Opens, R: Wait>(rt: &R, hub: &Hub<L>, alloc: Global) -> Option<Pass<
 }
 
 /// What Bob is told on one thread while his grant changes on another.
-fn beside<L: Opens + Send + Sync, R: Threads + Wait + Clock + Sync>(
+fn beside<L: NamesOpening + Send + Sync, R: Threads + Wait + Clock + Sync>(
     rt: &R,
     stage: &Stage<L>,
     pass: Pass<L>,
@@ -146,7 +146,7 @@ fn beside<L: Opens + Send + Sync, R: Threads + Wait + Clock + Sync>(
 }
 
 /// What is left of a hub of a world after them.
-fn end_anew_of<L: Opens + Send + Sync, R: Threads + Wait + Clock + Sync>(
+fn end_anew_of<L: NamesOpening + Send + Sync, R: Threads + Wait + Clock + Sync>(
     rt: &R,
     alloc: Global,
     blank: Blank,

@@ -8,19 +8,19 @@ use std::marker::Brand;
 use std::sync::Wait;
 use std::sync::ledger::Blank;
 use vp_answer::Request;
-use vp_hub::{Desk, Hub, Opens, Pass};
+use vp_hub::{Desk, Hub, NamesOpening, Pass};
 use vp_list::Text;
 use vp_world::World;
 
 /// The numbers of the refusal of an opening by another token than Ann's.
-fn opening<L: Opens, R: Wait>(rt: &R, hub: &Hub<L>, alloc: Global) -> Option<(u32, u32)> {
+fn opening<L: NamesOpening, R: Wait>(rt: &R, hub: &Hub<L>, alloc: Global) -> Option<(u32, u32)> {
     let user = Text::copy(alloc, "ann").ok()?;
     let token = Text::copy(alloc, "no").ok()?;
     Some(refusal_of(hub.open(rt, user, token)))
 }
 
 /// A session is closed: its pass, and the numbers of the refusal of a call after that.
-fn calling<L: Opens, R: Wait>(
+fn calling<L: NamesOpening, R: Wait>(
     rt: &R,
     hub: &Hub<L>,
     alloc: Global,
@@ -32,7 +32,7 @@ fn calling<L: Opens, R: Wait>(
 }
 
 /// The numbers of the refusal of a hub's end with one of its two passes.
-fn closing<L: Opens, R: Wait>(
+fn closing<L: NamesOpening, R: Wait>(
     rt: &R,
     hub: Hub<L>,
     alloc: Global,
@@ -46,7 +46,7 @@ fn closing<L: Opens, R: Wait>(
 }
 
 /// The numbers of these three refusals.
-fn refusals_of<L: Opens, R: Wait>(
+fn refusals_of<L: NamesOpening, R: Wait>(
     rt: &R,
     alloc: Global,
     blank: Blank,

@@ -13,7 +13,7 @@ use std::thread::Threads;
 use std::time::{Clock, Duration};
 use vp_answer::Request;
 use vp_bits::Bits;
-use vp_hub::{Desk, Hub, Opens, Pass, Ran, Worked};
+use vp_hub::{Desk, Hub, NamesOpening, Pass, Ran, Worked};
 use vp_race::{Gate, OpenGate};
 use vp_world::World;
 
@@ -67,13 +67,13 @@ fn held_gate<R: Clock>(clock: R) -> HeldGate<R> {
 
 /// A hub, and the gate of its first search.
 #[derive(Drop)]
-struct HeldSearch<L: Opens, R> {
+struct HeldSearch<L: NamesOpening, R> {
     hub: Hub<L>,
     gate: HeldGate<R>,
 }
 
 /// In the first turn of a gate, and again in its second, a session reads that `a` is 1.
-fn read_in_turns<L: Opens, R: Wait + Clock>(
+fn read_in_turns<L: NamesOpening, R: Wait + Clock>(
     rt: &R,
     search: &HeldSearch<L, R>,
     pass: Pass<L>,
@@ -95,7 +95,7 @@ fn read_in_turns<L: Opens, R: Wait + Clock>(
 }
 
 /// What a job comes to whose search is held while a session reads.
-fn first_job<L: Opens + Send + Sync, R: Threads + Wait + Clock + Copy + Send + Sync>(
+fn first_job<L: NamesOpening + Send + Sync, R: Threads + Wait + Clock + Copy + Send + Sync>(
     rt: &R,
     search: &HeldSearch<L, R>,
     pass: Pass<L>,
@@ -112,14 +112,14 @@ fn first_job<L: Opens + Send + Sync, R: Threads + Wait + Clock + Copy + Send + S
 }
 
 /// Ann has a session with a handle of `a`, and lets the design run until 10.
-fn begin<L: Opens, R: Wait>(rt: &R, hub: &Hub<L>, alloc: Global) -> Option<Pass<L>> {
+fn begin<L: NamesOpening, R: Wait>(rt: &R, hub: &Hub<L>, alloc: Global) -> Option<Pass<L>> {
     let pass = open(rt, hub, alloc, "ann", "t1")?;
     let pass = find(rt, hub, alloc, pass, "top.a")?;
     order(rt, hub, pass, Request::Run { until: 10 })
 }
 
 /// How far the design runs by at most 100 events, and what three jobs come to.
-fn work<L: Opens + Send + Sync, R: Threads + Wait + Clock + Copy + Send + Sync>(
+fn work<L: NamesOpening + Send + Sync, R: Threads + Wait + Clock + Copy + Send + Sync>(
     rt: &R,
     search: &HeldSearch<L, R>,
     alloc: Global,
@@ -134,7 +134,7 @@ fn work<L: Opens + Send + Sync, R: Threads + Wait + Clock + Copy + Send + Sync>(
 }
 
 /// The same in a hub of a world, which is closed then.
-fn work_of<L: Opens + Send + Sync, R: Threads + Wait + Clock + Copy + Send + Sync>(
+fn work_of<L: NamesOpening + Send + Sync, R: Threads + Wait + Clock + Copy + Send + Sync>(
     rt: &R,
     alloc: Global,
     blank: Blank,

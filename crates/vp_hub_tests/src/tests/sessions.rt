@@ -14,9 +14,9 @@ use std::time::Clock;
 use vp_answer::{Reply, Request, SessionId};
 use vp_bits::Bits;
 use vp_elab::ObjectId;
-use vp_hub::{Closed, Desk, Hub, Opens, Pass};
+use vp_hub::{Closed, Desk, Hub, NamesOpening, Pass};
 use vp_vpi::PutValue;
-use vp_world::{Entry, Happening, World};
+use vp_world::{Entry, LoggedEvent, World};
 
 /// The log holds so many entries.
 const ENTRIES: u32 = 16_384;
@@ -26,7 +26,7 @@ const CLOCK: ObjectId = ObjectId(1);
 
 /// A session's pass, and what it read, in order.
 #[derive(Drop)]
-struct Readings<L: Opens> {
+struct Readings<L: NamesOpening> {
     pass: Pass<L>,
     values: Vec<Bits>,
 }
@@ -40,7 +40,7 @@ struct Ended {
 }
 
 /// A session gives `c` a value, lets the design run as far as it may, rests, and reads `c`.
-fn turn<L: Opens, R: Wait + Clock>(
+fn turn<L: NamesOpening, R: Wait + Clock>(
     rt: &R,
     hub: &Hub<L>,
     alloc: Global,
@@ -54,7 +54,7 @@ fn turn<L: Opens, R: Wait + Clock>(
 }
 
 /// A session does so 100 times, with two values by turns.
-fn turns<L: Opens, R: Wait + Clock>(
+fn turns<L: NamesOpening, R: Wait + Clock>(
     rt: &R,
     hub: &Hub<L>,
     alloc: Global,
@@ -72,13 +72,13 @@ fn turns<L: Opens, R: Wait + Clock>(
 }
 
 /// Ann has a session with a handle of `c`.
-fn begin<L: Opens, R: Wait>(rt: &R, hub: &Hub<L>, alloc: Global) -> Option<Pass<L>> {
+fn begin<L: NamesOpening, R: Wait>(rt: &R, hub: &Hub<L>, alloc: Global) -> Option<Pass<L>> {
     let pass = open(rt, hub, alloc, "ann", "t1")?;
     find(rt, hub, alloc, pass, "top.c")
 }
 
 /// What each of two sessions on two threads reads. None gives `c` the value 1, which the design gives it at time 5.
-fn beside<L: Opens + Send + Sync, R: Threads + Wait + Clock + Sync>(
+fn beside<L: NamesOpening + Send + Sync, R: Threads + Wait + Clock + Sync>(
     rt: &R,
     stage: &Stage<L>,
     first: Pass<L>,
@@ -99,7 +99,7 @@ fn beside<L: Opens + Send + Sync, R: Threads + Wait + Clock + Sync>(
 }
 
 /// The same of two sessions of Ann, of which the first lets the design run until 10.
-fn of_ann<L: Opens + Send + Sync, R: Threads + Wait + Clock + Sync>(
+fn of_ann<L: NamesOpening + Send + Sync, R: Threads + Wait + Clock + Sync>(
     rt: &R,
     stage: &Stage<L>,
 ) -> Option<(Readings<L>, Readings<L>)> {
@@ -111,7 +111,7 @@ fn of_ann<L: Opens + Send + Sync, R: Threads + Wait + Clock + Sync>(
 }
 
 /// What is left of a hub after them.
-fn end<L: Opens>(
+fn end<L: NamesOpening>(
     hub: Hub<L>,
     alloc: Global,
     first: Readings<L>,
@@ -130,7 +130,7 @@ fn end<L: Opens>(
 }
 
 /// The same of a hub of a world.
-fn end_anew_of<L: Opens + Send + Sync, R: Threads + Wait + Clock + Sync>(
+fn end_anew_of<L: NamesOpening + Send + Sync, R: Threads + Wait + Clock + Sync>(
     rt: &R,
     alloc: Global,
     blank: Blank,
@@ -170,8 +170,10 @@ fn value_put(request: &Request) -> Option<Bits> {
 /// The value that `c` is given by an entry: of a put, or of a change by the design.
 fn value_given(entry: &Entry) -> Option<Bits> {
     match &entry.happening {
-        Happening::Ask { asked, .. } | Happening::Put { asked, .. } => value_put(&asked.request),
-        Happening::StepWithChange { change, .. } if change.object == CLOCK => Some(change.value),
+        LoggedEvent::Ask { asked, .. } | LoggedEvent::Put { asked, .. } => value_put(
+            &asked.request,
+        ),
+        LoggedEvent::StepWithChange { change, .. } if change.object == CLOCK => Some(change.value),
         _ => None,
     }
 }
@@ -179,7 +181,7 @@ fn value_given(entry: &Entry) -> Option<Bits> {
 /// The value that an entry tells a session, if it asked for one there.
 fn value_told(entry: &Entry, session: SessionId) -> Option<Bits> {
     match &entry.happening {
-        Happening::Ask {
+        LoggedEvent::Ask {
             asked,
             reply: Reply::Value(bits),
         } if asked.session == session => Some(*bits),
@@ -208,8 +210,8 @@ fn is_changed_by_design(log: &[Entry]) -> bool {
     let mut is_put = false;
     for entry in log {
         match &entry.happening {
-            Happening::Put { .. } => is_put = true,
-            Happening::StepWithChange { change, .. } if is_put && change.object == CLOCK => {
+            LoggedEvent::Put { .. } => is_put = true,
+            LoggedEvent::StepWithChange { change, .. } if is_put && change.object == CLOCK => {
                 return true;
             }
             _ => {}
@@ -221,12 +223,12 @@ fn is_changed_by_design(log: &[Entry]) -> bool {
 /// An entry is of a session.
 fn is_own(entry: &Entry, session: SessionId) -> bool {
     match &entry.happening {
-        Happening::Open {
+        LoggedEvent::Open {
             session: opened,
             ..
         } => *opened == session,
-        Happening::Close { session: closed } => *closed == session,
-        Happening::Ask { asked, .. } | Happening::Put { asked, .. } => asked.session == session,
+        LoggedEvent::Close { session: closed } => *closed == session,
+        LoggedEvent::Ask { asked, .. } | LoggedEvent::Put { asked, .. } => asked.session == session,
         _ => false,
     }
 }

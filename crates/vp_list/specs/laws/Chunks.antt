@@ -46,10 +46,10 @@ with_front xs zs ys k l =
 with_back : {X : Type 0} (xs zs ys : List X) (k n : ℕ) → n ≡ length xs + k
     → with_items (xs ++ zs) n ys ≡ xs ++ with_items zs k ys
 with_back xs zs ys k n at =
-    let behind : n + length ys ≡ length xs + (k + length ys) = omega arith in
+    let following : n + length ys ≡ length xs + (k + length ys) = omega arith in
     ap (λ m. take m (xs ++ zs) ++ (ys ++ drop (n + length ys) (xs ++ zs))) at
     ∙ ap (λ front. front ++ (ys ++ drop (n + length ys) (xs ++ zs))) (take-append-add xs zs k)
-    ∙ ap (λ m. (xs ++ take k zs) ++ (ys ++ drop m (xs ++ zs))) behind
+    ∙ ap (λ m. (xs ++ take k zs) ++ (ys ++ drop m (xs ++ zs))) following
     ∙ ap (λ back. (xs ++ take k zs) ++ (ys ++ back)) (drop-append-add xs zs (k + length ys))
     ∙ append_assoc xs (take k zs) (ys ++ drop (k + length ys) zs)
 

@@ -9,7 +9,7 @@ use Rattle.std.proofs.lemmas.Option.{slice_get_past}
 use Rattle.vp_list.specs.Chunks.{with_items}
 use Rattle.vp_list.specs.Exchanges.{AreExchanges, Fits, covered, exchanged_from, exchanged_in, exchanged_item, taken_in}
 use Rattle.vp_list.specs.laws.Chunks.{length_with}
-use Rattle.vp_list.specs.laws.Tracked.{get_before, get_behind, get_drop, get_other, get_same, get_take, get_with, same_items}
+use Rattle.vp_list.specs.laws.Tracked.{get_before, get_after, get_drop, get_other, get_same, get_take, get_with, same_items}
 
 -- a list with exchanges is as long as without them
 length_from : {X : Type 0} (es : List (Option (ℕ × List X))) (p : ℕ) (xs : List X) → length (exchanged_from es p xs) ≡ length xs
@@ -82,7 +82,7 @@ put_other xs ys n k there long other =
         | inl near ↦ absurd (other (omega (arith, rest, less, h, near)))
         | inr far ↦
             elim (cases_lt k (length xs)) [
-              | inl within ↦ get_behind xs ys (64 * n) k (omega arith) (omega (arith, far))
+              | inl within ↦ get_after xs ys (64 * n) k (omega arith) (omega (arith, far))
               | inr past ↦
                   slice_get_past (with_items xs (64 * n) ys) k (omega (arith, length_with xs ys (64 * n) (omega arith), past)) ∙ sym (slice_get_past xs k past)
             ]

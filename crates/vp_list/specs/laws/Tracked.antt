@@ -70,18 +70,18 @@ get_before xs ys p k l h =
     get_front (take p xs) (ys ++ drop (p + length ys) xs) k (omega (arith, front)) ∙ get_take p xs k h
 
 -- and after them
-pub get_behind : {X : Type 0} (xs ys : List X) (p k : ℕ) → p + length ys ≤ length xs → p + length ys ≤ k
+pub get_after : {X : Type 0} (xs ys : List X) (p k : ℕ) → p + length ys ≤ length xs → p + length ys ≤ k
     → slice_get (with_items xs p ys) k ≡ slice_get xs k
-get_behind xs ys p k l h =
+get_after xs ys p k l h =
     let front = length-take-le p xs (omega arith) in
-    let behind = drop (p + length ys) xs in
+    let following = drop (p + length ys) xs in
     let n : k ≡ length (take p xs) + (k - p) = omega (arith, front) in
     let m : k - p ≡ length ys + (k - (p + length ys)) = omega arith in
     let e : p + length ys + (k - (p + length ys)) ≡ k = omega arith in
     ap (slice_get (with_items xs p ys)) n
-    ∙ get_back (take p xs) (ys ++ behind) (k - p)
-    ∙ ap (slice_get (ys ++ behind)) m
-    ∙ get_back ys behind (k - (p + length ys))
+    ∙ get_back (take p xs) (ys ++ following) (k - p)
+    ∙ ap (slice_get (ys ++ following)) m
+    ∙ get_back ys following (k - (p + length ys))
     ∙ get_drop (p + length ys) xs (k - (p + length ys))
     ∙ ap (slice_get xs) e
 
@@ -137,7 +137,7 @@ own_taken copy items new number k same there e own =
           ∙ get_chunk items number k own h
       | inr h ↦
           ap (λ xs. slice_get xs k) e
-          ∙ get_behind copy (chunk_of items number) (64 * number) k (omega (arith, long)) (omega (arith, long, rest))
+          ∙ get_after copy (chunk_of items number) (64 * number) k (omega (arith, long)) (omega (arith, long, rest))
           ∙ slice_get_past copy k (omega arith) ∙ sym (slice_get_past items k h)
     ]
 
@@ -154,7 +154,7 @@ others_taken copy items new number k same there e other =
         | inl near ↦ absurd (other (omega (arith, rest, less, h, near)))
         | inr far ↦
             ap (λ xs. slice_get xs k) e
-            ∙ get_behind copy (chunk_of items number) (64 * number) k (omega (arith, long)) (omega (arith, long, far))
+            ∙ get_after copy (chunk_of items number) (64 * number) k (omega (arith, long)) (omega (arith, long, far))
       ]
     ]
 

@@ -161,9 +161,9 @@ sized_not_bare (Number place value) rest h = absurd cc
 sized_not_bare (Sized place size kind digits) rest h = ne_eqb _ _ (λ e. omega arith)
 sized_not_bare (Binary o a place b) rest h = longer_not_bare (expr_text a (before (symbol.Punctuator (binary_sign o)) place (expr_text b rest))) rest (let h = expr_longer a (before (symbol.Punctuator (binary_sign o)) place (expr_text b rest)) in let k = expr_longer b rest in omega arith)
 sized_not_bare (Conditional c question a colon b) rest h =
-    let behind = before (symbol.Punctuator punctuator.Colon) colon (expr_text b rest) in
-    longer_not_bare (expr_text c (before (symbol.Punctuator punctuator.Conditional) question (expr_text a behind))) rest
-    (let h = expr_longer c (before (symbol.Punctuator punctuator.Conditional) question (expr_text a behind)) in let k = expr_longer a behind in let l = expr_longer b rest in omega arith)
+    let following = before (symbol.Punctuator punctuator.Colon) colon (expr_text b rest) in
+    longer_not_bare (expr_text c (before (symbol.Punctuator punctuator.Conditional) question (expr_text a following))) rest
+    (let h = expr_longer c (before (symbol.Punctuator punctuator.Conditional) question (expr_text a following)) in let k = expr_longer a following in let l = expr_longer b rest in omega arith)
 sized_not_bare (Name place s) rest h = refl
 sized_not_bare (Group opening e closing) rest h = refl
 sized_not_bare (Unary o place e) rest h = refl

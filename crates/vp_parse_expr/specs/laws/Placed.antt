@@ -13,7 +13,7 @@ use Rattle.vp_source.specs.declared.symbol.SymbolKind.TheVariants as symbol
 use Rattle.vp_source.specs.declared.symbol.TheConstants.{NUMBER_LIMIT}
 use Rattle.vp_source.specs.Kinds.{same_kind}
 use Rattle.vp_source.specs.Operators.{unary_of, level, binds}
-use Rattle.vp_parse_expr.specs.Stopping.{Stop, ◌>>=◌, Reader, refused, is_next, terminal, behind}
+use Rattle.vp_parse_expr.specs.Stopping.{Stop, ◌>>=◌, Reader, refused, is_next, terminal, following}
 use Rattle.vp_source.specs.ExprGrammar.{Range, Expr, Selection, Parts, First, expr_depth, selection_depth, parts_depth}
 use Rattle.vp_source.specs.ExprLayout.{put_range, put_expr, put_selection, put_parts}
 use Rattle.vp_parse_expr.specs.Reading.{is_base_next, is_number_before, is_part, is_bare, bound_by, bound_at, range_at, is_size_of, sized_at, number_at, literal_by, literal_at, bit_at, part_select_at, select_at, name_at, group_at, unary_at, part_at, further_part_at, further_parts_at, parts_at, concatenation_at, replication_at, braces_at, operand_by, operand_at, on_operator, binary_at, more_at, conditional_at, is_choice, choice_at, chain_at, expr_at}
@@ -55,10 +55,10 @@ on_seen k (Some o) f g x y h e = h o
 abbrev pub left : ℕ × List Symbol → List Symbol
 left x = x.1
 
-pub behind_seen : (kind : SymbolKind) (ts : List Symbol) → behind kind ts ≡ seen left (terminal kind ts)
-unfolding behind terminal
-behind_seen kind [] = refl
-behind_seen kind (s ∷ ts) = if_seen left (same_kind kind s.kind) (Ok ts) (refused (s ∷ ts)) (Ok (s.place, ts)) (refused (s ∷ ts)) refl refl
+pub after_seen : (kind : SymbolKind) (ts : List Symbol) → following kind ts ≡ seen left (terminal kind ts)
+unfolding following terminal
+after_seen kind [] = refl
+after_seen kind (s ∷ ts) = if_seen left (same_kind kind s.kind) (Ok ts) (refused (s ∷ ts)) (Ok (s.place, ts)) (refused (s ∷ ts)) refl refl
 
 -- an expression's place, its depth, the list with it, and what is left
 abbrev pub made : List node.Expression → Expr × List Symbol → Made
@@ -107,11 +107,11 @@ range_seen ts =
     let left_kind = symbol.Punctuator punctuator.LeftBracket in
     let colon_kind = symbol.Punctuator punctuator.Colon in
     let right_kind = symbol.Punctuator punctuator.RightBracket in
-    bind_seen left made_range (behind left_kind ts) (terminal left_kind ts) _ _ (behind_seen left_kind ts)
+    bind_seen left made_range (following left_kind ts) (terminal left_kind ts) _ _ (after_seen left_kind ts)
     (λ o. bind_seen valued made_range (bound_into 65535 o.1) (bound_at 65535 o.1) _ _ (bound_seen 65535 o.1)
-    (λ m. bind_seen left made_range (behind colon_kind m.2) (terminal colon_kind m.2) _ _ (behind_seen colon_kind m.2)
+    (λ m. bind_seen left made_range (following colon_kind m.2) (terminal colon_kind m.2) _ _ (after_seen colon_kind m.2)
     (λ c. bind_seen valued made_range (bound_into m.0 c.1) (bound_at m.0 c.1) _ _ (bound_seen m.0 c.1)
-    (λ l. bind_seen left made_range (behind right_kind l.2) (terminal right_kind l.2) _ _ (behind_seen right_kind l.2)
+    (λ l. bind_seen left made_range (following right_kind l.2) (terminal right_kind l.2) _ _ (after_seen right_kind l.2)
     (λ z. refl)))))
 
 -- ---- literals and selections
@@ -142,9 +142,9 @@ unfolding bit_into bit_at
 bit_seen placer reader places nodes ts =
     let left_kind = symbol.Punctuator punctuator.LeftBracket in
     let right_kind = symbol.Punctuator punctuator.RightBracket in
-    bind_seen left (made_selection nodes) (behind left_kind ts) (terminal left_kind ts) _ _ (behind_seen left_kind ts)
+    bind_seen left (made_selection nodes) (following left_kind ts) (terminal left_kind ts) _ _ (after_seen left_kind ts)
     (λ o. bind_seen (made nodes) (made_selection nodes) (placer nodes o.1) (reader o.1) _ _ (places nodes o.1)
-    (λ v. bind_seen left (made_selection nodes) (behind right_kind v.1) (terminal right_kind v.1) _ _ (behind_seen right_kind v.1)
+    (λ v. bind_seen left (made_selection nodes) (following right_kind v.1) (terminal right_kind v.1) _ _ (after_seen right_kind v.1)
     (λ z. refl)))
 
 part_select_seen : Selects part_select_into part_select_at
@@ -179,7 +179,7 @@ module _ (placer : ℕ → Placer) (reader : ℕ → Reader Expr) (places : (lea
   group_seen opening nodes ts =
       let right_kind = symbol.Punctuator punctuator.RightParenthesis in
       bind_seen (made nodes) (made nodes) (placer 0 nodes ts) (reader 0 ts) _ _ (places 0 nodes ts)
-      (λ v. bind_seen left (made nodes) (behind right_kind v.1) (terminal right_kind v.1) _ _ (behind_seen right_kind v.1) (λ z. refl))
+      (λ v. bind_seen left (made nodes) (following right_kind v.1) (terminal right_kind v.1) _ _ (after_seen right_kind v.1) (λ z. refl))
 
   unary_seen : (p : Option UnaryOperator) (place : ℕ) → Places (unary_into placer p place) (unary_at reader p place)
   unfolding unary_into unary_at
@@ -197,7 +197,7 @@ module _ (placer : ℕ → Placer) (reader : ℕ → Reader Expr) (places : (lea
   further_part_seen brace l nodes ts =
       let comma_kind = symbol.Punctuator punctuator.Comma in
       let x = put_parts brace l nodes in
-      bind_seen left (made_parts brace nodes) (behind comma_kind ts) (terminal comma_kind ts) _ _ (behind_seen comma_kind ts)
+      bind_seen left (made_parts brace nodes) (following comma_kind ts) (terminal comma_kind ts) _ _ (after_seen comma_kind ts)
       (λ c. bind_seen (made x.1) (made_parts brace nodes) (part_into placer x.1 c.1) (part_at reader c.1) _ _ (part_seen x.1 c.1) (λ p. refl))
 
   further_parts_seen : (m brace : ℕ) (l : Parts) (nodes : List node.Expression) (ts : List Symbol) → further_parts_into placer m brace (put_parts brace l nodes).0 (parts_depth l) (put_parts brace l nodes).1 ts ≡ seen (made_parts brace nodes) (further_parts_at reader m l ts)
@@ -225,7 +225,7 @@ module _ (placer : ℕ → Placer) (reader : ℕ → Reader Expr) (places : (lea
   concatenation_seen opening nodes ts =
       let right_kind = symbol.Punctuator punctuator.RightBrace in
       bind_seen (made_parts opening nodes) (made nodes) (parts_into placer opening nodes ts) (parts_at reader ts) _ _ (parts_seen opening nodes ts)
-      (λ l. bind_seen left (made nodes) (behind right_kind l.1) (terminal right_kind l.1) _ _ (behind_seen right_kind l.1) (λ z. refl))
+      (λ l. bind_seen left (made nodes) (following right_kind l.1) (terminal right_kind l.1) _ _ (after_seen right_kind l.1) (λ z. refl))
 
   replication_seen : (opening : ℕ) → Places (replication_into placer opening) (replication_at reader opening)
   unfolding replication_into concatenation_into replication_at
@@ -236,9 +236,9 @@ module _ (placer : ℕ → Placer) (reader : ℕ → Reader Expr) (places : (lea
       (λ n. bind_seen (λ (x : ℕ × List Symbol). x) (made nodes) (terminal left_kind n.2) (terminal left_kind n.2) _ _ (all_seen (terminal left_kind n.2))
       (λ i. bind_twice (parts_into placer i.0 nodes i.1) _ _
       ∙ bind_seen (made_parts i.0 nodes) (made nodes) (parts_into placer i.0 nodes i.1) (parts_at reader i.1) _ _ (parts_seen i.0 nodes i.1)
-      (λ l. bind_twice (behind right_kind l.1) _ _
-      ∙ bind_seen left (made nodes) (behind right_kind l.1) (terminal right_kind l.1) _ _ (behind_seen right_kind l.1)
-      (λ y. bind_seen left (made nodes) (behind right_kind y.1) (terminal right_kind y.1) _ _ (behind_seen right_kind y.1) (λ z. refl)))))
+      (λ l. bind_twice (following right_kind l.1) _ _
+      ∙ bind_seen left (made nodes) (following right_kind l.1) (terminal right_kind l.1) _ _ (after_seen right_kind l.1)
+      (λ y. bind_seen left (made nodes) (following right_kind y.1) (terminal right_kind y.1) _ _ (after_seen right_kind y.1) (λ z. refl)))))
 
   braces_seen : (opening : ℕ) → Places (braces_into placer opening) (braces_at reader opening)
   unfolding braces_into braces_at
@@ -287,9 +287,9 @@ module _ (placer : ℕ → Placer) (reader : ℕ → Reader Expr) (places : (lea
         let question_kind = symbol.Punctuator punctuator.Conditional in
         let colon_kind = symbol.Punctuator punctuator.Colon in
         if_seen (made nodes) (nat_le (expr_depth c) limit) _ _ _ _
-        (bind_seen left (made nodes) (behind question_kind ts) (terminal question_kind ts) _ _ (behind_seen question_kind ts)
+        (bind_seen left (made nodes) (following question_kind ts) (terminal question_kind ts) _ _ (after_seen question_kind ts)
         (λ q. bind_seen (made x.1) (made nodes) (placer 0 x.1 q.1) (reader 0 q.1) _ _ (places 0 x.1 q.1)
-        (λ a. bind_seen left (made nodes) (behind colon_kind a.1) (terminal colon_kind a.1) _ _ (behind_seen colon_kind a.1)
+        (λ a. bind_seen left (made nodes) (following colon_kind a.1) (terminal colon_kind a.1) _ _ (after_seen colon_kind a.1)
         (λ z. bind_seen (made (put_expr a.0 x.1).1) (made nodes) (placer 0 (put_expr a.0 x.1).1 z.1) (reader 0 z.1) _ _ (places 0 (put_expr a.0 x.1).1 z.1)
         (λ b. refl)))))
         refl

@@ -15,57 +15,57 @@ use Rattle.vp_parse_expr.specs.Reading.{is_number_before, is_part, is_bare, boun
 use Rattle.vp_parse_expr.specs.laws.Takes.{le_of}
 
 -- the first met the limit, or both are the same
-abbrev pub OrDeep : {A : Type 0} → Result A Stop → Result A Stop → Type 0
-OrDeep (Err (TooDeep n)) s = Unit {0}
-OrDeep r s = r ≡ s
+abbrev pub OrTooDeep : {A : Type 0} → Result A Stop → Result A Stop → Type 0
+OrTooDeep (Err (TooDeep n)) s = Unit {0}
+OrTooDeep r s = r ≡ s
 
-pub OrDeep-same : {A : Type 0} (r : Result A Stop) → OrDeep r r
-OrDeep-same (Err (TooDeep n)) = tt
-OrDeep-same (Err (Unexpected n)) = refl
-OrDeep-same (Ok x) = refl
+pub OrTooDeep-same : {A : Type 0} (r : Result A Stop) → OrTooDeep r r
+OrTooDeep-same (Err (TooDeep n)) = tt
+OrTooDeep-same (Err (Unexpected n)) = refl
+OrTooDeep-same (Ok x) = refl
 
-pub OrDeep-bind : {A B : Type 0} (r s : Result A Stop) (f g : A → Result B Stop) → OrDeep r s → ((x : A) → OrDeep (f x) (g x)) → OrDeep (r >>= f) (s >>= g)
-OrDeep-bind (Err (TooDeep n)) s f g h k = tt
-OrDeep-bind {A} {B} (Err (Unexpected n)) s f g h k = ap (λ (r : Result A Stop). r >>= g) h
-OrDeep-bind {A} {B} (Ok x) s f g h k = subst (λ (r : Result A Stop). OrDeep (f x) (r >>= g)) h (k x)
+pub OrTooDeep-bind : {A B : Type 0} (r s : Result A Stop) (f g : A → Result B Stop) → OrTooDeep r s → ((x : A) → OrTooDeep (f x) (g x)) → OrTooDeep (r >>= f) (s >>= g)
+OrTooDeep-bind (Err (TooDeep n)) s f g h k = tt
+OrTooDeep-bind {A} {B} (Err (Unexpected n)) s f g h k = ap (λ (r : Result A Stop). r >>= g) h
+OrTooDeep-bind {A} {B} (Ok x) s f g h k = subst (λ (r : Result A Stop). OrTooDeep (f x) (r >>= g)) h (k x)
 
 -- the same step before both
-pub OrDeep-then : {A B : Type 0} (r : Result A Stop) (f g : A → Result B Stop) → ((x : A) → OrDeep (f x) (g x)) → OrDeep (r >>= f) (r >>= g)
-OrDeep-then r f g k = OrDeep-bind r r f g (OrDeep-same r) k
+pub OrTooDeep-then : {A B : Type 0} (r : Result A Stop) (f g : A → Result B Stop) → ((x : A) → OrTooDeep (f x) (g x)) → OrTooDeep (r >>= f) (r >>= g)
+OrTooDeep-then r f g k = OrTooDeep-bind r r f g (OrTooDeep-same r) k
 
-pub OrDeep-if : {A : Type 0} (b : Bool) (x y u v : Result A Stop) → OrDeep x u → OrDeep y v → OrDeep (cond b x y) (cond b u v)
-OrDeep-if true x y u v h k = h
-OrDeep-if false x y u v h k = k
+pub OrTooDeep-if : {A : Type 0} (b : Bool) (x y u v : Result A Stop) → OrTooDeep x u → OrTooDeep y v → OrTooDeep (cond b x y) (cond b u v)
+OrTooDeep-if true x y u v h k = h
+OrTooDeep-if false x y u v h k = k
 
 -- a test of depth that a higher limit passes too
-OrDeep-limit : {A : Type 0} (b c : Bool) (x u : Result A Stop) (n m : ℕ) → (b ≡ true → c ≡ true) → OrDeep x u → OrDeep (cond b x (Err (TooDeep n))) (cond c u (Err (TooDeep m)))
-OrDeep-limit false c x u n m h k = tt
-OrDeep-limit true true x u n m h k = k
-OrDeep-limit true false x u n m h k = let e = h refl in absurd cc
+OrTooDeep-limit : {A : Type 0} (b c : Bool) (x u : Result A Stop) (n m : ℕ) → (b ≡ true → c ≡ true) → OrTooDeep x u → OrTooDeep (cond b x (Err (TooDeep n))) (cond c u (Err (TooDeep m)))
+OrTooDeep-limit false c x u n m h k = tt
+OrTooDeep-limit true true x u n m h k = k
+OrTooDeep-limit true false x u n m h k = let e = h refl in absurd cc
 
-OrDeep-on : {A : Type 0} (p : Option BinaryOperator) (f g : BinaryOperator → Result A Stop) (x : Result A Stop) → ((o : BinaryOperator) → OrDeep (f o) (g o)) → OrDeep (on_operator p f x) (on_operator p g x)
-OrDeep-on None f g x h = OrDeep-same x
-OrDeep-on (Some o) f g x h = h o
+OrTooDeep-on : {A : Type 0} (p : Option BinaryOperator) (f g : BinaryOperator → Result A Stop) (x : Result A Stop) → ((o : BinaryOperator) → OrTooDeep (f o) (g o)) → OrTooDeep (on_operator p f x) (on_operator p g x)
+OrTooDeep-on None f g x h = OrTooDeep-same x
+OrTooDeep-on (Some o) f g x h = h o
 
 -- one reader's answer is the other's, unless it met the limit
 abbrev pub Below : {A : Type 0} → Reader A → Reader A → Type 0
-Below low high = (ts : List Symbol) → OrDeep (low ts) (high ts)
+Below low high = (ts : List Symbol) → OrTooDeep (low ts) (high ts)
 
 -- ---- selections
 
 bit_raise : (low high : Reader Expr) → Below low high → Below (bit_at low) (bit_at high)
 unfolding bit_at
 bit_raise low high below ts =
-    OrDeep-then (terminal (symbol.Punctuator punctuator.LeftBracket) ts) _ _
-    (λ o. OrDeep-bind (low o.1) (high o.1) _ _ (below o.1)
-    (λ v. OrDeep-same (terminal (symbol.Punctuator punctuator.RightBracket) v.1 >>= λ z. Ok (Bit o.0 v.0 z.0, z.1))))
+    OrTooDeep-then (terminal (symbol.Punctuator punctuator.LeftBracket) ts) _ _
+    (λ o. OrTooDeep-bind (low o.1) (high o.1) _ _ (below o.1)
+    (λ v. OrTooDeep-same (terminal (symbol.Punctuator punctuator.RightBracket) v.1 >>= λ z. Ok (Bit o.0 v.0 z.0, z.1))))
 
 -- a selection with a higher limit of its index
 pub select_raise : (low high : Reader Expr) → Below low high → Below (select_at low) (select_at high)
 unfolding select_at
 select_raise low high below ts =
-    OrDeep-if (is_next (symbol.Punctuator punctuator.LeftBracket) ts) _ _ _ _
-    (OrDeep-if (is_part ts) _ _ _ _ (OrDeep-same (part_select_at ts)) (bit_raise low high below ts))
+    OrTooDeep-if (is_next (symbol.Punctuator punctuator.LeftBracket) ts) _ _ _ _
+    (OrTooDeep-if (is_part ts) _ _ _ _ (OrTooDeep-same (part_select_at ts)) (bit_raise low high below ts))
     refl
 
 -- ---- expressions
@@ -73,64 +73,64 @@ select_raise low high below ts =
 module _ (low high : ℕ → Reader Expr) (below : (least : ℕ) → Below (low least) (high least)) where
   name_raise : (place : ℕ) → Below (name_at low place) (name_at high place)
   unfolding name_at
-  name_raise place ts = OrDeep-bind (select_at (low 0) ts) (select_at (high 0) ts) _ _ (select_raise (low 0) (high 0) (below 0) ts) (λ s. refl)
+  name_raise place ts = OrTooDeep-bind (select_at (low 0) ts) (select_at (high 0) ts) _ _ (select_raise (low 0) (high 0) (below 0) ts) (λ s. refl)
 
   group_raise : (opening : ℕ) → Below (group_at low opening) (group_at high opening)
   unfolding group_at
   group_raise opening ts =
-      OrDeep-bind (low 0 ts) (high 0 ts) _ _ (below 0 ts)
-      (λ v. OrDeep-same (terminal (symbol.Punctuator punctuator.RightParenthesis) v.1 >>= λ z. Ok (Group opening v.0 z.0, z.1)))
+      OrTooDeep-bind (low 0 ts) (high 0 ts) _ _ (below 0 ts)
+      (λ v. OrTooDeep-same (terminal (symbol.Punctuator punctuator.RightParenthesis) v.1 >>= λ z. Ok (Group opening v.0 z.0, z.1)))
 
   unary_raise : (p : Option UnaryOperator) (place : ℕ) → Below (unary_at low p place) (unary_at high p place)
   unfolding unary_at
   unary_raise None place ts = refl
-  unary_raise (Some o) place ts = OrDeep-bind (low 11 ts) (high 11 ts) _ _ (below 11 ts) (λ v. refl)
+  unary_raise (Some o) place ts = OrTooDeep-bind (low 11 ts) (high 11 ts) _ _ (below 11 ts) (λ v. refl)
 
   part_raise : Below (part_at low) (part_at high)
   unfolding part_at
-  part_raise ts = OrDeep-bind (low 0 ts) (high 0 ts) _ _ (below 0 ts) (λ v. OrDeep-same (cond (is_bare ts v.1) (refused ts) (Ok v)))
+  part_raise ts = OrTooDeep-bind (low 0 ts) (high 0 ts) _ _ (below 0 ts) (λ v. OrTooDeep-same (cond (is_bare ts v.1) (refused ts) (Ok v)))
 
   further_part_raise : (l : Parts) → Below (further_part_at low l) (further_part_at high l)
   unfolding further_part_at
   further_part_raise l ts =
-      OrDeep-then (terminal (symbol.Punctuator punctuator.Comma) ts) _ _
-      (λ c. OrDeep-bind (part_at low c.1) (part_at high c.1) _ _ (part_raise c.1) (λ p. refl))
+      OrTooDeep-then (terminal (symbol.Punctuator punctuator.Comma) ts) _ _
+      (λ c. OrTooDeep-bind (part_at low c.1) (part_at high c.1) _ _ (part_raise c.1) (λ p. refl))
 
   further_parts_raise : (m : ℕ) (l : Parts) → Below (further_parts_at low m l) (further_parts_at high m l)
   unfolding further_parts_at
   further_parts_raise zero l ts = refl
   further_parts_raise (suc m) l ts =
-      OrDeep-if (is_next (symbol.Punctuator punctuator.Comma) ts) _ _ _ _
-      (OrDeep-bind (further_part_at low l ts) (further_part_at high l ts) _ _ (further_part_raise l ts) (λ p. further_parts_raise m p.0 p.1))
+      OrTooDeep-if (is_next (symbol.Punctuator punctuator.Comma) ts) _ _ _ _
+      (OrTooDeep-bind (further_part_at low l ts) (further_part_at high l ts) _ _ (further_part_raise l ts) (λ p. further_parts_raise m p.0 p.1))
       refl
 
   parts_raise : Below (parts_at low) (parts_at high)
   unfolding parts_at
-  parts_raise ts = OrDeep-bind (part_at low ts) (part_at high ts) _ _ (part_raise ts) (λ p. further_parts_raise (length p.1) (First p.0) p.1)
+  parts_raise ts = OrTooDeep-bind (part_at low ts) (part_at high ts) _ _ (part_raise ts) (λ p. further_parts_raise (length p.1) (First p.0) p.1)
 
   concatenation_raise : (opening : ℕ) → Below (concatenation_at low opening) (concatenation_at high opening)
   unfolding concatenation_at
   concatenation_raise opening ts =
-      OrDeep-bind (parts_at low ts) (parts_at high ts) _ _ (parts_raise ts)
-      (λ l. OrDeep-same (terminal (symbol.Punctuator punctuator.RightBrace) l.1 >>= λ z. Ok (Concatenation opening l.0 z.0, z.1)))
+      OrTooDeep-bind (parts_at low ts) (parts_at high ts) _ _ (parts_raise ts)
+      (λ l. OrTooDeep-same (terminal (symbol.Punctuator punctuator.RightBrace) l.1 >>= λ z. Ok (Concatenation opening l.0 z.0, z.1)))
 
   replication_raise : (opening : ℕ) → Below (replication_at low opening) (replication_at high opening)
   unfolding replication_at
   replication_raise opening ts =
-      OrDeep-then (bound_at (NUMBER_LIMIT - 1) ts) _ _
-      (λ n. OrDeep-then (terminal (symbol.Punctuator punctuator.LeftBrace) n.2) _ _
-      (λ i. OrDeep-bind (parts_at low i.1) (parts_at high i.1) _ _ (parts_raise i.1)
-      (λ l. OrDeep-same (terminal (symbol.Punctuator punctuator.RightBrace) l.1 >>= λ y. terminal (symbol.Punctuator punctuator.RightBrace) y.1 >>= λ z. Ok (Replication opening n.1 n.0 i.0 l.0 y.0 z.0, z.1)))))
+      OrTooDeep-then (bound_at (NUMBER_LIMIT - 1) ts) _ _
+      (λ n. OrTooDeep-then (terminal (symbol.Punctuator punctuator.LeftBrace) n.2) _ _
+      (λ i. OrTooDeep-bind (parts_at low i.1) (parts_at high i.1) _ _ (parts_raise i.1)
+      (λ l. OrTooDeep-same (terminal (symbol.Punctuator punctuator.RightBrace) l.1 >>= λ y. terminal (symbol.Punctuator punctuator.RightBrace) y.1 >>= λ z. Ok (Replication opening n.1 n.0 i.0 l.0 y.0 z.0, z.1)))))
 
   braces_raise : (opening : ℕ) → Below (braces_at low opening) (braces_at high opening)
   unfolding braces_at
   braces_raise opening ts =
-      OrDeep-if (is_number_before (symbol.Punctuator punctuator.LeftBrace) ts) _ _ _ _ (replication_raise opening ts) (concatenation_raise opening ts)
+      OrTooDeep-if (is_number_before (symbol.Punctuator punctuator.LeftBrace) ts) _ _ _ _ (replication_raise opening ts) (concatenation_raise opening ts)
 
   operand_by_raise : (kind : SymbolKind) (place : ℕ) → Below (operand_by low kind place) (operand_by high kind place)
   unfolding operand_by
   operand_by_raise symbol.Name place ts = name_raise place ts
-  operand_by_raise (symbol.Number value) place ts = OrDeep-same (number_at value place ts)
+  operand_by_raise (symbol.Number value) place ts = OrTooDeep-same (number_at value place ts)
   operand_by_raise symbol.ShortBase place ts = refl
   operand_by_raise (symbol.Punctuator punctuator.LeftParenthesis) place ts = group_raise place ts
   operand_by_raise (symbol.Punctuator punctuator.LeftBrace) place ts = braces_raise place ts
@@ -150,34 +150,34 @@ module _ (low high : ℕ → Reader Expr) (below : (least : ℕ) → Below (low 
     unfolding binary_at
     binary_raise o left [] = refl
     binary_raise o left (s ∷ ts) =
-        OrDeep-limit (nat_le (expr_depth left) d) (nat_le (expr_depth left) k) _ _ _ _ (fits_more (expr_depth left))
-        (OrDeep-bind (low (level o + 1) ts) (high (level o + 1) ts) _ _ (below (level o + 1) ts) (λ v. refl))
+        OrTooDeep-limit (nat_le (expr_depth left) d) (nat_le (expr_depth left) k) _ _ _ _ (fits_more (expr_depth left))
+        (OrTooDeep-bind (low (level o + 1) ts) (high (level o + 1) ts) _ _ (below (level o + 1) ts) (λ v. refl))
 
     more_raise : (m least : ℕ) (left : Expr) → Below (more_at low d m least left) (more_at high k m least left)
     unfolding more_at
     more_raise zero least left ts = refl
     more_raise (suc m) least left ts =
-        OrDeep-on (binds least ts) _ _ _
-        (λ o. OrDeep-bind (binary_at low d o left ts) (binary_at high k o left ts) _ _ (binary_raise o left ts) (λ x. more_raise m least x.0 x.1))
+        OrTooDeep-on (binds least ts) _ _ _
+        (λ o. OrTooDeep-bind (binary_at low d o left ts) (binary_at high k o left ts) _ _ (binary_raise o left ts) (λ x. more_raise m least x.0 x.1))
 
     conditional_raise : (c : Expr) → Below (conditional_at low d c) (conditional_at high k c)
     unfolding conditional_at
     conditional_raise c ts =
-        OrDeep-limit (nat_le (expr_depth c) d) (nat_le (expr_depth c) k) _ _ _ _ (fits_more (expr_depth c))
-        (OrDeep-then (terminal (symbol.Punctuator punctuator.Conditional) ts) _ _
-        (λ q. OrDeep-bind (low 0 q.1) (high 0 q.1) _ _ (below 0 q.1)
-        (λ a. OrDeep-then (terminal (symbol.Punctuator punctuator.Colon) a.1) _ _
-        (λ z. OrDeep-bind (low 0 z.1) (high 0 z.1) _ _ (below 0 z.1) (λ b. refl)))))
+        OrTooDeep-limit (nat_le (expr_depth c) d) (nat_le (expr_depth c) k) _ _ _ _ (fits_more (expr_depth c))
+        (OrTooDeep-then (terminal (symbol.Punctuator punctuator.Conditional) ts) _ _
+        (λ q. OrTooDeep-bind (low 0 q.1) (high 0 q.1) _ _ (below 0 q.1)
+        (λ a. OrTooDeep-then (terminal (symbol.Punctuator punctuator.Colon) a.1) _ _
+        (λ z. OrTooDeep-bind (low 0 z.1) (high 0 z.1) _ _ (below 0 z.1) (λ b. refl)))))
 
     choice_raise : (least : ℕ) (c : Expr) → Below (choice_at low d least c) (choice_at high k least c)
     unfolding choice_at
-    choice_raise least c ts = OrDeep-if (is_choice least ts) _ _ _ _ (conditional_raise c ts) refl
+    choice_raise least c ts = OrTooDeep-if (is_choice least ts) _ _ _ _ (conditional_raise c ts) refl
 
     chain_raise : (least : ℕ) → Below (chain_at low d least) (chain_at high k least)
     unfolding chain_at
     chain_raise least ts =
-        OrDeep-bind (operand_at low ts) (operand_at high ts) _ _ (operand_raise ts)
-        (λ x. OrDeep-bind (more_at low d (length x.1) least x.0 x.1) (more_at high k (length x.1) least x.0 x.1) _ _ (more_raise (length x.1) least x.0 x.1)
+        OrTooDeep-bind (operand_at low ts) (operand_at high ts) _ _ (operand_raise ts)
+        (λ x. OrTooDeep-bind (more_at low d (length x.1) least x.0 x.1) (more_at high k (length x.1) least x.0 x.1) _ _ (more_raise (length x.1) least x.0 x.1)
         (λ y. choice_raise least y.0 y.1))
 
 -- what a limit answers, each higher limit answers too, unless it was met

@@ -285,9 +285,9 @@ mutual
   expr_longer (Binary o a place b) rest =
       let h = expr_longer a (before (symbol.Punctuator (binary_sign o)) place (expr_text b rest)) in let k = expr_longer b rest in omega arith
   expr_longer (Conditional c question a colon b) rest =
-      let behind = before (symbol.Punctuator punctuator.Colon) colon (expr_text b rest) in
-      let h = expr_longer c (before (symbol.Punctuator punctuator.Conditional) question (expr_text a behind)) in
-      let k = expr_longer a behind in
+      let following = before (symbol.Punctuator punctuator.Colon) colon (expr_text b rest) in
+      let h = expr_longer c (before (symbol.Punctuator punctuator.Conditional) question (expr_text a following)) in
+      let k = expr_longer a following in
       let l = expr_longer b rest in
       omega arith
   expr_longer (Concatenation opening l closing) rest = let h = parts_longer l (before (symbol.Punctuator punctuator.RightBrace) closing rest) in omega arith

@@ -6,7 +6,7 @@ use Rattle.vp_source.specs.ExprGrammar.{Expr, expr_text, IsExpr, expr_depth}
 use Rattle.vp_parse_expr.specs.Reading.{expr_at}
 use Rattle.vp_parse_expr.specs.Meaning.{Stops}
 use Rattle.vp_parse_expr.specs.laws.Again.{expr_again}
-use Rattle.vp_parse_expr.specs.laws.Raise.{OrDeep, expr_raise}
+use Rattle.vp_parse_expr.specs.laws.Raise.{OrTooDeep, expr_raise}
 
 read_once : (x y : Expr × List Symbol) → ◌≡◌ {A = Result (Expr × List Symbol) Stop} (Ok x) (Ok y) → x ≡ y
 read_once x y h = cc
@@ -25,6 +25,6 @@ unexpected_none limit symbols left e rest refused is stops spelled =
     let high = limit + expr_depth e in
     let again = ap (expr_at high 0) spelled ∙ expr_again high 0 e rest is (omega arith) (omega arith) stops in
     let raised = expr_raise limit high (omega arith) 0 symbols in
-    let same : ◌≡◌ {A = Result (Expr × List Symbol) Stop} (Err (Unexpected left)) (expr_at high 0 symbols) = subst (λ (r : Result (Expr × List Symbol) Stop). OrDeep r (expr_at high 0 symbols)) refused raised in
+    let same : ◌≡◌ {A = Result (Expr × List Symbol) Stop} (Err (Unexpected left)) (expr_at high 0 symbols) = subst (λ (r : Result (Expr × List Symbol) Stop). OrTooDeep r (expr_at high 0 symbols)) refused raised in
     let off : ◌≡◌ {A = Result (Expr × List Symbol) Stop} (Err (Unexpected left)) (Ok (e, rest)) = same ∙ again in
     absurd cc

@@ -107,14 +107,14 @@ literal_within n [] le = le
 literal_within n (s ∷ ts) le = literal_by_within s.kind s.place n ts le
 
 -- a reader after a symbol leaves no more symbols than there are with that
-abbrev pub IsBehind : {A : Type 0} → Reader A → Type 0
-IsBehind r = (n : ℕ) (ts : List Symbol) → suc (length ts) ≤ n → Within n (r ts)
+abbrev pub IsAfter : {A : Type 0} → Reader A → Type 0
+IsAfter r = (n : ℕ) (ts : List Symbol) → suc (length ts) ≤ n → Within n (r ts)
 
-bit_within : (index : Reader Expr) → IsBehind index → IsWithin (bit_at index)
+bit_within : (index : Reader Expr) → IsAfter index → IsWithin (bit_at index)
 unfolding bit_at
-bit_within index behind n ts le =
+bit_within index following n ts le =
     Within-terminal n (symbol.Punctuator punctuator.LeftBracket) ts _ le
-    (λ o le. Within-bind n (index o.1) _ (behind n o.1 le)
+    (λ o le. Within-bind n (index o.1) _ (following n o.1 le)
     (λ v le. Within-bind n (terminal (symbol.Punctuator punctuator.RightBracket) v.1) _ (terminal_within (symbol.Punctuator punctuator.RightBracket) n v.1 le)
     (λ z le. le)))
 
@@ -122,34 +122,34 @@ part_select_within : IsWithin part_select_at
 unfolding part_select_at
 part_select_within n ts le = Within-bind n (range_at ts) _ (range_within n ts le) (λ r le. le)
 
-pub select_within : (index : Reader Expr) → IsBehind index → IsWithin (select_at index)
+pub select_within : (index : Reader Expr) → IsAfter index → IsWithin (select_at index)
 unfolding select_at
-select_within index behind n ts le =
-    Within-if n (is_next (symbol.Punctuator punctuator.LeftBracket) ts) _ _ (Within-if n (is_part ts) _ _ (part_select_within n ts le) (bit_within index behind n ts le)) le
+select_within index following n ts le =
+    Within-if n (is_next (symbol.Punctuator punctuator.LeftBracket) ts) _ _ (Within-if n (is_part ts) _ _ (part_select_within n ts le) (bit_within index following n ts le)) le
 
 -- ---- expressions
 
-module _ (d : ℕ) (next : ℕ → Reader Expr) (behind : (least : ℕ) → IsBehind (next least)) where
+module _ (d : ℕ) (next : ℕ → Reader Expr) (following : (least : ℕ) → IsAfter (next least)) where
   name_within : (place : ℕ) → IsWithin (name_at next place)
   unfolding name_at
-  name_within place n ts le = Within-bind n (select_at (next 0) ts) _ (select_within (next 0) (behind 0) n ts le) (λ s le. le)
+  name_within place n ts le = Within-bind n (select_at (next 0) ts) _ (select_within (next 0) (following 0) n ts le) (λ s le. le)
 
-  group_within : (opening : ℕ) → IsBehind (group_at next opening)
+  group_within : (opening : ℕ) → IsAfter (group_at next opening)
   unfolding group_at
   group_within opening n ts le =
-      Within-bind n (next 0 ts) _ (behind 0 n ts le)
+      Within-bind n (next 0 ts) _ (following 0 n ts le)
       (λ v le. Within-bind n (terminal (symbol.Punctuator punctuator.RightParenthesis) v.1) _ (terminal_within (symbol.Punctuator punctuator.RightParenthesis) n v.1 le)
       (λ z le. le))
 
-  unary_within : (p : Option UnaryOperator) (place : ℕ) → IsBehind (unary_at next p place)
+  unary_within : (p : Option UnaryOperator) (place : ℕ) → IsAfter (unary_at next p place)
   unfolding unary_at
   unary_within None place n ts le = omega arith
-  unary_within (Some o) place n ts le = Within-bind n (next 11 ts) _ (behind 11 n ts le) (λ v le. le)
+  unary_within (Some o) place n ts le = Within-bind n (next 11 ts) _ (following 11 n ts le) (λ v le. le)
 
-  part_within : IsBehind (part_at next)
+  part_within : IsAfter (part_at next)
   unfolding part_at
   part_within n ts le =
-      Within-bind n (next 0 ts) _ (behind 0 n ts le)
+      Within-bind n (next 0 ts) _ (following 0 n ts le)
       (λ v more. Within-if n (is_bare ts v.1) _ _ (omega arith) more)
 
   further_part_within : (l : Parts) → IsWithin (further_part_at next l)
@@ -166,18 +166,18 @@ module _ (d : ℕ) (next : ℕ → Reader Expr) (behind : (least : ℕ) → IsBe
       (Within-bind n (further_part_at next l ts) _ (further_part_within l n ts le) (λ p le. further_parts_within m p.0 n p.1 le))
       le
 
-  parts_within : IsBehind (parts_at next)
+  parts_within : IsAfter (parts_at next)
   unfolding parts_at
   parts_within n ts le = Within-bind n (part_at next ts) _ (part_within n ts le) (λ p le. further_parts_within (length p.1) (First p.0) n p.1 le)
 
-  concatenation_within : (opening : ℕ) → IsBehind (concatenation_at next opening)
+  concatenation_within : (opening : ℕ) → IsAfter (concatenation_at next opening)
   unfolding concatenation_at
   concatenation_within opening n ts le =
       Within-bind n (parts_at next ts) _ (parts_within n ts le)
       (λ l le. Within-bind n (terminal (symbol.Punctuator punctuator.RightBrace) l.1) _ (terminal_within (symbol.Punctuator punctuator.RightBrace) n l.1 le)
       (λ z le. le))
 
-  replication_within : (opening : ℕ) → IsBehind (replication_at next opening)
+  replication_within : (opening : ℕ) → IsAfter (replication_at next opening)
   unfolding replication_at
   replication_within opening n ts le =
       WithinBound-bind n (bound_at (NUMBER_LIMIT - 1) ts) _ (bound_within (NUMBER_LIMIT - 1) n ts (omega arith))
@@ -187,12 +187,12 @@ module _ (d : ℕ) (next : ℕ → Reader Expr) (behind : (least : ℕ) → IsBe
       (λ y le. Within-bind n (terminal (symbol.Punctuator punctuator.RightBrace) y.1) _ (terminal_within (symbol.Punctuator punctuator.RightBrace) n y.1 le)
       (λ z le. le)))))
 
-  braces_within : (opening : ℕ) → IsBehind (braces_at next opening)
+  braces_within : (opening : ℕ) → IsAfter (braces_at next opening)
   unfolding braces_at
   braces_within opening n ts le =
       Within-if n (is_number_before (symbol.Punctuator punctuator.LeftBrace) ts) _ _ (replication_within opening n ts le) (concatenation_within opening n ts le)
 
-  operand_by_within : (kind : SymbolKind) (place : ℕ) → IsBehind (operand_by next kind place)
+  operand_by_within : (kind : SymbolKind) (place : ℕ) → IsAfter (operand_by next kind place)
   unfolding operand_by
   operand_by_within symbol.Name place n ts le = name_within place n ts (omega arith)
   operand_by_within (symbol.Number value) place n ts le = number_within value place n ts le
@@ -211,7 +211,7 @@ module _ (d : ℕ) (next : ℕ → Reader Expr) (behind : (least : ℕ) → IsBe
   unfolding binary_at
   binary_within o left n [] le = le
   binary_within o left n (s ∷ ts) le =
-      Within-if n (nat_le (expr_depth left) d) _ _ (Within-bind n (next (level o + 1) ts) _ (behind (level o + 1) n ts le) (λ v le. le)) (omega arith)
+      Within-if n (nat_le (expr_depth left) d) _ _ (Within-bind n (next (level o + 1) ts) _ (following (level o + 1) n ts le) (λ v le. le)) (omega arith)
 
   more_within : (m least : ℕ) (left : Expr) → IsWithin (more_at next d m least left)
   unfolding more_at
@@ -226,9 +226,9 @@ module _ (d : ℕ) (next : ℕ → Reader Expr) (behind : (least : ℕ) → IsBe
   conditional_within c n ts le =
       Within-if n (nat_le (expr_depth c) d) _ _
       (Within-terminal n (symbol.Punctuator punctuator.Conditional) ts _ le
-      (λ q le. Within-bind n (next 0 q.1) _ (behind 0 n q.1 le)
+      (λ q le. Within-bind n (next 0 q.1) _ (following 0 n q.1 le)
       (λ a le. Within-terminal n (symbol.Punctuator punctuator.Colon) a.1 _ le
-      (λ z le. Within-bind n (next 0 z.1) _ (behind 0 n z.1 le) (λ b le. le)))))
+      (λ z le. Within-bind n (next 0 z.1) _ (following 0 n z.1 le) (λ b le. le)))))
       le
 
   choice_within : (least : ℕ) (c : Expr) → IsWithin (choice_at next d least c)
@@ -243,20 +243,20 @@ module _ (d : ℕ) (next : ℕ → Reader Expr) (behind : (least : ℕ) → IsBe
       (λ y le. choice_within least y.0 n y.1 le))
 
 -- the symbol before an expression is told where nothing may nest
-pub expr_behind : (limit least : ℕ) → IsBehind (expr_at limit least)
+pub expr_after : (limit least : ℕ) → IsAfter (expr_at limit least)
 unfolding expr_at
-expr_behind zero least n ts le = omega arith
-expr_behind (suc d) least n ts le = chain_within d (expr_at d) (expr_behind d) least n ts (omega arith)
+expr_after zero least n ts le = omega arith
+expr_after (suc d) least n ts le = chain_within d (expr_at d) (expr_after d) least n ts (omega arith)
 
 -- an expression leaves no more symbols than there are, also where it stops
 pub expr_within : (limit least : ℕ) → 0 < limit → IsWithin (expr_at limit least)
 unfolding expr_at
 expr_within zero least lt n ts le = absurd (omega arith)
-expr_within (suc d) least lt n ts le = chain_within d (expr_at d) (expr_behind d) least n ts le
+expr_within (suc d) least lt n ts le = chain_within d (expr_at d) (expr_after d) least n ts le
 
 -- so does a selection
 pub selection_within : (limit : ℕ) → IsWithin (select_at (expr_at limit 0))
-selection_within limit n ts le = select_within (expr_at limit 0) (expr_behind limit 0) n ts le
+selection_within limit n ts le = select_within (expr_at limit 0) (expr_after limit 0) n ts le
 
 shorter_by : (limit : ℕ) (ts : List Symbol) (r : Result (Expr × List Symbol) Stop) → Holds (IsWholeTaken limit ts) r → Holds (λ x. length x.1 < length ts) r
 shorter_by limit ts (Ok x) h = omega (arith, ap length h.text, expr_longer x.0 x.1)

@@ -84,17 +84,17 @@ argument_longer (Given opening number place closing) rest = omega arith
 mutual
   pub stmt_longer : (s : Stmt) (rest : List Symbol) → length rest < length (stmt_text s rest)
   stmt_longer (Assign target selection equals value semicolon) rest =
-      let behind = symbol_at (symbol.Punctuator punctuator.Semicolon) semicolon ∷ rest in
-      let h = expr_longer value behind in
-      let k = selection_longer selection (symbol_at (symbol.Punctuator punctuator.Equals) equals ∷ expr_text value behind) in
+      let following = symbol_at (symbol.Punctuator punctuator.Semicolon) semicolon ∷ rest in
+      let h = expr_longer value following in
+      let k = selection_longer selection (symbol_at (symbol.Punctuator punctuator.Equals) equals ∷ expr_text value following) in
       omega arith
   stmt_longer (Block begin body end) rest = let h = stmts_longer body (symbol_at (symbol.Keyword keyword.End) end ∷ rest) in omega arith
   stmt_longer (Null semicolon) rest = omega arith
   stmt_longer (Nonblocking target selection arrow hold value semicolon) rest =
-      let behind = symbol_at (symbol.Punctuator punctuator.Semicolon) semicolon ∷ rest in
-      let h = expr_longer value behind in
-      let w = hold_longer hold (expr_text value behind) in
-      let k = selection_longer selection (symbol_at (symbol.Punctuator punctuator.LessOrEqual) arrow ∷ hold_text hold (expr_text value behind)) in
+      let following = symbol_at (symbol.Punctuator punctuator.Semicolon) semicolon ∷ rest in
+      let h = expr_longer value following in
+      let w = hold_longer hold (expr_text value following) in
+      let k = selection_longer selection (symbol_at (symbol.Punctuator punctuator.LessOrEqual) arrow ∷ hold_text hold (expr_text value following)) in
       omega arith
   stmt_longer (Delayed hash delay body) rest = let h = delay_longer delay (stmt_text body rest) in let k = stmt_longer body rest in omega arith
   stmt_longer (Awaited at_place event body) rest = let h = event_longer event (stmt_text body rest) in let k = stmt_longer body rest in omega arith
@@ -103,17 +103,17 @@ mutual
   stmt_longer (When if_place opening value closing first) rest =
       let h = condition_longer opening value closing (stmt_text first rest) in let k = stmt_longer first rest in omega arith
   stmt_longer (Choose if_place opening value closing first else_place second) rest =
-      let behind = symbol_at (symbol.Keyword keyword.Else) else_place ∷ stmt_text second rest in
-      let h = condition_longer opening value closing (stmt_text first behind) in
-      let k = stmt_longer first behind in
+      let following = symbol_at (symbol.Keyword keyword.Else) else_place ∷ stmt_text second rest in
+      let h = condition_longer opening value closing (stmt_text first following) in
+      let k = stmt_longer first following in
       let l = stmt_longer second rest in
       omega arith
   stmt_longer (While while_place opening value closing body) rest =
       let h = condition_longer opening value closing (stmt_text body rest) in let k = stmt_longer body rest in omega arith
   stmt_longer (Case sort case_place opening value closing items endcase) rest =
-      let behind = symbol_at (symbol.Keyword keyword.Endcase) endcase ∷ rest in
-      let h = condition_longer opening value closing (items_text items behind) in
-      let k = items_longer items behind in
+      let following = symbol_at (symbol.Keyword keyword.Endcase) endcase ∷ rest in
+      let h = condition_longer opening value closing (items_text items following) in
+      let k = items_longer items following in
       omega arith
   stmt_longer (Finish finish argument semicolon) rest = let h = argument_longer argument (symbol_at (symbol.Punctuator punctuator.Semicolon) semicolon ∷ rest) in omega arith
   stmt_longer (Forever forever body) rest = let h = stmt_longer body rest in omega arith
@@ -210,10 +210,10 @@ nonblocking_again : (limit target : ℕ) (selection : Selection) (arrow : ℕ) (
     → assignment_at limit target (selection_text selection (symbol_at (symbol.Punctuator punctuator.LessOrEqual) arrow ∷ hold_text hold (expr_text value (symbol_at (symbol.Punctuator punctuator.Semicolon) semicolon ∷ rest)))) ≡ Ok (Nonblocking target selection arrow hold value semicolon, rest)
 unfolding assignment_at set_at nonblocking_at terminal
 nonblocking_again limit target selection arrow hold value semicolon rest is waits are fits =
-    let behind = symbol_at (symbol.Punctuator punctuator.Semicolon) semicolon ∷ rest in
+    let following = symbol_at (symbol.Punctuator punctuator.Semicolon) semicolon ∷ rest in
     let h = valued_again limit value semicolon rest are (omega arith) in
-    let w = hold_again hold value behind waits in
-    let k = selection_again (limit - 1) selection (symbol_at (symbol.Punctuator punctuator.LessOrEqual) arrow ∷ hold_text hold (expr_text value behind)) is (omega arith) refl in
+    let w = hold_again hold value following waits in
+    let k = selection_again (limit - 1) selection (symbol_at (symbol.Punctuator punctuator.LessOrEqual) arrow ∷ hold_text hold (expr_text value following)) is (omega arith) refl in
     rw k (rw w (rw h refl))
 
 -- ---- headings
@@ -304,9 +304,9 @@ event_again (Any star) rest = refl
 event_again (AnyGrouped opening star closing) rest = refl
 event_again (Change name) rest = refl
 event_again (Terms opening l closing) rest =
-    let behind = symbol_at (symbol.Punctuator punctuator.RightParenthesis) closing ∷ rest in
-    let h = terms_again l behind refl in
-    rw (terms_no_star l behind) (rw h refl)
+    let following = symbol_at (symbol.Punctuator punctuator.RightParenthesis) closing ∷ rest in
+    let h = terms_again l following refl in
+    rw (terms_no_star l following) (rw h refl)
 
 -- ---- the end of a simulation
 
@@ -322,8 +322,8 @@ finish_again finish (Given opening number place closing) semicolon rest is =
 condition_again : (limit opening : ℕ) (value : Expr) (closing : ℕ) (rest : List Symbol) → IsExpr value → expr_depth value ≤ limit → condition_at limit (condition_text opening value closing rest) ≡ Ok (record { opening = opening; value = value; closing = closing }, rest)
 unfolding condition_at terminal
 condition_again limit opening value closing rest is fits =
-    let behind = symbol_at (symbol.Punctuator punctuator.RightParenthesis) closing ∷ rest in
-    let h = expr_again limit 0 value behind is (omega arith) fits (record { no_operator = refl; no_choice = refl; no_bracket = refl; no_base = refl }) in
+    let following = symbol_at (symbol.Punctuator punctuator.RightParenthesis) closing ∷ rest in
+    let h = expr_again limit 0 value following is (omega arith) fits (record { no_operator = refl; no_choice = refl; no_bracket = refl; no_base = refl }) in
     rw h refl
 
 -- ---- labels
@@ -374,21 +374,21 @@ further_labels_again limit zero (Only e) colon rest are fits enough = refl
 further_labels_again limit (suc m) (Only e) colon rest are fits enough = refl
 further_labels_again limit zero (Also e comma l) colon rest are fits enough = absurd (omega arith)
 further_labels_again limit (suc m) (Also e comma l) colon rest are fits enough =
-    let behind = symbol_at (symbol.Punctuator punctuator.Colon) colon ∷ rest in
-    let longer = expr_longer (first_label l) (further_labels_text l behind) in
+    let following = symbol_at (symbol.Punctuator punctuator.Colon) colon ∷ rest in
+    let longer = expr_longer (first_label l) (further_labels_text l following) in
     let first_fits = labels_first_fits l in
-    let h = expr_again limit 0 (first_label l) (further_labels_text l behind) (labels_first l are.1) (omega arith) (omega arith) (labels_stop l colon rest) in
+    let h = expr_again limit 0 (first_label l) (further_labels_text l following) (labels_first l are.1) (omega arith) (omega arith) (labels_stop l colon rest) in
     let k = further_labels_again limit m l colon rest are.1 (omega arith) (omega arith) in
     rw h (rw k refl)
 
 labels_again : (limit : ℕ) (l : LabelList) (colon : ℕ) (rest : List Symbol) → AreLabels l → labels_height l ≤ limit → labels_at limit (labels_text l (symbol_at (symbol.Punctuator punctuator.Colon) colon ∷ rest)) ≡ Ok (l, symbol_at (symbol.Punctuator punctuator.Colon) colon ∷ rest)
 unfolding labels_at
 labels_again limit l colon rest are fits =
-    let behind = symbol_at (symbol.Punctuator punctuator.Colon) colon ∷ rest in
+    let following = symbol_at (symbol.Punctuator punctuator.Colon) colon ∷ rest in
     let first_fits = labels_first_fits l in
-    let h = expr_again limit 0 (first_label l) (further_labels_text l behind) (labels_first l are) (omega arith) (omega arith) (labels_stop l colon rest) in
-    let k = further_labels_again limit (length (further_labels_text l behind)) l colon rest are fits (omega arith) in
-    rw (first_labels_text l behind) (rw h k)
+    let h = expr_again limit 0 (first_label l) (further_labels_text l following) (labels_first l are) (omega arith) (omega arith) (labels_stop l colon rest) in
+    let k = further_labels_again limit (length (further_labels_text l following)) l colon rest are fits (omega arith) in
+    rw (first_labels_text l following) (rw h k)
 
 -- ---- items
 
@@ -491,8 +491,8 @@ module _ (limit d : ℕ) (next : Reader Stmt) (complete : CompleteStmt limit d n
   block_again : (begin : ℕ) (body : Stmts) (end : ℕ) (rest : List Symbol) → AreStmts body → stmts_height body ≤ limit → stmts_depth body ≤ d → block_at next begin (stmts_text body (symbol_at (symbol.Keyword keyword.End) end ∷ rest)) ≡ Ok (Block begin body end, rest)
   unfolding block_at terminal
   block_again begin body end rest are shallow fits =
-      let behind = symbol_at (symbol.Keyword keyword.End) end ∷ rest in
-      let h = stmts_again (length (stmts_text body behind)) body behind are shallow fits (omega arith) refl refl in
+      let following = symbol_at (symbol.Keyword keyword.End) end ∷ rest in
+      let h = stmts_again (length (stmts_text body following)) body following are shallow fits (omega arith) refl refl in
       rw h refl
 
   delayed_again : (place : ℕ) (delay : Delay) (body : Stmt) (rest : List Symbol) → IsDelay delay → IsStmt body → stmt_height body ≤ limit → stmt_depth body ≤ d → Follows body rest → delayed_at next place (delay_text delay (stmt_text body rest)) ≡ Ok (Delayed place delay body, rest)
@@ -540,8 +540,8 @@ module _ (limit d : ℕ) (next : Reader Stmt) (complete : CompleteStmt limit d n
       → if_at limit next place (condition_text opening value closing (stmt_text first (symbol_at (symbol.Keyword keyword.Else) else_place ∷ stmt_text second rest))) ≡ Ok (Choose place opening value closing first else_place second, rest)
   unfolding if_at else_at second_at terminal
   choose_again place opening value closing first else_place second rest is shallow fits ends =
-      let behind = symbol_at (symbol.Keyword keyword.Else) else_place ∷ stmt_text second rest in
-      let h = guarded_again opening value closing first behind is.0 is.1 (omega arith) (omega arith) (omega arith) (closed_follows first behind is.3) in
+      let following = symbol_at (symbol.Keyword keyword.Else) else_place ∷ stmt_text second rest in
+      let h = guarded_again opening value closing first following is.0 is.1 (omega arith) (omega arith) (omega arith) (closed_follows first following is.3) in
       let k = complete second rest is.2 (omega arith) (omega arith) ends in
       rw h (rw k refl)
 
@@ -558,8 +558,8 @@ module _ (limit d : ℕ) (next : Reader Stmt) (complete : CompleteStmt limit d n
   item_again : (may_default : Bool) (i : Item) (rest : List Symbol) → IsItem i → item_height i ≤ limit → item_depth i ≤ d → item_defaults i ≤ allowed may_default → is_else rest ≡ false → item_at limit next may_default (item_text i rest) ≡ Ok (i, rest)
   unfolding item_at labels_item_at default_item_at terminal
   item_again may_default (Labels l colon s) rest is shallow fits counted ends =
-      let behind = symbol_at (symbol.Punctuator punctuator.Colon) colon ∷ stmt_text s rest in
-      let e = labels_no_keyword keyword.Default l behind in
+      let following = symbol_at (symbol.Punctuator punctuator.Colon) colon ∷ stmt_text s rest in
+      let e = labels_no_keyword keyword.Default l following in
       let h = labels_again limit l colon (stmt_text s rest) is.0 (omega arith) in
       let k = complete s rest is.1 (omega arith) fits (end_follows s rest ends) in
       rw e (rw h (rw k refl))
@@ -577,35 +577,35 @@ module _ (limit d : ℕ) (next : Reader Stmt) (complete : CompleteStmt limit d n
   further_items_again zero may_default (More i l) rest are shallow fits counted enough stops ends = let h = items_longer l rest in absurd (omega arith)
   further_items_again (suc m) may_default (More i l) rest are shallow fits counted enough stops ends =
       let j = first_item l in
-      let behind = further_items_text l rest in
+      let following = further_items_text l rest in
       let same = ap length (first_items_text l rest) in
-      let longer = item_longer j behind in
+      let longer = item_longer j following in
       let first_shallow = items_first_shallow l in
       let first_fits = items_first_fits l in
       let first_counted = items_first_counted l in
-      let h = item_again may_default j behind (items_first l are.1) (omega arith) (omega arith) (omega arith) (further_no_else l rest ends) in
+      let h = item_again may_default j following (items_first l are.1) (omega arith) (omega arith) (omega arith) (further_no_else l rest ends) in
       let k = further_items_again m (may_default && not (is_default_item j)) l rest are.1 (omega arith) (omega arith) (still_counted j may_default (items_defaults l) (omega arith)) (omega arith) stops ends in
-      rw (first_items_text l rest) (rw (item_goes_on j behind) (rw h (rw (item_default j behind) (rw k refl))))
+      rw (first_items_text l rest) (rw (item_goes_on j following) (rw h (rw (item_default j following) (rw k refl))))
 
   items_again : (l : Items) (rest : List Symbol) → AreItems l → items_height l ≤ limit → items_depth l ≤ d → items_defaults l ≤ 1 → items_go_on rest ≡ false → is_else rest ≡ false → items_at limit next (items_text l rest) ≡ Ok (l, rest)
   unfolding items_at
   items_again l rest are shallow fits counted stops ends =
       let j = first_item l in
-      let behind = further_items_text l rest in
+      let following = further_items_text l rest in
       let first_shallow = items_first_shallow l in
       let first_fits = items_first_fits l in
       let first_counted = items_first_counted l in
-      let h = item_again true j behind (items_first l are) (omega arith) (omega arith) (omega arith) (further_no_else l rest ends) in
-      let k = further_items_again (length behind) (true && not (is_default_item j)) l rest are shallow fits (still_counted j true (items_defaults l) counted) (omega arith) stops ends in
-      rw (first_items_text l rest) (rw h (rw (item_default j behind) k))
+      let h = item_again true j following (items_first l are) (omega arith) (omega arith) (omega arith) (further_no_else l rest ends) in
+      let k = further_items_again (length following) (true && not (is_default_item j)) l rest are shallow fits (still_counted j true (items_defaults l) counted) (omega arith) stops ends in
+      rw (first_items_text l rest) (rw h (rw (item_default j following) k))
 
   case_again : (sort : Sort) (place opening : ℕ) (value : Expr) (closing : ℕ) (items : Items) (endcase : ℕ) (rest : List Symbol) → IsExpr value → AreItems items → items_defaults items ≤ 1 → expr_depth value ≤ limit → items_height items ≤ limit → items_depth items ≤ d
       → case_at limit next sort place (condition_text opening value closing (items_text items (symbol_at (symbol.Keyword keyword.Endcase) endcase ∷ rest))) ≡ Ok (Case sort place opening value closing items endcase, rest)
   unfolding case_at terminal
   case_again sort place opening value closing items endcase rest is are counted shallow shallow_items fits =
-      let behind = symbol_at (symbol.Keyword keyword.Endcase) endcase ∷ rest in
-      let h = condition_again limit opening value closing (items_text items behind) is shallow in
-      let k = items_again items behind are shallow_items fits counted refl refl in
+      let following = symbol_at (symbol.Keyword keyword.Endcase) endcase ∷ rest in
+      let h = condition_again limit opening value closing (items_text items following) is shallow in
+      let k = items_again items following are shallow_items fits counted refl refl in
       rw h (rw k refl)
 
   form_again : CompleteStmt limit (suc d) (form_at limit next)

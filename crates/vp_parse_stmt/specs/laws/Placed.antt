@@ -11,10 +11,10 @@ use Rattle.vp_source.specs.declared.symbol.SymbolKind.{SymbolKind}
 use Rattle.vp_source.specs.declared.symbol.SymbolKind.TheVariants as symbol
 use Rattle.vp_source.specs.declared.symbol.TheConstants.{NUMBER_LIMIT}
 use Rattle.vp_source.specs.ExprGrammar.{Selection, Expr}
-use Rattle.vp_parse_expr.specs.Stopping.{Stop, ◌>>=◌, Reader, is_next, terminal, behind, refused}
+use Rattle.vp_parse_expr.specs.Stopping.{Stop, ◌>>=◌, Reader, is_next, terminal, following, refused}
 use Rattle.vp_parse_expr.specs.Reading.{expr_at, selection_at}
 use Rattle.vp_parse_expr.specs.Placing.{Made as Placed, expr_into, selection_into}
-use Rattle.vp_parse_expr.specs.laws.Placed.{seen, bind_seen, last_seen, if_seen, left, behind_seen, made as made_expr, expr_seen, made_selection, selection_seen, all_seen}
+use Rattle.vp_parse_expr.specs.laws.Placed.{seen, bind_seen, last_seen, if_seen, left, after_seen, made as made_expr, expr_seen, made_selection, selection_seen, all_seen}
 use Rattle.vp_source.specs.StmtGrammar.{Delay, Plain, Hold, delay_amount, Stmt, Stmts, Then, Edge, Posedge, Negedge, edge_kind, Term, Level, Separator, Or, Comma, separator_kind, TermList, Further, Event, Any, AnyGrouped, Change, Terms, Sort, Exact, Wild, LabelList, Also, Colon, Marked, Item, Items, More, Argument, Given}
 use Rattle.vp_source.specs.StmtLayout.{put_value, put_target, put_hold, put_stmt, put_stmts, put_blocking, put_edge, put_term, put_terms, put_event, put_labels, put_item, put_items, is_wild}
 use Rattle.vp_source.specs.StmtLayout.{Lists}
@@ -69,9 +69,9 @@ unfolding grouped_delay_into grouped_delay_at
 grouped_delay_seen ts =
     let left_kind = symbol.Punctuator punctuator.LeftParenthesis in
     let right_kind = symbol.Punctuator punctuator.RightParenthesis in
-    bind_seen left paused (behind left_kind ts) (terminal left_kind ts) _ _ (behind_seen left_kind ts)
+    bind_seen left paused (following left_kind ts) (terminal left_kind ts) _ _ (after_seen left_kind ts)
     (λ o. bind_seen valued paused (amount_into o.1) (amount_at o.1) _ _ (amount_seen o.1)
-    (λ a. bind_seen left paused (behind right_kind a.1) (terminal right_kind a.1) _ _ (behind_seen right_kind a.1)
+    (λ a. bind_seen left paused (following right_kind a.1) (terminal right_kind a.1) _ _ (after_seen right_kind a.1)
     (λ z. refl)))
 
 plain_delay_seen : (ts : List Symbol) → amount_into ts ≡ seen paused (amount_at ts >>= λ amount. Ok (Plain amount.0.0 amount.0.1, amount.1))
@@ -85,7 +85,7 @@ later_seen : (ts : List Symbol) → later_into ts ≡ seen held (later_at ts)
 unfolding later_into later_at
 later_seen ts =
     let hash_kind = symbol.Punctuator punctuator.Hash in
-    bind_seen left held (behind hash_kind ts) (terminal hash_kind ts) _ _ (behind_seen hash_kind ts)
+    bind_seen left held (following hash_kind ts) (terminal hash_kind ts) _ _ (after_seen hash_kind ts)
     (λ h. bind_seen paused held (delay_into h.1) (delay_at h.1) _ _ (delay_seen h.1) (λ d. refl))
 
 hold_seen : (ts : List Symbol) → hold_into ts ≡ seen held (hold_at ts)
@@ -103,7 +103,7 @@ unfolding blocking_into blocking_at
 blocking_seen limit target selection lists ts =
     let equals_kind = symbol.Punctuator punctuator.Equals in
     let after : Lists = (put_target selection lists).1 in
-    bind_seen left (made put_set lists) (behind equals_kind ts) (terminal equals_kind ts) _ _ (behind_seen equals_kind ts)
+    bind_seen left (made put_set lists) (following equals_kind ts) (terminal equals_kind ts) _ _ (after_seen equals_kind ts)
     (λ q. bind_seen (made put_value after) (made put_set lists) (value_into limit after q.1) (expr_at limit 0 q.1) _ _ (value_seen limit after q.1) (λ v. refl))
 
 assign_seen : (limit target : ℕ) (selection : Selection) (lists : Lists) (ts : List Symbol) → assign_into limit target (put_target selection lists).0 (put_target selection lists).1 ts ≡ seen (made put_stmt lists) (assign_at limit target selection ts)
@@ -112,7 +112,7 @@ assign_seen limit target selection lists ts =
     let semicolon_kind = symbol.Punctuator punctuator.Semicolon in
     let s = put_target selection lists in
     bind_seen (made put_set lists) (made put_stmt lists) (blocking_into limit target s.0 s.1 ts) (blocking_at limit target selection ts) _ _ (blocking_seen limit target selection lists ts)
-    (λ b. bind_seen left (made put_stmt lists) (behind semicolon_kind b.1) (terminal semicolon_kind b.1) _ _ (behind_seen semicolon_kind b.1) (λ z. refl))
+    (λ b. bind_seen left (made put_stmt lists) (following semicolon_kind b.1) (terminal semicolon_kind b.1) _ _ (after_seen semicolon_kind b.1) (λ z. refl))
 
 nonblocking_seen : (limit target : ℕ) (selection : Selection) (lists : Lists) (ts : List Symbol) → nonblocking_into limit target (put_target selection lists).0 (put_target selection lists).1 ts ≡ seen (made put_stmt lists) (nonblocking_at limit target selection ts)
 unfolding nonblocking_into nonblocking_at
@@ -120,10 +120,10 @@ nonblocking_seen limit target selection lists ts =
     let arrow_kind = symbol.Punctuator punctuator.LessOrEqual in
     let semicolon_kind = symbol.Punctuator punctuator.Semicolon in
     let after : Lists = (put_target selection lists).1 in
-    bind_seen left (made put_stmt lists) (behind arrow_kind ts) (terminal arrow_kind ts) _ _ (behind_seen arrow_kind ts)
+    bind_seen left (made put_stmt lists) (following arrow_kind ts) (terminal arrow_kind ts) _ _ (after_seen arrow_kind ts)
     (λ a. bind_seen held (made put_stmt lists) (hold_into a.1) (hold_at a.1) _ _ (hold_seen a.1)
     (λ h. bind_seen (made put_value after) (made put_stmt lists) (value_into limit after h.1) (expr_at limit 0 h.1) _ _ (value_seen limit after h.1)
-    (λ v. bind_seen left (made put_stmt lists) (behind semicolon_kind v.1) (terminal semicolon_kind v.1) _ _ (behind_seen semicolon_kind v.1) (λ z. refl))))
+    (λ v. bind_seen left (made put_stmt lists) (following semicolon_kind v.1) (terminal semicolon_kind v.1) _ _ (after_seen semicolon_kind v.1) (λ z. refl))))
 
 set_seen : (limit target : ℕ) (selection : Selection) (lists : Lists) (ts : List Symbol) → set_into limit target (put_target selection lists).0 (put_target selection lists).1 ts ≡ seen (made put_stmt lists) (set_at limit target selection ts)
 unfolding set_into set_at
@@ -156,17 +156,17 @@ heading_seen limit lists ts =
     let left_kind = symbol.Punctuator punctuator.LeftParenthesis in
     let semicolon_kind = symbol.Punctuator punctuator.Semicolon in
     let right_kind = symbol.Punctuator punctuator.RightParenthesis in
-    bind_seen left (made_heading lists) (behind left_kind ts) (terminal left_kind ts) _ _ (behind_seen left_kind ts)
+    bind_seen left (made_heading lists) (following left_kind ts) (terminal left_kind ts) _ _ (after_seen left_kind ts)
     (λ o. bind_seen (made put_set lists) (made_heading lists) (named_blocking_into limit lists o.1) (named_blocking_at limit o.1) _ _ (named_blocking_seen limit lists o.1)
     (λ a. (
     let started : Lists = (put_set a.0 lists).1 in
-    bind_seen left (made_heading lists) (behind semicolon_kind a.1) (terminal semicolon_kind a.1) _ _ (behind_seen semicolon_kind a.1)
+    bind_seen left (made_heading lists) (following semicolon_kind a.1) (terminal semicolon_kind a.1) _ _ (after_seen semicolon_kind a.1)
     (λ f. bind_seen (made put_value started) (made_heading lists) (value_into limit started f.1) (expr_at limit 0 f.1) _ _ (value_seen limit started f.1)
     (λ c. (
     let tested : Lists = (put_value c.0 started).1 in
-    bind_seen left (made_heading lists) (behind semicolon_kind c.1) (terminal semicolon_kind c.1) _ _ (behind_seen semicolon_kind c.1)
+    bind_seen left (made_heading lists) (following semicolon_kind c.1) (terminal semicolon_kind c.1) _ _ (after_seen semicolon_kind c.1)
     (λ s. bind_seen (made put_set tested) (made_heading lists) (named_blocking_into limit tested s.1) (named_blocking_at limit s.1) _ _ (named_blocking_seen limit tested s.1)
-    (λ b. bind_seen left (made_heading lists) (behind right_kind b.1) (terminal right_kind b.1) _ _ (behind_seen right_kind b.1)
+    (λ b. bind_seen left (made_heading lists) (following right_kind b.1) (terminal right_kind b.1) _ _ (after_seen right_kind b.1)
     (λ z. refl)))
     )))
     )))
@@ -180,7 +180,7 @@ made_term x = (put_term x.0, x.1)
 edged_seen : (edge : Edge) (ts : List Symbol) → edged_into (put_edge edge) (edge_kind edge) ts ≡ seen made_term (edged_at edge ts)
 unfolding edged_into edged_at
 edged_seen edge ts =
-    bind_seen left made_term (behind (edge_kind edge) ts) (terminal (edge_kind edge) ts) _ _ (behind_seen (edge_kind edge) ts)
+    bind_seen left made_term (following (edge_kind edge) ts) (terminal (edge_kind edge) ts) _ _ (after_seen (edge_kind edge) ts)
     (λ e. bind_seen (λ (t : ℕ × List Symbol). t) made_term (terminal symbol.Name e.1) (terminal symbol.Name e.1) _ _ (all_seen (terminal symbol.Name e.1)) (λ t. refl))
 
 level_seen : (ts : List Symbol) → (terminal symbol.Name ts >>= λ name. Ok (put_term (Level name.0), name.1)) ≡ seen made_term (terminal symbol.Name ts >>= λ name. Ok (Level name.0, name.1))
@@ -196,10 +196,10 @@ term_seen ts =
 abbrev left_apart : (Separator × ℕ) × List Symbol → List Symbol
 left_apart x = x.1
 
-separator_by_seen : (separator : Separator) (ts : List Symbol) → behind (separator_kind separator) ts ≡ seen left_apart (separator_by separator ts)
+separator_by_seen : (separator : Separator) (ts : List Symbol) → following (separator_kind separator) ts ≡ seen left_apart (separator_by separator ts)
 unfolding separator_by
 separator_by_seen separator ts =
-    behind_seen (separator_kind separator) ts ∙ last_seen (λ (p : ℕ × List Symbol). (let x : (Separator × ℕ) × List Symbol = ((separator, p.0), p.1) in x)) left_apart (terminal (separator_kind separator) ts)
+    after_seen (separator_kind separator) ts ∙ last_seen (λ (p : ℕ × List Symbol). (let x : (Separator × ℕ) × List Symbol = ((separator, p.0), p.1) in x)) left_apart (terminal (separator_kind separator) ts)
 
 separator_seen : (ts : List Symbol) → separator_into ts ≡ seen left_apart (separator_at ts)
 unfolding separator_into separator_at
@@ -246,15 +246,15 @@ unfolding terms_event_into terms_event_at
 terms_event_seen opening lists ts =
     let right_kind = symbol.Punctuator punctuator.RightParenthesis in
     bind_seen (made_terms lists.terms) (made_awaited lists) (terms_into lists.terms ts) (terms_at ts) _ _ (terms_seen lists.terms ts)
-    (λ l. bind_seen left (made_awaited lists) (behind right_kind l.1) (terminal right_kind l.1) _ _ (behind_seen right_kind l.1) (λ z. refl))
+    (λ l. bind_seen left (made_awaited lists) (following right_kind l.1) (terminal right_kind l.1) _ _ (after_seen right_kind l.1) (λ z. refl))
 
 star_event_seen : (opening : ℕ) (lists : Lists) (ts : List Symbol) → star_event_into lists.terms ts ≡ seen (made_awaited lists) (star_event_at opening ts)
 unfolding star_event_into star_event_at
 star_event_seen opening lists ts =
     let star_kind = symbol.Punctuator punctuator.Asterisk in
     let right_kind = symbol.Punctuator punctuator.RightParenthesis in
-    bind_seen left (made_awaited lists) (behind star_kind ts) (terminal star_kind ts) _ _ (behind_seen star_kind ts)
-    (λ a. bind_seen left (made_awaited lists) (behind right_kind a.1) (terminal right_kind a.1) _ _ (behind_seen right_kind a.1) (λ z. refl))
+    bind_seen left (made_awaited lists) (following star_kind ts) (terminal star_kind ts) _ _ (after_seen star_kind ts)
+    (λ a. bind_seen left (made_awaited lists) (following right_kind a.1) (terminal right_kind a.1) _ _ (after_seen right_kind a.1) (λ z. refl))
 
 event_by_seen : (kind : SymbolKind) (place : ℕ) (lists : Lists) (ts : List Symbol) → event_by_into kind place lists.terms ts ≡ seen (made_awaited lists) (event_by kind place ts)
 unfolding event_by_into event_by
@@ -282,16 +282,16 @@ event_terms (Terms opening l closing) lists = refl
 abbrev left_argument : Argument × List Symbol → List Symbol
 left_argument x = x.1
 
-closing_seen : (opening : ℕ) (amount : (ℕ × ℕ) × List Symbol) → behind (symbol.Punctuator punctuator.RightParenthesis) amount.1 ≡ seen left_argument (terminal (symbol.Punctuator punctuator.RightParenthesis) amount.1 >>= λ z. Ok (Given opening amount.0.0 amount.0.1 z.0, z.1))
+closing_seen : (opening : ℕ) (amount : (ℕ × ℕ) × List Symbol) → following (symbol.Punctuator punctuator.RightParenthesis) amount.1 ≡ seen left_argument (terminal (symbol.Punctuator punctuator.RightParenthesis) amount.1 >>= λ z. Ok (Given opening amount.0.0 amount.0.1 z.0, z.1))
 closing_seen opening amount =
-    behind_seen (symbol.Punctuator punctuator.RightParenthesis) amount.1
+    after_seen (symbol.Punctuator punctuator.RightParenthesis) amount.1
     ∙ last_seen (λ (z : ℕ × List Symbol). (let x : Argument × List Symbol = (Given opening amount.0.0 amount.0.1 z.0, z.1) in x)) left_argument (terminal (symbol.Punctuator punctuator.RightParenthesis) amount.1)
 
 given_seen : (ts : List Symbol) → given_into ts ≡ seen left_argument (given_at ts)
 unfolding given_into given_at
 given_seen ts =
     let left_kind = symbol.Punctuator punctuator.LeftParenthesis in
-    bind_seen left left_argument (behind left_kind ts) (terminal left_kind ts) _ _ (behind_seen left_kind ts)
+    bind_seen left left_argument (following left_kind ts) (terminal left_kind ts) _ _ (after_seen left_kind ts)
     (λ o. bind_seen valued left_argument (amount_into o.1) (amount_at o.1) _ _ (amount_seen o.1) (λ a. closing_seen o.0 a))
 
 argument_seen : (ts : List Symbol) → argument_into ts ≡ seen left_argument (argument_at ts)
@@ -303,7 +303,7 @@ unfolding finish_into finish_at
 finish_seen place lists ts =
     let semicolon_kind = symbol.Punctuator punctuator.Semicolon in
     bind_seen left_argument (made put_stmt lists) (argument_into ts) (argument_at ts) _ _ (argument_seen ts)
-    (λ a. bind_seen left (made put_stmt lists) (behind semicolon_kind a.1) (terminal semicolon_kind a.1) _ _ (behind_seen semicolon_kind a.1) (λ s. refl))
+    (λ a. bind_seen left (made put_stmt lists) (following semicolon_kind a.1) (terminal semicolon_kind a.1) _ _ (after_seen semicolon_kind a.1) (λ s. refl))
 
 -- ---- conditions
 
@@ -316,9 +316,9 @@ unfolding condition_into condition_at
 condition_seen limit lists ts =
     let left_kind = symbol.Punctuator punctuator.LeftParenthesis in
     let right_kind = symbol.Punctuator punctuator.RightParenthesis in
-    bind_seen left (made put_condition lists) (behind left_kind ts) (terminal left_kind ts) _ _ (behind_seen left_kind ts)
+    bind_seen left (made put_condition lists) (following left_kind ts) (terminal left_kind ts) _ _ (after_seen left_kind ts)
     (λ o. bind_seen (made put_value lists) (made put_condition lists) (value_into limit lists o.1) (expr_at limit 0 o.1) _ _ (value_seen limit lists o.1)
-    (λ v. bind_seen left (made put_condition lists) (behind right_kind v.1) (terminal right_kind v.1) _ _ (behind_seen right_kind v.1)
+    (λ v. bind_seen left (made put_condition lists) (following right_kind v.1) (terminal right_kind v.1) _ _ (after_seen right_kind v.1)
     (λ z. refl)))
 
 -- ---- labels
@@ -335,7 +335,7 @@ further_label_seen : (limit : ℕ) (labels : List ℕ) (lists : Lists) (ts : Lis
 unfolding further_label_into further_label_at
 further_label_seen limit labels lists ts =
     let comma_kind = symbol.Punctuator punctuator.Comma in
-    bind_seen left (made_label labels lists) (behind comma_kind ts) (terminal comma_kind ts) _ _ (behind_seen comma_kind ts)
+    bind_seen left (made_label labels lists) (following comma_kind ts) (terminal comma_kind ts) _ _ (after_seen comma_kind ts)
     (λ c. bind_seen (made put_value lists) (made_label labels lists) (value_into limit lists c.1) (expr_at limit 0 c.1) _ _ (value_seen limit lists c.1) (λ v. refl))
 
 further_labels_seen : (limit m : ℕ) (e : Expr) (labels : List ℕ) (lists : Lists) (ts : List Symbol) → (let v = put_value e lists in further_labels_into limit m (labels ++ v.0 ∷ []) v.1 ts) ≡ seen (made_labels labels lists) (further_labels_at limit m e ts)
@@ -362,9 +362,9 @@ labels_seen limit lists ts =
 abbrev left_colon : Colon × List Symbol → List Symbol
 left_colon x = x.1
 
-marked_seen : (ts : List Symbol) → behind (symbol.Punctuator punctuator.Colon) ts ≡ seen left_colon (terminal (symbol.Punctuator punctuator.Colon) ts >>= λ colon. Ok (Marked colon.0, colon.1))
+marked_seen : (ts : List Symbol) → following (symbol.Punctuator punctuator.Colon) ts ≡ seen left_colon (terminal (symbol.Punctuator punctuator.Colon) ts >>= λ colon. Ok (Marked colon.0, colon.1))
 marked_seen ts =
-    behind_seen (symbol.Punctuator punctuator.Colon) ts ∙ last_seen (λ (c : ℕ × List Symbol). (let x : Colon × List Symbol = (Marked c.0, c.1) in x)) left_colon (terminal (symbol.Punctuator punctuator.Colon) ts)
+    after_seen (symbol.Punctuator punctuator.Colon) ts ∙ last_seen (λ (c : ℕ × List Symbol). (let x : Colon × List Symbol = (Marked c.0, c.1) in x)) left_colon (terminal (symbol.Punctuator punctuator.Colon) ts)
 
 colon_seen : (ts : List Symbol) → colon_into ts ≡ seen left_colon (colon_at ts)
 unfolding colon_into colon_at
@@ -382,12 +382,12 @@ PlacesItems put placer reader =
     (choices : List choice.Choice) (lists : Lists) (ts : List Symbol) → placer choices lists ts ≡ seen (made_items put choices lists) (reader ts)
 
 -- items after an item, whose choices lie after its own
-items_behind : (i : Item) (choices : List choice.Choice) (lists : Lists) (r : Result (Items × List Symbol) Stop)
+listed_items : (i : Item) (choices : List choice.Choice) (lists : Lists) (r : Result (Items × List Symbol) Stop)
     → (let x = put_item i lists in seen (made_items put_items (choices ++ x.0) x.1) r) ≡ seen (made_items put_items choices lists) (r >>= λ l. Ok (More i l.0, l.1))
-items_behind i choices lists (Ok l) =
+listed_items i choices lists (Ok l) =
     let x = put_item i lists in let y = put_items l.0 x.1 in
     ap (λ (all : List choice.Choice). (let m : Result MadeItems Stop = Ok (all, y.1, l.1) in m)) (append_assoc choices x.0 y.0)
-items_behind i choices lists (Err s) = refl
+listed_items i choices lists (Err s) = refl
 
 -- the places of an expression and of a statement, put after the lists, with these and what is left
 abbrev made_guarded : Lists → Guarded × List Symbol → MadeGuarded
@@ -414,7 +414,7 @@ module _ (placer : Placer) (reader : Reader Stmt) (places : Places put_stmt plac
   block_seen begin lists ts =
       let opened : Lists = record lists { statements = lists.statements ++ statement_of.Empty ∷ [] } in
       bind_seen (made (λ l. put_stmts l (length lists.statements)) opened) (made put_stmt lists) (chain_into placer (length ts) (length lists.statements) opened ts) (stmts_at reader (length ts) ts) _ _ (chain_seen (length ts) (length lists.statements) opened ts)
-      (λ l. bind_seen left (made put_stmt lists) (behind (symbol.Keyword keyword.End) l.1) (terminal (symbol.Keyword keyword.End) l.1) _ _ (behind_seen (symbol.Keyword keyword.End) l.1)
+      (λ l. bind_seen left (made put_stmt lists) (following (symbol.Keyword keyword.End) l.1) (terminal (symbol.Keyword keyword.End) l.1) _ _ (after_seen (symbol.Keyword keyword.End) l.1)
       (λ s. refl))
 
   delayed_seen : (place : ℕ) → Places put_stmt (delayed_into placer) (delayed_at reader place)
@@ -460,7 +460,7 @@ module _ (placer : Placer) (reader : Reader Stmt) (places : Places put_stmt plac
   second_seen place first lists ts =
       let else_kind = symbol.Keyword keyword.Else in
       let after : Lists = (made_guarded lists (first, ts)).2 in
-      bind_seen left (made put_stmt lists) (behind else_kind ts) (terminal else_kind ts) _ _ (behind_seen else_kind ts)
+      bind_seen left (made put_stmt lists) (following else_kind ts) (terminal else_kind ts) _ _ (after_seen else_kind ts)
       (λ z. bind_seen (made put_stmt after) (made put_stmt lists) (placer after z.1) (reader z.1) _ _ (places after z.1) (λ s. refl))
 
   else_seen : (place : ℕ) (first : Guarded) (lists : Lists) (ts : List Symbol) → (let g = made_guarded lists (first, ts) in else_into placer g.0 g.1 g.2 ts) ≡ seen (made put_stmt lists) (else_at reader place first ts)
@@ -488,7 +488,7 @@ module _ (placer : Placer) (reader : Reader Stmt) (places : Places put_stmt plac
       bind_seen (made_labels [] lists) (made_items put_item choices lists) (labels_into limit lists ts) (labels_at limit ts) _ _ (labels_seen limit lists ts)
       (λ l. (
       let after : Lists = (put_labels l.0 [] lists).1 in
-      bind_seen left (made_items put_item choices lists) (behind colon_kind l.1) (terminal colon_kind l.1) _ _ (behind_seen colon_kind l.1)
+      bind_seen left (made_items put_item choices lists) (following colon_kind l.1) (terminal colon_kind l.1) _ _ (after_seen colon_kind l.1)
       (λ c. bind_seen (made put_stmt after) (made_items put_item choices lists) (placer after c.1) (reader c.1) _ _ (places after c.1) (λ s. refl))
       ))
 
@@ -496,7 +496,7 @@ module _ (placer : Placer) (reader : Reader Stmt) (places : Places put_stmt plac
   unfolding default_item_into default_item_at
   default_item_seen choices lists ts =
       let default_kind = symbol.Keyword keyword.Default in
-      bind_seen left (made_items put_item choices lists) (behind default_kind ts) (terminal default_kind ts) _ _ (behind_seen default_kind ts)
+      bind_seen left (made_items put_item choices lists) (following default_kind ts) (terminal default_kind ts) _ _ (after_seen default_kind ts)
       (λ p. bind_seen left_colon (made_items put_item choices lists) (colon_into p.1) (colon_at p.1) _ _ (colon_seen p.1)
       (λ c. bind_seen (made put_stmt lists) (made_items put_item choices lists) (placer lists c.1) (reader c.1) _ _ (places lists c.1) (λ s. refl)))
 
@@ -518,7 +518,7 @@ module _ (placer : Placer) (reader : Reader Stmt) (places : Places put_stmt plac
       (bind_seen (made_items put_item grown after) (made_items put_items choices lists) (item_into limit placer may_default grown after ts) (item_at limit reader may_default ts) _ _ (item_seen limit may_default grown after ts)
       (λ j. (
       further_items_seen limit m (may_still may_default ts) j.0 grown after j.1
-      ∙ items_behind i choices lists (further_items_at limit reader m (may_still may_default ts) j.0 j.1)
+      ∙ listed_items i choices lists (further_items_at limit reader m (may_still may_default ts) j.0 j.1)
       )))
       refl
 
@@ -536,7 +536,7 @@ module _ (placer : Placer) (reader : Reader Stmt) (places : Places put_stmt plac
       (λ c. (
       let after : Lists = (put_value c.0.value lists).1 in
       bind_seen (made_items put_items [] after) (made put_stmt lists) (items_into limit placer after c.1) (items_at limit reader c.1) _ _ (items_seen limit after c.1)
-      (λ i. bind_seen left (made put_stmt lists) (behind endcase_kind i.1) (terminal endcase_kind i.1) _ _ (behind_seen endcase_kind i.1) (λ z. refl))
+      (λ i. bind_seen left (made put_stmt lists) (following endcase_kind i.1) (terminal endcase_kind i.1) _ _ (after_seen endcase_kind i.1) (λ z. refl))
       ))
 
   stmt_by_seen : (limit : ℕ) (kind : SymbolKind) (place : ℕ) → Places put_stmt (stmt_by_into limit placer kind place) (stmt_by limit reader kind place)

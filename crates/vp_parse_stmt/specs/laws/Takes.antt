@@ -615,9 +615,9 @@ module _ (limit d : ℕ) (next : Reader Stmt) (sound : SoundStmt limit d next) w
       })))
       (λ e. record { text = refl; are = is; shallow = shallow; fits = fits; counted = omega arith })
 
-  items_counted : (ts : List Symbol) (most : ℕ) (behind : List Symbol) (r : Result (Items × List Symbol) Stop) → ts ≡ behind → most ≤ 1 → Holds (AreItemsTaken limit d most behind) r → Holds (AreItemsTaken limit d 1 ts) r
-  items_counted ts most behind (Ok x) e le h = record { text = e ∙ h.text; are = h.are; shallow = h.shallow; fits = h.fits; counted = omega (arith, h.counted) }
-  items_counted ts most behind (Err s) e le h = tt
+  items_counted : (ts : List Symbol) (most : ℕ) (following : List Symbol) (r : Result (Items × List Symbol) Stop) → ts ≡ following → most ≤ 1 → Holds (AreItemsTaken limit d most following) r → Holds (AreItemsTaken limit d 1 ts) r
+  items_counted ts most following (Ok x) e le h = record { text = e ∙ h.text; are = h.are; shallow = h.shallow; fits = h.fits; counted = omega (arith, h.counted) }
+  items_counted ts most following (Err s) e le h = tt
 
   items_takes : (ts : List Symbol) → Holds (AreItemsTaken limit d 1 ts) (items_at limit next ts)
   unfolding items_at

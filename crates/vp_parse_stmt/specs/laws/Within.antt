@@ -11,14 +11,14 @@ use Rattle.vp_source.specs.declared.symbol.TheConstants.{NUMBER_LIMIT}
 use Rattle.vp_source.specs.ExprGrammar.{Selection, Expr}
 use Rattle.vp_parse_expr.specs.Stopping.{Stop, Unexpected, ◌>>=◌, Reader, is_next, terminal, left_of}
 use Rattle.vp_parse_expr.specs.Reading.{expr_at, selection_at}
-use Rattle.vp_parse_expr.specs.laws.Within.{Within, IsWithin, Within-bind, Within-if, Within-terminal, terminal_within, expr_behind, selection_within, expr_shorter}
+use Rattle.vp_parse_expr.specs.laws.Within.{Within, IsWithin, Within-bind, Within-if, Within-terminal, terminal_within, expr_after, selection_within, expr_shorter}
 use Rattle.vp_source.specs.StmtGrammar.{Hold, Stmt, Edge, Posedge, Negedge, edge_kind, Term, Separator, Or, Comma, separator_kind, Sort, Exact, Wild, Item}
 use Rattle.vp_parse_stmt.specs.Reading.{Guarded, goes_on, stmts_at, amount_by, amount_at, grouped_delay_at, delay_at, later_at, hold_at, blocking_at, assign_at, nonblocking_at, is_arrow, set_at, assignment_at, block_at, delayed_at, condition_at, guarded_at, wait_at, while_at, forever_at, is_else, second_at, else_at, if_at, stmt_by, form_at, stmt_at, named_blocking_at, heading_at, for_at, edged_at, term_at, is_separator, separator_by, separator_at, joined_at, further_terms_at, terms_at, terms_event_at, star_event_at, event_by, event_at, awaited_at, further_label_at, further_labels_at, labels_at, labels_item_at, colon_at, default_item_at, is_default, item_at, items_go_on, may_still, further_items_at, items_at, case_at, given_at, argument_at, finish_at}
 
 -- what is read after a symbol which is not left
-Within-behind : {A B : Type 0} (m : ℕ) (r : Result (A × List Symbol) Stop) (f : A × List Symbol → Result (B × List Symbol) Stop) → Within m r → ((x : A × List Symbol) → length x.1 ≤ m → Within (suc m) (f x)) → Within (suc m) (r >>= f)
-Within-behind m (Ok x) f h k = k x h
-Within-behind m (Err s) f h k = omega arith
+Within-following : {A B : Type 0} (m : ℕ) (r : Result (A × List Symbol) Stop) (f : A × List Symbol → Result (B × List Symbol) Stop) → Within m r → ((x : A × List Symbol) → length x.1 ≤ m → Within (suc m) (f x)) → Within (suc m) (r >>= f)
+Within-following m (Ok x) f h k = k x h
+Within-following m (Err s) f h k = omega arith
 
 amount_by_within : (kind : SymbolKind) (place n : ℕ) (ts : List Symbol) → suc (length ts) ≤ n → Within n (amount_by kind place ts)
 unfolding amount_by
@@ -78,7 +78,7 @@ blocking_within : (limit target : ℕ) (selection : Selection) → IsWithin (blo
 unfolding blocking_at
 blocking_within limit target selection n ts le =
     Within-terminal n (symbol.Punctuator punctuator.Equals) ts _ le
-    (λ q le. Within-bind n (expr_at limit 0 q.1) _ (expr_behind limit 0 n q.1 le) (λ v le. le))
+    (λ q le. Within-bind n (expr_at limit 0 q.1) _ (expr_after limit 0 n q.1 le) (λ v le. le))
 
 assign_within : (limit target : ℕ) (selection : Selection) → IsWithin (assign_at limit target selection)
 unfolding assign_at
@@ -90,14 +90,14 @@ assign_within limit target selection n ts le =
 -- the delay of a nonblocking assignment, after a symbol which is not left
 Within-hold : {B : Type 0} (n : ℕ) (ts : List Symbol) (f : Hold × List Symbol → Result (B × List Symbol) Stop) → suc (length ts) ≤ n → ((x : Hold × List Symbol) → suc (length x.1) ≤ n → Within n (f x)) → Within n (hold_at ts >>= f)
 Within-hold zero ts f le k = absurd (omega arith)
-Within-hold (suc m) ts f le k = Within-behind m (hold_at ts) f (hold_within m ts (omega arith)) (λ x le. k x (omega arith))
+Within-hold (suc m) ts f le k = Within-following m (hold_at ts) f (hold_within m ts (omega arith)) (λ x le. k x (omega arith))
 
 nonblocking_within : (limit target : ℕ) (selection : Selection) → IsWithin (nonblocking_at limit target selection)
 unfolding nonblocking_at
 nonblocking_within limit target selection n ts le =
     Within-terminal n (symbol.Punctuator punctuator.LessOrEqual) ts _ le
     (λ a le. Within-hold n a.1 _ le
-    (λ h le. Within-bind n (expr_at limit 0 h.1) _ (expr_behind limit 0 n h.1 le)
+    (λ h le. Within-bind n (expr_at limit 0 h.1) _ (expr_after limit 0 n h.1 le)
     (λ v le. Within-bind n (terminal (symbol.Punctuator punctuator.Semicolon) v.1) _ (terminal_within (symbol.Punctuator punctuator.Semicolon) n v.1 le)
     (λ s le. le))))
 
@@ -124,7 +124,7 @@ heading_within limit n ts le =
     Within-bind n (terminal (symbol.Punctuator punctuator.LeftParenthesis) ts) _ (terminal_within (symbol.Punctuator punctuator.LeftParenthesis) n ts le)
     (λ o le. Within-bind n (named_blocking_at limit o.1) _ (named_blocking_within limit n o.1 le)
     (λ a le. Within-terminal n (symbol.Punctuator punctuator.Semicolon) a.1 _ le
-    (λ f le. Within-bind n (expr_at limit 0 f.1) _ (expr_behind limit 0 n f.1 le)
+    (λ f le. Within-bind n (expr_at limit 0 f.1) _ (expr_after limit 0 n f.1 le)
     (λ c le. Within-bind n (terminal (symbol.Punctuator punctuator.Semicolon) c.1) _ (terminal_within (symbol.Punctuator punctuator.Semicolon) n c.1 le)
     (λ s le. Within-bind n (named_blocking_at limit s.1) _ (named_blocking_within limit n s.1 le)
     (λ b le. Within-bind n (terminal (symbol.Punctuator punctuator.RightParenthesis) b.1) _ (terminal_within (symbol.Punctuator punctuator.RightParenthesis) n b.1 le)
@@ -203,45 +203,45 @@ condition_within : (limit : ℕ) → IsWithin (condition_at limit)
 unfolding condition_at
 condition_within limit n ts le =
     Within-terminal n (symbol.Punctuator punctuator.LeftParenthesis) ts _ le
-    (λ o le. Within-bind n (expr_at limit 0 o.1) _ (expr_behind limit 0 n o.1 le)
+    (λ o le. Within-bind n (expr_at limit 0 o.1) _ (expr_after limit 0 n o.1 le)
     (λ v le. Within-bind n (terminal (symbol.Punctuator punctuator.RightParenthesis) v.1) _ (terminal_within (symbol.Punctuator punctuator.RightParenthesis) n v.1 le)
     (λ z le. le)))
 
 -- ---- labels
 
 -- no more symbols than so many are left, and where reading stops, one more at most
-abbrev Behind : {A : Type 0} → ℕ → Result (A × List Symbol) Stop → Type 0
-Behind m (Ok x) = length x.1 ≤ m
-Behind m (Err s) = left_of s ≤ suc m
+abbrev After : {A : Type 0} → ℕ → Result (A × List Symbol) Stop → Type 0
+After m (Ok x) = length x.1 ≤ m
+After m (Err s) = left_of s ≤ suc m
 
-Behind-bind : {A B : Type 0} (m : ℕ) (r : Result (A × List Symbol) Stop) (f : A × List Symbol → Result (B × List Symbol) Stop) → Behind m r → ((x : A × List Symbol) → length x.1 ≤ m → Behind m (f x)) → Behind m (r >>= f)
-Behind-bind m (Ok x) f h k = k x h
-Behind-bind m (Err s) f h k = h
+After-bind : {A B : Type 0} (m : ℕ) (r : Result (A × List Symbol) Stop) (f : A × List Symbol → Result (B × List Symbol) Stop) → After m r → ((x : A × List Symbol) → length x.1 ≤ m → After m (f x)) → After m (r >>= f)
+After-bind m (Ok x) f h k = k x h
+After-bind m (Err s) f h k = h
 
-Behind-if : {A : Type 0} (m : ℕ) (b : Bool) (x y : Result (A × List Symbol) Stop) → Behind m x → Behind m y → Behind m (cond b x y)
-Behind-if m true x y h k = h
-Behind-if m false x y h k = k
+After-if : {A : Type 0} (m : ℕ) (b : Bool) (x y : Result (A × List Symbol) Stop) → After m x → After m y → After m (cond b x y)
+After-if m true x y h k = h
+After-if m false x y h k = k
 
-within_behind : {A : Type 0} (m : ℕ) (r : Result (A × List Symbol) Stop) → Within m r → Behind m r
-within_behind m (Ok x) h = h
-within_behind m (Err s) h = omega arith
+within_after : {A : Type 0} (m : ℕ) (r : Result (A × List Symbol) Stop) → Within m r → After m r
+within_after m (Ok x) h = h
+within_after m (Err s) h = omega arith
 
-behind_within : {A : Type 0} (m : ℕ) (r : Result (A × List Symbol) Stop) → Behind m r → Within (suc m) r
-behind_within m (Ok x) h = omega arith
-behind_within m (Err s) h = h
+after_within : {A : Type 0} (m : ℕ) (r : Result (A × List Symbol) Stop) → After m r → Within (suc m) r
+after_within m (Ok x) h = omega arith
+after_within m (Err s) h = h
 
-value_behind_by : (m : ℕ) (ts : List Symbol) (r : Result (Expr × List Symbol) Stop) → length ts ≤ m → Within (suc m) r → Holds (λ x. length x.1 < length ts) r → Behind m r
-value_behind_by m ts (Ok x) le h k = omega arith
-value_behind_by m ts (Err s) le h k = h
+value_after_by : (m : ℕ) (ts : List Symbol) (r : Result (Expr × List Symbol) Stop) → length ts ≤ m → Within (suc m) r → Holds (λ x. length x.1 < length ts) r → After m r
+value_after_by m ts (Ok x) le h k = omega arith
+value_after_by m ts (Err s) le h k = h
 
-value_behind : (limit m : ℕ) (ts : List Symbol) → length ts ≤ m → Behind m (expr_at limit 0 ts)
-value_behind limit m ts le = value_behind_by m ts (expr_at limit 0 ts) le (expr_behind limit 0 (suc m) ts (omega arith)) (expr_shorter limit ts)
+value_after : (limit m : ℕ) (ts : List Symbol) → length ts ≤ m → After m (expr_at limit 0 ts)
+value_after limit m ts le = value_after_by m ts (expr_at limit 0 ts) le (expr_after limit 0 (suc m) ts (omega arith)) (expr_shorter limit ts)
 
 further_label_within : (limit : ℕ) → IsWithin (further_label_at limit)
 unfolding further_label_at
 further_label_within limit n ts le =
     Within-terminal n (symbol.Punctuator punctuator.Comma) ts _ le
-    (λ c le. Within-bind n (expr_at limit 0 c.1) _ (expr_behind limit 0 n c.1 le) (λ v le. le))
+    (λ c le. Within-bind n (expr_at limit 0 c.1) _ (expr_after limit 0 n c.1 le) (λ v le. le))
 
 further_labels_within : (limit m : ℕ) (e : Expr) → IsWithin (further_labels_at limit m e)
 unfolding further_labels_at
@@ -252,11 +252,11 @@ further_labels_within limit (suc m) e n ts le =
     (λ j le. Within-bind n (further_labels_at limit m j.0.value j.1) _ (further_labels_within limit m j.0.value n j.1 le) (λ l le. le)))
     le
 
-labels_behind : (limit m : ℕ) (ts : List Symbol) → length ts ≤ m → Behind m (labels_at limit ts)
+labels_after : (limit m : ℕ) (ts : List Symbol) → length ts ≤ m → After m (labels_at limit ts)
 unfolding labels_at
-labels_behind limit m ts le =
-    Behind-bind m (expr_at limit 0 ts) _ (value_behind limit m ts le)
-    (λ e le. within_behind m (further_labels_at limit (length e.1) e.0 e.1) (further_labels_within limit (length e.1) e.0 m e.1 le))
+labels_after limit m ts le =
+    After-bind m (expr_at limit 0 ts) _ (value_after limit m ts le)
+    (λ e le. within_after m (further_labels_at limit (length e.1) e.0 e.1) (further_labels_within limit (length e.1) e.0 m e.1 le))
 
 colon_within : IsWithin colon_at
 unfolding colon_at
@@ -330,12 +330,12 @@ module _ (next : Reader Stmt) (within : IsWithin next) where
       Within-bind n (heading_at limit ts) _ (heading_within limit n ts le)
       (λ h le. Within-bind n (next h.1) _ (within n h.1 le) (λ s le. le))
 
-  labels_item_behind : (limit m : ℕ) (ts : List Symbol) → length ts ≤ m → Behind m (labels_item_at limit next ts)
+  labels_item_after : (limit m : ℕ) (ts : List Symbol) → length ts ≤ m → After m (labels_item_at limit next ts)
   unfolding labels_item_at
-  labels_item_behind limit m ts le =
-      Behind-bind m (labels_at limit ts) _ (labels_behind limit m ts le)
-      (λ l le. Behind-bind m (terminal (symbol.Punctuator punctuator.Colon) l.1) _ (within_behind m (terminal (symbol.Punctuator punctuator.Colon) l.1) (terminal_within (symbol.Punctuator punctuator.Colon) m l.1 le))
-      (λ c le. Behind-bind m (next c.1) _ (within_behind m (next c.1) (within m c.1 le)) (λ s le. le)))
+  labels_item_after limit m ts le =
+      After-bind m (labels_at limit ts) _ (labels_after limit m ts le)
+      (λ l le. After-bind m (terminal (symbol.Punctuator punctuator.Colon) l.1) _ (within_after m (terminal (symbol.Punctuator punctuator.Colon) l.1) (terminal_within (symbol.Punctuator punctuator.Colon) m l.1 le))
+      (λ c le. After-bind m (next c.1) _ (within_after m (next c.1) (within m c.1 le)) (λ s le. le)))
 
   default_item_within : IsWithin (default_item_at next)
   unfolding default_item_at
@@ -344,39 +344,39 @@ module _ (next : Reader Stmt) (within : IsWithin next) where
       (λ d le. Within-bind n (colon_at d.1) _ (colon_within n d.1 le)
       (λ c le. Within-bind n (next c.1) _ (within n c.1 le) (λ s le. le)))
 
-  item_behind : (limit m : ℕ) (may_default : Bool) (ts : List Symbol) → length ts ≤ m → Behind m (item_at limit next may_default ts)
+  item_after : (limit m : ℕ) (may_default : Bool) (ts : List Symbol) → length ts ≤ m → After m (item_at limit next may_default ts)
   unfolding item_at
-  item_behind limit m may_default ts le =
-      Behind-if m (is_default ts) _ _
-      (Behind-if {A = Item} m may_default _ (Err (Unexpected (length ts))) (within_behind m (default_item_at next ts) (default_item_within m ts le)) (omega arith))
-      (labels_item_behind limit m ts le)
+  item_after limit m may_default ts le =
+      After-if m (is_default ts) _ _
+      (After-if {A = Item} m may_default _ (Err (Unexpected (length ts))) (within_after m (default_item_at next ts) (default_item_within m ts le)) (omega arith))
+      (labels_item_after limit m ts le)
 
-  further_items_behind : (limit k m : ℕ) (may_default : Bool) (i : Item) (ts : List Symbol) → length ts ≤ m → Behind m (further_items_at limit next k may_default i ts)
+  further_items_after : (limit k m : ℕ) (may_default : Bool) (i : Item) (ts : List Symbol) → length ts ≤ m → After m (further_items_at limit next k may_default i ts)
   unfolding further_items_at
-  further_items_behind limit zero m may_default i ts le = le
-  further_items_behind limit (suc k) m may_default i ts le =
-      Behind-if m (items_go_on ts) _ _
-      (Behind-bind m (item_at limit next may_default ts) _ (item_behind limit m may_default ts le)
-      (λ j le. Behind-bind m (further_items_at limit next k (may_still may_default ts) j.0 j.1) _ (further_items_behind limit k m (may_still may_default ts) j.0 j.1 le) (λ l le. le)))
+  further_items_after limit zero m may_default i ts le = le
+  further_items_after limit (suc k) m may_default i ts le =
+      After-if m (items_go_on ts) _ _
+      (After-bind m (item_at limit next may_default ts) _ (item_after limit m may_default ts le)
+      (λ j le. After-bind m (further_items_at limit next k (may_still may_default ts) j.0 j.1) _ (further_items_after limit k m (may_still may_default ts) j.0 j.1 le) (λ l le. le)))
       le
 
-  items_behind : (limit m : ℕ) (ts : List Symbol) → length ts ≤ m → Behind m (items_at limit next ts)
+  listed_items : (limit m : ℕ) (ts : List Symbol) → length ts ≤ m → After m (items_at limit next ts)
   unfolding items_at
-  items_behind limit m ts le =
-      Behind-bind m (item_at limit next true ts) _ (item_behind limit m true ts le)
-      (λ i le. further_items_behind limit (length i.1) m (may_still true ts) i.0 i.1 le)
+  listed_items limit m ts le =
+      After-bind m (item_at limit next true ts) _ (item_after limit m true ts le)
+      (λ i le. further_items_after limit (length i.1) m (may_still true ts) i.0 i.1 le)
 
-  case_behind : (limit m : ℕ) (sort : Sort) (place : ℕ) (ts : List Symbol) → length ts ≤ m → Behind m (case_at limit next sort place ts)
+  case_after : (limit m : ℕ) (sort : Sort) (place : ℕ) (ts : List Symbol) → length ts ≤ m → After m (case_at limit next sort place ts)
   unfolding case_at
-  case_behind limit m sort place ts le =
-      Behind-bind m (condition_at limit ts) _ (within_behind m (condition_at limit ts) (condition_within limit m ts le))
-      (λ c le. Behind-bind m (items_at limit next c.1) _ (items_behind limit m c.1 le)
-      (λ i le. Behind-bind m (terminal (symbol.Keyword keyword.Endcase) i.1) _ (within_behind m (terminal (symbol.Keyword keyword.Endcase) i.1) (terminal_within (symbol.Keyword keyword.Endcase) m i.1 le))
+  case_after limit m sort place ts le =
+      After-bind m (condition_at limit ts) _ (within_after m (condition_at limit ts) (condition_within limit m ts le))
+      (λ c le. After-bind m (items_at limit next c.1) _ (listed_items limit m c.1 le)
+      (λ i le. After-bind m (terminal (symbol.Keyword keyword.Endcase) i.1) _ (within_after m (terminal (symbol.Keyword keyword.Endcase) i.1) (terminal_within (symbol.Keyword keyword.Endcase) m i.1 le))
       (λ z le. le)))
 
   case_within : (limit : ℕ) (sort : Sort) (place n : ℕ) (ts : List Symbol) → suc (length ts) ≤ n → Within n (case_at limit next sort place ts)
   case_within limit sort place zero ts le = absurd (omega arith)
-  case_within limit sort place (suc m) ts le = behind_within m (case_at limit next sort place ts) (case_behind limit m sort place ts (omega arith))
+  case_within limit sort place (suc m) ts le = after_within m (case_at limit next sort place ts) (case_after limit m sort place ts (omega arith))
 
   stmt_by_within : (limit : ℕ) (kind : SymbolKind) (place n : ℕ) (ts : List Symbol) → suc (length ts) ≤ n → Within n (stmt_by limit next kind place ts)
   unfolding stmt_by

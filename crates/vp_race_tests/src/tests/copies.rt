@@ -3,7 +3,7 @@ use std::alloc::Global;
 use vp_bits::Bits;
 use vp_design::shared_of;
 use vp_elab::ObjectId;
-use vp_expr::{KeptValues, Values};
+use vp_expr::{Values, ValuesCheckpoint};
 use vp_list::{SharedList, TrackedList};
 
 /// The numbers up to 200.
@@ -20,12 +20,12 @@ fn two_of(copy: Option<&SharedList<u32>>) -> Option<(u32, u32)> {
 
 /// Two places of a copy, of a later copy between which both were written, and of the list, which was written again.
 fn copies_of(list: &mut TrackedList<u32>) -> [Option<(u32, u32)>; 3] {
-    let first = list.keep().ok();
+    let first = list.checkpoint().ok();
     list.set(70, 7);
     list.set(150, 8);
-    let second = list.keep().ok();
+    let second = list.checkpoint().ok();
     list.set(70, 9);
-    let third = list.keep().ok();
+    let third = list.checkpoint().ok();
     let places = [
         two_of(first.as_ref()),
         two_of(second.as_ref()),
@@ -64,7 +64,7 @@ fn three_of(copy: &SharedList<u32>) -> Option<(u32, u32, u32)> {
 fn write_each(list: &mut TrackedList<u32>) -> Option<()> {
     for number in 0..15 {
         list.set(64 * number, 7);
-        drop(list.keep().ok()?);
+        drop(list.checkpoint().ok()?);
     }
     Some(())
 }
@@ -72,9 +72,9 @@ fn write_each(list: &mut TrackedList<u32>) -> Option<()> {
 /// Three places of a copy of the numbers, and of one after more chunks that were written than can be exchanged at once.
 fn first_and_last(alloc: Global) -> Option<[(u32, u32, u32); 2]> {
     let mut list = many_numbers(alloc)?;
-    let first = list.keep().ok()?;
+    let first = list.checkpoint().ok()?;
     write_each(&mut list)?;
-    let last = list.keep().ok()?;
+    let last = list.checkpoint().ok()?;
     Some([three_of(&first)?, three_of(&last)?])
 }
 
@@ -91,15 +91,15 @@ fn new_values(alloc: Global) -> Option<Values> {
 }
 
 /// A copy of them.
-fn copy_of_new(alloc: Global) -> Option<KeptValues> {
+fn copy_of_new(alloc: Global) -> Option<ValuesCheckpoint> {
     let mut values = new_values(alloc)?;
-    let copy = values.keep().ok();
+    let copy = values.checkpoint().ok();
     drop(values);
     copy
 }
 
 /// The value of the reg in a copy, and in its first chunk.
-fn value_in(copy: &KeptValues) -> Option<(Bits, Bits)> {
+fn value_in(copy: &ValuesCheckpoint) -> Option<(Bits, Bits)> {
     if copy.count() == 0 {
         return None;
     }

@@ -5,7 +5,7 @@ use std::alloc::Global;
 use vp_bits::Bits;
 use vp_design::shared_of;
 use vp_elab::ObjectId;
-use vp_sim::{KeptSim, Sim};
+use vp_sim::{Sim, SimCheckpoint};
 
 /// A reg `top.a` (1) and a process (2) with two assignments.
 const TWICE: &str = "module top; reg a; initial begin a = 1; a = 0; end endmodule";
@@ -137,7 +137,7 @@ const MIXED: &str = "module top; reg a, b; wire w; assign w = ~a; \
     initial begin a = 1; b <= 1; #3 a = 0; end always @(negedge w) b = 0; endmodule";
 
 /// The simulation takes the first of its events, if there is one.
-#[tactic(auto, using(vp_sim::specs::laws::Designs::behind_step))]
+#[tactic(auto, using(vp_sim::specs::laws::Designs::after_step))]
 fn take(simulation: &mut Sim)
     ensures { simulation.new.design ≡ simulation.old.design }
 {
@@ -178,7 +178,7 @@ fn at_end() -> State {
 
 /// A simulation that goes on from a copy of another.
 fn copy_of(simulation: &mut Sim) -> Option<Sim> {
-    let copy = simulation.keep().ok()?;
+    let copy = simulation.checkpoint().ok()?;
     let other = Sim::of_kept(&copy).ok();
     drop(copy);
     other
@@ -213,15 +213,15 @@ fn copy_of_a_simulation(rt: HostRuntime) {
 }
 
 /// A copy of a simulation that is restored later.
-fn copy_to_restore(simulation: &mut Sim) -> Option<KeptSim>
+fn copy_to_restore(simulation: &mut Sim) -> Option<SimCheckpoint>
     ensures copy { IfSome result (λ k. k.design ≡ simulation.old.design) }
     ensures same { simulation.new ≡ simulation.old }
 {
-    simulation.keep().ok()
+    simulation.checkpoint().ok()
 }
 
 /// The state of a simulation that goes on from a copy.
-fn state_from(simulation: &mut Sim, copy: &KeptSim) -> Option<State>
+fn state_from(simulation: &mut Sim, copy: &SimCheckpoint) -> Option<State>
     requires { simulation.old.design ≡ copy.now.design }
     ensures { OnSome result (simulation.new.design ≡ simulation.old.design) }
 {
@@ -230,7 +230,11 @@ fn state_from(simulation: &mut Sim, copy: &KeptSim) -> Option<State>
 }
 
 /// The states of a simulation that goes on from a copy and then from another.
-fn states_from(simulation: &mut Sim, first: &KeptSim, second: &KeptSim) -> Option<[State; 2]>
+fn states_from(
+    simulation: &mut Sim,
+    first: &SimCheckpoint,
+    second: &SimCheckpoint,
+) -> Option<[State; 2]>
     requires first { simulation.old.design ≡ first.now.design }
     requires second { simulation.old.design ≡ second.now.design }
 {
@@ -240,7 +244,7 @@ fn states_from(simulation: &mut Sim, first: &KeptSim, second: &KeptSim) -> Optio
 }
 
 /// The states of a simulation that runs to the end of its slot, and goes on from a copy that was made before and from one that is made then.
-fn states_after_slot(simulation: &mut Sim, first: &KeptSim) -> Option<[State; 2]>
+fn states_after_slot(simulation: &mut Sim, first: &SimCheckpoint) -> Option<[State; 2]>
     requires { simulation.old.design ≡ first.now.design }
 {
     finish_slot(simulation);

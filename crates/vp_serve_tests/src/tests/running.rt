@@ -146,7 +146,7 @@ fn come_and_go<R: Net<Stream = TcpStream> + Clock>(rt: &R, alloc: Global, port: 
 }
 
 #[test]
-fn connections_one_behind_another(rt: HostRuntime) {
+fn connections_one_after_another(rt: HostRuntime) {
     let alloc = rt.alloc();
     let server = Server::new(24_142, Settings::new(2, 100));
     let (told, right) = beside(

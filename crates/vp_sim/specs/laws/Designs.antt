@@ -14,7 +14,7 @@ use Rattle.vp_active.specs.declared.event.Event.{Event}
 use Rattle.vp_active.specs.declared.event.Event.TheVariants.{Evaluation, NetUpdate, Nonblocking}
 use Rattle.vp_strata.specs.Queues.{first_time, is_done, peeked}
 use Rattle.vp_waking.specs.declared.change.Change.{Change}
-use Rattle.vp_sim.specs.States.{Outcome, Goes, Refuses, State, advance, advanced_to, delay_of, evaluated, happened, is_late, next_effect, performed, put, step, turn, with_activation, with_effect, with_remaining}
+use Rattle.vp_sim.specs.States.{Outcome, Goes, Refuses, State, advance, advanced_to, delay_of, evaluated, happened, is_late, next_effect, performed, put, step, run_procedure, with_activation, with_effect, with_remaining}
 
 -- the design of what an outcome goes on to
 abbrev pub Leaves : Elaborated → Outcome → Type 0
@@ -42,7 +42,7 @@ performed_leaves : (tables : Tables) (s : State) (k process : ℕ) (rest : Optio
 performed_leaves tables s k process rest e =
     either (is_late s.time (delay_of e)) s.design _ _ tt (effect_leaves tables (with_remaining s k process rest e) process e)
 
-turn_leaves : (tables : Tables) (s : State) (k process : ℕ) (instance : ObjectId) (repeats : Bool) (body : ℕ) (remaining : Option ℕ) → Leaves s.design (turn tables s k process instance repeats body remaining)
+turn_leaves : (tables : Tables) (s : State) (k process : ℕ) (instance : ObjectId) (repeats : Bool) (body : ℕ) (remaining : Option ℕ) → Leaves s.design (run_procedure tables s k process instance repeats body remaining)
 turn_leaves tables s k process instance repeats body None = refl
 turn_leaves tables s k process instance repeats body (Some place) =
     performed_leaves tables s k process _ (next_effect tables s instance (next_event tables.actions place))
@@ -82,13 +82,13 @@ left : (d : Elaborated) (o : Outcome) (end : State) (change : Option Change) →
 left d o end change goes h = subst (Leaves d) goes h
 
 -- the design of the state to which a step goes on
-pub behind_step : (s end : State) (k : ℕ) (change : Option Change) → step s k ≡ Goes end change → end.design ≡ s.design
-behind_step s end k change goes = left s.design (step s k) end change goes (step_leaves s k)
+pub after_step : (s end : State) (k : ℕ) (change : Option Change) → step s k ≡ Goes end change → end.design ≡ s.design
+after_step s end k change goes = left s.design (step s k) end change goes (step_leaves s k)
 
 -- to which an advance does
-pub behind_advance : (s end : State) (change : Option Change) → advance s ≡ Goes end change → end.design ≡ s.design
-behind_advance s end change goes = left s.design (advance s) end change goes (advance_leaves s)
+pub after_advance : (s end : State) (change : Option Change) → advance s ≡ Goes end change → end.design ≡ s.design
+after_advance s end change goes = left s.design (advance s) end change goes (advance_leaves s)
 
 -- and to which a value from outside leads
-pub behind_put : (s end : State) (object : ℕ) (value : List Bit) (change : Option Change) → put s object value ≡ Goes end change → end.design ≡ s.design
-behind_put s end object value change goes = left s.design (put s object value) end change goes (put_leaves s object value)
+pub after_put : (s end : State) (object : ℕ) (value : List Bit) (change : Option Change) → put s object value ≡ Goes end change → end.design ≡ s.design
+after_put s end object value change goes = left s.design (put s object value) end change goes (put_leaves s object value)

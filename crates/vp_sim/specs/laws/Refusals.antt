@@ -9,8 +9,8 @@ use Rattle.vp_statement.specs.Walking.{next_event}
 use Rattle.vp_active.specs.declared.event.Event.{Event}
 use Rattle.vp_active.specs.declared.event.Event.TheVariants.{Evaluation, NetUpdate, Nonblocking}
 use Rattle.vp_strata.specs.Queues.{first_time, is_done, peeked}
-use Rattle.vp_sim.specs.declared.fault.SimError.TheVariants.{NoMemory}
-use Rattle.vp_sim.specs.States.{Outcome, Goes, Refuses, State, advance, advanced_to, with_activation, delay_of, evaluated, happened, is_late, next_effect, step, turn}
+use Rattle.vp_sim.specs.declared.error.SimError.TheVariants.{NoMemory}
+use Rattle.vp_sim.specs.States.{Outcome, Goes, Refuses, State, advance, advanced_to, with_activation, delay_of, evaluated, happened, is_late, next_effect, step, run_procedure}
 
 -- what a step does, or a refusal that is no want of memory
 abbrev pub IsOwn : Outcome → Type 0
@@ -21,7 +21,7 @@ either : (b : Bool) (x y : Outcome) → IsOwn x → IsOwn y → IsOwn (if b then
 either true x y h k = h
 either false x y h k = k
 
-turn_own : (tables : Tables) (s : State) (k process : ℕ) (instance : ObjectId) (repeats : Bool) (body : ℕ) (remaining : Option ℕ) → IsOwn (turn tables s k process instance repeats body remaining)
+turn_own : (tables : Tables) (s : State) (k process : ℕ) (instance : ObjectId) (repeats : Bool) (body : ℕ) (remaining : Option ℕ) → IsOwn (run_procedure tables s k process instance repeats body remaining)
 turn_own tables s k process instance repeats body None = tt
 turn_own tables s k process instance repeats body (Some place) =
     either (is_late s.time (delay_of (next_effect tables s instance (next_event tables.actions place)))) _ _ (λ e. cc) tt

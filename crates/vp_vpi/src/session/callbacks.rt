@@ -4,10 +4,10 @@ ghost use Rattle.vp_policy.specs.Users.{member_at};
 ghost use Rattle.vp_notify.specs.Registry as registry;
 ghost use Rattle.vp_vpi.specs.Calls.{Explains, Refuses, is_watchable, watchable_of, watched_of};
 ghost use Rattle.vp_vpi.specs.Observers.{is_watch_denied};
-ghost use Rattle.vp_vpi.specs.Seats.{drained, object_of, polled, retired, with_callback, with_due, without_callback};
+ghost use Rattle.vp_vpi.specs.SessionStates.{drained, object_of, polled, retired, with_callback, with_due, without_callback};
 
 use super::Session;
-use crate::fault::VpiError;
+use crate::error::VpiError;
 use crate::notices::SharedNotices;
 use crate::observer::Observe;
 use vp_elab::{Kind, ObjectId};
@@ -28,15 +28,15 @@ fn is_watchable(kind: Option<Kind>) -> bool
 impl Session {
     /// The object of a handle, whose changes the user may watch. Refused where the number is no handle (1101), the user lacks the right
     /// to watch (1109), or the object is no net or reg (1102), or for want of memory (1107).
-    fn watchable<E: Observe>(&self, eyes: &E, handle: u32) -> Result<ObjectId, VpiError>
-        requires { E.is_sound eyes.now }
-        ensures ok { IfOk result (λ o. watchable_of (E.observer eyes.now)
+    fn watchable<E: Observe>(&self, observation: &E, handle: u32) -> Result<ObjectId, VpiError>
+        requires { E.is_sound observation.now }
+        ensures ok { IfOk result (λ o. watchable_of (E.observer observation.now)
             (object_of self.now.handles handle) ≡ Ok o.0) }
-        ensures refused { IfErr result (λ e. Refuses (watchable_of (E.observer eyes.now)
+        ensures refused { IfErr result (λ e. Refuses (watchable_of (E.observer observation.now)
             (object_of self.now.handles handle)) e) }
     {
-        let object = self.allowed(eyes, handle, Right::Watch)?;
-        if is_watchable(eyes.kind(object)) {
+        let object = self.allowed(observation, handle, Right::Watch)?;
+        if is_watchable(observation.kind(object)) {
             Ok(object)
         } else {
             Err(VpiError::WrongKind)
@@ -46,17 +46,17 @@ impl Session {
     /// A callback on the changes of a handle's object, and its number (27.33). Refused where the number is no handle (1101), the user
     /// lacks the right to watch (1109), the object is no net or reg (1102), with too many callbacks (1001), or for want of memory (1107).
     /// A refusal leaves the session as it was.
-    pub fn register_cb<E: Observe>(&mut self, eyes: &E, handle: u32) -> Result<u32, VpiError>
-        requires { E.is_sound eyes.now }
+    pub fn register_cb<E: Observe>(&mut self, observation: &E, handle: u32) -> Result<u32, VpiError>
+        requires { E.is_sound observation.now }
         ensures number { IfOk result (λ n. n ≡ self.old.registry.given + 1) }
         ensures registered { OnOk result
-            (IsOkAnd (watched_of (E.observer eyes.now) self.old.registry
+            (IsOkAnd (watched_of (E.observer observation.now) self.old.registry
             (object_of self.old.handles handle)) (λ o. self.new ≡ with_callback o self.old)) }
-        ensures refused { IfErr result (λ e. Explains (watched_of (E.observer eyes.now)
+        ensures refused { IfErr result (λ e. Explains (watched_of (E.observer observation.now)
             self.old.registry (object_of self.old.handles handle)) e) }
         ensures unchanged { OnErr result (self.new ≡ self.old) }
     {
-        let object = self.watchable(eyes, handle)?;
+        let object = self.watchable(observation, handle)?;
         Ok(self.registry.register(object)?)
     }
 
@@ -91,7 +91,7 @@ impl Session {
     /// Takes out its callbacks on objects that these rights, by object, do not let be watched, and the notices of these objects that wait.
     /// Takes no memory.
     pub fn retire_unwatchable(&mut self, rights: &[Rights])
-        ensures { self.new ≡ retired (registry.lacks_watch rights.now) self.old }
+        ensures { self.new ≡ retired (registry.is_unwatchable rights.now) self.old }
     {
         self.registry.retire(rights);
     }

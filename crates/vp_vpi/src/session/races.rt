@@ -3,9 +3,9 @@ ghost use Rattle.std.specs.Prelude.{◌≡◌, Ok, IfErr, IfOk, IsOkUnless};
 ghost use Rattle.vp_vpi.specs.Calls.{Explains, lines_of, race_of};
 
 use super::Session;
-use crate::fault::VpiError;
+use crate::error::VpiError;
 use crate::observer::Observe;
-use crate::races::{RaceLine, RaceTold};
+use crate::races::{RaceDetails, RaceLine};
 use vp_list::Sequence;
 use vp_race::Shared;
 
@@ -14,26 +14,30 @@ impl Session {
     /// refusal is want of memory (1107).
     pub fn races<E: Observe>(
         &self,
-        eyes: &E,
+        observation: &E,
         from: u64,
     ) -> Result<Shared<Sequence<RaceLine>>, VpiError>
-        requires { E.is_sound eyes.now }
-        ensures lines { IfOk result (λ lines. lines ≡ lines_of (E.observer eyes.now) from) }
+        requires { E.is_sound observation.now }
+        ensures lines { IfOk result (λ lines. lines ≡ lines_of (E.observer observation.now) from) }
         ensures refused { IsOkUnless result VpiError.NoMemory }
     {
-        let lines = eyes.race_lines(self.alloc, from)?;
+        let lines = observation.race_lines(self.alloc, from)?;
         Ok(Shared::new(self.alloc, lines)?)
     }
 
     /// A race with its steps, by its number among those that the user is shown. Refused where there is none of that number (1108), or for want of
     /// memory (1107).
-    pub fn race<E: Observe>(&self, eyes: &E, number: u64) -> Result<Shared<RaceTold>, VpiError>
-        requires { E.is_sound eyes.now }
-        ensures race { IfOk result (λ race. race_of (E.observer eyes.now) number ≡ Ok race) }
+    pub fn race<E: Observe>(
+        &self,
+        observation: &E,
+        number: u64,
+    ) -> Result<Shared<RaceDetails>, VpiError>
+        requires { E.is_sound observation.now }
+        ensures race { IfOk result (λ race. race_of (E.observer observation.now) number ≡ Ok race) }
         ensures refused { IfErr result
-            (λ e. Explains (race_of (E.observer eyes.now) number) e) }
+            (λ e. Explains (race_of (E.observer observation.now) number) e) }
     {
-        match eyes.race(self.alloc, number) {
+        match observation.race(self.alloc, number) {
             Ok(Some(told)) => match Shared::new(self.alloc, told) {
                 Ok(race) => Ok(race),
                 Err(_) => Err(VpiError::NoMemory),

@@ -2,7 +2,7 @@
 ghost use Rattle.std.specs.Prelude.{◌≡◌, length, map, option_map, true};
 ghost use Rattle.std.specs.List.{list_all};
 ghost use Rattle.vp_notify.specs.Renumbered.{is_within, number_now, rises};
-ghost use Rattle.vp_vpi.specs.Renumbered.{is_handle_within, is_seat_within, moved_handle, moved_seat};
+ghost use Rattle.vp_vpi.specs.Renumbered.{is_handle_within, is_session_state_within, moved_handle, moved_session_state};
 
 use super::Session;
 use vp_elab::ObjectId;
@@ -49,7 +49,7 @@ fn renumber_handles(handles: &mut Vec<Option<ObjectId>>, numbers: &[u32])
 impl Session {
     /// The objects of its handles, of its callbacks and of the notices that wait are among so many.
     pub fn is_within(&self, count: usize) -> bool
-        ensures { result ≡ is_seat_within count self.now }
+        ensures { result ≡ is_session_state_within count self.now }
     {
         are_handles_within(&self.handles, count) && self.registry.is_within(count)
     }
@@ -57,8 +57,8 @@ impl Session {
     /// Gives the objects of its handles, of its callbacks and of the notices that wait their numbers now. Takes no memory.
     pub fn renumber(&mut self, numbers: &[u32])
         requires rises { rises numbers.now ≡ true }
-        requires within { is_seat_within (length numbers.now) self.old ≡ true }
-        ensures { self.new ≡ moved_seat (number_now numbers.now) self.old }
+        requires within { is_session_state_within (length numbers.now) self.old ≡ true }
+        ensures { self.new ≡ moved_session_state (number_now numbers.now) self.old }
     {
         renumber_handles(&mut self.handles, numbers);
         self.registry.renumber(numbers);

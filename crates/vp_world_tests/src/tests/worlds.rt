@@ -56,7 +56,7 @@ fn closed_envelopes(rt: HostRuntime) {
 
 /// What happens to a world.
 #[derive(Clone, Copy)]
-enum Deed {
+enum PragmaEffect {
     /// Ann opens a session.
     Open,
     /// Ann opens a session with another token than hers.
@@ -85,25 +85,25 @@ fn opening(alloc: Global, token: &str) -> Option<Event>
 }
 
 /// The event of a deed.
-fn event(alloc: Global, deed: Deed) -> Option<Event>
+fn event(alloc: Global, effect: PragmaEffect) -> Option<Event>
     ensures { (design : Elaborated) → IfSome result (IsWellFormed design) }
 {
     let session = ANN;
-    match deed {
-        Deed::Open => opening(alloc, "t1"),
-        Deed::Mistake => opening(alloc, "t2"),
-        Deed::Close => Some(Event::Close { session }),
-        Deed::Time => Some(Event::Ask {
+    match effect {
+        PragmaEffect::Open => opening(alloc, "t1"),
+        PragmaEffect::Mistake => opening(alloc, "t2"),
+        PragmaEffect::Close => Some(Event::Close { session }),
+        PragmaEffect::Time => Some(Event::Ask {
             session,
             request: Request::Time,
         }),
-        Deed::Run => Some(Event::Ask {
+        PragmaEffect::Run => Some(Event::Ask {
             session,
             request: Request::Run { until: 0 },
         }),
-        Deed::Step(k) => Some(Event::Step(k)),
-        Deed::Advance => Some(Event::Advance),
-        Deed::Job => Some(Event::TakeJob),
+        PragmaEffect::Step(k) => Some(Event::Step(k)),
+        PragmaEffect::Advance => Some(Event::Advance),
+        PragmaEffect::Job => Some(Event::TakeJob),
     }
 }
 
@@ -130,57 +130,63 @@ fn outcome(world: &mut World, event: Event) -> u64
 }
 
 /// What comes of deeds in turn.
-fn outcomes(alloc: Global, world: &mut World, deeds: &[Deed]) -> Option<Vec<u64>> {
+fn outcomes(alloc: Global, world: &mut World, effects: &[PragmaEffect]) -> Option<Vec<u64>> {
     let mut outcomes = Vec::new(alloc);
-    for deed in deeds {
-        let event = event(alloc, *deed)?;
+    for effect in effects {
+        let event = event(alloc, *effect)?;
         outcomes.push(outcome(world, event)).ok()?;
     }
     Some(outcomes)
 }
 
 /// What comes of deeds in a world, and how long its log is then.
-fn history_of(alloc: Global, world: &mut World, deeds: &[Deed]) -> Option<(Vec<u64>, usize)> {
-    let outcomes = outcomes(alloc, world, deeds)?;
+fn history_of(
+    alloc: Global,
+    world: &mut World,
+    effects: &[PragmaEffect],
+) -> Option<(Vec<u64>, usize)> {
+    let outcomes = outcomes(alloc, world, effects)?;
     Some((outcomes, world.log().len()))
 }
 
 /// The same in a new world.
-fn history(alloc: Global, limits: Limits, deeds: &[Deed]) -> Option<(Vec<u64>, usize)> {
+fn history(alloc: Global, limits: Limits, effects: &[PragmaEffect]) -> Option<(Vec<u64>, usize)> {
     let mut world = world_of(alloc, DESIGN, READER, limits)?;
-    let history = history_of(alloc, &mut world, deeds);
+    let history = history_of(alloc, &mut world, effects);
     drop(world);
     history
 }
 
 #[test]
 fn run_of_a_world(rt: HostRuntime) {
-    let deeds = [
-        Deed::Time,
-        Deed::Job,
-        Deed::Mistake,
-        Deed::Open,
-        Deed::Open,
-        Deed::Step(0),
-        Deed::Advance,
-        Deed::Run,
-        Deed::Step(1),
-        Deed::Advance,
-        Deed::Step(0),
-        Deed::Step(0),
-        Deed::Step(0),
-        Deed::Job,
-        Deed::Job,
-        Deed::Advance,
-        Deed::Time,
-        Deed::Close,
-        Deed::Close,
-        Deed::Time,
+    let effects = [
+        PragmaEffect::Time,
+        PragmaEffect::Job,
+        PragmaEffect::Mistake,
+        PragmaEffect::Open,
+        PragmaEffect::Open,
+        PragmaEffect::Step(0),
+        PragmaEffect::Advance,
+        PragmaEffect::Run,
+        PragmaEffect::Step(1),
+        PragmaEffect::Advance,
+        PragmaEffect::Step(0),
+        PragmaEffect::Step(0),
+        PragmaEffect::Step(0),
+        PragmaEffect::Job,
+        PragmaEffect::Job,
+        PragmaEffect::Advance,
+        PragmaEffect::Time,
+        PragmaEffect::Close,
+        PragmaEffect::Close,
+        PragmaEffect::Time,
     ];
     let want = [
         1303, 1306, 1302, 1, 2, 1305, 1305, 0, 802, 803, 0, 0, 801, 1, 1306, 801, 0, 0, 1303, 1303,
     ];
-    let (outcomes, entries) = history(rt.alloc(), Limits::GREATEST, &deeds).expect(&rt, "a world");
+    let (outcomes, entries) = history(rt.alloc(), Limits::GREATEST, &effects).expect(
+        &rt, "a world",
+    );
     assert_eq!(rt; outcomes.as_slice(), want.as_slice());
     assert_eq!(rt; entries, 8);
 }
@@ -188,10 +194,10 @@ fn run_of_a_world(rt: HostRuntime) {
 #[test]
 fn limits_of_a_world(rt: HostRuntime) {
     let greatest = Limits::GREATEST;
-    let rows: [(Limits, [Deed; 3], [u64; 3], usize); 2] = [
+    let rows: [(Limits, [PragmaEffect; 3], [u64; 3], usize); 2] = [
         (
             Limits { log: 2, ..greatest },
-            [Deed::Open, Deed::Time, Deed::Time],
+            [PragmaEffect::Open, PragmaEffect::Time, PragmaEffect::Time],
             [1, 0, 1304],
             2,
         ),
@@ -200,13 +206,17 @@ fn limits_of_a_world(rt: HostRuntime) {
                 sessions: 1,
                 ..greatest
             },
-            [Deed::Open, Deed::Open, Deed::Mistake],
+            [
+                PragmaEffect::Open,
+                PragmaEffect::Open,
+                PragmaEffect::Mistake,
+            ],
             [1, 1301, 1302],
             1,
         ),
     ];
-    for (limits, deeds, want, length) in rows {
-        let (outcomes, entries) = history(rt.alloc(), limits, &deeds).expect(&rt, "a world");
+    for (limits, effects, want, length) in rows {
+        let (outcomes, entries) = history(rt.alloc(), limits, &effects).expect(&rt, "a world");
         assert_eq!(rt; outcomes.as_slice(), want.as_slice());
         assert_eq!(rt; entries, length);
     }

@@ -1,7 +1,7 @@
 use Rattle.std.proofs.Common.{◌∙◌, ◌++◌, List, Some, ap, drop, refl, subst, sym, take}
 use Rattle.vp_active.specs.declared.slot.Slot.{Slot}
 use Rattle.vp_active.specs.Slots.{AreMarked, does_first_wait, events_of, released}
-use Rattle.vp_active.proofs.Region.{none_behind, other_over, update_counted, update_events, update_is, update_over, waits_behind}
+use Rattle.vp_active.proofs.Region.{none_after, other_over, update_counted, update_events, update_is, update_over, waits_after}
 use Rattle.vp_active.proofs.active.take_at.Goals as goal
 
 pub release-requires-clause-counted : goal.release-requires-clause-counted
@@ -17,14 +17,14 @@ release-requires-clause-none c = λ one.
     let q = c.in-NetUpdate.process in
     let found = update_is ss c.args.place q c.in-NetUpdate.value c.in-NetUpdate.waiting (c.take_out.ensures.slot ∙ ap (λ (s : Slot). Some s) c.in-NetUpdate.is) c.requires.ready in
     let rest = ap (drop c.args.place) c.take_out.ensures.slots in
-    ap (released q) rest ∙ none_behind ss c.args.updates.now.items c.args.place q c.in-NetUpdate.value c.requires.marked found one ∙ sym rest
+    ap (released q) rest ∙ none_after ss c.args.updates.now.items c.args.place q c.in-NetUpdate.value c.requires.marked found one ∙ sym rest
 
 pub release-requires-clause-waits : goal.release-requires-clause-waits
 release-requires-clause-waits c =
     let ss = c.args.slots.now.slots in
     let q = c.in-NetUpdate.process in
     let found = update_is ss c.args.place q c.in-NetUpdate.value c.in-NetUpdate.waiting (c.take_out.ensures.slot ∙ ap (λ (s : Slot). Some s) c.in-NetUpdate.is) c.requires.ready in
-    ap (λ (xs : List Slot). does_first_wait q (drop c.args.place xs)) c.take_out.ensures.slots ∙ waits_behind ss c.args.updates.now.items c.args.place q c.in-NetUpdate.value c.requires.marked found
+    ap (λ (xs : List Slot). does_first_wait q (drop c.args.place xs)) c.take_out.ensures.slots ∙ waits_after ss c.args.updates.now.items c.args.place q c.in-NetUpdate.value c.requires.marked found
 
 pub returns-in-NetUpdate-clause-marked : goal.returns-in-NetUpdate-clause-marked
 returns-in-NetUpdate-clause-marked c =

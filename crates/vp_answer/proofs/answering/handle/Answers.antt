@@ -5,7 +5,7 @@ use Rattle.vp_answer.proofs.answering.handle.Goals as goal
 
 pub returns-in-Err-clause-given : goal.returns-in-Err-clause-given
 returns-in-Err-clause-given g c =
-    let seat = c.args.session.now in
-    let due = handle_of (g.E.Observe.observer c.args.eyes.now) seat.handles c.args.scope c.args.name.now in
-    refusal_gives seat c.handle_by_name.new.self (made seat) due c.in-Err.error c.refusal.result
+    let session_state = c.args.session.now in
+    let due = handle_of (g.E.Observe.observer c.args.observation.now) session_state.handles c.args.scope c.args.name.now in
+    refusal_gives session_state c.handle_by_name.new.self (made session_state) due c.in-Err.error c.refusal.result
     c.in-Err.ensures.unchanged c.in-Err.ensures.refused c.refusal.ensures.answer c.refusal.ensures.reason

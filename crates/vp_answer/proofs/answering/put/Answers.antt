@@ -1,13 +1,13 @@
 use Rattle.std.proofs.Common.{refl}
 use Rattle.vp_vpi.specs.Calls.{put_of}
-use Rattle.vp_vpi.specs.Seats.{object_of}
+use Rattle.vp_vpi.specs.SessionStates.{object_of}
 use Rattle.vp_answer.specs.Answers.{putting}
 use Rattle.vp_answer.proofs.Refusing.{refused_gives}
 use Rattle.vp_answer.proofs.answering.put.Goals as goal
 
 pub returns-in-Err : goal.returns-in-Err
 returns-in-Err g c =
-    let seat = c.args.session.now in
-    let due = put_of (g.E.Observe.observer c.args.eyes.now) c.args.value.now (object_of seat.handles c.args.handle) in
-    refused_gives seat seat (putting seat) due c.in-Err.error c.refusal.result
+    let session_state = c.args.session.now in
+    let due = put_of (g.E.Observe.observer c.args.observation.now) c.args.value.now (object_of session_state.handles c.args.handle) in
+    refused_gives session_state session_state (putting session_state) due c.in-Err.error c.refusal.result
     refl c.in-Err.ensures.refused c.refusal.ensures.answer c.refusal.ensures.reason

@@ -19,9 +19,9 @@ returns-in_default c =
     let i = c.loop-entry.entry-index in
     let e : Entry = c.entry-item.result in
     let rest : List Reply = e.reply ∷ replies_of u (drop (i + 1) log) in
-    let own : is_own u e ≡ true = sym c.is_own.ensures ∙ c.if-is_own.true in
+    let own_event : is_own u e ≡ true = sym c.is_own.ensures ∙ c.if-is_own.true in
     let there : slice_get log i ≡ Some e = slice_get-get_or log i e c.loop-entry-test.true ∙ ap Some (sym c.entry-item.is) in
-    let are : replies_of u log ≡ take n replayed ++ rest = c.loop-entry.invariant.told ∙ ap (λ (rs : List Reply). take n replayed ++ rs) (replies_own u log i e there own) in
+    let are : replies_of u log ≡ take n replayed ++ rest = c.loop-entry.invariant.told ∙ ap (λ (rs : List Reply). take n replayed ++ rs) (replies_own u log i e there own_event) in
     let other : (Some e.reply ≡ slice_get replayed n → ⊥) = elim c.in_default.branch [
       | in_default-via-in-Some+else-is_answered w ↦ λ (same : Some e.reply ≡ slice_get replayed n).
           let reply : Reply = w.in-Some.reply.now in

@@ -7,5 +7,5 @@ abbrev pub invariant-loop-entry : goal.invariant-loop-entry
 invariant-loop-entry l = record {
   told : replies_of l.user.0 l.log ≡ take l.number l.replayed ++ replies_of l.user.0 (drop l.entry-index l.log);
   within : l.number ≤ length l.replayed;
-  behind : l.number ≤ l.entry-index;
+  following : l.number ≤ l.entry-index;
 }

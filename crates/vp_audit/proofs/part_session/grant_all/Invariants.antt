@@ -1,5 +1,5 @@
 use Rattle.std.proofs.Common.{◌≡◌, ◌++◌, drop, map, take}
-use Rattle.vp_notify.specs.Registry.{lacks_watch}
+use Rattle.vp_notify.specs.Registry.{is_unwatchable}
 use Rattle.vp_notify.specs.Renumbered.{number_now}
 use Rattle.vp_audit.specs.Parts.{moved_session}
 use Rattle.vp_audit.proofs.part_session.grant_all.Given as goal
@@ -8,4 +8,4 @@ use Rattle.vp_audit.proofs.part_session.grant_all.Given as goal
 abbrev pub invariant-loop-session : goal.invariant-loop-session
 invariant-loop-session l =
     l.session-items
-    ≡ map (moved_session (number_now l.numbers) (lacks_watch l.rights)) (take l.session-index l.fn.sessions) ++ drop l.session-index l.fn.sessions
+    ≡ map (moved_session (number_now l.numbers) (is_unwatchable l.rights)) (take l.session-index l.fn.sessions) ++ drop l.session-index l.fn.sessions

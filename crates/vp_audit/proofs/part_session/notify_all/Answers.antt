@@ -1,6 +1,6 @@
 use Rattle.std.proofs.Common.{◌∙◌, Some, ap, slice_set, sym}
 use Rattle.std.proofs.lemmas.List.Edits.{map_over_more}
-use Rattle.vp_world.specs.Worlds.{SessionState}
+use Rattle.vp_world.specs.Worlds.{OpenSessionState}
 use Rattle.vp_world.proofs.Lists.{map_over_all}
 use Rattle.vp_audit.specs.Parts.{session_notified}
 use Rattle.vp_audit.proofs.part_session.notify_all.Goals as goal
@@ -11,8 +11,8 @@ loop-session-preserved c =
     let i = c.loop-session.session-index in
     let item = c.session-item.result in
     let notifies = session_notified (Some c.args.change.now) c.args.time in
-    ap (λ (s : SessionState). slice_set items i s) c.notify.ensures
-    ∙ ap (λ (s : SessionState). slice_set items i (notifies s)) (sym c.session-item.is)
+    ap (λ (s : OpenSessionState). slice_set items i s) c.notify.ensures
+    ∙ ap (λ (s : OpenSessionState). slice_set items i (notifies s)) (sym c.session-item.is)
     ∙ map_over_more notifies c.args.sessions.now items i item c.loop-session-test.true c.loop-session.invariant c.session-item.is
 
 pub returns : goal.returns

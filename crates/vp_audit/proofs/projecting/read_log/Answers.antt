@@ -6,7 +6,7 @@ use Rattle.vp_sim.specs.States as sim
 use Rattle.vp_world.specs.Entries.{Entry}
 use Rattle.vp_audit.specs.Parts.{Item}
 use Rattle.vp_audit.specs.Projections.{values_seen}
-use Rattle.vp_audit.specs.Readings.{Reading, Reads, reading_of}
+use Rattle.vp_audit.specs.Readings.{LogReader, Reads, reading_of}
 use Rattle.vp_audit.proofs.LogReading.{IsAt, all_read, continues, next_at, projection_is, with_item}
 use Rattle.vp_audit.proofs.projecting.read_log.Goals.{in-Some+in_ok-push, in_default}
 use Rattle.vp_audit.proofs.projecting.read_log.Goals as goal
@@ -16,14 +16,14 @@ loop-entry-preserved c opening u first legal =
     let log : List Entry = c.args.log.now in
     let n = c.loop-entry.entry-index in
     let done : List Item = c.loop-entry.items.items in
-    let reading : Reading = c.loop-entry.reading in
+    let reading : LogReader = c.loop-entry.reading in
     let e : Entry = c.entry-item.result in
     let at = c.loop-entry.invariant opening u first legal in
     let there : slice_get log n ≡ Some e = slice_get-get_or log n e c.loop-entry-test.true ∙ ap Some (sym c.entry-item.is) in
     let goes = continues opening u log n done reading at e there in
-    let his : reading ≡ reading_of reading.user at.state at.known = subst (λ (r : Reading). r ≡ reading_of r.user at.state at.known) (sym at.reads) refl in
+    let his : reading ≡ reading_of reading.user at.state at.known = subst (λ (r : LogReader). r ≡ reading_of r.user at.state at.known) (sym at.reads) refl in
     let reads : Reads u opening at.state at.known e (Ok c.in_ok-item.field-0) c.item.new.self =
-    subst (λ (w : ℕ). Reads w opening at.state at.known e (Ok c.in_ok-item.field-0) c.item.new.self) (ap (λ (r : Reading). r.user) at.reads)
+    subst (λ (w : ℕ). Reads w opening at.state at.known e (Ok c.in_ok-item.field-0) c.item.new.self) (ap (λ (r : LogReader). r.user) at.reads)
     ((c.in_ok-item.ensures {u = tt}).item opening at.state at.known his goes) in
     let items : c.match-branch-3.items.items ≡ with_item done c.in_ok-item.field-0 =
     elim c.match-branch-3.branch [
@@ -38,7 +38,7 @@ pub returns-clause-projection : goal.returns-clause-projection
 returns-clause-projection c opening u first legal =
     let log : List Entry = c.args.log.now in
     projection_is opening u log c.in_ok-values.values c.from_vec.result
-    (c.in_ok-values.ensures {u = tt} (sim.start opening.design) (sym (ap (λ (r : Reading). r.design) first)) (sym (ap (λ (r : Reading). r.values) first))
-    ∙ ap (λ (r : Reading). values_seen (sim.start opening.design) (member_at r.policy.members r.user) r.known) first)
+    (c.in_ok-values.ensures {u = tt} (sim.start opening.design) (sym (ap (λ (r : LogReader). r.design) first)) (sym (ap (λ (r : LogReader). r.values) first))
+    ∙ ap (λ (r : LogReader). values_seen (sim.start opening.design) (member_at r.policy.members r.user) r.known) first)
     (c.from_vec.ensures
     ∙ sym (all_read opening u log c.loop-entry.entry-index c.loop-entry.items.items c.loop-entry.reading (c.loop-entry.invariant opening u first legal) c.loop-entry-test.false))

@@ -4,7 +4,7 @@ use Rattle.vp_policy.specs.View.{View, view_of}
 use Rattle.vp_audit.specs.Parts.{replies_from}
 use Rattle.vp_audit.specs.Projections.{Projection, first_part}
 use Rattle.vp_audit.specs.laws.Logs.{replies_are}
-use Rattle.vp_audit.proofs.Promises.{goes_all, if_ok, starved}
+use Rattle.vp_audit.proofs.Promises.{goes_all, if_ok, out_of_memory}
 use Rattle.vp_audit.proofs.replaying.replay.Goals as goal
 
 pub returns-clause-promise : goal.returns-clause-promise
@@ -16,4 +16,4 @@ returns-clause-promise c opening right u log legal same_view same_projection =
 
 pub returns-clause-answered : goal.returns-clause-answered
 returns-clause-answered c opening right u log legal same_view same_projection =
-    starved c.replayed.result _ (goes_all c.args.view.now c.args.projection.now opening right u log legal same_view same_projection) c.replayed.ensures.refused
+    out_of_memory c.replayed.result _ (goes_all c.args.view.now c.args.projection.now opening right u log legal same_view same_projection) c.replayed.ensures.refused

@@ -1,6 +1,6 @@
 use Rattle.std.proofs.Common.{Option, Some, subst, sym}
 use Rattle.std.proofs.lemmas.Result.{IfOk-weaker}
-use Rattle.vp_lex.specs.declared.fault.LexError.{LexError}
+use Rattle.vp_lex.specs.declared.error.LexError.{LexError}
 use Rattle.vp_diagnostic.specs.Diagnostics.{IsFoundBy}
 use Rattle.vp_diagnostic.proofs.Found.{found_elsewhere}
 use Rattle.vp_diagnostic.proofs.design.found.Goals as goal

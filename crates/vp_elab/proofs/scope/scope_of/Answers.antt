@@ -15,4 +15,4 @@ returns c =
     ∙ ap (slots_by c.args.sizes.now 1) c.definitions_of.ensures
     ∙ ap (λ ns. slots_by ns 1 (definitions_in c.args.definitions.now c.args.module)) c.requires.sizes
     ∙ slots_are c.args.source.now c.args.definitions.now c.args.module c.requires.definitions)
-    (c.in_ok-sights.ensures {u = tt})
+    (c.in_ok-all_step_rights.ensures {u = tt})

@@ -6,16 +6,16 @@ use Rattle.vp_source.specs.declared.statement.Statement.{Statement}
 use Rattle.vp_elab.specs.Built.{Elaborated}
 use Rattle.vp_expr.specs.declared.awaited.Awaited.{Awaited}
 use Rattle.vp_operand.specs.declared.operand.Operand.{Operand}
-use Rattle.vp_expr.specs.Awaits.{awaits_in, laid_behind, reads_in, reads_of, statements_of}
+use Rattle.vp_expr.specs.Awaits.{awaits_in, laid_after, reads_in, reads_of, statements_of}
 use Rattle.vp_expr.proofs.Growing.{folds_left}
 use Rattle.vp_resolve.proofs.Scopes.{scope_there}
 use Rattle.vp_expr.proofs.awaited.awaits_of.Goals as goal
 
 -- the changes of one more module after those of others
-one_more : (d : Elaborated) (os : List Operand) (ss : List Statement) (so_far : List Awaited × List ℕ) (ms : List declared.Module) (k : ℕ) (m : declared.Module) (next whole : List Awaited × List ℕ) → k < length ms → fold laid_behind so_far (flat_map (awaits_in d os (reads_of d.source os)) (drop k ms)) ≡ whole → ss ≡ statements_of d.source → next ≡ fold laid_behind so_far (awaits_in d os (reads_in d.source os ss) (get_or ms k m)) → fold laid_behind next (flat_map (awaits_in d os (reads_of d.source os)) (drop (k + 1) ms)) ≡ whole
+one_more : (d : Elaborated) (os : List Operand) (ss : List Statement) (so_far : List Awaited × List ℕ) (ms : List declared.Module) (k : ℕ) (m : declared.Module) (next whole : List Awaited × List ℕ) → k < length ms → fold laid_after so_far (flat_map (awaits_in d os (reads_of d.source os)) (drop k ms)) ≡ whole → ss ≡ statements_of d.source → next ≡ fold laid_after so_far (awaits_in d os (reads_in d.source os ss) (get_or ms k m)) → fold laid_after next (flat_map (awaits_in d os (reads_of d.source os)) (drop (k + 1) ms)) ≡ whole
 one_more d os ss so_far ms k m next whole h same all is =
-    folds_left laid_behind (awaits_in d os (reads_of d.source os)) so_far ms k m next whole h same
-    (is ∙ ap (λ (l : List Statement). fold laid_behind so_far (awaits_in d os (reads_in d.source os l) (get_or ms k m))) all)
+    folds_left laid_after (awaits_in d os (reads_of d.source os)) so_far ms k m next whole h same
+    (is ∙ ap (λ (l : List Statement). fold laid_after so_far (awaits_in d os (reads_in d.source os l) (get_or ms k m))) all)
 
 pub add_awaits-requires : goal.add_awaits-requires
 add_awaits-requires c =

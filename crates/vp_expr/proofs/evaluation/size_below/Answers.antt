@@ -1,10 +1,10 @@
 use Rattle.std.proofs.Common.{◌∙◌, ap, subst, get_or, sym, ℕ}
 use Rattle.vp_bits.specs.Vector.{IsWidth}
-use Rattle.vp_operand.proofs.Arenas.{size_before, size_behind, size_fits}
+use Rattle.vp_operand.proofs.Arenas.{size_before, size_after, size_fits}
 use Rattle.vp_expr.proofs.evaluation.size_below.Goals as goal
 
 pub returns-then-place-end-clause-size : goal.returns-then-place-end-clause-size
-returns-then-place-end-clause-size c = size_behind c.args.tables.now.operands c.args.end c.args.place c.if-place-end.true
+returns-then-place-end-clause-size c = size_after c.args.tables.now.operands c.args.end c.args.place c.if-place-end.true
 
 pub returns-clause-size : goal.returns-clause-size
 returns-clause-size c =

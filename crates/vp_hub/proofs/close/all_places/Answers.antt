@@ -1,7 +1,7 @@
 use Rattle.std.proofs.Common.{◌≡◌, ◌∙◌, ◌∷◌, ◌++◌, [], List, ℕ, ap, map, sym, take}
 use Rattle.vp_hub.specs.declared.receipt.Receipt.{Receipt}
 use Rattle.vp_hub.specs.Calls.{Passed}
-use Rattle.vp_hub.specs.Closing.{places_of}
+use Rattle.vp_hub.specs.Closing.{entry_indexes}
 use Rattle.vp_hub.proofs.Lists.{all_more, map_more}
 use Rattle.vp_hub.proofs.close.all_places.Goals as goal
 
@@ -16,8 +16,8 @@ loop-pass-preserved g c =
       places =
           (c.in_ok-push.ensures {u = tt}).items
           ∙ ap (λ (ls : List (List ℕ)). ls ++ c.in_ok-own_places.field-0 ∷ []) c.loop-pass.invariant.places
-          ∙ ap (λ (ns : List ℕ). map (λ (q : Passed). places_of log q.session) (take i passes) ++ ns ∷ []) found.places
-          ∙ sym (map_more (λ (q : Passed). places_of log q.session) passes i p c.loop-pass-test.true c.pass-item.is);
+          ∙ ap (λ (ns : List ℕ). map (λ (q : Passed). entry_indexes log q.session) (take i passes) ++ ns ∷ []) found.places
+          ∙ sym (map_more (λ (q : Passed). entry_indexes log q.session) passes i p c.loop-pass-test.true c.pass-item.is);
       own =
-          all_more (λ (q : Passed). map (λ (r : Receipt). r.place) q.receipts ≡ places_of log q.session) passes i p c.loop-pass-test.true c.pass-item.is c.loop-pass.invariant.own found.own;
+          all_more (λ (q : Passed). map (λ (r : Receipt). r.place) q.receipts ≡ entry_indexes log q.session) passes i p c.loop-pass-test.true c.pass-item.is c.loop-pass.invariant.own found.own;
     }

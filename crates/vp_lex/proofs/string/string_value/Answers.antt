@@ -2,7 +2,7 @@ use Rattle.std.proofs.Common.{◌≡◌, ◌∙◌, ap, refl, rules, arith, ℕ,
 use Rattle.std.specs.Str.{chars, encode_utf8_all}
 use Rattle.std.proofs.lemmas.List.{take_rest, length-drop}
 use Rattle.std.proofs.lemmas.Str.{chars_from_encodes}
-use Rattle.vp_lex.specs.Strings.{value_behind, between_quotes}
+use Rattle.vp_lex.specs.Strings.{value_after, between_quotes}
 use Rattle.vp_lex.proofs.StringLaws.{value_more, encoded_more, encoded_all}
 use Rattle.vp_lex.proofs.string.string_value.Goals as goal
 
@@ -24,4 +24,4 @@ returns c =
     let inner : c.between_quotes-inner.result.now ≡ between_quotes (chars c.args.text.now) =
     c.between_quotes-inner.ensures ∙ ap between_quotes (c.deref.ensures.value ∙ characters) in
     let all = encoded_all _ _ c.between_quotes-inner.result.now c.loop-at.at c.loop-at-test.false c.loop-at.invariant.so_far in
-    record { ok = all ∙ ap (λ (x : List ℕ). encode_utf8_all (value_behind 0 x)) inner }
+    record { ok = all ∙ ap (λ (x : List ℕ). encode_utf8_all (value_after 0 x)) inner }

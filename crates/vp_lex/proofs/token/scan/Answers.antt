@@ -16,15 +16,15 @@ loop-here-preserved c =
     let same = c.as_bytes-bytes.ensures.value in
     let first = rw same at c.in-Ok.ensures.ok in
     let within = rw same at c.in-Ok.ensures.within in
-    let place = rw same at c.behind-here.ensures.place in
-    let directive = rw same at c.behind-here.ensures.directive in
+    let place = rw same at c.moved_on-here.ensures.place in
+    let directive = rw same at c.moved_on-here.ensures.directive in
     let pushed : c.match-token.tokens.items ≡ c.loop-here.tokens.items ++ option_to_list c.token.result =
     elim c.match-token.branch [
       | in-Some+in_ok-push w ↦ rw (w.tokens-is, w.in-Some.is) w.in_ok-push.ensures.items
       | in_default w ↦ rw (w.tokens-is, w.in_default.is) (sym (append-nil c.loop-here.tokens.items))
     ] in
-    let remainder = left_moved c.args.text.now c.loop-here.here.at c.in-Ok.found.1 c.loop-here.here.directive (kind_of c.in-Ok.found.0) c.loop-here.tokens.items within.0 within.1 first c.loop-here.invariant.remainder c.token.result c.match-token.tokens.items c.behind-here.result.at c.behind-here.result.directive c.token.ensures pushed c.behind-here.ensures.at directive in
-    let one_each : vec_len c.match-token.tokens ≤ c.behind-here.result.at =
+    let remainder = left_moved c.args.text.now c.loop-here.here.at c.in-Ok.found.1 c.loop-here.here.directive (kind_of c.in-Ok.found.0) c.loop-here.tokens.items within.0 within.1 first c.loop-here.invariant.remainder c.token.result c.match-token.tokens.items c.moved_on-here.result.at c.moved_on-here.result.directive c.token.ensures pushed c.moved_on-here.ensures.at directive in
+    let one_each : vec_len c.match-token.tokens ≤ c.moved_on-here.result.at =
     elim c.match-token.branch [
       | in-Some+in_ok-push w ↦ let one = w.in_ok-push.ensures.len in rw w.tokens-is (omega (arith, one, within.0))
       | in_default w ↦ rw w.tokens-is (omega (arith, within.0))

@@ -7,9 +7,9 @@ use Rattle.vp_list.proofs.part.first_part.Goals as goal
 pub returns-in-Some-clause-parts : goal.returns-in-Some-clause-parts
 returns-in-Some-clause-parts c =
     let found = c.in-Some.ensures.byte c.requires (λ w o h. h) in
-    let behind : List ℕ = after_first (λ (byte : ℕ). byte == c.args.separator) c.args.text.now in
+    let following : List ℕ = after_first (λ (byte : ℕ). byte == c.args.separator) c.args.text.now in
     split_part c.args.separator c.args.text.now found.2
-    ∙ ap (λ (x : List ℕ). x ∷ parts c.args.separator behind) (sym found.0)
+    ∙ ap (λ (x : List ℕ). x ∷ parts c.args.separator following) (sym found.0)
     ∙ ap (λ (x : List ℕ). c.in-Some.part.now ∷ parts c.args.separator x) (sym found.1)
 
 pub returns-in-None-clause-parts : goal.returns-in-None-clause-parts

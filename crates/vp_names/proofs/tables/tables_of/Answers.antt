@@ -1,7 +1,7 @@
 use Rattle.std.proofs.Common.{◌<◌, ◌∷◌, List, length, get_or, subst, arith}
 use Rattle.std.proofs.lemmas.Result.{err_from_is_err_and}
 use Rattle.vp_list.specs.Refusals.{MayExplain}
-use Rattle.vp_names.specs.declared.fault.ElabError.TheVariants.{NoMemory}
+use Rattle.vp_names.specs.declared.error.ElabError.TheVariants.{NoMemory}
 use Rattle.vp_source.specs.declared.source.Module.{Module}
 use Rattle.vp_names.specs.Refusals.{twice_in}
 use Rattle.std.proofs.lemmas.Grind.{common_steps}

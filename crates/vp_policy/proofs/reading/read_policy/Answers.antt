@@ -1,10 +1,10 @@
 use Rattle.std.proofs.Common.{◌≡◌, ℕ, Err, Ok, ap, length, subst, sym, IfErr, IfOk}
 use Rattle.std.specs.Prelude.{Result}
 use Rattle.std.specs.Result.{result_err}
-use Rattle.vp_policy.specs.declared.fault.PolicyError.TheVariants.{NoMemory}
+use Rattle.vp_policy.specs.declared.error.PolicyError.TheVariants.{NoMemory}
 use Rattle.vp_list.specs.Refusals.{MayExplain}
 use Rattle.serde_json.specs.View.{view}
-use Rattle.vp_policy.specs.declared.fault.PolicyError.{PolicyError}
+use Rattle.vp_policy.specs.declared.error.PolicyError.{PolicyError}
 use Rattle.vp_policy.specs.File.{PolicyFile, file_in}
 use Rattle.vp_policy.proofs.Files.{file_of_json, file_of_other}
 use Rattle.vp_policy.proofs.reading.read_policy.Goals as goal

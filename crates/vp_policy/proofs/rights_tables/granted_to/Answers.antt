@@ -20,8 +20,8 @@ pub returns-in-None : goal.returns-in-None
 returns-in-None c =
     let es = c.args.users.now.entries in
     let long = length-map es member_of in
-    let behind : length (map member_of es) ≤ c.args.number = elim (cases_lt c.args.number (length es)) [
+    let following : length (map member_of es) ≤ c.args.number = elim (cases_lt c.args.number (length es)) [
       | inl h ↦ absurd (true≢false (sym ((c.in-None.ensures {u = tt}).found.1 h)))
       | inr h ↦ omega arith
     ] in
-    none_granted (map member_of es) c.args.number c.none.result behind c.none.ensures
+    none_granted (map member_of es) c.args.number c.none.result following c.none.ensures

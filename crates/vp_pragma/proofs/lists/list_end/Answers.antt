@@ -12,14 +12,14 @@ pub returns-in_err-following-clause-parts : goal.returns-in_err-following-clause
 returns-in_err-following-clause-parts c =
     ap (option_map placed) c.from_residual.ensures
     ∙ leads_on c.loop-token.due c.loop-token.depth (placed c.loop-token.left) (placed c.in-Some.others) (c.loop-token.left.at, c.in-Some.token) None (scan due.Expression 0 (placed c.args.rest))
-    c.in-Some.ensures.parts (sym (c.in_err-following.was {u = tt}) ∙ c.next.ensures ∙ ap (next c.loop-token.due) c.sign_of.ensures) c.loop-token.invariant.leads
+    c.in-Some.ensures.parts (sym (c.in_err-following.was {u = tt}) ∙ c.next.ensures ∙ ap (next c.loop-token.due) c.class_of.ensures) c.loop-token.invariant.leads
 
 pub returns-in-Closes-clause-parts : goal.returns-in-Closes-clause-parts
 returns-in-Closes-clause-parts c =
     let zero : c.loop-token.depth ≡ 0 = omega arith in
     ap (λ (n : ℕ). moved n (placed c.in-Some.others) (λ e n. scan e n (placed c.in-Some.others)) (Some Closes)) (sym zero)
     ∙ leads_on c.loop-token.due c.loop-token.depth (placed c.loop-token.left) (placed c.in-Some.others) (c.loop-token.left.at, c.in-Some.token) (Some Closes) (scan due.Expression 0 (placed c.args.rest))
-    c.in-Some.ensures.parts (sym (c.in_ok-following.was {u = tt} ∙ ap (λ (m : Move). Some m) c.in-Closes.is) ∙ c.next.ensures ∙ ap (next c.loop-token.due) c.sign_of.ensures) c.loop-token.invariant.leads
+    c.in-Some.ensures.parts (sym (c.in_ok-following.was {u = tt} ∙ ap (λ (m : Move). Some m) c.in-Closes.is) ∙ c.next.ensures ∙ ap (next c.loop-token.due) c.class_of.ensures) c.loop-token.invariant.leads
 
 pub loop-token-smaller-in-To : goal.loop-token-smaller-in-To
 loop-token-smaller-in-To c =
@@ -34,7 +34,7 @@ loop-token-preserved-in-To c =
       shallow = omega (arith, c.loop-token.invariant.shallow);
       leads =
           leads_on c.loop-token.due c.loop-token.depth (placed c.loop-token.left) (placed c.in-Some.others) (c.loop-token.left.at, c.in-Some.token) (Some (To c.in-To.following)) (scan due.Expression 0 (placed c.args.rest))
-          c.in-Some.ensures.parts (sym (c.in_ok-following.was {u = tt} ∙ ap (λ (m : Move). Some m) c.in-To.is) ∙ c.next.ensures ∙ ap (next c.loop-token.due) c.sign_of.ensures) c.loop-token.invariant.leads;
+          c.in-Some.ensures.parts (sym (c.in_ok-following.was {u = tt} ∙ ap (λ (m : Move). Some m) c.in-To.is) ∙ c.next.ensures ∙ ap (next c.loop-token.due) c.class_of.ensures) c.loop-token.invariant.leads;
     }
 
 pub loop-token-smaller-in-Opens : goal.loop-token-smaller-in-Opens
@@ -52,7 +52,7 @@ loop-token-preserved-in-Opens c =
       leads =
           ap (λ (n : ℕ). scan due.Expression n (placed c.in-Some.others)) (sym one)
           ∙ leads_on c.loop-token.due c.loop-token.depth (placed c.loop-token.left) (placed c.in-Some.others) (c.loop-token.left.at, c.in-Some.token) (Some Opens) (scan due.Expression 0 (placed c.args.rest))
-          c.in-Some.ensures.parts (sym (c.in_ok-following.was {u = tt} ∙ ap (λ (m : Move). Some m) c.in-Opens.is) ∙ c.next.ensures ∙ ap (next c.loop-token.due) c.sign_of.ensures) c.loop-token.invariant.leads;
+          c.in-Some.ensures.parts (sym (c.in_ok-following.was {u = tt} ∙ ap (λ (m : Move). Some m) c.in-Opens.is) ∙ c.next.ensures ∙ ap (next c.loop-token.due) c.class_of.ensures) c.loop-token.invariant.leads;
     }
 
 pub loop-token-smaller : goal.loop-token-smaller
@@ -70,7 +70,7 @@ loop-token-preserved c =
       leads =
           ap (λ (n : ℕ). moved n (placed c.in-Some.others) (λ e n. scan e n (placed c.in-Some.others)) (Some Closes)) one
           ∙ leads_on c.loop-token.due c.loop-token.depth (placed c.loop-token.left) (placed c.in-Some.others) (c.loop-token.left.at, c.in-Some.token) (Some Closes) (scan due.Expression 0 (placed c.args.rest))
-          c.in-Some.ensures.parts (sym (c.in_ok-following.was {u = tt} ∙ ap (λ (m : Move). Some m) c.in-Closes.is) ∙ c.next.ensures ∙ ap (next c.loop-token.due) c.sign_of.ensures) c.loop-token.invariant.leads;
+          c.in-Some.ensures.parts (sym (c.in_ok-following.was {u = tt} ∙ ap (λ (m : Move). Some m) c.in-Closes.is) ∙ c.next.ensures ∙ ap (next c.loop-token.due) c.class_of.ensures) c.loop-token.invariant.leads;
     }
 
 pub returns-clause-parts : goal.returns-clause-parts

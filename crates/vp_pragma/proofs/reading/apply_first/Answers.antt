@@ -7,5 +7,5 @@ pub returns-in_err-apply_any-clause-fault : goal.returns-in_err-apply_any-clause
 returns-in_err-apply_any-clause-fault c =
     let p = err_from_is_err_and c.from_residual.result c.from_residual.ensures.1 in
     rw (p.1, p.2)
-    (explains_first c.args.line c.args.pragma c.args.reading.now (placed c.args.rest) c.in-Some.expression (placed c.in-Some.behind) c.deed_of.result _
-    c.in-Some.ensures.parts c.deed_of.ensures c.in_err-apply_any.ensures.fault)
+    (explains_first c.args.line c.args.pragma c.args.reading.now (placed c.args.rest) c.in-Some.expression (placed c.in-Some.remainder) c.effect_of.result _
+    c.in-Some.ensures.parts c.effect_of.ensures c.in_err-apply_any.ensures.fault)

@@ -3,14 +3,14 @@ use Rattle.std.specs.Arc.{arc_value}
 use Rattle.vp_elab.specs.declared.object.ObjectId.{ObjectId}
 use Rattle.vp_sim.specs.States.{State}
 use Rattle.vp_race.specs.declared.follow.Order.{Order}
-use Rattle.vp_race.specs.Orders.{HasEnd, behind, is_over, sources_of}
+use Rattle.vp_race.specs.Orders.{HasEnd, after_choices, is_over, sources_of}
 use Rattle.vp_race.specs.Segments.{AreOrders, Run}
 use Rattle.vp_race.proofs.comparison.pair_of.Goals as goal
 
 -- both are orders of a segment, with their sources, as they are held
 pub are_orders :
     (segment held : Run) (choices second : List ℕ) (end : State) (ones others firsts seconds : List ObjectId)
-    → HasEnd segment.start segment.order → behind segment.start choices ≡ Some end → is_over end ≡ true
+    → HasEnd segment.start segment.order → after_choices segment.start choices ≡ Some end → is_over end ≡ true
     → firsts ≡ sources_of segment.start segment.order → seconds ≡ sources_of segment.start choices
     → held ≡ segment → second ≡ choices → ones ≡ firsts → others ≡ seconds
     → AreOrders (record { segment = held; second = second }) ones others
@@ -25,9 +25,9 @@ are_orders segment held choices second end ones others firsts seconds whole lead
     (subst (λ (ks : List ℕ). AreOrders (record { segment = segment; second = ks }) ones others) (sym chosen) all)
 
 -- the other order, from the segment's start
-led : (start from : State) (choices items : List ℕ) (end : State) → from ≡ start → choices ≡ items → behind from choices ≡ Some end → behind start items ≡ Some end
+led : (start from : State) (choices items : List ℕ) (end : State) → from ≡ start → choices ≡ items → after_choices from choices ≡ Some end → after_choices start items ≡ Some end
 led start from choices items end same is h =
-    sym (ap (λ s. behind s items) same) ∙ sym (ap (behind from) is) ∙ h
+    sym (ap (λ s. after_choices s items) same) ∙ sym (ap (after_choices from) is) ∙ h
 
 pub invariant_of-result : goal.invariant_of-result
 invariant_of-result c =

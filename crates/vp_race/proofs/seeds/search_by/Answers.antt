@@ -2,7 +2,7 @@ use Rattle.std.proofs.Common.{◌≡◌, ◌∙◌, ◌++◌, [], List, ap, subs
 use Rattle.std.specs.Arc.{arc_value}
 use Rattle.std.specs.List.{All}
 use Rattle.vp_elab.specs.Tree.{below}
-use Rattle.vp_race.specs.Segments.{Told}
+use Rattle.vp_race.specs.Segments.{FindingState}
 use Rattle.vp_race.specs.Search.{found_by, found_from, tried}
 use Rattle.vp_race.proofs.Found.{all_more, one_more, seed_more}
 use Rattle.vp_race.proofs.seeds.search_by.Goals as goal
@@ -20,10 +20,10 @@ loop-seed-preserved g c =
       gate = c.turn-is_open-in-loop-seed.ensures;
       found =
           λ stays.
-          made ∙ ap (λ (fs : List Told). fs ++ found_by seg first fs order) (c.loop-seed.invariant.found stays)
+          made ∙ ap (λ (fs : List FindingState). fs ++ found_by seg first fs order) (c.loop-seed.invariant.found stays)
           ∙ sym (seed_more seg first limit [] (below seed) seed)
           ∙ ap (λ n. found_from seg first limit [] (below n)) (one_more seed);
-      segment = subst (λ (fs : List Told). All (λ f. f.segment ≡ seg) fs) (sym made) (all_more seg first now order c.loop-seed.invariant.segment);
+      segment = subst (λ (fs : List FindingState). All (λ f. f.segment ≡ seg) fs) (sym made) (all_more seg first now order c.loop-seed.invariant.segment);
       objects = c.try_seed.ensures.objects ∙ c.loop-seed.invariant.objects;
       design = c.try_seed.ensures.design ∙ c.loop-seed.invariant.design;
     }

@@ -2,7 +2,7 @@ use Rattle.std.proofs.Common.{◌≡◌, ◌∙◌, ◌-◌, ◌+◌, ◌++◌, 
 use Rattle.std.specs.Prelude.{option_map}
 use Rattle.vp_elab.specs.declared.object.ObjectId.{ObjectId}
 use Rattle.vp_sim.specs.States.{State, eligible, source_of, step}
-use Rattle.vp_race.specs.Orders.{behind, reached, sources_of}
+use Rattle.vp_race.specs.Orders.{after_choices, reached, sources_of}
 use Rattle.vp_race.specs.Search.{choice, next_number, tried, tried_from}
 use Rattle.vp_race.proofs.Trying.{ends, ends_late, followed_more, goes_on, sources_more, stops}
 use Rattle.vp_race.proofs.trial.try_into.Goals as goal
@@ -49,7 +49,7 @@ loop-turn-preserved c =
           ∙ ap (λ (cs : List ℕ). option_map (λ ks. cs ++ ks) (tried_from n c.args.seed (next_number c.loop-turn.number) (reached (step s k)))) (sym chose)
           ∙ ap (λ (m : ℕ). option_map (λ ks. c.take_into.new.order.choices.items ++ ks) (tried_from n c.args.seed m (reached (step s k)))) (sym c.next_number-number.ensures)
           ∙ ap (λ (o : Option State). option_map (λ ks. c.take_into.new.order.choices.items ++ ks) (tried_from n c.args.seed c.next_number-number.result o)) there;
-      leads = ap (behind start) chose ∙ followed_more (Some start) choices s k c.loop-turn.invariant.leads ∙ there;
+      leads = ap (after_choices start) chose ∙ followed_more (Some start) choices s k c.loop-turn.invariant.leads ∙ there;
       sources =
           met.sources c.if-not-branch.false
           ∙ ap (λ (l : List ObjectId). l ++ source_of s k ∷ []) c.loop-turn.invariant.sources

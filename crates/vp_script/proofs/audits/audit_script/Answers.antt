@@ -2,7 +2,7 @@ use Rattle.std.proofs.Common.{rules, ◌≡◌, ◌∙◌, None, Some, refl}
 use Rattle.std.proofs.lemmas.Result.{IfErr-weaker, IfOk-weaker}
 use Rattle.std.specs.Arc.{arc_value}
 use Rattle.vp_policy.specs.Users.{user_of}
-use Rattle.vp_script.specs.declared.fault.ServeFault.TheVariants as fault
+use Rattle.vp_script.specs.declared.error.ServeFault.TheVariants as fault
 use Rattle.vp_script.specs.Audits.{EndsAuditBy}
 use Rattle.vp_script.proofs.Auditing.{audited, ended, no_such_user, read_of, right_of}
 use Rattle.vp_design.proofs.Results.{told_as}

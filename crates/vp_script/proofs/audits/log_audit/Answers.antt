@@ -2,14 +2,14 @@ use Rattle.std.proofs.Common.{◌≡◌, [], List, subst, sym}
 use Rattle.std.proofs.lemmas.Result.{IfOk-at_ok}
 use Rattle.vp_world.specs.Entries.{Entry}
 use Rattle.vp_world.specs.History.{IsLegal}
-use Rattle.vp_world.specs.Worlds.{Logged}
+use Rattle.vp_world.specs.Worlds.{WorldLog}
 use Rattle.vp_explain.specs.Audit.{Audit}
 use Rattle.vp_script.specs.Audits.{audit_of}
 use Rattle.vp_script.proofs.audits.log_audit.Goals as goal
 
 pub returns-in-Ok-clause-audit : goal.returns-in-Ok-clause-audit
 returns-in-Ok-clause-audit c =
-    let w : Logged = c.args.keeper.now.world in
+    let w : WorldLog = c.args.script_session.now.world in
     let u = c.args.user.0 in
     let log : List Entry = c.log.result.now in
     let legal : IsLegal w.opening [] log = subst (IsLegal w.opening []) (sym c.log.ensures.log) c.log.ensures.legal in

@@ -6,7 +6,7 @@ use Rattle.vp_design.proofs.Results.{told_as}
 use Rattle.vp_script.specs.Audits.{EndsRunBy}
 use Rattle.vp_script.specs.Keeping.{script_of}
 use Rattle.vp_script.specs.Scripts.{Script, opening_of}
-use Rattle.vp_script.proofs.Auditing.{audit_behind, lacks_behind}
+use Rattle.vp_script.proofs.Auditing.{audit_after, lacks_after}
 use Rattle.vp_script.proofs.audits.run_and_audit.Goals as goal
 
 pub returns-in_err-run_to_end-clause-refused : goal.returns-in_err-run_to_end-clause-refused
@@ -33,7 +33,7 @@ returns-clause-audit g c =
     let runs = (c.in_ok-run_to_end.ensures {u = tt}).ran opening c.requires.fresh in
     let began = (c.in_ok-run_to_end.ensures {u = tt}).opening ∙ ap (λ (s : Script). s.world.opening) c.requires.fresh in
     IfOk-weaker c.log_audited.result _ _
-    (λ audited is. audit_behind opening _ _ (script_of c.run_to_end.new.keeper) runs began c.args.explain c.args.user.0 audited is)
+    (λ audited is. audit_after opening _ _ (script_of c.run_to_end.new.script_session) runs began c.args.explain c.args.user.0 audited is)
     c.log_audited.ensures.audited
 
 pub returns-clause-refused : goal.returns-clause-refused
@@ -41,5 +41,5 @@ returns-clause-refused g c =
     let opening = opening_of c.args.checked.now c.args.policy.now in
     let runs = (c.in_ok-run_to_end.ensures {u = tt}).ran opening c.requires.fresh in
     IfErr-weaker c.log_audited.result _ _
-    (λ fault is. lacks_behind opening _ _ (script_of c.run_to_end.new.keeper) runs fault is)
+    (λ fault is. lacks_after opening _ _ (script_of c.run_to_end.new.script_session) runs fault is)
     c.log_audited.ensures.refused

@@ -9,14 +9,14 @@ use Rattle.vp_script.specs.Scripts.{opening_of}
 use Rattle.vp_script.proofs.Auditing.{audit_of_own, ends_own, opens_lent}
 use Rattle.vp_script.proofs.audits.script_audit.Goals as goal
 
-pub keeper_for-requires : goal.keeper_for-requires
-keeper_for-requires g c = c.requires.fits
+pub script_session_for-requires : goal.script_session_for-requires
+script_session_for-requires g c = c.requires.fits
 
-pub returns-in_err-keeper-clause-refused : goal.returns-in_err-keeper-clause-refused
-returns-in_err-keeper-clause-refused g c =
+pub returns-in_err-script_session-clause-refused : goal.returns-in_err-script_session-clause-refused
+returns-in_err-script_session-clause-refused g c =
     let opening = opening_of (arc_value c.args.checked.now) c.args.policy.now in
     told_as _ (EndsOpenedBy opening _ _) c.from_residual.result c.from_residual.ensures.1
-    (λ f told. subst (EndsOpenedBy opening _ _) (sym told) (inl ((c.in_err-keeper.ensures {u = tt}).refused, refl)))
+    (λ f told. subst (EndsOpenedBy opening _ _) (sym told) (inl ((c.in_err-script_session.ensures {u = tt}).refused, refl)))
 
 pub run_and_audit-audited-requires-clause-right : goal.run_and_audit-audited-requires-clause-right
 run_and_audit-audited-requires-clause-right g c =
@@ -24,7 +24,7 @@ run_and_audit-audited-requires-clause-right g c =
 
 pub run_and_audit-audited-requires-clause-fresh : goal.run_and_audit-audited-requires-clause-fresh
 run_and_audit-audited-requires-clause-fresh g c =
-    opens_lent _ (arc_value c.args.checked.now) _ c.args.policy.now (c.in_ok-keeper.ensures {u = tt}).script (sym c.deref.ensures)
+    opens_lent _ (arc_value c.args.checked.now) _ c.args.policy.now (c.in_ok-script_session.ensures {u = tt}).script (sym c.deref.ensures)
 
 pub returns-clause-audit : goal.returns-clause-audit
 returns-clause-audit g c =

@@ -19,7 +19,7 @@ returns-clause-script g c =
     let has = parts_of (λ c. (c.0.now, c.1.now)) c.args.bundle.now c.cut.result c.cut-2.result _ _ fits c.cut.ensures c.in_ok-design.ensures.ok_part c.cut-2.ensures c.in_ok-policy.ensures.ok_part in
     let text = c.in_ok-text.ensures {u = tt} in
     IfOk-weaker c.run_script.result _ _
-    (λ ran is. bundle_script c.args.bundle.now _ has text.accepted.1 _ _ _ _ text.ok (ap (λ r. r.inner.now) c.new-reader.ensures) ran.starved _ ran.lines is)
+    (λ ran is. bundle_script c.args.bundle.now _ has text.accepted.1 _ _ _ _ text.ok (ap (λ r. r.inner.now) c.new-reader.ensures) ran.out_of_memory _ ran.lines is)
     c.run_script.ensures.script
 
 pub returns-clause-fault : goal.returns-clause-fault

@@ -1,7 +1,7 @@
 use Rattle.std.proofs.Common.{◌∙◌, ap, sym}
 use Rattle.std.specs.Prelude.{slice_get}
 use Rattle.vp_policy.specs.SeenObjects.{envelope_shown}
-use Rattle.vp_view.proofs.Lacking.{envelope_there, item_got}
+use Rattle.vp_view.proofs.Missing.{envelope_there, item_got}
 use Rattle.vp_view.proofs.denials.envelope_at.Goals as goal
 
 pub returns : goal.returns

@@ -4,7 +4,7 @@ use Rattle.std.specs.Option.{option_map_or}
 use Rattle.std.proofs.lemmas.List.{length-append}
 use Rattle.vp_pragma.specs.declared.rights.Right.TheVariants as right
 use Rattle.vp_pragma.specs.declared.rights.Rights.{Rights}
-use Rattle.vp_view.specs.Objects.{lacks_watch}
+use Rattle.vp_view.specs.Objects.{is_unwatchable}
 use Rattle.vp_view.specs.Seen.{denied_seen}
 use Rattle.vp_view.proofs.EachObject.{each_more, each_whole}
 use Rattle.vp_view.proofs.watching.watch_rights.Goals as goal
@@ -21,8 +21,8 @@ loop-number-preserved c =
     let many = c.loop-number.invariant.many in
     record {
       many = omega (arith, more, long, many);
-      each = λ o. ap (λ (rs : List Rights). option_map_or lacks_watch (slice_get rs o) false) is
-          ∙ each_more lacks_watch (λ o. is_some (denied_seen v right.Watch o)) before c.loop-number.number x many c.watch_right.ensures c.loop-number.invariant.each o;
+      each = λ o. ap (λ (rs : List Rights). option_map_or is_unwatchable (slice_get rs o) false) is
+          ∙ each_more is_unwatchable (λ o. is_some (denied_seen v right.Watch o)) before c.loop-number.number x many c.watch_right.ensures c.loop-number.invariant.each o;
     }
 
 pub returns : goal.returns

@@ -1,6 +1,6 @@
 use Rattle.std.proofs.Common.{◌≡◌, map, take}
 use Rattle.vp_elab.specs.declared.object.ObjectId.{ObjectId}
-use Rattle.vp_vpi.specs.Seats.{handle_to}
+use Rattle.vp_vpi.specs.SessionStates.{handle_to}
 use Rattle.vp_vpi.proofs.iteration.handles_to.Given as goal
 
 abbrev pub invariant-loop-object : goal.invariant-loop-object

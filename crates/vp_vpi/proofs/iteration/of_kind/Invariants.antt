@@ -6,4 +6,4 @@ use Rattle.vp_vpi.proofs.iteration.of_kind.Given as goal
 abbrev pub invariant-loop-object : goal.invariant-loop-object
 invariant-loop-object g l =
     map (λ (o : ObjectId). o.0) l.ids.items
-    ≡ filter (λ o. is_of l.kind ((g.E.Observe.observer l.eyes).kind o)) (map (λ (o : ObjectId). o.0) (take l.object-index l.objects))
+    ≡ filter (λ o. is_of l.kind ((g.E.Observe.observer l.observation).kind o)) (map (λ (o : ObjectId). o.0) (take l.object-index l.objects))

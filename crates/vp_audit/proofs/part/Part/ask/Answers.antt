@@ -2,10 +2,10 @@ use Rattle.std.proofs.Common.{◌≡◌, ◌∙◌, ◌<◌, ap, sym, length, Li
 use Rattle.std.specs.Prelude.{slice_get, slice_set}
 use Rattle.vp_vpi.specs.Observers.{Observer}
 use Rattle.vp_answer.specs.Answers.{respond}
-use Rattle.vp_world.specs.Worlds.{SessionState, index_of}
+use Rattle.vp_world.specs.Worlds.{OpenSessionState, index_of}
 use Rattle.vp_view.specs.Seen.{observer_seen}
-use Rattle.vp_audit.specs.Parts.{Asks, Part, eyes_of_part, reply_of, with_own}
-use Rattle.vp_audit.proofs.PartSteps.{asked_behind, asked_reply, at_place, eyes_are}
+use Rattle.vp_audit.specs.Parts.{Asks, Part, observer_of_part, reply_of, with_own}
+use Rattle.vp_audit.proofs.PartSteps.{asked_after, asked_reply, at_place, observations_are}
 use Rattle.vp_audit.proofs.part.Part.ask.Goals as goal
 
 module _ (c : goal.In_ok-reply) where
@@ -21,28 +21,28 @@ module _ (c : goal.In_ok-reply) where
     races = c.self.inside.races.items;
   }
 
-  abbrev session : SessionState
+  abbrev session : OpenSessionState
   session = c.index_mut.result.now
 
   at : index_of before.sessions c.args.id ≡ Some c.in-Some.place
-  at = sym (ap (λ (ts : List SessionState). index_of ts c.args.id) c.deref.ensures.value) ∙ sym c.place_of.ensures.place ∙ c.in-Some.is
+  at = sym (ap (λ (ts : List OpenSessionState). index_of ts c.args.id) c.deref.ensures.value) ∙ sym c.session_index.ensures.place ∙ c.in-Some.is
 
   within : c.in-Some.place < length before.sessions
-  within = subst (λ (ts : List SessionState). c.in-Some.place < length ts) c.deref.ensures.value c.in-Some.ensures.within
+  within = subst (λ (ts : List OpenSessionState). c.in-Some.place < length ts) c.deref.ensures.value c.in-Some.ensures.within
 
   there : slice_get before.sessions c.in-Some.place ≡ Some session
   there = at_place before.sessions c.in-Some.place session within c.index_mut.ensures.value
 
-  abbrev eyes : Observer
-  eyes = observer_seen c.new-eyes.result.view.now c.new-eyes.result.values.now c.new-eyes.result.time c.new-eyes.result.finished c.new-eyes.result.races.now
+  abbrev observation : Observer
+  observation = observer_seen c.new-observation.result.view.now c.new-observation.result.values.now c.new-observation.result.time c.new-observation.result.finished c.new-observation.result.races.now
 
-  eyes_is : eyes ≡ eyes_of_part before
-  eyes_is = c.new-eyes.ensures.observer ∙ eyes_are before.view c.deref-2.result.now before.values before.time before.finished c.deref-3.result.now before.races c.deref-2.ensures.value c.deref-3.ensures.value
+  observation_is : observation ≡ observer_of_part before
+  observation_is = c.new-observation.ensures.observer ∙ observations_are before.view c.deref-2.result.now before.values before.time before.finished c.deref-3.result.now before.races c.deref-2.ensures.value c.deref-3.ensures.value
 
 pub returns-clause-reply : goal.returns-clause-reply
 returns-clause-reply c =
     let r = c.args.request.now in
-    (c.in_ok-reply.ensures {u = tt}).reply ∙ ap (λ e. (respond e (session c).seat r).reply) (eyes_is c)
+    (c.in_ok-reply.ensures {u = tt}).reply ∙ ap (λ e. (respond e (session c).session_state r).reply) (observation_is c)
     ∙ sym (asked_reply (before c) c.args.id r c.in-Some.place (session c) (at c) (there c))
     ∙ ap (λ (q : Part). reply_of q (Asks c.args.id r)) c.self.view_is
 
@@ -50,8 +50,8 @@ pub returns-clause-after : goal.returns-clause-after
 returns-clause-after c =
     let r = c.args.request.now in
     let q = before c in
-    let new : c.ask.new.self ≡ record { id = (session c).id; seat = (respond (eyes_of_part q) (session c).seat r).seat } =
-    (c.in_ok-reply.ensures {u = tt}).after ∙ ap (λ e. (let t : SessionState = record { id = (session c).id; seat = (respond e (session c).seat r).seat } in t)) (eyes_is c) in
-    ap (λ (t : SessionState). (let x : Part = record q { sessions = slice_set q.sessions c.in-Some.place t } in x)) new
-    ∙ sym (asked_behind q c.args.id r c.in-Some.place (session c) (at c) (there c))
+    let new : c.ask.new.self ≡ record { id = (session c).id; session_state = (respond (observer_of_part q) (session c).session_state r).session_state } =
+    (c.in_ok-reply.ensures {u = tt}).after ∙ ap (λ e. (let t : OpenSessionState = record { id = (session c).id; session_state = (respond e (session c).session_state r).session_state } in t)) (observation_is c) in
+    ap (λ (t : OpenSessionState). (let x : Part = record q { sessions = slice_set q.sessions c.in-Some.place t } in x)) new
+    ∙ sym (asked_after q c.args.id r c.in-Some.place (session c) (at c) (there c))
     ∙ ap (λ (x : Part). with_own x (Asks c.args.id r)) c.self.view_is

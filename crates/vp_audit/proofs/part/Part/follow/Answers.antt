@@ -1,6 +1,6 @@
 use Rattle.std.proofs.Common.{◌≡◌, ◌∙◌, ◌++◌, ◌∷◌, [], List, Some, None, ap}
 use Rattle.std.specs.Prelude.{unwrap_or}
-use Rattle.vp_vpi.specs.declared.races.SeenRace.{SeenRace}
+use Rattle.vp_vpi.specs.declared.races.ShownRace.{ShownRace}
 use Rattle.vp_audit.specs.Parts.{Part}
 use Rattle.vp_audit.proofs.PartSteps.{changed_part, entry_part, unchanged_part}
 use Rattle.vp_audit.proofs.part.Part.follow.Goals.{in-Some, in_default}
@@ -14,9 +14,9 @@ returns-in_ok-push c =
     let finished = c.unwrap_or-self-inside-2.result in
     let at : time ≡ unwrap_or i.time p.time = c.unwrap_or-self-inside.ensures ∙ ap (λ (x : Part). unwrap_or i.time x.time) c.self.view_is in
     let flag : finished ≡ unwrap_or i.finished p.finished = c.unwrap_or-self-inside-2.ensures ∙ ap (λ (x : Part). unwrap_or i.finished x.finished) c.self.view_is in
-    let race : SeenRace = c.in-Some-race.race in
+    let race : ShownRace = c.in-Some-race.race in
     let pushed : c.push.new.self.items ≡ c.self-2.inside.races.items ++ race ∷ [] =
-    (c.in_ok-push.ensures {u = tt}).items ∙ ap (λ (r : SeenRace). c.self-2.inside.races.items ++ r ∷ []) (c.in_ok-try_clone.ensures {u = tt}) in
+    (c.in_ok-push.ensures {u = tt}).items ∙ ap (λ (r : ShownRace). c.self-2.inside.races.items ++ r ∷ []) (c.in_ok-try_clone.ensures {u = tt}) in
     let before : Part = record {
       view = c.self-2.inside.view.now;
       opens = c.self-2.inside.opens;
@@ -26,7 +26,7 @@ returns-in_ok-push c =
       finished = c.self-2.inside.finished;
       races = c.self-2.inside.races.items;
     } in
-    ap (λ (rs : List SeenRace). (let x : Part = record before { races = rs } in x)) pushed
+    ap (λ (rs : List ShownRace). (let x : Part = record before { races = rs } in x)) pushed
     ∙ ap (λ (x : Part). (let y : Part = record x { races = x.races ++ race ∷ [] } in y)) c.self-2.view_is
     ∙ (elim c.match-item.branch [
       | in-Some w ↦

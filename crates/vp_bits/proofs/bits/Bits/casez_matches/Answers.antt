@@ -6,4 +6,4 @@ use Rattle.vp_bits.proofs.bits.Bits.casez_matches.Goals as goal
 pub returns : goal.returns
 returns c =
     let told = casez_matches_stored c.self.inside c.other.inside c.args.self c.args.other c.self.view_is c.other.view_is c.self.invariant c.other.invariant (same_width c.self.inside c.other.inside c.args.self c.args.other c.self.view_is c.other.view_is c.requires) in
-    rw (c.without-3.ensures, c.without.ensures, c.without-2.ensures) (sym told)
+    rw (c.and_not-3.ensures, c.and_not.ensures, c.and_not-2.ensures) (sym told)

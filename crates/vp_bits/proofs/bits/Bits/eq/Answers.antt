@@ -4,13 +4,13 @@ use Rattle.vp_bits.proofs.Operands.{same_width}
 use Rattle.vp_bits.proofs.Comparisons.{above, not_above, equal_words}
 use Rattle.vp_bits.proofs.bits.Bits.eq.Goals as goal
 
-pub returns-then-without-ne0 : goal.returns-then-without-ne0
-returns-then-without-ne0 c =
+pub returns-then-and_not-ne0 : goal.returns-then-and_not-ne0
+returns-then-and_not-ne0 c =
     c.of_bit.ensures
     ∙ rw (
       equal_words c.self.inside c.other.inside c.args.self c.args.other c.self.view_is c.other.view_is c.self.invariant c.other.invariant (same_width c.self.inside c.other.inside c.args.self c.args.other c.self.view_is c.other.view_is c.requires),
-      ← c.without.ensures,
-      above c.without.result c.if-without-ne0.true,
+      ← c.and_not.ensures,
+      above c.and_not.result c.if-and_not-ne0.true,
     )
     refl
 
@@ -19,8 +19,8 @@ returns-then-unknown-ne0 c =
     c.of_bit-then-unknown-ne0.ensures
     ∙ rw (
       equal_words c.self.inside c.other.inside c.args.self c.args.other c.self.view_is c.other.view_is c.self.invariant c.other.invariant (same_width c.self.inside c.other.inside c.args.self c.args.other c.self.view_is c.other.view_is c.requires),
-      ← c.without.ensures,
-      not_above c.without.result c.if-without-ne0.false,
+      ← c.and_not.ensures,
+      not_above c.and_not.result c.if-and_not-ne0.false,
       above (bit_or c.self.inside.bval c.other.inside.bval) c.if-unknown-ne0.true,
     )
     refl
@@ -30,8 +30,8 @@ returns c =
     c.of_bit-2.ensures
     ∙ rw (
       equal_words c.self.inside c.other.inside c.args.self c.args.other c.self.view_is c.other.view_is c.self.invariant c.other.invariant (same_width c.self.inside c.other.inside c.args.self c.args.other c.self.view_is c.other.view_is c.requires),
-      ← c.without.ensures,
-      not_above c.without.result c.if-without-ne0.false,
+      ← c.and_not.ensures,
+      not_above c.and_not.result c.if-and_not-ne0.false,
       not_above (bit_or c.self.inside.bval c.other.inside.bval) c.if-unknown-ne0.false,
     )
     refl

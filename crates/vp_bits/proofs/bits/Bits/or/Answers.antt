@@ -18,8 +18,8 @@ bval = Xor unknown (And unknown ones)
 
 pub invariant_of-result : goal.invariant_of-result
 invariant_of-result c =
-    rw (c.without-3.ensures, c.without.ensures, c.without-2.ensures) (stored_by_formulas aval bval c.self.inside c.other.inside c.self.invariant c.other.invariant
+    rw (c.and_not-3.ensures, c.and_not.ensures, c.and_not-2.ensures) (stored_by_formulas aval bval c.self.inside c.other.inside c.self.invariant c.other.invariant
     (same_width c.self.inside c.other.inside c.args.self c.args.other c.self.view_is c.other.view_is c.requires))
 
 pub returns : goal.returns
-returns c = rw (c.without-3.ensures, c.without.ensures, c.without-2.ensures) (made_by_formulas aval bval or_bit refl c.self.inside c.other.inside c.args.self c.args.other c.self.view_is c.other.view_is c.requires)
+returns c = rw (c.and_not-3.ensures, c.and_not.ensures, c.and_not-2.ensures) (made_by_formulas aval bval or_bit refl c.self.inside c.other.inside c.args.self c.args.other c.self.view_is c.other.view_is c.requires)

@@ -1,7 +1,7 @@
 use Rattle.std.proofs.Common.{rules, ◌≡◌, ◌∙◌, ◌++◌, ◌∷◌, [], None, List, length, ap, subst}
 use Rattle.vp_list.specs.Refusals.{Explains}
 use Rattle.vp_world.specs.declared.event.Event.{Event}
-use Rattle.vp_world.specs.declared.fault.WorldError.TheVariants.{NoMemory}
+use Rattle.vp_world.specs.declared.error.WorldError.TheVariants.{NoMemory}
 use Rattle.vp_world.specs.Entries.{Entry}
 use Rattle.vp_world.specs.History.{answered_by, refused_by}
 use Rattle.vp_hub.specs.declared.receipt.Receipt.{Receipt}
@@ -48,4 +48,4 @@ returns-in-Ok-count g c =
       desk = yes.desk ∙ ap (λ (v : Event). with_call d v) is_event;
       pass = same;
     })
-    (search rules) c.receive.ensures.starved
+    (search rules) c.receive.ensures.out_of_memory

@@ -3,12 +3,12 @@ use Rattle.std.proofs.lemmas.Fn.{filter_same}
 use Rattle.std.proofs.lemmas.List.Kept.{IsNonDecreasingBy-filter}
 use Rattle.vp_notify.specs.declared.notice.Notice.{Notice}
 use Rattle.vp_notify.specs.declared.registry.Callback.{Callback}
-use Rattle.vp_notify.specs.Registry.{RegistryState, lacks_watch}
+use Rattle.vp_notify.specs.Registry.{RegistryState, is_unwatchable}
 use Rattle.vp_notify.proofs.registry.Registry.retire.Goals as goal
 
 module _ (c : goal.After-retire_notices) where
   abbrev keeps : Callback → Bool
-  keeps callback = not (lacks_watch c.args.rights.now callback.object.0)
+  keeps callback = not (is_unwatchable c.args.rights.now callback.object.0)
 
   kept : c.retain.new.self.items ≡ filter keeps c.self.inside.callbacks.items
   kept = filter_same _ _ _ (λ x b f' k. search rules) _ _ c.retain.ensures.filtered

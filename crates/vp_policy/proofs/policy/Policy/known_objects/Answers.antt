@@ -3,7 +3,7 @@ use Rattle.std.specs.Prelude.{IfSome, is_some, map, take, unwrap_or}
 use Rattle.std.proofs.lemmas.List.{length-append}
 use Rattle.vp_elab.specs.Built.{Elaborated}
 use Rattle.vp_policy.specs.declared.view.SeenObject.{SeenObject}
-use Rattle.vp_policy.specs.SeenObjects.{node_behind, nodes_from, numbers_from}
+use Rattle.vp_policy.specs.SeenObjects.{node_after, nodes_from, numbers_from}
 use Rattle.vp_policy.specs.Users.{Member, member_at}
 use Rattle.vp_policy.specs.View.{HasScope, known_nodes, seen_node}
 use Rattle.vp_policy.proofs.Views.{marks_before, nodes_marked, nodes_unmarked, numbers_marked, numbers_unmarked, scope_here}
@@ -32,7 +32,7 @@ loop-number-preserved c =
           let counted = ap length numbers in
           record {
             nodes = ap (nodes_from []) objects ∙ nodes_marked design user known n within c.requires.all os o numbers_so_far set before.nodes before.numbers
-                (subst (λ (ns : List (Option ℕ)). IfSome (slice_get design.tree.nodes n) (λ node. node_behind (known_nodes design user (map is_some ns) (take n design.tree.nodes)) o ≡ seen_node design user node))
+                (subst (λ (ns : List (Option ℕ)). IfSome (slice_get design.tree.nodes n) (λ node. node_after (known_nodes design user (map is_some ns) (take n design.tree.nodes)) o ≡ seen_node design user node))
                 w.as_slice.ensures.value (w.in_ok-object.ensures {u = tt}).node);
             numbers = numbers ∙ numbers_marked design user known n within c.requires.all os numbers_so_far w.len.result set before.nodes before.numbers (omega arith);
             few = omega arith;

@@ -1,6 +1,6 @@
 use Rattle.std.proofs.Common.{rules, ◌≡◌, ◌∙◌, ap, Option, List, ℕ}
 use Rattle.std.specs.Prelude.{option_map}
-use Rattle.vp_list.specs.Texts.{behind_part, parts}
+use Rattle.vp_list.specs.Texts.{part_and_rest, parts}
 use Rattle.vp_elab.specs.declared.object.ObjectId.{ObjectId}
 use Rattle.vp_policy.specs.declared.denial.Look.TheVariants as look
 use Rattle.vp_policy.specs.Filter.{look_in}
@@ -18,8 +18,8 @@ loop-object-preserved c =
     record {
       text = search rules;
       left =
-          look_next tree user scope c.loop-object.rest.now part c.in-Some-behind.further.now c.in-Some.object.0
-          (c.first_part.ensures.parts ∙ ap (λ o. behind_part 46 part (option_map (λ r. r.now) o)) c.in-Some-behind.is) (c.in-Some.ensures {u = tt})
+          look_next tree user scope c.loop-object.rest.now part c.in-Some-following.further.now c.in-Some.object.0
+          (c.first_part.ensures.parts ∙ ap (λ o. part_and_rest 46 part (option_map (λ r. r.now) o)) c.in-Some-following.is) (c.in-Some.ensures {u = tt})
           ∙ c.loop-object.invariant.left;
     }
 

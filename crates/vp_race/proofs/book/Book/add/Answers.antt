@@ -2,7 +2,7 @@ use Rattle.std.proofs.Common.{◌≡◌, ◌∙◌, ap, sym}
 use Rattle.std.specs.List.{list_any}
 use Rattle.vp_elab.specs.declared.object.ObjectId.{ObjectId}
 use Rattle.vp_race.specs.Booking.{BookState, is_booked, is_name}
-use Rattle.vp_race.specs.Segments.{Run, Told}
+use Rattle.vp_race.specs.Segments.{Run, FindingState}
 use Rattle.vp_race.proofs.Naming.{any_named}
 use Rattle.vp_race.proofs.book.Book.add.Goals as goal
 
@@ -11,12 +11,12 @@ add_name-requires c =
     let f = c.args.finding in
     let keys = c.self.inside.names.keys in
     let number : c.number-number.result ≡ f.segment.number =
-    c.number-number.ensures ∙ ap (λ (r : Run). r.number) (c.segment.ensures.segment ∙ ap (λ (t : Told). t.segment) c.value-2.ensures) in
-    let object : c.object-object.result ≡ f.object = c.object-object.ensures ∙ ap (λ (t : Told). t.object) c.value-3.ensures in
+    c.number-number.ensures ∙ ap (λ (r : Run). r.number) (c.segment.ensures.segment ∙ ap (λ (t : FindingState). t.segment) c.value-2.ensures) in
+    let object : c.object-object.result ≡ f.object = c.object-object.ensures ∙ ap (λ (t : FindingState). t.object) c.value-3.ensures in
     ap (λ n. list_any (is_name n c.object-object.result.0) keys) number
     ∙ ap (λ (o : ObjectId). list_any (is_name f.segment.number o.0) keys) object
     ∙ ap (λ ks. list_any (is_name f.segment.number f.object.0) ks) c.self.invariant
     ∙ any_named f c.self.inside.races.items
     ∙ ap (λ (b : BookState). is_booked b.races f) c.self.view_is
-    ∙ ap (λ (t : Told). is_booked c.args.self.now.races t) (sym c.value.ensures)
+    ∙ ap (λ (t : FindingState). is_booked c.args.self.now.races t) (sym c.value.ensures)
     ∙ (c.in_ok-check.ensures {u = tt}).new

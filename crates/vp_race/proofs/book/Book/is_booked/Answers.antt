@@ -2,7 +2,7 @@ use Rattle.std.proofs.Common.{◌≡◌, ◌∙◌, ◌==◌, ◌&&◌, ℕ, Lis
 use Rattle.std.specs.List.{list_any}
 use Rattle.vp_elab.specs.declared.object.ObjectId.{ObjectId}
 use Rattle.vp_race.specs.Booking.{BookState, is_booked, is_name, name_of}
-use Rattle.vp_race.specs.Segments.{Run, Told}
+use Rattle.vp_race.specs.Segments.{Run, FindingState}
 use Rattle.vp_race.proofs.Naming.{any_named}
 use Rattle.vp_race.proofs.book.Book.is_booked.Goals as goal
 

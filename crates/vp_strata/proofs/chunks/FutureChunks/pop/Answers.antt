@@ -5,7 +5,7 @@ use Rattle.std.proofs.lemmas.List.{drop-map, length-map}
 use Rattle.vp_strata.specs.declared.event.Timed.{Timed}
 use Rattle.vp_list.specs.Chunks.{joined}
 use Rattle.vp_strata.specs.Chunks.{AreUnfinished, remaining}
-use Rattle.vp_strata.proofs.Chunked.{chunk_at, first_at, first_within, rest_at, rest_behind, unfinished_behind}
+use Rattle.vp_strata.proofs.Chunked.{chunk_at, first_at, first_within, rest_at, rest_after, unfinished_following}
 use Rattle.vp_strata.proofs.chunks.FutureChunks.pop.Goals.{then-self-count, else-self-count}
 use Rattle.vp_strata.proofs.chunks.FutureChunks.pop.Goals as goal
 
@@ -22,7 +22,7 @@ pub invariant_of-self-else-self-count : goal.invariant_of-self-else-self-count
 invariant_of-self-else-self-count c =
     let items = c.self.inside.chunks.items in
     let P : List (List Timed) → Type 0 = λ cs. AreUnfinished 0 cs in
-    subst P (drop-map arc_value 1 items ∙ ap (map arc_value) (sym c.pop_front.ensures.rest)) (unfinished_behind c.self.inside.taken (map arc_value items) c.self.invariant)
+    subst P (drop-map arc_value 1 items ∙ ap (map arc_value) (sym c.pop_front.ensures.rest)) (unfinished_following c.self.inside.taken (map arc_value items) c.self.invariant)
 
 pub returns-clause-first : goal.returns-clause-first
 returns-clause-first c =
@@ -51,6 +51,6 @@ returns-clause-rest c =
       | else-self-count w ↦
           ap joined w.self-is
           ∙ ap (λ (ds : List (List Timed)). joined (remaining 0 ds)) (ap (map arc_value) w.pop_front.ensures.rest ∙ sym (drop-map arc_value 1 items))
-          ∙ rest_behind taken cs c.self.invariant any (omega (arith, size, w.if-self-count.false))
+          ∙ rest_after taken cs c.self.invariant any (omega (arith, size, w.if-self-count.false))
           ∙ rest
     ]

@@ -2,7 +2,7 @@ use Rattle.std.proofs.Common.{◌≡◌, ◌∙◌, true, false, None, sym, ap, 
 use Rattle.std.specs.Prelude.{is_some, slice_get, slice_set}
 use Rattle.std.specs.Option.{option_flatten}
 use Rattle.vp_vpi.proofs.Handles.{open_in, open_less, set_none}
-use Rattle.vp_vpi.specs.Seats.{Seat}
+use Rattle.vp_vpi.specs.SessionStates.{SessionState}
 use Rattle.vp_vpi.proofs.session.Session.free_object.Goals as goal
 
 pub invariant_of-self : goal.invariant_of-self
@@ -15,7 +15,7 @@ pub returns-then-not-take_at-clause-unchanged : goal.returns-then-not-take_at-cl
 returns-then-not-take_at-clause-unchanged c =
     let items = c.self.inside.handles.items in
     let none : is_some (option_flatten (slice_get items c.in-Some.place)) ≡ false = cc in
-    ap (λ hs. (let s : Seat = record { user = c.self.inside.user.0; handles = hs; registry = c.self.inside.registry } in s)) (c.take_at.ensures.taken ∙ set_none items c.in-Some.place none)
+    ap (λ hs. (let s : SessionState = record { user = c.self.inside.user.0; handles = hs; registry = c.self.inside.registry } in s)) (c.take_at.ensures.taken ∙ set_none items c.in-Some.place none)
     ∙ c.self.view_is
 
 pub overflow_sub-self : goal.overflow_sub-self

@@ -9,10 +9,10 @@ use Rattle.vp_vpi.proofs.user_observer.UserObserverObserve.race_lines.Goals.{els
 
 pub returns : goal.returns
 returns c =
-    let eyes = c.args.self.now in
-    let tree = eyes.sim.now.design.tree in
-    let u = member_at eyes.policy.now.members eyes.user.0 in
-    let races = eyes.book.now.races in
+    let observation = c.args.self.now in
+    let tree = observation.sim.now.design.tree in
+    let u = member_at observation.policy.now.members observation.user.0 in
+    let races = observation.book.now.races in
     let from = c.args.from in
     let number = c.loop-finding.number in
     let index = c.loop-finding.finding-index in

@@ -1,6 +1,6 @@
 use Rattle.std.proofs.Common.{arith, ◌≡◌, ◌∙◌, ◌++◌, ◌∷◌, ap, subst, sym}
 use Rattle.std.specs.Prelude.{MatchOption, option_map}
-use Rattle.vp_list.specs.Texts.{behind_part}
+use Rattle.vp_list.specs.Texts.{part_and_rest}
 use Rattle.vp_wire.proofs.Progressing.{answered, failed, failures_err, gathered, matches_err, none_ok, rest_shorter}
 use Rattle.vp_wire.proofs.dialogue.Dialogue.take_first.Goals as goal
 
@@ -8,27 +8,27 @@ pub returns-in_default-clause-progress : goal.returns-in_default-clause-progress
 returns-in_default-clause-progress g c = λ first unread still_unread held p.
     let bytes = c.args.bytes.now in
     let piece = c.first_piece.result.0.now in
-    gathered c.args.self.now c.gather.new.self bytes piece p
-    (c.first_piece.ensures.parts ∙ ap (λ o. behind_part 10 piece (option_map (λ r. r.now) o)) c.in_default.is)
+    gathered c.args.self.now c.push_bytes.new.self bytes piece p
+    (c.first_piece.ensures.parts ∙ ap (λ o. part_and_rest 10 piece (option_map (λ r. r.now) o)) c.in_default.is)
     (subst (λ o. MatchOption o (bytes ≡ piece) (λ r. bytes ≡ piece ++ 10 ∷ r.now)) c.in_default.is c.first_piece.ensures.whole)
-    c.gather.ensures
+    c.push_bytes.ensures
 
 pub returns-in_err-answer-clause-progress : goal.returns-in_err-answer-clause-progress
 returns-in_err-answer-clause-progress g c = λ first unread still_unread held p.
     let bytes = c.args.bytes.now in
     let piece = c.first_piece.result.0.now in
     let rest = c.in-Some.rest.now in
-    let parted = c.first_piece.ensures.parts ∙ ap (λ o. behind_part 10 piece (option_map (λ r. r.now) o)) c.in-Some.is in
+    let parted = c.first_piece.ensures.parts ∙ ap (λ o. part_and_rest 10 piece (option_map (λ r. r.now) o)) c.in-Some.is in
     matches_err _ c.from_residual.result c.from_residual.ensures.0
-    (failed c.args.self.now c.answer.new.self c.gather.new.self bytes piece rest c.answer.result _ p parted c.gather.ensures c.answer.ensures.reply (c.in_err-answer.was {u = tt}))
+    (failed c.args.self.now c.answer.new.self c.push_bytes.new.self bytes piece rest c.answer.result _ p parted c.push_bytes.ensures c.answer.ensures.reply (c.in_err-answer.was {u = tt}))
 
 pub returns-clause-progress : goal.returns-clause-progress
 returns-clause-progress g c = λ first unread still_unread held p.
     let bytes = c.args.bytes.now in
     let piece = c.first_piece.result.0.now in
     let rest = c.in-Some.rest.now in
-    let parted = c.first_piece.ensures.parts ∙ ap (λ o. behind_part 10 piece (option_map (λ r. r.now) o)) c.in-Some.is in
-    answered c.args.self.now c.answer.new.self c.gather.new.self bytes piece rest c.answer.result _ p parted c.gather.ensures c.answer.ensures.reply (c.in_ok-answer.was {u = tt}) c.answer.ensures.begun c.answer.ensures.lines
+    let parted = c.first_piece.ensures.parts ∙ ap (λ o. part_and_rest 10 piece (option_map (λ r. r.now) o)) c.in-Some.is in
+    answered c.args.self.now c.answer.new.self c.push_bytes.new.self bytes piece rest c.answer.result _ p parted c.push_bytes.ensures c.answer.ensures.reply (c.in_ok-answer.was {u = tt}) c.answer.ensures.begun c.answer.ensures.lines
 
 pub returns-in_err-answer-clause-lines : goal.returns-in_err-answer-clause-lines
 returns-in_err-answer-clause-lines g c = none_ok _ c.from_residual.result c.from_residual.ensures.0

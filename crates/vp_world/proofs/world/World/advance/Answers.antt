@@ -2,7 +2,7 @@ use Rattle.std.proofs.Common.{rules, ◌≡◌, ◌++◌, ◌∷◌, [], None, r
 use Rattle.vp_world.specs.Entries.{Entry}
 use Rattle.vp_world.specs.declared.event.Event.TheVariants as event
 use Rattle.vp_answer.specs.declared.reply.Reply.TheVariants as reply
-use Rattle.vp_world.specs.History.{refusal_behind, state_behind}
+use Rattle.vp_world.specs.History.{refusal_after, state_after}
 use Rattle.vp_world.proofs.Logs.{entry_is, keeps_more}
 use Rattle.vp_world.proofs.world.World.advance.Goals as goal
 
@@ -13,6 +13,6 @@ invariant_of-self-2 c =
     let done = c.in_ok-advance.ensures {u = tt} in
     let entry : Entry = record { event = event.Advance; reply = reply.Done; change = None; time = c.time.result; finished = c.finished.result } in
     let added : c.push_reserved.new.self.items ≡ log ++ entry ∷ [] = search rules in
-    let accepted : refusal_behind w.opening log (event.Advance) ≡ None = search rules in
+    let accepted : refusal_after w.opening log (event.Advance) ≡ None = search rules in
     keeps_more w c.advance.new.self log c.push_reserved.new.self.items entry c.self.invariant done.after added tt accepted
-    (entry_is w.opening w.state (state_behind w.opening log) entry c.self.invariant.state refl (sym done.change) (search rules) (search rules))
+    (entry_is w.opening w.state (state_after w.opening log) entry c.self.invariant.state refl (sym done.change) (search rules) (search rules))

@@ -5,13 +5,13 @@ use Rattle.vp_answer.specs.declared.request.Request.{Request}
 use Rattle.vp_world.specs.Entries.{Entry}
 use Rattle.vp_world.specs.declared.event.Event.{Event}
 use Rattle.vp_world.specs.declared.event.Event.TheVariants as event
-use Rattle.vp_world.specs.History.{after, answer, asked, asked_at, asked_in, changed, changed_by, changed_in, entry_of, refusal_behind, state_behind, with_state}
-use Rattle.vp_world.specs.Worlds.{Standing, index_of}
+use Rattle.vp_world.specs.History.{after, answer, asked, asked_at, asked_in, changed, changed_by, changed_in, entry_of, refusal_after, state_after, with_state}
+use Rattle.vp_world.specs.Worlds.{WorldState, index_of}
 use Rattle.vp_world.proofs.Logs.{entry_is, keeps_more, seen_more}
 use Rattle.vp_world.proofs.world.World.apply_ask.Goals as goal
 
 module _ (c : goal.After-push_reserved) where
-  abbrev w : Standing
+  abbrev w : WorldState
   w = c.self.inside.present
 
   abbrev log : List Entry
@@ -29,8 +29,8 @@ module _ (c : goal.After-push_reserved) where
   same : c.deref.result.now.request ≡ c.args.request
   same = ap (λ (a : Asked). a.request) (c.deref.ensures ∙ (c.in_ok-asked.ensures {u = tt}).ok)
 
-  behind : c.ask.new.self ≡ with_state w (after w.opening w.state happens)
-  behind =
+  following : c.ask.new.self ≡ with_state w (after w.opening w.state happens)
+  following =
       (c.in_ok-answer.ensures {u = tt}).after
       ∙ ap (λ (r : Request). with_state w (asked_at w.state (Some c.in_ok-place.place) r)) same
       ∙ ap (λ (o : Option ℕ). with_state w (asked_at w.state o c.args.request)) (sym found)
@@ -50,20 +50,20 @@ module _ (c : goal.After-push_reserved) where
   added : c.push_reserved.new.self.items ≡ log ++ entry ∷ []
   added = search rules
 
-  made : entry ≡ entry_of w.opening (state_behind w.opening log) happens
-  made = entry_is w.opening w.state (state_behind w.opening log) entry c.self.invariant.state kept changes (c.time.ensures ∙ ap (λ (s : Standing). s.state.run.time) behind) (c.finished.ensures ∙ ap (λ (s : Standing). s.state.run.finished) behind)
+  made : entry ≡ entry_of w.opening (state_after w.opening log) happens
+  made = entry_is w.opening w.state (state_after w.opening log) entry c.self.invariant.state kept changes (c.time.ensures ∙ ap (λ (s : WorldState). s.state.run.time) following) (c.finished.ensures ∙ ap (λ (s : WorldState). s.state.run.finished) following)
 
 pub invariant_of-self-2 : goal.invariant_of-self-2
 invariant_of-self-2 c =
-    let accepted : refusal_behind (w c).opening (log c) (happens c) ≡ None = search rules in
-    keeps_more (w c) c.ask.new.self (log c) c.push_reserved.new.self.items (entry c) c.self.invariant (behind c) (added c) c.requires accepted (made c)
+    let accepted : refusal_after (w c).opening (log c) (happens c) ≡ None = search rules in
+    keeps_more (w c) c.ask.new.self (log c) c.push_reserved.new.self.items (entry c) c.self.invariant (following c) (added c) c.requires accepted (made c)
 
 pub returns-clause-applied : goal.returns-clause-applied
 returns-clause-applied c = record {
   accepted = search rules;
   logged =
       seen_more (w c) c.ask.new.self (log c) c.push_reserved.new.self.items (entry c) c.args.self.now c.self.view_is
-      (behind c ∙ ap (λ (s : Standing). with_state (w c) s.state) (sym (behind c))) (added c) (made c);
+      (following c ∙ ap (λ (s : WorldState). with_state (w c) s.state) (sym (following c))) (added c) (made c);
   refused = tt;
   unchanged = tt;
 }

@@ -1,17 +1,17 @@
 use Rattle.std.proofs.Common.{rules, ◌≡◌, ◌++◌, List, ◌∷◌, [], None, refl, ap, ◌∙◌, subst, sym}
-use Rattle.vp_race.specs.Segments.{Told}
+use Rattle.vp_race.specs.Segments.{FindingState}
 use Rattle.vp_world.specs.Entries.{Entry}
 use Rattle.vp_world.specs.declared.event.Event.{Event}
 use Rattle.vp_world.specs.declared.event.Event.TheVariants as event
 use Rattle.vp_answer.specs.declared.reply.Reply.TheVariants as reply
-use Rattle.vp_world.specs.History.{after, entry_of, refusal_behind, state_behind, with_state}
+use Rattle.vp_world.specs.History.{after, entry_of, refusal_after, state_after, with_state}
 use Rattle.vp_world.specs.Events.{IsWellFormed}
-use Rattle.vp_world.specs.Worlds.{Logged, Standing}
+use Rattle.vp_world.specs.Worlds.{WorldLog, WorldState}
 use Rattle.vp_world.proofs.Logs.{entry_is, keeps_more, seen_more}
 use Rattle.vp_world.proofs.world.World.apply_booking.Goals as goal
 
 module _ (c : goal.After-push_reserved) where
-  abbrev w : Standing
+  abbrev w : WorldState
   w = c.self.inside.present
 
   abbrev log : List Entry
@@ -21,14 +21,14 @@ module _ (c : goal.After-push_reserved) where
   happens = event.Book c.args.finding
 
   -- the entry of a finding
-  abbrev entry_of_finding : Told → Entry
+  abbrev entry_of_finding : FindingState → Entry
   entry_of_finding f = record { event = event.Book f; reply = reply.Done; change = None; time = c.time.result; finished = c.finished.result }
 
   abbrev entry : Entry
   entry = entry_of_finding c.args.finding
 
-  behind : c.book.new.self ≡ with_state w (after w.opening w.state happens)
-  behind = (c.in_ok-book.ensures {u = tt}).after
+  following : c.book.new.self ≡ with_state w (after w.opening w.state happens)
+  following = (c.in_ok-book.ensures {u = tt}).after
 
   same : c.in-Ok.logged ≡ c.args.finding
   same = search rules
@@ -36,23 +36,23 @@ module _ (c : goal.After-push_reserved) where
   added : c.push_reserved.new.self.items ≡ log ++ entry ∷ []
   added =
       let as_logged : c.push_reserved.new.self.items ≡ log ++ entry_of_finding c.in-Ok.logged ∷ [] = search rules in
-      as_logged ∙ ap (λ (f : Told). log ++ entry_of_finding f ∷ []) same
+      as_logged ∙ ap (λ (f : FindingState). log ++ entry_of_finding f ∷ []) same
 
-  made : entry ≡ entry_of w.opening (state_behind w.opening log) happens
-  made = entry_is w.opening w.state (state_behind w.opening log) entry c.self.invariant.state refl refl (c.time.ensures ∙ ap (λ (s : Standing). s.state.run.time) behind) (c.finished.ensures ∙ ap (λ (s : Standing). s.state.run.finished) behind)
+  made : entry ≡ entry_of w.opening (state_after w.opening log) happens
+  made = entry_is w.opening w.state (state_after w.opening log) entry c.self.invariant.state refl refl (c.time.ensures ∙ ap (λ (s : WorldState). s.state.run.time) following) (c.finished.ensures ∙ ap (λ (s : WorldState). s.state.run.finished) following)
 
 pub invariant_of-self-2 : goal.invariant_of-self-2
 invariant_of-self-2 c =
-    let accepted : refusal_behind (w c).opening (log c) (happens c) ≡ None = search rules in
-    let formed : IsWellFormed (w c).opening.design (happens c) = subst (λ (v : Logged). IsWellFormed v.opening.design (happens c)) (sym c.self.view_is) c.requires in
-    keeps_more (w c) c.book.new.self (log c) c.push_reserved.new.self.items (entry c) c.self.invariant (behind c) (added c) formed accepted (made c)
+    let accepted : refusal_after (w c).opening (log c) (happens c) ≡ None = search rules in
+    let formed : IsWellFormed (w c).opening.design (happens c) = subst (λ (v : WorldLog). IsWellFormed v.opening.design (happens c)) (sym c.self.view_is) c.requires in
+    keeps_more (w c) c.book.new.self (log c) c.push_reserved.new.self.items (entry c) c.self.invariant (following c) (added c) formed accepted (made c)
 
 pub returns-clause-applied : goal.returns-clause-applied
 returns-clause-applied c = record {
   accepted = search rules;
   logged =
       seen_more (w c) c.book.new.self (log c) c.push_reserved.new.self.items (entry c) c.args.self.now c.self.view_is
-      (behind c ∙ ap (λ (s : Standing). with_state (w c) s.state) (sym (behind c))) (added c) (made c);
+      (following c ∙ ap (λ (s : WorldState). with_state (w c) s.state) (sym (following c))) (added c) (made c);
   refused = tt;
   unchanged = tt;
 }

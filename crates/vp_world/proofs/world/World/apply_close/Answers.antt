@@ -2,7 +2,7 @@ use Rattle.std.proofs.Common.{rules, ◌≡◌, ◌++◌, ◌∷◌, [], None, S
 use Rattle.vp_world.specs.Entries.{Entry}
 use Rattle.vp_world.specs.declared.event.Event.TheVariants as event
 use Rattle.vp_answer.specs.declared.reply.Reply.TheVariants as reply
-use Rattle.vp_world.specs.History.{closed_at, refusal_behind, state_behind, with_state}
+use Rattle.vp_world.specs.History.{closed_at, refusal_after, state_after, with_state}
 use Rattle.vp_world.specs.Worlds.{index_of}
 use Rattle.vp_world.proofs.Logs.{entry_is, keeps_more}
 use Rattle.vp_world.proofs.world.World.apply_close.Goals as goal
@@ -15,7 +15,7 @@ invariant_of-self-2 c =
     let found : index_of w.state.sessions id ≡ Some c.in_ok-place.place = (c.in_ok-place.ensures {u = tt}).place in
     let entry : Entry = record { event = event.Close id; reply = reply.Done; change = None; time = c.time.result; finished = c.finished.result } in
     let added : c.push_reserved.new.self.items ≡ log ++ entry ∷ [] = search rules in
-    let accepted : refusal_behind w.opening log (event.Close id) ≡ None = search rules in
+    let accepted : refusal_after w.opening log (event.Close id) ≡ None = search rules in
     let after = c.close.ensures ∙ ap (λ (o : Option ℕ). with_state w (closed_at w.state o)) (sym found) in
     keeps_more w c.close.new.self log c.push_reserved.new.self.items entry c.self.invariant after added tt accepted
-    (entry_is w.opening w.state (state_behind w.opening log) entry c.self.invariant.state refl refl (search rules) (search rules))
+    (entry_is w.opening w.state (state_after w.opening log) entry c.self.invariant.state refl refl (search rules) (search rules))

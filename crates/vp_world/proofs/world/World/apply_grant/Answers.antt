@@ -6,13 +6,13 @@ use Rattle.vp_world.specs.Entries.{Entry}
 use Rattle.vp_world.specs.declared.event.Event.{Event}
 use Rattle.vp_world.specs.declared.event.Event.TheVariants as event
 use Rattle.vp_answer.specs.declared.reply.Reply.TheVariants as reply
-use Rattle.vp_world.specs.History.{after, entry_of, granted_to, refusal_behind, state_behind, with_state}
-use Rattle.vp_world.specs.Worlds.{Standing}
+use Rattle.vp_world.specs.History.{after, entry_of, granted_to, refusal_after, state_after, with_state}
+use Rattle.vp_world.specs.Worlds.{WorldState}
 use Rattle.vp_world.proofs.Logs.{entry_is, keeps_more}
 use Rattle.vp_world.proofs.world.World.apply_grant.Goals as goal
 
 module _ (c : goal.After-push_reserved) where
-  abbrev w : Standing
+  abbrev w : WorldState
   w = c.self.inside.present
 
   abbrev log : List Entry
@@ -30,8 +30,8 @@ module _ (c : goal.After-push_reserved) where
   same : c.deref.result.now ≡ c.args.change
   same = c.deref.ensures ∙ (c.in_ok-change.ensures {u = tt}).ok
 
-  behind : c.grant.new.self ≡ with_state w (after w.opening w.state happens)
-  behind =
+  following : c.grant.new.self ≡ with_state w (after w.opening w.state happens)
+  following =
       search rules
       ∙ ap (λ (g : GrantChange). with_state w (granted_to w.state g c.in_ok-user.user.0)) same
       ∙ ap (λ (o : Option ℕ). with_state w (option_map_or (granted_to w.state c.args.change) o w.state)) (sym found)
@@ -39,10 +39,10 @@ module _ (c : goal.After-push_reserved) where
   added : c.push_reserved.new.self.items ≡ log ++ entry ∷ []
   added = search rules
 
-  made : entry ≡ entry_of w.opening (state_behind w.opening log) happens
-  made = entry_is w.opening w.state (state_behind w.opening log) entry c.self.invariant.state refl refl (c.time.ensures ∙ ap (λ (s : Standing). s.state.run.time) behind) (c.finished.ensures ∙ ap (λ (s : Standing). s.state.run.finished) behind)
+  made : entry ≡ entry_of w.opening (state_after w.opening log) happens
+  made = entry_is w.opening w.state (state_after w.opening log) entry c.self.invariant.state refl refl (c.time.ensures ∙ ap (λ (s : WorldState). s.state.run.time) following) (c.finished.ensures ∙ ap (λ (s : WorldState). s.state.run.finished) following)
 
 pub invariant_of-self-2 : goal.invariant_of-self-2
 invariant_of-self-2 c =
-    let accepted : refusal_behind (w c).opening (log c) (happens c) ≡ None = search rules in
-    keeps_more (w c) c.grant.new.self (log c) c.push_reserved.new.self.items (entry c) c.self.invariant (behind c) (added c) tt accepted (made c)
+    let accepted : refusal_after (w c).opening (log c) (happens c) ≡ None = search rules in
+    keeps_more (w c) c.grant.new.self (log c) c.push_reserved.new.self.items (entry c) c.self.invariant (following c) (added c) tt accepted (made c)

@@ -3,14 +3,14 @@ use Rattle.vp_race.specs.Recording.{next_job}
 use Rattle.vp_world.specs.Entries.{Entry}
 use Rattle.vp_world.specs.declared.event.Event.TheVariants as event
 use Rattle.vp_answer.specs.declared.reply.Reply.TheVariants as reply
-use Rattle.vp_world.specs.History.{after, answer, entry_of, refusal_behind, state_behind, with_state}
-use Rattle.vp_world.specs.Worlds.{Standing}
+use Rattle.vp_world.specs.History.{after, answer, entry_of, refusal_after, state_after, with_state}
+use Rattle.vp_world.specs.Worlds.{WorldState}
 use Rattle.vp_world.proofs.Jobs.{job_told}
 use Rattle.vp_world.proofs.Logs.{entry_is, keeps_more, seen_more}
 use Rattle.vp_world.proofs.world.World.apply_job.Goals as goal
 
 module _ (c : goal.After-push_reserved) where
-  abbrev w : Standing
+  abbrev w : WorldState
   w = c.self.inside.present
 
   abbrev log : List Entry
@@ -19,8 +19,8 @@ module _ (c : goal.After-push_reserved) where
   abbrev entry : Entry
   entry = record { event = event.TakeJob; reply = reply.Job c.in-Some.number; change = None; time = c.time.result; finished = c.finished.result }
 
-  behind : c.take_job.new.self ≡ with_state w (after w.opening w.state event.TakeJob)
-  behind = search rules
+  following : c.take_job.new.self ≡ with_state w (after w.opening w.state event.TakeJob)
+  following = search rules
 
   told : reply.Job c.in-Some.number ≡ answer w.opening w.state event.TakeJob
   told = job_told (next_job w.state.segments) c.in-Some.number (search rules)
@@ -28,20 +28,20 @@ module _ (c : goal.After-push_reserved) where
   added : c.push_reserved.new.self.items ≡ log ++ entry ∷ []
   added = search rules
 
-  made : entry ≡ entry_of w.opening (state_behind w.opening log) event.TakeJob
-  made = entry_is w.opening w.state (state_behind w.opening log) entry c.self.invariant.state told refl (c.time.ensures ∙ ap (λ (s : Standing). s.state.run.time) behind) (c.finished.ensures ∙ ap (λ (s : Standing). s.state.run.finished) behind)
+  made : entry ≡ entry_of w.opening (state_after w.opening log) event.TakeJob
+  made = entry_is w.opening w.state (state_after w.opening log) entry c.self.invariant.state told refl (c.time.ensures ∙ ap (λ (s : WorldState). s.state.run.time) following) (c.finished.ensures ∙ ap (λ (s : WorldState). s.state.run.finished) following)
 
 pub invariant_of-self-2 : goal.invariant_of-self-2
 invariant_of-self-2 c =
-    let accepted : refusal_behind (w c).opening (log c) event.TakeJob ≡ None = search rules in
-    keeps_more (w c) c.take_job.new.self (log c) c.push_reserved.new.self.items (entry c) c.self.invariant (behind c) (added c) tt accepted (made c)
+    let accepted : refusal_after (w c).opening (log c) event.TakeJob ≡ None = search rules in
+    keeps_more (w c) c.take_job.new.self (log c) c.push_reserved.new.self.items (entry c) c.self.invariant (following c) (added c) tt accepted (made c)
 
 pub returns-clause-applied : goal.returns-clause-applied
 returns-clause-applied c = record {
   accepted = search rules;
   logged =
       seen_more (w c) c.take_job.new.self (log c) c.push_reserved.new.self.items (entry c) c.args.self.now c.self.view_is
-      (behind c ∙ ap (λ (s : Standing). with_state (w c) s.state) (sym (behind c))) (added c) (made c);
+      (following c ∙ ap (λ (s : WorldState). with_state (w c) s.state) (sym (following c))) (added c) (made c);
   refused = tt;
   unchanged = tt;
 }

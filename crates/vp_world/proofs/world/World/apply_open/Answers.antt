@@ -7,8 +7,8 @@ use Rattle.vp_world.specs.declared.event.Event.TheVariants as event
 use Rattle.vp_answer.specs.declared.request.SessionId.{SessionId}
 use Rattle.vp_answer.specs.declared.reply.Refusal.TheVariants as refusal
 use Rattle.vp_answer.specs.declared.reply.Reply.TheVariants as reply
-use Rattle.vp_world.specs.History.{after, answer, entry_of, next_session, opened_by, refusal_behind, state_behind, with_state}
-use Rattle.vp_world.specs.Worlds.{Standing}
+use Rattle.vp_world.specs.History.{after, answer, entry_of, next_session, opened_by, refusal_after, state_after, with_state}
+use Rattle.vp_world.specs.Worlds.{WorldState}
 use Rattle.vp_world.proofs.Logs.{entry_is, keeps_more, refused_so, seen_more}
 use Rattle.vp_world.proofs.world.World.apply_open.Goals as goal
 
@@ -18,11 +18,11 @@ returns-in_err-number-clause-applied c =
     let happens = event.Open c.args.user c.args.token in
     let e = c.in_err-number.field-0.0 in
     let is : c.from_residual.result ≡ Err e = search rules in
-    let why : refusal_behind v.opening v.log happens ≡ Some e = search rules in
+    let why : refusal_after v.opening v.log happens ≡ Some e = search rules in
     refused_so v happens c.from_residual.result e is why
 
 module _ (c : goal.After-push_reserved) where
-  abbrev w : Standing
+  abbrev w : WorldState
   w = c.self.inside.present
 
   abbrev log : List Entry
@@ -37,8 +37,8 @@ module _ (c : goal.After-push_reserved) where
   found : login_of w.state.policy.members c.args.user c.args.token ≡ Some c.in_ok-number.number.0
   found = search rules
 
-  behind : c.open_for.new.self ≡ with_state w (after w.opening w.state happens)
-  behind =
+  following : c.open_for.new.self ≡ with_state w (after w.opening w.state happens)
+  following =
       (c.in_ok-session.ensures {u = tt}).after
       ∙ ap (λ (o : Option ℕ). with_state w (option_map_or (opened_by w.state) o w.state)) (sym found)
 
@@ -50,20 +50,20 @@ module _ (c : goal.After-push_reserved) where
   added : c.push_reserved.new.self.items ≡ log ++ entry ∷ []
   added = search rules
 
-  made : entry ≡ entry_of w.opening (state_behind w.opening log) happens
-  made = entry_is w.opening w.state (state_behind w.opening log) entry c.self.invariant.state told refl (c.time.ensures ∙ ap (λ (s : Standing). s.state.run.time) behind) (c.finished.ensures ∙ ap (λ (s : Standing). s.state.run.finished) behind)
+  made : entry ≡ entry_of w.opening (state_after w.opening log) happens
+  made = entry_is w.opening w.state (state_after w.opening log) entry c.self.invariant.state told refl (c.time.ensures ∙ ap (λ (s : WorldState). s.state.run.time) following) (c.finished.ensures ∙ ap (λ (s : WorldState). s.state.run.finished) following)
 
 pub invariant_of-self-2 : goal.invariant_of-self-2
 invariant_of-self-2 c =
-    let accepted : refusal_behind (w c).opening (log c) (happens c) ≡ None = search rules in
-    keeps_more (w c) c.open_for.new.self (log c) c.push_reserved.new.self.items (entry c) c.self.invariant (behind c) (added c) tt accepted (made c)
+    let accepted : refusal_after (w c).opening (log c) (happens c) ≡ None = search rules in
+    keeps_more (w c) c.open_for.new.self (log c) c.push_reserved.new.self.items (entry c) c.self.invariant (following c) (added c) tt accepted (made c)
 
 pub returns-clause-applied : goal.returns-clause-applied
 returns-clause-applied c = record {
   accepted = search rules;
   logged =
       seen_more (w c) c.open_for.new.self (log c) c.push_reserved.new.self.items (entry c) c.args.self.now c.self.view_is
-      (behind c ∙ ap (λ (s : Standing). with_state (w c) s.state) (sym (behind c))) (added c) (made c);
+      (following c ∙ ap (λ (s : WorldState). with_state (w c) s.state) (sym (following c))) (added c) (made c);
   refused = tt;
   unchanged = tt;
 }

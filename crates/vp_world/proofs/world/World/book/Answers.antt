@@ -1,6 +1,6 @@
 use Rattle.std.proofs.Common.{◌≡◌, ◌∙◌, All, ap, subst, sym}
-use Rattle.vp_world.specs.History.{IsReached, state_behind}
-use Rattle.vp_world.specs.Worlds.{Logged, State}
+use Rattle.vp_world.specs.History.{IsReached, state_after}
+use Rattle.vp_world.specs.Worlds.{WorldLog, State}
 use Rattle.vp_world.proofs.Reached.{all_reached}
 use Rattle.vp_world.proofs.world.World.book.Goals as goal
 
@@ -8,6 +8,6 @@ pub returns-clause-reached : goal.returns-clause-reached
 returns-clause-reached c =
     let opening = c.self.inside.present.opening in
     let log = c.self.inside.log.items in
-    let shown : c.races.result.now ≡ (state_behind opening log).book = c.races.ensures ∙ ap (λ (s : State). s.book) c.self.invariant.state in
+    let shown : c.races.result.now ≡ (state_after opening log).book = c.races.ensures ∙ ap (λ (s : State). s.book) c.self.invariant.state in
     let all : All (IsReached opening log) c.races.result.now = subst (All (IsReached opening log)) (sym shown) (all_reached opening log c.self.invariant.legal) in
-    subst (λ (w : Logged). All (IsReached w.opening w.log) c.races.result.now) c.self.view_is all
+    subst (λ (w : WorldLog). All (IsReached w.opening w.log) c.races.result.now) c.self.view_is all

@@ -2,7 +2,7 @@ use Rattle.std.proofs.Common.{rules, ◌≡◌, ◌++◌, ◌∷◌, [], None, r
 use Rattle.vp_world.specs.Entries.{Entry}
 use Rattle.vp_world.specs.declared.event.Event.TheVariants as event
 use Rattle.vp_answer.specs.declared.reply.Reply.TheVariants as reply
-use Rattle.vp_world.specs.History.{refusal_behind, state_behind}
+use Rattle.vp_world.specs.History.{refusal_after, state_after}
 use Rattle.vp_world.specs.Worlds.{State}
 use Rattle.vp_world.proofs.Counting.{count_within}
 use Rattle.vp_world.proofs.Logs.{entry_is, keeps_more}
@@ -12,7 +12,7 @@ pub step-requires : goal.step-requires
 step-requires c =
     let w = c.self.inside.present in
     let log = c.self.inside.log in
-    let same : w.state.segments.count ≡ (state_behind w.opening log.items).segments.count = ap (λ (s : State). s.segments.count) c.self.invariant.state in
+    let same : w.state.segments.count ≡ (state_after w.opening log.items).segments.count = ap (λ (s : State). s.segments.count) c.self.invariant.state in
     omega (arith, same, count_within w.opening log.items, log.ok.0, log.ok.1, log.small)
 
 pub invariant_of-self-2 : goal.invariant_of-self-2
@@ -22,6 +22,6 @@ invariant_of-self-2 c =
     let done = c.in_ok-change.ensures {u = tt} in
     let entry : Entry = record { event = event.Step c.args.k; reply = reply.Done; change = c.in_ok-change.change; time = c.time-time.result; finished = c.finished-finished.result } in
     let added : c.add_step.new.log.items ≡ log ++ entry ∷ [] = search rules in
-    let accepted : refusal_behind w.opening log (event.Step c.args.k) ≡ None = search rules in
+    let accepted : refusal_after w.opening log (event.Step c.args.k) ≡ None = search rules in
     keeps_more w c.step.new.self log c.add_step.new.log.items entry c.self.invariant done.after added tt accepted
-    (entry_is w.opening w.state (state_behind w.opening log) entry c.self.invariant.state refl done.change (search rules) (search rules))
+    (entry_is w.opening w.state (state_after w.opening log) entry c.self.invariant.state refl done.change (search rules) (search rules))

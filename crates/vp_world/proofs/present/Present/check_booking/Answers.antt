@@ -1,9 +1,0 @@
-use Rattle.std.proofs.Common.{◌∙◌, ap, sym}
-use Rattle.vp_world.specs.Worlds.{Standing}
-use Rattle.vp_world.proofs.Designs.{kept_design}
-use Rattle.vp_world.proofs.present.Present.check_booking.Goals as goal
-
-pub check-requires : goal.check-requires
-check-requires c =
-    kept_design c.self.inside.run c.number.result c.kept-kept.result c.args.finding.now.segment.start.design c.kept-kept.ensures
-    (c.requires ∙ ap (λ (v : Standing). v.opening.design) (sym c.self.view_is)) c.self.invariant.2

@@ -1,0 +1,533 @@
+ghost use Rattle.std.specs.Prelude.{◌≡◌, ◌<◌, ◌≤◌, ◌+◌, ◌^◌, false, true, length, slice_index, slice_set, None, Some, option_copied, option_map, IfErr, IfOk, IfSome, IsOkUnless, OnErr, OnOk};
+ghost use Rattle.std.specs.Arc.{arc_value};
+ghost use Rattle.vp_list.specs.Refusals.{Explains};
+ghost use Rattle.vp_policy.specs.PolicyState.{Fits};
+ghost use Rattle.vp_policy.specs.Users.{login_of, user_of};
+ghost use Rattle.vp_race.specs.Recording.{kept_of, next_job, with_anew, with_step};
+ghost use Rattle.vp_sim.specs.States as sim;
+ghost use Rattle.vp_world.specs.declared.event.Event.TheVariants as event;
+ghost use Rattle.vp_world.specs.declared.error.WorldError.TheVariants as world_error;
+ghost use Rattle.vp_answer.specs.declared.reply.Reply.TheVariants as reply;
+ghost use Rattle.vp_answer.specs.Requests.{IsAsked};
+ghost use Rattle.vp_world.specs.History.{asked_at, asked_in, book_refusal, change_of, changed_in, closed_at, granted_to, is_past_goal, is_full, is_next_past_goal, later, next_session, raised, opened_by, refusal_in, refusal_of_job, refusal_of_log, refusal_of_outcome, refusal_of_session, refusal_of_step, advance_refusal, step_refusal, stepped, with_booked, with_job_taken, with_state};
+ghost use Rattle.vp_world.specs.Worlds.{index_of, start};
+
+use crate::error::WorldError;
+use crate::limits::Limits;
+use crate::putting::{AnswerWithChange, answer_request};
+use crate::session::{OpenSession, retire, session_index};
+use crate::watching::{mark_asked, notify};
+use std::alloc::Global;
+use std::marker::Model;
+use std::snapshot::Snapshot;
+use std::sync::Arc;
+use vp_answer::{GrantChange, Request, SessionId};
+use vp_policy::{Policy, UserId};
+use vp_race::{Book, Finding, Recording, Segment, Shared};
+use vp_sim::Checked;
+use vp_vpi::Session;
+use vp_waking::Change;
+
+/// A world without its log: a design with a policy, its simulation, and the sessions of its users. A contract sees how it began
+/// and its state.
+#[derive(Drop)]
+pub struct LiveWorld {
+    alloc: Global,
+    run: Recording,
+    book: Book,
+    /// The policy with which it opened, as contracts see it: it takes no memory.
+    opening_policy: Snapshot<Policy>,
+    /// The policy in force.
+    policy: Policy,
+    limits: Limits,
+    /// Those that are open, in the order in which they were opened.
+    sessions: Vec<OpenSession>,
+    /// Of each object, whether one of them may have a callback on it.
+    watched: Vec<bool>,
+    /// How often each user has opened a session, by his number.
+    opens: Vec<u64>,
+    /// Until when the simulation may run, in time units.
+    goal: Option<u64>,
+}
+
+impl Model for LiveWorld {
+    ghost use Rattle.std.specs.Prelude.{◌≡◌, true};
+    ghost use Rattle.vp_policy.specs.PolicyState.{Fits};
+    ghost use Rattle.vp_world.specs.Shown.{AreOfDesign, shown};
+    ghost use Rattle.vp_world.specs.Marks.{all_marked};
+    ghost use Rattle.vp_world.specs.Worlds.{WorldState};
+
+    ghost Value = { WorldState };
+
+    ghost view = { λ w. shown w.run w.book.races w.opening_policy.value w.policy w.limits
+        w.sessions.items w.opens.items w.goal };
+
+    ghost invariant = { λ w. (all_marked w.watched.items w.sessions.items ≡ true)
+        × (w.book.limit ≡ w.limits.book) × AreOfDesign w.run
+        × Fits w.policy w.run.simulation.design.tree };
+}
+
+/// The later of a goal, if there is one, and a time.
+fn later(goal: Option<u64>, until: u64) -> u64
+    ensures { result ≡ later goal until }
+{
+    match goal {
+        Some(goal) => goal.max(until),
+        None => until,
+    }
+}
+
+/// A goal, raised to a time, if there is one.
+fn raised(goal: Option<u64>, until: Option<u64>) -> Option<u64>
+    ensures { result ≡ raised goal until }
+{
+    match until {
+        Some(until) => Some(later(goal, until)),
+        None => goal,
+    }
+}
+
+/// The log is not full; else the refusal (1304).
+fn check_log(full: bool) -> Result<(), WorldError>
+    ensures accepted { OnOk result (refusal_of_log full ≡ None) }
+    ensures refused { IfErr result (λ e. refusal_of_log full ≡ Some e) }
+{
+    if full {
+        Err(WorldError::LogFull)
+    } else {
+        Ok(())
+    }
+}
+
+/// Neither a log that is full or not nor a goal that does not reach so far, or does, refuses a step or an advance; else the refusal
+/// (1304, 1305).
+fn check_due(full: bool, is_past_goal: bool) -> Result<(), WorldError>
+    ensures accepted { OnOk result ((o : sim.Outcome)
+        → refusal_of_step full is_past_goal o ≡ refusal_of_outcome o) }
+    ensures refused { IfErr result (λ e. (o : sim.Outcome)
+        → refusal_of_step full is_past_goal o ≡ Some e) }
+{
+    if full {
+        return Err(WorldError::LogFull);
+    }
+    if is_past_goal {
+        return Err(WorldError::BeyondGoal);
+    }
+    Ok(())
+}
+
+/// Sets how often a user has opened a session.
+fn set_count(opens: &mut Vec<u64>, user: UserId, count: u64)
+    ensures { opens.new.items ≡ slice_set opens.old.items user.0 count }
+{
+    if let Some(place) = opens.get_mut(user.0) {
+        *place = count;
+    }
+}
+
+impl LiveWorld {
+    /// A world in which nothing has happened; or want of memory (1307).
+    pub fn new(
+        alloc: Global,
+        checked: Arc<Checked>,
+        policy: Policy,
+        limits: Limits,
+    ) -> Result<LiveWorld, WorldError>
+        requires { Fits policy (arc_value checked).tree }
+        ensures opening { IfOk result
+            (λ world. world.opening ≡ record {
+              design = arc_value checked;
+              policy = policy;
+              limits = limits;
+            }) }
+        ensures state { IfOk result (λ world. world.state ≡ start world.opening) }
+        ensures refused { IsOkUnless result world_error.NoMemory }
+    {
+        let opens = vec![in alloc; 0u64; policy.count()]?;
+        let watched = vec![in alloc; false; checked.design().count() as usize]?;
+        let Ok(run) = Recording::new(alloc, checked) else {
+            return Err(WorldError::NoMemory);
+        };
+        Ok(LiveWorld {
+            alloc,
+            run,
+            book: Book::new(alloc, limits.book),
+            opening_policy: Snapshot::of(&policy),
+            policy,
+            limits,
+            sessions: Vec::new(alloc),
+            watched,
+            opens,
+            goal: None,
+        })
+    }
+
+    /// The most entries of a log.
+    pub fn log_limit(&self) -> usize
+        ensures { result ≡ self.now.opening.limits.log }
+    {
+        self.limits.log
+    }
+
+    /// The current time, in time units.
+    pub fn time(&self) -> u64
+        ensures { result ≡ self.now.state.run.time }
+    {
+        self.run.simulation().time()
+    }
+
+    /// `$finish` was executed.
+    pub fn finished(&self) -> bool
+        ensures { result ≡ self.now.state.run.finished }
+    {
+        self.run.simulation().finished()
+    }
+
+    /// How often a user has opened a session.
+    fn opened(&self, user: UserId) -> u64
+        ensures { result ≡ slice_index self.now.state.opens user.0 }
+    {
+        match self.opens.get(user.0) {
+            Some(count) => *count,
+            None => 0,
+        }
+    }
+
+    /// There is no room for a session of a user.
+    fn is_full(&self, user: UserId) -> bool
+        ensures { result ≡ is_full self.now.opening self.now.state user.0 }
+    {
+        self.sessions.len() >= self.limits.sessions || self.opened(user) == u64::MAX
+    }
+
+    /// The goal does not reach the current time.
+    fn is_past_goal(&self) -> bool
+        ensures { result ≡ is_past_goal self.now.state.goal self.now.state.run.time }
+    {
+        match self.goal {
+            Some(goal) => goal < self.run.simulation().time(),
+            None => true,
+        }
+    }
+
+    /// The goal does not reach the time of the next event.
+    fn is_next_past_goal(&self) -> bool
+        ensures { result ≡ is_next_past_goal self.now.state.goal (sim.next_time self.now.state.run) }
+    {
+        let Some(goal) = self.goal else {
+            return true;
+        };
+        match self.run.simulation().next_time() {
+            Some(next) => goal < next,
+            None => false,
+        }
+    }
+
+    /// The user whose name and token an opening gives, where it is not refused; else the refusal (1302, 1301, 1304).
+    pub fn admit(&self, name: &str, token: &str, full: bool) -> Result<UserId, WorldError>
+        ensures user { IfOk result
+            (λ user. login_of self.now.state.policy.members name.now token.now ≡ Some user.0) }
+        ensures room { IfOk result
+            (λ user. is_full self.now.opening self.now.state user.0 ≡ false) }
+        ensures accepted { OnOk result
+            (refusal_in self.now full (event.Open name.now token.now) ≡ None) }
+        ensures refused { IfErr result
+            (λ e. refusal_in self.now full (event.Open name.now token.now) ≡ Some e) }
+    {
+        let user = self.policy.login(name, token).ok_or(WorldError::BadToken)?;
+        if self.is_full(user) {
+            return Err(WorldError::SessionsFull);
+        }
+        check_log(full)?;
+        Ok(user)
+    }
+
+    /// Where the open session of a name stands, where its event is not refused; else the refusal (1303, 1304).
+    pub fn place(&self, id: SessionId, full: bool) -> Result<usize, WorldError>
+        ensures place { IfOk result (λ place. index_of self.now.state.sessions id ≡ Some place) }
+        ensures within { IfOk result (λ place. place < length self.now.state.sessions) }
+        ensures accepted { OnOk result
+            (refusal_of_session full (index_of self.now.state.sessions id) ≡ None) }
+        ensures refused { IfErr result
+            (λ e. refusal_of_session full (index_of self.now.state.sessions id) ≡ Some e) }
+    {
+        let Some(place) = session_index(self.sessions.as_slice(), id) else {
+            return Err(WorldError::NotOpen);
+        };
+        check_log(full)?;
+        Ok(place)
+    }
+
+    /// The user whose grant an operator changes, where that is not refused; else the refusal (1310, 1311, 1312, 1304).
+    pub fn grantee(&self, change: &GrantChange, full: bool) -> Result<UserId, WorldError>
+        ensures user { IfOk result
+            (λ user. user_of self.now.state.policy.members change.now.user ≡ Some user.0) }
+        ensures envelope { OnOk result
+            (change.now.envelope ≤ length self.now.state.policy.tree.authors) }
+        ensures accepted { OnOk result
+            (refusal_in self.now full (event.Grant change.now) ≡ None) }
+        ensures refused { IfErr result
+            (λ e. refusal_in self.now full (event.Grant change.now) ≡ Some e) }
+    {
+        if !self.policy.is_operator(change.token.as_str()) {
+            return Err(WorldError::BadOperator);
+        }
+        let Some(grantee) = self.policy.user(change.user.as_str()) else {
+            return Err(WorldError::NoSuchUser);
+        };
+        let envelopes = self.run.simulation().design().envelope_count();
+        if change.envelope > u32::from(envelopes) {
+            return Err(WorldError::NoSuchEnvelope);
+        }
+        check_log(full)?;
+        Ok(grantee)
+    }
+
+    /// Neither a log that is full or not nor the goal refuses a step; else the refusal (1304, 1305).
+    pub fn check_goal(&self, full: bool) -> Result<(), WorldError>
+        ensures accepted { OnOk result ((o : sim.Outcome)
+            → step_refusal self.now full o ≡ refusal_of_outcome o) }
+        ensures refused { IfErr result (λ e. (o : sim.Outcome)
+            → step_refusal self.now full o ≡ Some e) }
+    {
+        check_due(full, self.is_past_goal())
+    }
+
+    /// Neither a log that is full or not nor the goal refuses an advance; else the refusal (1304, 1305).
+    pub fn check_next_goal(&self, full: bool) -> Result<(), WorldError>
+        ensures accepted { OnOk result ((o : sim.Outcome)
+            → advance_refusal self.now full o ≡ refusal_of_outcome o) }
+        ensures refused { IfErr result (λ e. (o : sim.Outcome)
+            → advance_refusal self.now full o ≡ Some e) }
+    {
+        check_due(full, self.is_next_past_goal())
+    }
+
+    /// The simulation does not refuse step k; else its refusal (1308).
+    #[cold]
+    #[inline(never)]
+    pub fn check_step(&self, k: u32) -> Result<(), WorldError>
+        ensures accepted { OnOk result (refusal_of_outcome (sim.step self.now.state.run k) ≡ None) }
+        ensures refused { IfErr result
+            (λ e. refusal_of_outcome (sim.step self.now.state.run k) ≡ Some e) }
+    {
+        self.run
+            .simulation()
+            .check_step(k as usize)
+            .map_err(WorldError::Sim)
+    }
+
+    /// The simulation does not refuse an advance; else its refusal (1308).
+    #[cold]
+    #[inline(never)]
+    pub fn check_advance(&self) -> Result<(), WorldError>
+        ensures accepted { OnOk result
+            (refusal_of_outcome (sim.advance self.now.state.run) ≡ None) }
+        ensures refused { IfErr result
+            (λ e. refusal_of_outcome (sim.advance self.now.state.run) ≡ Some e) }
+    {
+        self.run
+            .simulation()
+            .check_advance()
+            .map_err(WorldError::Sim)
+    }
+
+    /// Opens a session of a user, for which there is room; or want of memory (1307), which leaves the world as it was.
+    pub fn open_for(&mut self, user: UserId) -> Result<SessionId, WorldError>
+        requires { is_full self.old.opening self.old.state user.0 ≡ false }
+        ensures id { IfOk result (λ id. id ≡ next_session self.old.state user.0) }
+        ensures after { OnOk result
+            (self.new ≡ with_state self.old (opened_by self.old.state user.0)) }
+        ensures refused { IsOkUnless result world_error.NoMemory }
+        ensures unchanged { OnErr result (self.new ≡ self.old) }
+    {
+        let id = SessionId {
+            user,
+            opens: self.opened(user) + 1,
+        };
+        let Ok(session) = Session::new(self.alloc, user) else {
+            return Err(WorldError::NoMemory);
+        };
+        self.sessions.push(OpenSession { id, session })?;
+        set_count(&mut self.opens, user, id.opens);
+        Ok(id)
+    }
+
+    /// Makes a user's grant for an envelope exactly what an operator orders: the changed policy is in force, and what the user may
+    /// not watch any more is taken out of his sessions; or want of memory (1307), which leaves the world as it was.
+    pub fn grant(&mut self, user: UserId, change: &GrantChange) -> Result<(), WorldError>
+        requires there { user_of self.old.state.policy.members change.now.user ≡ Some user.0 }
+        requires envelope { change.now.envelope ≤ length self.old.state.policy.tree.authors }
+        ensures after { OnOk result
+            (self.new ≡ with_state self.old (granted_to self.old.state change.now user.0)) }
+        ensures refused { IsOkUnless result world_error.NoMemory }
+        ensures unchanged { OnErr result (self.new ≡ self.old) }
+    {
+        let design = self.run.simulation().design();
+        let access = change.access.rights();
+        let Ok(()) = self
+            .policy
+            .regrant(self.alloc, design, user, change.envelope, access)
+        else {
+            return Err(WorldError::NoMemory);
+        };
+        retire(&mut self.sessions, &self.policy, user);
+        Ok(())
+    }
+
+    /// Closes the session in a place.
+    pub fn close(&mut self, place: usize)
+        requires { place < length self.old.state.sessions }
+        ensures { self.new ≡ with_state self.old (closed_at self.old.state (Some place)) }
+    {
+        self.sessions.remove(place);
+    }
+
+    /// Takes the k-th of the events that a step can take, and tells what it changes, which is due to the callbacks on it; else the
+    /// simulation's refusal (1308), or want of memory (1307). A refusal leaves the world as it was.
+    #[tactic(auto, using(crate::proofs::Outcomes::step_explained))]
+    pub fn step(&mut self, k: u32) -> Result<Option<Change>, WorldError>
+        requires { self.old.state.segments.count + 1 < 2 ^ 64 }
+        ensures accepted { OnOk result (refusal_of_outcome (sim.step self.old.state.run k) ≡ None) }
+        ensures change { IfOk result
+            (λ change. change ≡ change_of (sim.step self.old.state.run k)) }
+        ensures after { OnOk result
+            (self.new ≡ with_state self.old
+            (stepped self.old.state (with_step self.old.state.segments k)
+            (sim.step self.old.state.run k))) }
+        ensures refused { IfErr result
+            (Explains world_error.NoMemory (refusal_of_outcome (sim.step self.old.state.run k))) }
+        ensures unchanged { OnErr result (self.new ≡ self.old) }
+    {
+        match self.run.step(k) {
+            Ok(change) => {
+                let time = self.run.simulation().time();
+                notify(&mut self.sessions, &mut self.watched, change.as_ref(), time);
+                Ok(change)
+            }
+            Err(error) => Err(WorldError::from(error)),
+        }
+    }
+
+    /// Goes on to the time of the next event; else the simulation's refusal (1308), or want of memory (1307). A refusal leaves the
+    /// world as it was.
+    #[tactic(auto, using(crate::proofs::Outcomes::advance_explained, crate::proofs::Noticing::noticed_none))]
+    pub fn advance(&mut self) -> Result<(), WorldError>
+        ensures accepted { OnOk result
+            (refusal_of_outcome (sim.advance self.old.state.run) ≡ None) }
+        ensures change { OnOk result (change_of (sim.advance self.old.state.run) ≡ None) }
+        ensures after { OnOk result
+            (self.new ≡ with_state self.old
+            (stepped self.old.state (with_anew self.old.state.segments)
+            (sim.advance self.old.state.run))) }
+        ensures refused { IfErr result
+            (Explains world_error.NoMemory (refusal_of_outcome (sim.advance self.old.state.run))) }
+        ensures unchanged { OnErr result (self.new ≡ self.old) }
+    {
+        match self.run.advance() {
+            Ok(()) => Ok(()),
+            Err(error) => Err(WorldError::from(error)),
+        }
+    }
+
+    /// The kept segment of a number; none where it is not kept.
+    pub fn kept(&self, number: u64) -> Option<&Segment>
+        ensures { option_copied result ≡ kept_of self.now.state.segments number }
+    {
+        self.run.kept(number)
+    }
+
+    /// The oldest kept segment that was not handed out, if there is one: it is of the world's design.
+    pub fn next_job(&self) -> Option<&Segment>
+        ensures job { option_copied result ≡ next_job self.now.state.segments }
+        ensures design { IfSome result (λ s. s.now.start.design ≡ self.now.opening.design) }
+    {
+        self.run.next_job()
+    }
+
+    /// The races in the book, in the order in which they were booked.
+    pub fn races(&self) -> &[Shared<Finding>]
+        ensures { result.now ≡ self.now.state.book }
+    {
+        self.book.races()
+    }
+
+    /// Neither a log that is full or not nor the want of a kept segment that was not handed out refuses a job; else the refusal
+    /// (1304, 1306).
+    pub fn check_job(&self, full: bool) -> Result<(), WorldError>
+        ensures accepted { OnOk result
+            (refusal_of_job full (next_job self.now.state.segments) ≡ None) }
+        ensures refused { IfErr result
+            (λ e. refusal_of_job full (next_job self.now.state.segments) ≡ Some e) }
+    {
+        check_log(full)?;
+        match self.run.next_job() {
+            Some(_) => Ok(()),
+            None => Err(WorldError::NoJob),
+        }
+    }
+
+    /// Hands out the oldest kept segment that was not handed out, and tells its number.
+    pub fn take_job(&mut self) -> Option<u64>
+        ensures number { result
+            ≡ option_map (λ run. run.number) (next_job self.old.state.segments) }
+        ensures after { self.new ≡ with_state self.old (with_job_taken self.old.state) }
+    {
+        self.run.take_job()
+    }
+
+    /// The book does not refuse a finding; else its refusal (1309).
+    #[cold]
+    #[inline(never)]
+    pub fn check_booking(&self, finding: &Finding) -> Result<(), WorldError>
+        requires { finding.now.segment.start.design ≡ self.now.opening.design }
+        ensures accepted { OnOk result
+            (book_refusal self.now.opening self.now.state finding.now ≡ None) }
+        ensures refused { IfErr result (λ e. option_map world_error.Race
+            (book_refusal self.now.opening self.now.state finding.now) ≡ Some e) }
+    {
+        let kept = self.run.kept(finding.segment().number());
+        self.book.check(kept, finding).map_err(WorldError::Race)
+    }
+
+    /// Books a finding; else the book's refusal (1309), or want of memory (1307), which leaves the world as it was.
+    pub fn book(&mut self, finding: Shared<Finding>) -> Result<(), WorldError>
+        requires { finding.segment.start.design ≡ self.old.opening.design }
+        ensures accepted { OnOk result
+            (book_refusal self.old.opening self.old.state finding ≡ None) }
+        ensures after { OnOk result
+            (self.new ≡ with_state self.old (with_booked self.old.state finding)) }
+        ensures refused { IfErr result (Explains world_error.NoMemory (option_map world_error.Race
+            (book_refusal self.old.opening self.old.state finding))) }
+        ensures unchanged { OnErr result (self.new ≡ self.old) }
+    {
+        let kept = self.run.kept(finding.value().segment().number());
+        self.book.add(kept, finding)?;
+        Ok(())
+    }
+
+    /// Answers a request of the session in a place, whose change is due to the callbacks on it; or want of memory (1307), which leaves
+    /// the world as it was.
+    pub fn ask(&mut self, place: usize, request: &Request) -> Result<AnswerWithChange, WorldError>
+        requires asked { IsAsked request.now }
+        requires within { place < length self.old.state.sessions }
+        ensures reply { IfOk result (λ a. a.reply ≡ asked_in self.old place request.now) }
+        ensures entry { IfOk result (λ a. a.entry_reply ≡ asked_in self.old place request.now) }
+        ensures change { IfOk result (λ a. a.change ≡ changed_in self.old place request.now) }
+        ensures done { IfOk result (λ a. IfSome a.change (λ c. a.entry_reply ≡ reply.Done)) }
+        ensures after { OnOk result
+            (self.new ≡ with_state self.old
+            (asked_at self.old.state (Some place) request.now)) }
+        ensures refused { IsOkUnless result world_error.NoMemory }
+        ensures unchanged { OnErr result (self.new ≡ self.old) }
+    {
+        let session = &mut self.sessions[place].session;
+        let answer = answer_request(session, &self.policy, &mut self.run, &self.book, request)?;
+        mark_asked(&mut self.watched, session, request);
+        self.goal = raised(self.goal, answer.goal);
+        let change = answer.change.as_ref();
+        let time = self.run.simulation().time();
+        notify(&mut self.sessions, &mut self.watched, change, time);
+        Ok(answer)
+    }
+}
