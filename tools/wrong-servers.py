@@ -30,23 +30,23 @@ SPAWN = """    if scope
     {"""
 
 WRONG: List[Wrong] = [
-    Wrong("run_sim_does_nothing", "vp_hub", "hub.rt", "match self.proceed(rt) {", "match Err::<(), HubError>(HubError::World(WorldError::BeyondGoal)) {", "vp_hub_tests"),
-    Wrong("work_once_does_nothing", "vp_hub", "hub.rt", "let Some(segment) = self.take_job(rt)? else {", "let Some(segment) = None::<Arc<Segment>> else {", "vp_hub_tests"),
+    Wrong("run_sim_does_nothing", "vp_hub", "hub.rt", "match self.run_next(rt) {", "match Err::<(), HubError>(HubError::World(WorldError::BeyondGoal)) {", "vp_server_tests"),
+    Wrong("work_once_does_nothing", "vp_hub", "hub.rt", "let Some(segment) = self.take_job(rt)? else {", "let Some(segment) = None::<Arc<Segment>> else {", "vp_server_tests"),
     Wrong("searches_under_the_lock", "vp_hub", "hub.rt", SEARCH, SEARCH.replace("let Ok(findings) = search", "let held = self.desk.lock(rt);\n        let found = search").replace(
-        " else {", ";\n        drop(held);\n        let Ok(findings) = found else {"), "vp_hub_tests"),
-    Wrong("close_always_mismatched", "vp_hub", "close.rt", "        check_receipts(log, passes)?;\n", "        if log.len() < 100_000_000 {\n            return Err(HubError::Mismatch);\n        }\n", "vp_hub_tests"),
-    Wrong("open_always_without_memory", "vp_hub", "hub.rt", "        let pass = desk.open(user, token)?;\n", "        let pass = desk.open(user, token)?;\n        drop(pass);\n        let pass = Err(HubError::World(WorldError::NoMemory))?;\n", "vp_hub_tests"),
-    Wrong("grant_logs_nothing", "vp_hub", "hub.rt", "self.desk.lock(rt).event(Event::Grant(change))", "{ drop(change); Ok(Reply::Done) }", "vp_hub_tests"),
-    Wrong("all_connections_on_one_thread", "vp_serve", "accept.rt", SPAWN, "    serve_connection(rt, service, stream);\n    if false {", "vp_serve_tests"),
-    Wrong("gate_not_asked", "vp_serve", "client.rt", "        let _open = self.gate.turn();\n", "", "vp_serve_tests"),
-    Wrong("pass_not_handed_back", "vp_serve", "connection.rt", "            let _kept = service.passes.lock(rt).keep(pass);\n", "            drop(pass);\n            service.passes.lock(rt).forget();\n", "vp_serve_tests"),
-    Wrong("connections_without_limit", "vp_serve", "accept.rt", "CONNECTION_LIMIT: usize = 256", "CONNECTION_LIMIT: usize = 1_000_000", "vp_serve_tests"),
-    Wrong("silent_client_waited_for", "vp_serve", "incoming.rt", "if !self.is_known.load(Ordering::SeqCst) {", "if false {", "vp_serve_tests"),
-    Wrong("time_anew_for_each_byte", "vp_serve", "incoming.rt", "let elapsed = self.start.elapsed(self.rt)?;", "let elapsed = Duration::ZERO;", "vp_serve_tests"),
-    Wrong("deaf_client_waited_for", "vp_serve", "connection.rt", ".set_write_timeout(Some(settings.reading_silence))", ".set_write_timeout(None)", "vp_serve_tests"),
-    Wrong("open_session_must_talk", "vp_serve", "client.rt", "                self.pass = Some(pass);\n                self.note_known();\n", "                self.pass = Some(pass);\n", "vp_serve_tests"),
-    Wrong("operator_must_talk", "vp_serve", "client.rt", "                self.note_known();\n                reply\n", "                reply\n", "vp_serve_tests"),
-    Wrong("no_simulation", "vp_serve", "background.rt", "match service.hub.run_sim(rt, EVENTS_AT_ONCE) {", "match service.hub.run_sim(rt, 0) {", "vp_serve_tests"),
+        " else {", ";\n        drop(held);\n        let Ok(findings) = found else {"), "vp_server_tests"),
+    Wrong("close_always_mismatched", "vp_hub", "close.rt", "        check_receipts(log, passes)?;\n", "        if log.len() < 100_000_000 {\n            return Err(HubError::Mismatch);\n        }\n", "vp_server_tests"),
+    Wrong("open_always_without_memory", "vp_hub", "hub.rt", "        let pass = desk.open(user, token)?;\n", "        let pass = desk.open(user, token)?;\n        drop(pass);\n        let pass = Err(HubError::World(WorldError::NoMemory))?;\n", "vp_server_tests"),
+    Wrong("grant_logs_nothing", "vp_hub", "hub.rt", "self.desk.lock(rt).event(Event::Grant(change))", "{ drop(change); Ok(Reply::Done) }", "vp_server_tests"),
+    Wrong("all_connections_on_one_thread", "vp_serve", "accept.rt", SPAWN, "    serve_connection(rt, service, stream);\n    if false {", "vp_server_tests"),
+    Wrong("gate_not_asked", "vp_serve", "client.rt", "        let _open = self.gate.turn();\n", "", "vp_server_tests"),
+    Wrong("pass_not_handed_back", "vp_serve", "connection.rt", "            let _kept = service.passes.lock(rt).keep(pass);\n", "            drop(pass);\n            service.passes.lock(rt).forget();\n", "vp_server_tests"),
+    Wrong("connections_without_limit", "vp_serve", "accept.rt", "CONNECTION_LIMIT: usize = 256", "CONNECTION_LIMIT: usize = 1_000_000", "vp_server_tests"),
+    Wrong("silent_client_waited_for", "vp_serve", "incoming.rt", "if !self.is_known.load(Ordering::SeqCst) {", "if false {", "vp_server_tests"),
+    Wrong("time_anew_for_each_byte", "vp_serve", "incoming.rt", "let elapsed = self.start.elapsed(self.rt)?;", "let elapsed = Duration::ZERO;", "vp_server_tests"),
+    Wrong("deaf_client_waited_for", "vp_serve", "connection.rt", ".set_write_timeout(Some(settings.reading_silence))", ".set_write_timeout(None)", "vp_server_tests"),
+    Wrong("open_session_must_talk", "vp_serve", "client.rt", "                self.pass = Some(pass);\n                self.note_known();\n", "                self.pass = Some(pass);\n", "vp_server_tests"),
+    Wrong("operator_must_talk", "vp_serve", "client.rt", "                self.note_known();\n                reply\n", "                reply\n", "vp_server_tests"),
+    Wrong("no_simulation", "vp_serve", "background.rt", "match service.hub.run_sim(rt, EVENTS_AT_ONCE) {", "match service.hub.run_sim(rt, 0) {", "vp_server_tests"),
 ]
 
 

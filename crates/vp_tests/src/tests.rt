@@ -1,4 +1,17 @@
+mod audits;
+mod callbacks;
 mod command_line;
 mod designs;
+mod dialogues;
+mod grants;
 mod notices;
+mod races;
+mod recordings;
+mod segments;
+mod sessions;
+mod simulation_copies;
+mod simulations;
 mod tokens;
+mod views;
+mod world_copies;
+mod worlds;

@@ -1,7 +1,0 @@
-use denote.Param.Send.{sendable}
-use Rattle.std.proofs.Crossing.{crosses}
-use Rattle.vp_hub_tests.proofs.tests.Crossing.{stage_sync}
-use Rattle.vp_hub_tests.proofs.tests.endless.beside.Goals as goal
-
-pub join-pass-requires-send-F : goal.join-pass-requires-send-F
-join-pass-requires-send-F g c κs within = search (stage_sync, sendable, crosses) depth 60 fits 5000

@@ -1,4 +1,0 @@
-mod copies;
-mod races;
-mod recordings;
-mod simulations;

@@ -1,5 +1,0 @@
-mod clients;
-mod dialogues;
-mod limits;
-mod running;
-mod servers;

@@ -1,0 +1,7 @@
+use denote.Param.Send.{sendable}
+use Rattle.std.proofs.Crossing.{crosses}
+use Rattle.vp_server_tests.proofs.tests.Crossing.{stage_sync}
+use Rattle.vp_server_tests.proofs.tests.grants.beside.Goals as goal
+
+pub join-grants-requires-send-F : goal.join-grants-requires-send-F
+join-grants-requires-send-F g c κs within = search (stage_sync, sendable, crosses) depth 60 fits 5000

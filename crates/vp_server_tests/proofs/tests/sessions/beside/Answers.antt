@@ -1,0 +1,8 @@
+use denote.Param.Send.{sendable}
+use Rattle.std.proofs.Crossing.{crosses}
+use Rattle.vp_hub.proofs.pass.Pass.TheSendSync as pass
+use Rattle.vp_server_tests.proofs.tests.Crossing.{stage_sync}
+use Rattle.vp_server_tests.proofs.tests.sessions.beside.Goals as goal
+
+pub join-first-requires-send-F : goal.join-first-requires-send-F
+join-first-requires-send-F g c κs within = search (stage_sync, pass.the_send, sendable, crosses) depth 60 fits 5000

@@ -1,0 +1,15 @@
+mod calls;
+mod clients;
+mod desks;
+mod dialogues;
+mod endless;
+mod grant_log;
+mod grants;
+mod hubs;
+mod limits;
+mod refusals;
+mod running;
+mod searches;
+mod servers;
+mod sessions;
+mod stage;
