@@ -17,7 +17,7 @@ use Rattle.std.proofs.lemmas.Option.{slice_get_within}
 use Rattle.vp_bits.specs.Vector.{resized, same_bits}
 use Rattle.vp_operand.specs.Terms.{set_in}
 use Rattle.vp_waking.specs.Changes.{change_of, net_at, set_change_of, updated_by, values_with}
-use Rattle.vp_sim.specs.States.{Outcome, Goes, Refuses, State, advance, advanced_to, change_by, delay_of, evaluated, happened, is_late, next_effect, performed, put, step, turn, with_activation, with_effect, with_remaining}
+use Rattle.vp_sim.specs.States.{Outcome, Goes, Refuses, State, advance, advanced_to, change_by, delay_of, evaluated, happened, is_late, next_effect, performed, put, step, run_procedure, with_activation, with_effect, with_remaining}
 
 -- a change is of an object that has a value
 abbrev pub IsWithin : List (List Bit) → Option Change → Type 0
@@ -89,7 +89,7 @@ performed_changes tables s k process rest e =
     either (is_late s.time (delay_of e)) s.values _ _ tt (effect_changes tables (with_remaining s k process rest e) process e, effect_within s.values e)
 
 -- what a procedure does
-turn_changes : (tables : Tables) (s : State) (k process : ℕ) (instance : ObjectId) (repeats : Bool) (body : ℕ) (remaining : Option ℕ) → Changes s.values (turn tables s k process instance repeats body remaining)
+turn_changes : (tables : Tables) (s : State) (k process : ℕ) (instance : ObjectId) (repeats : Bool) (body : ℕ) (remaining : Option ℕ) → Changes s.values (run_procedure tables s k process instance repeats body remaining)
 turn_changes tables s k process instance repeats body None = (refl, tt)
 turn_changes tables s k process instance repeats body (Some place) =
     performed_changes tables s k process _ (next_effect tables s instance (next_event tables.actions place))
