@@ -16,8 +16,8 @@ use Rattle.vp_strata.specs.Chunks.{AreUnfinished, ends_by, first_place, position
 use Rattle.vp_strata.proofs.Chunked.{as_many, chunk_at, remaining_at}
 
 -- an event comes no later than a time, or later
-abbrev pub DeniedBy : ℕ → Timed → Type 0
-DeniedBy time e = is_by time e ≡ true
+abbrev pub DueBy : ℕ → Timed → Type 0
+DueBy time e = is_by time e ≡ true
 
 abbrev pub Later : ℕ → Timed → Type 0
 Later time e = is_by time e ≡ false
@@ -43,14 +43,14 @@ last_by : (time : ℕ) (c : List Timed) (d : Timed) → 0 < length c → ends_by
 last_by time c d some =
     ap (λ (o : Option Timed). unwrap_or (option_map (is_by time) o) true) (slice_get-get_or c (length c - 1) d (omega arith))
 
-all_by : (time : ℕ) (c : List Timed) → AreOrdered c → ends_by time c ≡ true → AllWithin (DeniedBy time) c 0 (length c)
+all_by : (time : ℕ) (c : List Timed) → AreOrdered c → ends_by time c ≡ true → AllWithin (DueBy time) c 0 (length c)
 all_by time c ordered ends k d low high =
     let last = leb-true (get_or c (length c - 1) d).time time (sym (last_by time c d (omega arith)) ∙ ends) in
     let order = ordered k (length c - 1) d (omega arith) (omega arith) in
     le-leb (get_or c k d).time time (omega (arith, last, order))
 
 -- a place after events that come no later is not the end of a chunk that ends later
-pub before_end : (time : ℕ) (c : List Timed) (place : ℕ) → AllWithin (DeniedBy time) c 0 place → place ≤ length c → 0 < length c → ends_by time c ≡ false → place < length c
+pub before_end : (time : ℕ) (c : List Timed) (place : ℕ) → AllWithin (DueBy time) c 0 place → place ≤ length c → 0 < length c → ends_by time c ≡ false → place < length c
 before_end time [] place by within some later = absurd (omega arith)
 before_end time (x ∷ c) place by within some later =
     elim (cases_lt place (length (x ∷ c))) [
@@ -144,9 +144,9 @@ ends_later f (b ∷ bs) time taken number h within all =
 
 -- ---- the events that come no later than a time
 
-in_front : (time : ℕ) (c es : List Timed) (place : ℕ) → AreOrdered (c ++ es) → IsPartitionPoint (DeniedBy time) (Later time) c place → place < length c → IsPartitionPoint (DeniedBy time) (Later time) (c ++ es) place
+in_front : (time : ℕ) (c es : List Timed) (place : ℕ) → AreOrdered (c ++ es) → IsPartitionPoint (DueBy time) (Later time) c place → place < length c → IsPartitionPoint (DueBy time) (Later time) (c ++ es) place
 in_front time c es place ordered parted within = (
-  λ k d low high. subst (DeniedBy time) (sym (get_or_append_left c es d k (omega (arith, high, within)))) (parted.0 k d low high),
+  λ k d low high. subst (DueBy time) (sym (get_or_append_left c es d k (omega (arith, high, within)))) (parted.0 k d low high),
   λ k d low high.
       let here = leb-false (get_or c place d).time time (parted.1 place d (omega arith) within) in
       let order = ordered place k d low high in
@@ -154,11 +154,11 @@ in_front time c es place ordered parted within = (
       lt-leb (get_or (c ++ es) k d).time time (omega (arith, here, order, at)),
 )
 
-further : (time : ℕ) (c es : List Timed) (place : ℕ) → AllWithin (DeniedBy time) c 0 (length c) → IsPartitionPoint (DeniedBy time) (Later time) es place → IsPartitionPoint (DeniedBy time) (Later time) (c ++ es) (length c + place)
+further : (time : ℕ) (c es : List Timed) (place : ℕ) → AllWithin (DueBy time) c 0 (length c) → IsPartitionPoint (DueBy time) (Later time) es place → IsPartitionPoint (DueBy time) (Later time) (c ++ es) (length c + place)
 further time c es place all parted = (
   λ k d low high. elim (cases_lt k (length c)) [
-    | inl l ↦ subst (DeniedBy time) (sym (get_or_append_left c es d k l)) (all k d low l)
-    | inr r ↦ subst (DeniedBy time) (sym (get_or-append_right c es (length c) k d refl r)) (parted.0 (k - length c) d (omega arith) (omega (arith, r, high)))
+    | inl l ↦ subst (DueBy time) (sym (get_or_append_left c es d k l)) (all k d low l)
+    | inr r ↦ subst (DueBy time) (sym (get_or-append_right c es (length c) k d refl r)) (parted.0 (k - length c) d (omega arith) (omega (arith, r, high)))
   ],
   λ k d low high.
       subst (Later time) (sym (get_or-append_right c es (length c) k d refl (omega (arith, low)))) (parted.1 (k - length c) d (omega (arith, low)) (omega (arith, low, high, length-append c es))),
@@ -166,14 +166,14 @@ further time c es place all parted = (
 
 -- a place in a chunk after those that end by a time
 pub found : (time : ℕ) (ls : List (List Timed)) (number place : ℕ) → AreOrdered (joined ls) → ((k : ℕ) → k < number → ends_by time (get_or ls k []) ≡ true) → number < length ls
-    → IsPartitionPoint (DeniedBy time) (Later time) (get_or ls number []) place → place < length (get_or ls number []) → IsPartitionPoint (DeniedBy time) (Later time) (joined ls) (position ls number place)
+    → IsPartitionPoint (DueBy time) (Later time) (get_or ls number []) place → place < length (get_or ls number []) → IsPartitionPoint (DueBy time) (Later time) (joined ls) (position ls number place)
 found time [] number place ordered ends within parted fits = absurd (omega arith)
 found time (c ∷ cs) zero place ordered ends within parted fits =
-    let P : ℕ → Type 0 = λ n. IsPartitionPoint (DeniedBy time) (Later time) (c ++ joined cs) n in
+    let P : ℕ → Type 0 = λ n. IsPartitionPoint (DueBy time) (Later time) (c ++ joined cs) n in
     let same : place ≡ 0 + place = omega arith in
     subst P same (in_front time c (joined cs) place ordered parted fits)
 found time (c ∷ cs) (suc number) place ordered ends within parted fits =
-    let P : ℕ → Type 0 = λ n. IsPartitionPoint (DeniedBy time) (Later time) (c ++ joined cs) n in
+    let P : ℕ → Type 0 = λ n. IsPartitionPoint (DueBy time) (Later time) (c ++ joined cs) n in
     let rest = found time cs number place (following c (joined cs) ordered) (λ k h. ends (suc k) (omega (arith, h))) (omega arith) parted fits in
     let all = all_by time c (front c (joined cs) ordered) (ends 0 (omega arith)) in
     let same : length c + position cs number place ≡ position (c ∷ cs) (suc number) place = omega (arith, length-append c (joined (take number cs))) in
@@ -181,12 +181,12 @@ found time (c ∷ cs) (suc number) place ordered ends within parted fits =
 
 -- after all chunks
 pub found_none : (time : ℕ) (ls : List (List Timed)) (number : ℕ) → AreOrdered (joined ls) → ((k : ℕ) → k < number → ends_by time (get_or ls k []) ≡ true) → number ≡ length ls
-    → IsPartitionPoint (DeniedBy time) (Later time) (joined ls) (position ls number 0)
+    → IsPartitionPoint (DueBy time) (Later time) (joined ls) (position ls number 0)
 found_none time [] zero ordered ends all = (λ k d low high. absurd (omega arith), λ k d low high. absurd (omega arith))
 found_none time [] (suc number) ordered ends all = absurd (omega arith)
 found_none time (c ∷ cs) zero ordered ends all = absurd (omega arith)
 found_none time (c ∷ cs) (suc number) ordered ends all =
-    let P : ℕ → Type 0 = λ n. IsPartitionPoint (DeniedBy time) (Later time) (c ++ joined cs) n in
+    let P : ℕ → Type 0 = λ n. IsPartitionPoint (DueBy time) (Later time) (c ++ joined cs) n in
     let rest = found_none time cs number (following c (joined cs) ordered) (λ k h. ends (suc k) (omega (arith, h))) (omega arith) in
     let each = all_by time c (front c (joined cs) ordered) (ends 0 (omega arith)) in
     let same : length c + position cs number 0 ≡ position (c ∷ cs) (suc number) 0 = omega (arith, length-append c (joined (take number cs))) in
@@ -203,8 +203,8 @@ remains f bs taken number ls p view within is =
 -- a place of the chunk that is found
 pub found_in : {P : Type 0} (f : P → List Timed) (bs : List P) (time taken number place : ℕ) (ls : List (List Timed)) (p : P) → remaining taken (map f bs) ≡ ls → AreUnfinished taken (map f bs) → AreOrdered (joined ls)
     → IsPartitionPoint (λ q. ends_by time (f q) ≡ true) (λ q. ends_by time (f q) ≡ false) bs number → number < length bs → p ≡ get_or bs number p
-    → IsPartitionPoint (DeniedBy time) (Later time) (drop (first_place taken number) (f p)) place → place ≤ length (drop (first_place taken number) (f p))
-    → IsPartitionPoint (DeniedBy time) (Later time) (joined ls) (position ls number place) × (place < length (get_or ls number []))
+    → IsPartitionPoint (DueBy time) (Later time) (drop (first_place taken number) (f p)) place → place ≤ length (drop (first_place taken number) (f p))
+    → IsPartitionPoint (DueBy time) (Later time) (joined ls) (position ls number place) × (place < length (get_or ls number []))
 found_in f bs time taken number place ls p view h ordered parted within is here fits =
     let chunk = remains f bs taken number ls p view within is in
     let ends : (k : ℕ) → k < number → ends_by time (get_or ls k []) ≡ true =
@@ -213,14 +213,14 @@ found_in f bs time taken number place ls p view h ordered parted within is here 
     let many = as_many f taken bs ls view in
     let some : 0 < length (get_or ls number []) =
     subst (λ (xs : List (List Timed)). 0 < length (get_or xs number [])) view (some_remaining taken (map f bs) h number [] (omega (arith, length_remaining taken (map f bs), length-map bs f, within))) in
-    let there : IsPartitionPoint (DeniedBy time) (Later time) (get_or ls number []) place = subst (λ (es : List Timed). IsPartitionPoint (DeniedBy time) (Later time) es place) (sym chunk) here in
+    let there : IsPartitionPoint (DueBy time) (Later time) (get_or ls number []) place = subst (λ (es : List Timed). IsPartitionPoint (DueBy time) (Later time) es place) (sym chunk) here in
     let inside = before_end time (get_or ls number []) place there.0 (omega (arith, ap length chunk, fits)) some later in
     (found time ls number place ordered ends (omega (arith, many, within)) there inside, inside)
 
 -- the place after all chunks
 pub found_after : {P : Type 0} (f : P → List Timed) (bs : List P) (time taken number : ℕ) (ls : List (List Timed)) → remaining taken (map f bs) ≡ ls → AreUnfinished taken (map f bs) → AreOrdered (joined ls)
     → IsPartitionPoint (λ q. ends_by time (f q) ≡ true) (λ q. ends_by time (f q) ≡ false) bs number → number ≡ length bs
-    → IsPartitionPoint (DeniedBy time) (Later time) (joined ls) (position ls number 0)
+    → IsPartitionPoint (DueBy time) (Later time) (joined ls) (position ls number 0)
 found_after f bs time taken number ls view h ordered parted all =
     found_none time ls number ordered
     (λ k less. ap (λ (xs : List (List Timed)). ends_by time (get_or xs k [])) (sym view) ∙ ends_before f bs time taken number h (omega (arith, all)) parted.0 k less)

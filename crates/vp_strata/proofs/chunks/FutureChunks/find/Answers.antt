@@ -7,7 +7,7 @@ use Rattle.vp_list.specs.Chunks.{joined}
 use Rattle.vp_strata.specs.Chunks.{ends_by, first_place}
 use Rattle.vp_strata.specs.Queues.{AreOrdered}
 use Rattle.vp_strata.proofs.Chunked.{as_many}
-use Rattle.vp_strata.proofs.Found.{DeniedBy, Later, chunk_ordered, found_after, found_in, parted_by, remains}
+use Rattle.vp_strata.proofs.Found.{DueBy, Later, chunk_ordered, found_after, found_in, parted_by, remains}
 use Rattle.vp_strata.proofs.chunks.FutureChunks.find.Goals as goal
 
 pub count_by-requires-clause-ordered : goal.count_by-requires-clause-ordered
@@ -32,7 +32,7 @@ returns-in-Some-clause-parted c =
     let ordered = subst P (sym c.self.view_is) c.requires in
     let parted = IsPartitionPoint-from_clause (λ a. ends_by c.args.time (arc_value a)) items number c.partition_point-number.ensures.partitioned (parted_by arc_value items c.args.time taken c.self.invariant ordered) (λ a r q k. search rules) in
     let rest : drop c.first_place.result c.deref.result.now ≡ drop (first_place taken number) (arc_value c.in-Some.chunk.now) = ap (λ (k : ℕ). drop k c.deref.result.now) c.first_place.ensures ∙ ap (drop (first_place taken number)) c.deref.ensures in
-    let Q : List Timed → Type 0 = λ es. IsPartitionPoint (DeniedBy c.args.time) (Later c.args.time) es c.count_by.result in
+    let Q : List Timed → Type 0 = λ es. IsPartitionPoint (DueBy c.args.time) (Later c.args.time) es c.count_by.result in
     (found_in arc_value items c.args.time taken number c.count_by.result c.args.self.now c.in-Some.chunk.now c.self.view_is c.self.invariant c.requires parted within got.lookup (subst Q rest c.count_by.ensures.parted) (omega (arith, ap length rest, c.count_by.ensures.within))).0
 
 pub returns-in-Some-clause-within : goal.returns-in-Some-clause-within
@@ -46,7 +46,7 @@ returns-in-Some-clause-within c less =
     let ordered = subst P (sym c.self.view_is) c.requires in
     let parted = IsPartitionPoint-from_clause (λ a. ends_by c.args.time (arc_value a)) items number c.partition_point-number.ensures.partitioned (parted_by arc_value items c.args.time taken c.self.invariant ordered) (λ a r q k. search rules) in
     let rest : drop c.first_place.result c.deref.result.now ≡ drop (first_place taken number) (arc_value c.in-Some.chunk.now) = ap (λ (k : ℕ). drop k c.deref.result.now) c.first_place.ensures ∙ ap (drop (first_place taken number)) c.deref.ensures in
-    let Q : List Timed → Type 0 = λ es. IsPartitionPoint (DeniedBy c.args.time) (Later c.args.time) es c.count_by.result in
+    let Q : List Timed → Type 0 = λ es. IsPartitionPoint (DueBy c.args.time) (Later c.args.time) es c.count_by.result in
     (found_in arc_value items c.args.time taken number c.count_by.result c.args.self.now c.in-Some.chunk.now c.self.view_is c.self.invariant c.requires parted within got.lookup (subst Q rest c.count_by.ensures.parted) (omega (arith, ap length rest, c.count_by.ensures.within))).1
 
 pub returns-in-None-clause-parted : goal.returns-in-None-clause-parted
