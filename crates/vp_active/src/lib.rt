@@ -1,6 +1,6 @@
 //! The active events of a simulation that are no updates of nonblocking assignments (IEEE Std 1364-2005, 11.3).
 //!
-//! [`ActiveRegion`] tells which of them are eligible, and finds any of these without a look at all events. What an event does is no matter of this
+//! [`ActiveRegion`] says which of them are eligible, and finds any of these without a look at all events. What an event does is no matter of this
 //! crate.
 #![tactic(auto)]
 

@@ -11,7 +11,7 @@ use Rattle.vp_answer.specs.declared.reply.Reply.TheVariants as reply
 use Rattle.vp_answer.specs.Answers.{Response, only_told, refused, response_by, scanned}
 use Rattle.vp_answer.specs.Given.{IsGiven, plain, put_shown}
 
--- an error that explains an answer, and is no want of memory, is its refusal
+-- an error that explains an answer, and is not out of memory, is its refusal
 refusal_given : {A : Type 0} (session_state : SessionState) (given : A → Response) (due : Result A VpiError) (e : VpiError) → Explains due e → e ≢ vpi.NoMemory → response_by session_state given due ≡ only_told session_state (refused e)
 refusal_given session_state given (Ok x) e told other = absurd (other told)
 refusal_given session_state given (Err (vpi.Denied words)) e told other =
@@ -68,7 +68,7 @@ refused_gives session_state new given due e r same told answer reason =
 
 -- ---- iterations
 
--- an error that explains an iteration, and is no want of memory, explains it as an answer
+-- an error that explains an iteration, and is not out of memory, explains it as an answer
 iteration_explains : (due : Result Iterated VpiError) (e : VpiError) → ExplainsIteration due e → e ≢ vpi.NoMemory → Explains due e
 iteration_explains (Err vpi.TooManyHandles) e told other = elim told [ inl is ↦ is | inr allocation_error ↦ absurd (other allocation_error) ]
 iteration_explains due e told other = told

@@ -27,7 +27,7 @@ pub record Response : Type 0 where
 abbrev pub only_told : SessionState → Reply → Response
 only_told session_state r = record { reply = r; session_state = session_state; goal = None; put = None }
 
--- the reply to a request that a session refused: a denial is told in words (profile)
+-- the reply to a request that a session refused: a denial is reported in words (profile)
 abbrev pub refused : VpiError → Reply
 refused (vpi.Denied words) = reply.Denied words
 refused vpi.BadHandle = reply.Error refusal.BadHandle
@@ -41,7 +41,7 @@ refused vpi.NoSuchCallback = reply.Error refusal.NoSuchCallback
 refused vpi.NoSuchRace = reply.Error refusal.NoSuchRace
 refused vpi.NoMemory = reply.Error refusal.NoMemory
 
--- what comes of an answer, if there is one; else only the refusal is told
+-- what comes of an answer, if there is one; else only the refusal is reported
 abbrev pub response_by : {A : Type 0} → SessionState → (A → Response) → Result A VpiError → Response
 response_by session_state given (Ok x) = given x
 response_by session_state given (Err e) = only_told session_state (refused e)
@@ -50,7 +50,7 @@ response_by session_state given (Err e) = only_told session_state (refused e)
 abbrev pub reply_with : {A : Type 0} → SessionState → (A → Reply) → Result A VpiError → Response
 reply_with session_state given due = response_by session_state (λ x. only_told session_state (given x)) due
 
--- what comes of a handle that is made of an object: its number is told, and the session has it
+-- what comes of a handle that is made of an object: its number is reported, and the session has it
 abbrev pub made : SessionState → ℕ → Response
 made session_state object = record {
   reply = reply.Handle (next_handle session_state.handles);
@@ -59,7 +59,7 @@ made session_state object = record {
   put = None;
 }
 
--- what comes of an iteration: it is told, and the session has its handles
+-- what comes of an iteration: it is reported, and the session has its handles
 abbrev pub scanned : SessionState → Iterated → Response
 scanned session_state found = record {
   reply = reply.Listing found.listing;
@@ -72,7 +72,7 @@ scanned session_state found = record {
 abbrev pub freed : SessionState → (handle : ℕ) → Response
 freed session_state handle = record { reply = reply.Done; session_state = without_handle handle session_state; goal = None; put = None }
 
--- what comes of a callback that is registered on an object: its number is told, and the session has it
+-- what comes of a callback that is registered on an object: its number is reported, and the session has it
 abbrev pub watching : SessionState → ℕ → Response
 watching session_state object = record {
   reply = reply.Callback (session_state.registry.given + 1);
@@ -88,7 +88,7 @@ unwatch_response session_state callback =
     then only_told (without_callback callback session_state) reply.Done
     else only_told session_state (refused vpi.NoSuchCallback)
 
--- what comes of a poll: the notices that wait are told, and wait no more
+-- what comes of a poll: the notices that wait are reported, and wait no more
 abbrev pub polling : SessionState → Response
 polling session_state = only_told (drained session_state) (reply.Notices (polled session_state))
 

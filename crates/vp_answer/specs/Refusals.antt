@@ -1,4 +1,4 @@
--- What a line is told where it is refused.
+-- What a line is answered where it is refused.
 use Rattle.std.specs.Prelude.{ℕ, List, codes}
 use Rattle.vp_answer.specs.declared.reply.Refusal.{Refusal}
 use Rattle.vp_answer.specs.declared.reply.Refusal.TheVariants.{BadHandle, WrongKind, BadValue, Finished, TooManyHandles, NoSuchName, TooManyCallbacks, NoSuchCallback, NoSuchRace, SessionsFull, BadToken, NotOpen, BadOperator, NoSuchUser, NoSuchEnvelope, LogFull, BadReceipt, BeyondGoal, NoJob, Simulation, Race, NoMemory}

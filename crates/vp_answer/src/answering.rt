@@ -29,7 +29,7 @@ pub struct Answer {
     pub put: Option<(ObjectId, Bits)>,
 }
 
-/// A reply from which nothing else comes; or want of memory.
+/// A reply from which nothing else comes; or out of memory.
 fn plain(reply: Reply) -> Result<Answer, AllocError>
     ensures { IfOk result (λ a. a ≡ plain reply) }
 {
@@ -42,7 +42,7 @@ fn plain(reply: Reply) -> Result<Answer, AllocError>
     })
 }
 
-/// The reply to a request that a session refused; want of memory stays so.
+/// The reply to a request that a session refused; out of memory stays so.
 fn refusal_reply(error: VpiError) -> Result<Reply, AllocError>
     ensures reply { IfOk result (λ reply. reply ≡ refused error) }
     ensures reason { OnOk result (error ≢ vpi_error.NoMemory) }
@@ -62,7 +62,7 @@ fn refusal_reply(error: VpiError) -> Result<Reply, AllocError>
     })
 }
 
-/// The answer to a request that a session refused; want of memory stays so.
+/// The answer to a request that a session refused; out of memory stays so.
 fn refusal(error: VpiError) -> Result<Answer, AllocError>
     ensures answer { IfOk result (λ a. a ≡ plain (refused error)) }
     ensures reason { OnOk result (error ≢ vpi_error.NoMemory) }
@@ -94,7 +94,7 @@ fn handle<E: Observe>(
     }
 }
 
-/// Makes the handles of an iteration that was found; or want of memory.
+/// Makes the handles of an iteration that was found; or out of memory.
 fn scan(session: &mut Session, found: &Iteration) -> Result<Answer, AllocError>
     requires { IsTrue (has_room (length found.now.handles) session.now.handles) }
     ensures answer { IfOk result (λ a. a ≡ plain (reply.Listing found.now.listing)) }
@@ -125,7 +125,7 @@ fn iterate<E: Observe>(
     }
 }
 
-/// Tells a number of a handle's object.
+/// Reports a number of a handle's object.
 fn get<E: Observe>(
     session: &Session,
     observation: &E,
@@ -142,7 +142,7 @@ fn get<E: Observe>(
     }
 }
 
-/// Tells a text of a handle's object.
+/// Reports a text of a handle's object.
 fn get_str<E: Observe>(
     session: &Session,
     observation: &E,
@@ -169,7 +169,7 @@ fn value_in(format: ValueFormat, bits: Bits) -> Reply
     }
 }
 
-/// Tells the value of a handle's object.
+/// Reports the value of a handle's object.
 fn value<E: Observe>(
     session: &Session,
     observation: &E,
@@ -186,7 +186,7 @@ fn value<E: Observe>(
     }
 }
 
-/// Tells what a put of a value on a handle's object gives which object.
+/// Reports what a put of a value on a handle's object gives which object.
 fn put<E: Observe>(
     session: &Session,
     observation: &E,
@@ -208,7 +208,7 @@ fn put<E: Observe>(
     }
 }
 
-/// Tells whether two handles are of one object.
+/// Reports whether two handles are of one object.
 fn compare(session: &Session, first: u32, second: u32) -> Result<Answer, AllocError>
     ensures { (observation : Observer) → IfOk result (IsGiven (respond observation session.now
         (request.Compare first second)) session.now) }
@@ -275,7 +275,7 @@ fn unwatch(session: &mut Session, callback: u32) -> Result<Answer, AllocError>
     }
 }
 
-/// Tells the notices that wait, which wait no more.
+/// Reports the notices that wait, which wait no more.
 fn poll(session: &mut Session) -> Result<Answer, AllocError>
     ensures given { (observation : Observer) → IfOk result (IsGiven (respond observation session.old
         request.Poll) session.new) }
@@ -289,7 +289,7 @@ fn poll(session: &mut Session) -> Result<Answer, AllocError>
     Ok(answer)
 }
 
-/// Tells the races that are shown, from a number on.
+/// Reports the races that are shown, from a number on.
 fn races<E: Observe>(session: &Session, observation: &E, from: u64) -> Result<Answer, AllocError>
     requires { E.is_sound observation.now }
     ensures { IfOk result (IsGiven (respond (E.observer observation.now) session.now
@@ -301,7 +301,7 @@ fn races<E: Observe>(session: &Session, observation: &E, from: u64) -> Result<An
     }
 }
 
-/// Tells a race that is shown, by its number.
+/// Reports a race that is shown, by its number.
 fn race<E: Observe>(session: &Session, observation: &E, number: u64) -> Result<Answer, AllocError>
     requires { E.is_sound observation.now }
     ensures { IfOk result (IsGiven (respond (E.observer observation.now) session.now
@@ -336,7 +336,7 @@ fn let_run<E: Observe>(observation: &E, until: u64) -> Answer
     }
 }
 
-/// Tells the time.
+/// Reports the time.
 fn time<E: Observe>(observation: &E) -> Answer
     requires { E.is_sound observation.now }
     ensures { (session_state : SessionState)
@@ -352,7 +352,7 @@ fn time<E: Observe>(observation: &E) -> Answer
     }
 }
 
-/// What a session's request is answered, by what it can look up; or want of memory, which leaves the session as it was.
+/// What a session's request is answered, by what it can look up; or out of memory, which leaves the session as it was.
 pub fn respond<E: Observe>(
     session: &mut Session,
     observation: &E,

@@ -6,7 +6,7 @@ use vp_bits::Bits;
 use vp_list::{Sequence, SharedText};
 use vp_vpi::{DenialText, RaceDetails, RaceLine, Shared, SharedListing, SharedNotices};
 
-/// What a line is told where it is refused.
+/// What a line is answered where it is refused.
 #[derive(Clone, Copy, Debug, PartialEq, Eq)]
 pub enum Refusal {
     BadHandle,
@@ -98,7 +98,7 @@ pub enum Reply {
     Race(Shared<RaceDetails>),
     /// A closed segment is handed out, by its number.
     Job(u64),
-    /// A right is lacking, in the words that the user is told.
+    /// A right is lacking, in the words that the user is shown.
     Denied(DenialText),
     /// The user may not let the design run.
     RunDenied,

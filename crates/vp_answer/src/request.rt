@@ -12,7 +12,7 @@ pub struct SessionId {
     pub opens: u64,
 }
 
-/// How a value is told (clause 27.14).
+/// How a value is reported (clause 27.14).
 #[derive(Clone, Copy, Debug, PartialEq, Eq)]
 pub enum ValueFormat {
     /// In binary digits.
@@ -99,15 +99,15 @@ pub enum Request {
     Free {
         handle: u32,
     },
-    /// To be told of the changes of a handle's object (clause 27.33).
+    /// To be notified of the changes of a handle's object (clause 27.33).
     Watch {
         handle: u32,
     },
-    /// Not to be told by the callback of a number any more (clause 27.34).
+    /// Not to be notified by the callback of a number any more (clause 27.34).
     Unwatch {
         callback: u32,
     },
-    /// What was to be told of changes since the last poll.
+    /// The notices of changes since the last poll.
     Poll,
     /// The races that the user is shown, from a number on.
     Races {

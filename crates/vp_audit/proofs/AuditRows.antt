@@ -1,4 +1,4 @@
--- What goes to two users of a log, and what one of them is told by it. Each row is an equation that holds by computation.
+-- What goes to two users of a log, and what one of them is shown by it. Each row is an equation that holds by computation.
 use Rattle.std.proofs.Common.{◌≡◌, ℕ, Bool, true, false, List, [], ◌∷◌, ◌++◌, map, Some, None, refl}
 use Rattle.std.specs.Prelude.{codes}
 use Rattle.std.specs.List.{filter_map}
@@ -206,7 +206,7 @@ granted_numbers : map (λ g. g.moved) (filter_map (λ i. i.granted) (projection 
 unfolding digits is_utf8 chars encode sizes_in tables_of effect_at
 granted_numbers = refl
 
--- ---- what she is told
+-- ---- what she is shown
 
 abbrev told : List Reply
 told = reply.Opened of_ann ∷ reply.Handle 1 ∷ hidden ∷ reply.Value (One ∷ []) ∷ reply.Handle 2 ∷ reply.Value (One ∷ []) ∷ []

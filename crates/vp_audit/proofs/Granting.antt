@@ -65,7 +65,7 @@ module _ (opening : Opening) (u : ℕ) (s : State) (known : List Bool) (change :
         reading = is ∙ ap (reading_of u following) (sym now);
       }
 
-  -- by what each step leaves: the policy is changed, then he learns what is listed to him, and then it is told him
+  -- by what each step leaves: the policy is changed, then he learns what is listed to him, and then it is shown to him
   pub grants_learned : (v == u) ≡ true → (changed learned : LogReader) (before : List Bool) (granted : GrantItem) → changed ≡ regranted_reading (reading_of u s known) v change
       → learned ≡ record changed { known = known_also changed.design.tree (member_at changed.policy.members changed.user) changed.known changed.design.tree.nodes }
       → before ≡ changed.known

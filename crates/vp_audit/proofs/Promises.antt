@@ -1,4 +1,4 @@
--- What goes to a user of a legal log is not refused but for want of memory.
+-- What goes to a user of a legal log is refused only when out of memory.
 use Rattle.std.proofs.Common.{◌≡◌, ◌∙◌, ℕ, Bool, true, false, List, [], Result, Ok, Err, IfOk, IfErr, IsOkUnless, refl, ap}
 use Rattle.vp_policy.specs.Users.{member_at}
 use Rattle.vp_policy.specs.View.{View, view_of}
@@ -22,7 +22,7 @@ goes_all v q opening right u log legal same_view same_projection =
     ∙ ap (λ (p : Projection). takes_all (first_part (view_of opening.design (member_at opening.policy.members u)) p.values) p.items) same_projection
     ∙ projection_taken opening right u log legal
 
--- where all is taken up, a refusal is want of memory
+-- where all is taken up, a refusal is out of memory
 pub out_of_memory : {T : Type 0} (r : Result T AuditError) (taken : Bool) → taken ≡ true → IfErr r (MayRefuse taken) → IsOkUnless r NoMemory
 out_of_memory r true e h = by_result r h where
   by_error : (x : AuditError) → MayRefuse true x → x ≡ NoMemory

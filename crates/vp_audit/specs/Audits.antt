@@ -13,6 +13,6 @@ abbrev pub IsAuditBy : (told replayed : List Reply) → (number : ℕ) → (same
 IsAuditBy told replayed number true = (told ≡ replayed) × (number ≡ length told)
 IsAuditBy told replayed number false = IsFirstOther told replayed number
 
--- an audit of replies that were told by those that were replayed
+-- an audit of replies that were shown by those that were replayed
 abbrev pub IsAudit : (told replayed : List Reply) → Audit → Type 0
 IsAudit told replayed a = IsAuditBy told replayed a.number a.same

@@ -1,4 +1,4 @@
--- What a user was told, and with which item of what goes to him each value came.
+-- What a user was shown, and with which item of what goes to him each value came.
 use Rattle.std.specs.Prelude.{ℕ, ◌+◌, Bool, false, true, if◌then◌else◌, List, [], ◌∷◌, map, slice_get, slice_set, Option, Some, None, option_and_then, option_map}
 use Rattle.std.specs.List.{cons_option}
 use Rattle.vp_waking.specs.declared.change.Change.{Change}
@@ -26,7 +26,7 @@ is_value (reply.Value bits) = true
 is_value (reply.Vector bits) = true
 is_value r = false
 
--- what he was told by an event of his own, which is the item of a number
+-- what he was shown by an event of his own, which is the item of a number
 abbrev pub explained : (number : ℕ) → (brought : List ℕ) → Part → OwnEvent → Explained
 explained number brought p own_event = record {
   item = number;
@@ -34,7 +34,7 @@ explained number brought p own_event = record {
   brought = if is_value (reply_of p own_event) then option_and_then (slice_get brought) (value_asked p own_event) else None;
 }
 
--- what he was told by items, in turn, from one of a number on
+-- what he was shown by items, in turn, from one of a number on
 abbrev pub explained_from : (number : ℕ) → (brought : List ℕ) → Part → List Item → List Explained
 explained_from number brought p [] = []
 explained_from number brought p (i ∷ items) =

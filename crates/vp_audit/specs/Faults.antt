@@ -8,7 +8,7 @@ abbrev pub code_of : AuditError → ℕ
 code_of NotOpen = 1303
 code_of NoMemory = 1307
 
--- an error is want of memory, or tells that something is not taken up
+-- an error is out of memory, or reports that something is not taken up
 abbrev pub MayRefuse : (taken : Bool) → AuditError → Type 0
 MayRefuse taken NotOpen = taken ≡ false
 MayRefuse taken NoMemory = Unit {0}

@@ -1,4 +1,4 @@
-// Whether what a user was told is what comes of what he can know (docs/DEFINITIONS.md, "What a user can know").
+// Whether what a user was shown is what comes of what he can know (docs/DEFINITIONS.md, "What a user can know").
 ghost use Rattle.std.specs.Prelude.{◌≡◌, ◌==◌, [], IfErr, IfOk, IsOkUnless, length, true, false};
 ghost use Rattle.vp_policy.specs.PolicyState.{Fits};
 ghost use Rattle.vp_world.specs.Entries.{reply_in};
@@ -19,7 +19,7 @@ use vp_list::Same;
 use vp_policy::{Policy, UserId};
 use vp_world::{Entry, LoggedEvent};
 
-/// Whether the replies that a user was told are those that were replayed.
+/// Whether the replies that a user was shown are those that were replayed.
 #[derive(Clone, Copy, Debug, PartialEq, Eq)]
 pub struct Audit {
     pub same: bool,
@@ -92,8 +92,8 @@ fn compared(log: &[Entry], user: UserId, replayed: &[Reply]) -> Audit
     }
 }
 
-/// Replays what goes to a user of a log, and compares it with what he was told: of a legal log of a world that opens with this design and
-/// policy they are the same, as many as there are events of his own, and it is refused for want of memory alone (1307). Of other logs it may
+/// Replays what goes to a user of a log, and compares it with what he was shown: of a legal log of a world that opens with this design and
+/// policy they are the same, as many as there are events of his own, and it is refused out of memory alone (1307). Of other logs it may
 /// be refused by 1303 as well.
 pub fn audit_user(
     alloc: Global,

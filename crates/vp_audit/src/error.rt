@@ -9,7 +9,7 @@ pub enum AuditError {
     /// What is replayed goes to no user of any log: an event of a session that is not open, more sessions than can be numbered, or a
     /// change of grants under whose numbers the objects lose their order or a session its objects (1303).
     NotOpen,
-    /// Want of memory (1307).
+    /// Out of memory (1307).
     NoMemory,
 }
 

@@ -1,4 +1,4 @@
-// What a user was told, and with which item of what goes to him each value came.
+// What a user was shown, and with which item of what goes to him each value came.
 ghost use Rattle.std.specs.Prelude.{◌≡◌, [], ℕ, IfErr, IfOk, IsOkUnless, List, OnOk, map, option_map, option_and_then, slice_get, true};
 ghost use Rattle.vp_policy.specs.Users.{member_at};
 ghost use Rattle.vp_policy.specs.View.{view_of};
@@ -21,7 +21,7 @@ use vp_answer::Reply;
 use vp_list::Sequence;
 use vp_policy::View;
 
-/// What a user was told by an event of his own.
+/// What a user was shown by an event of his own.
 #[derive(Drop)]
 pub struct Explained {
     /// The number of its item, from 1.
@@ -75,7 +75,7 @@ fn came_with(part: &Part<'_>, brought: &[u64], item: &Item) -> Option<u64>
     }
 }
 
-/// The item of a number is taken up: what the user is told, if it has an event of his own, and which values come with it. Its refusals are
+/// The item of a number is taken up: what the user is shown, if it has an event of his own, and which values come with it. Its refusals are
 /// those of `Part::take`.
 fn explain_item<'a>(
     alloc: Global,
@@ -106,7 +106,7 @@ fn explain_item<'a>(
     }))
 }
 
-/// What a user was told by each event of his own among these items, the first of which has the number 1, with the item with which each value came.
+/// What a user was shown by each event of his own among these items, the first of which has the number 1, with the item with which each value came.
 /// Its refusals are those of `Part::take`.
 fn explain_items<'a>(
     alloc: Global,
@@ -129,7 +129,7 @@ fn explain_items<'a>(
     Ok(Sequence::from_vec(told))
 }
 
-/// What a user was told by each event of his own, in order, as `replay` has it, with the item with which each value came. Its refusals are
+/// What a user was shown by each event of his own, in order, as `replay` has it, with the item with which each value came. Its refusals are
 /// those of `replay`.
 #[tactic(auto, using(crate::proofs::Filling::fill_is))]
 fn explain_projection<'a>(
@@ -150,8 +150,8 @@ fn explain_projection<'a>(
     explain_items(alloc, &mut part, &mut brought, projection.items.as_slice())
 }
 
-/// What a user was told by each event of his own, in order, as `replay` has it, with the number of its item and, for each value, the number of the
-/// item with which it last came to him. Refused where this goes to nobody of any log (1303), and for want of memory (1307).
+/// What a user was shown by each event of his own, in order, as `replay` has it, with the number of its item and, for each value, the number of the
+/// item with which it last came to him. Refused where this goes to nobody of any log (1303), and when out of memory (1307).
 pub fn explain<'a>(
     alloc: Global,
     view: &'a View,

@@ -229,7 +229,7 @@ impl<'a> Part<'a> {
     }
 
     /// What of an entry of the log goes to him is taken up; an event of his own is answered. Refused where it goes to nobody so (1303),
-    /// and for want of memory (1307), which leaves the part as it may be.
+    /// and when out of memory (1307), which leaves the part as it may be.
     pub fn take(&mut self, item: &'a Item) -> Result<Option<Reply>, AuditError>
         ensures reply { IfOk result (λ reply. reply ≡ option_map (reply_of self.old) item.now.own_event) }
         ensures after { OnOk result (self.new ≡ part_after self.old item.now) }

@@ -34,7 +34,7 @@ impl Model for PartSession {
 }
 
 impl PartSession {
-    /// A session of this name in which nothing has happened; or want of memory (1307).
+    /// A session of this name in which nothing has happened; or out of memory (1307).
     pub fn new(alloc: Global, id: SessionId) -> Result<PartSession, AuditError>
         ensures session { IfOk result (λ s. s ≡ record { id = id; session_state = new_session_state id.user.0 }) }
         ensures refused { IsOkUnless result NoMemory }
@@ -52,7 +52,7 @@ impl PartSession {
         self.id.user.0 == id.user.0 && self.id.opens == id.opens
     }
 
-    /// Answers a request by what its user can look up; or want of memory (1307).
+    /// Answers a request by what its user can look up; or out of memory (1307).
     pub fn ask<E: Observe>(
         &mut self,
         observation: &E,

@@ -16,7 +16,7 @@ use vp_list::Sequence;
 use vp_policy::{Policy, UserId};
 use vp_world::Entry;
 
-/// What of a log goes to the user of a reading that has read nothing of it. Refused for want of memory (1307).
+/// What of a log goes to the user of a reading that has read nothing of it. Refused when out of memory (1307).
 fn read_log(
     alloc: Global,
     reading: &mut LogReader<'_>,
@@ -41,7 +41,7 @@ fn read_log(
 }
 
 /// What of a log goes to a user, of a world that opens with this design and policy: his own events, the changes of his grants, and of
-/// every other entry what it changed among what he may see. Refused for want of memory (1307).
+/// every other entry what it changed among what he may see. Refused when out of memory (1307).
 pub fn project(
     alloc: Global,
     checked: &Checked,

@@ -219,7 +219,7 @@ fn set_value(values: &mut Vec<Bits>, change: &Change)
 }
 
 impl<'a> LogReader<'a> {
-    /// A log of which nothing was read, of a world that opens with this design and policy. Refused for want of memory (1307).
+    /// A log of which nothing was read, of a world that opens with this design and policy. Refused when out of memory (1307).
     pub fn new(
         alloc: Global,
         checked: &'a Checked,
@@ -361,7 +361,7 @@ impl<'a> LogReader<'a> {
     }
 
     /// A user's grant for an envelope is from now on what an operator orders. Nothing changes where no envelope has the number. Refused for
-    /// want of memory (1307).
+    /// out of memory (1307).
     fn regrant(&mut self, grantee: UserId, change: &GrantChange) -> Result<(), AuditError>
         requires { grantee.0 < length self.old.policy.members }
         ensures grant { change.now.envelope ≤ length self.old.design.tree.authors
@@ -381,7 +381,7 @@ impl<'a> LogReader<'a> {
         }
     }
 
-    /// He knows from now on also what is listed to him now; which he knew before is handed back. Refused for want of memory (1307).
+    /// He knows from now on also what is listed to him now; which he knew before is handed back. Refused when out of memory (1307).
     fn learn(&mut self) -> Result<Vec<bool>, AuditError>
         ensures before { IfOk result (λ before. before.items ≡ self.old.known) }
         ensures now { let member : Member = member_at self.old.policy.members self.old.user in
@@ -400,7 +400,7 @@ impl<'a> LogReader<'a> {
         Ok(std::mem::replace(&mut self.known, known))
     }
 
-    /// What goes to him of a change of his grants, after it, where he knew these objects before it. Refused for want of memory (1307).
+    /// What goes to him of a change of his grants, after it, where he knew these objects before it. Refused when out of memory (1307).
     fn granted(&self, before: &[bool], change: &GrantChange) -> Result<GrantItem, AuditError>
         requires { length before.now ≡ length self.now.known }
         ensures granted { (t : State) → self.now ≡ reading_of self.now.user t self.now.known
@@ -424,7 +424,7 @@ impl<'a> LogReader<'a> {
         })
     }
 
-    /// A grant of a user changes; what of it goes to him, if it is his. Refused for want of memory (1307).
+    /// A grant of a user changes; what of it goes to him, if it is his. Refused when out of memory (1307).
     fn grant(&mut self, change: &GrantChange) -> Result<Option<Shared<GrantItem>>, AuditError>
         ensures grant { let e : Event = event.Grant change.now in
             (opening : Opening) → (s : State) → (known : List Bool) → (full : Bool)
@@ -460,7 +460,7 @@ impl<'a> LogReader<'a> {
         Ok(())
     }
 
-    /// What of the next entry goes to him, if anything does. Refused for want of memory (1307).
+    /// What of the next entry goes to him, if anything does. Refused when out of memory (1307).
     pub fn item(&mut self, entry: &Entry) -> Result<Option<Item>, AuditError>
         ensures item { (opening : Opening) → (s : State) → (known : List Bool)
             → self.old ≡ reading_of self.old.user s known

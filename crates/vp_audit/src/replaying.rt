@@ -1,4 +1,4 @@
-// What a user was told, by what he sees and what of the log goes to him (docs/DEFINITIONS.md, "What a user can know").
+// What a user was shown, by what he sees and what of the log goes to him (docs/DEFINITIONS.md, "What a user can know").
 ghost use Rattle.std.specs.Prelude.{◌≡◌, [], ℕ, IfErr, IfOk, IsOkUnless, List, OnOk, true};
 ghost use Rattle.vp_policy.specs.Users.{member_at};
 ghost use Rattle.vp_policy.specs.View.{view_of};
@@ -21,7 +21,7 @@ use vp_list::Sequence;
 use vp_policy::View;
 
 /// The replies to a user's own events, in order, by what he sees at the opening and what of the log goes to him. Refused where an item is
-/// not taken up (1303), and for want of memory (1307).
+/// not taken up (1303), and when out of memory (1307).
 fn replayed<'a>(
     alloc: Global,
     view: &'a View,
@@ -46,7 +46,7 @@ fn replayed<'a>(
 
 /// The replies to a user's own events, in order, by what he sees at the opening and what of the log goes to him: for every design, policy,
 /// user and legal log of which he sees this and to whom this goes, the replies that the log has. Refused where it goes to nobody of any log
-/// (1303), and for want of memory (1307).
+/// (1303), and when out of memory (1307).
 pub fn replay<'a>(
     alloc: Global,
     view: &'a View,

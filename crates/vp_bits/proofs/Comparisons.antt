@@ -76,7 +76,7 @@ some_bit p (bit ∷ bits) (other ∷ others) same =
     let rest : length bits ≡ length others = omega arith in
     ap (λ b. p bit || b) (some_bit p bits others rest)
 
--- a test that a formula of the vector's own words tells
+-- a test that a formula of the vector's own words decides
 some_bit_by : (f : Formula) (p : Bit → Bool) → tells f (λ bit other. p bit) ≡ true → (width a b c d : ℕ) → value f a b c d < 2 ^ width → list_any p (bits_of width a b) ≡ is_above (value f a b c d)
 some_bit_by f p rows width a b c d fits =
     some_bit p (bits_of width a b) (bits_of width c d) (length-bits_of width a b ∙ sym (length-bits_of width c d))

@@ -164,7 +164,7 @@ fn grammar<'a>(alloc: Global) -> Result<clap::Command<'a>, AllocError> {
 }
 
 /// What the program's words ask, of which the first is the program's name; or what is wrong with them
-/// (1608), or want of memory (1607).
+/// (1608), or out of memory (1607).
 pub fn command<'a>(alloc: Global, words: &'a [String]) -> Result<words::Command<'a>, Misuse> {
     let Ok(grammar) = grammar(alloc) else {
         return Err(Misuse::NoMemory);

@@ -8,7 +8,7 @@ pub enum Command<'a> {
         design: &'a str,
         policy: &'a str,
     },
-    /// To read a design, and a policy if there is one, and to tell the first fault.
+    /// To read a design, and a policy if there is one, and to report the first fault.
     Check {
         design: &'a str,
         policy: Option<&'a str>,
@@ -19,7 +19,7 @@ pub enum Command<'a> {
         policy: &'a str,
         user: &'a str,
     },
-    /// To audit a user by the script of standard input over a design and a policy, and to explain what he was told, if that is asked.
+    /// To audit a user by the script of standard input over a design and a policy, and to explain what he was shown, if that is asked.
     Audit {
         design: &'a str,
         policy: &'a str,
@@ -47,7 +47,7 @@ pub enum Command<'a> {
 pub enum Misuse {
     /// They ask for nothing that the program does; with the text that says so (1608).
     BadWords(Text),
-    /// Want of memory (1607).
+    /// Out of memory (1607).
     NoMemory,
 }
 

@@ -25,7 +25,7 @@ pub enum DesignError {
     /// A text of over 1,048,576 bytes (1603).
     #[error("too long")]
     TooLong,
-    /// Want of memory (1607).
+    /// Out of memory (1607).
     #[error("no memory")]
     NoMemory,
 }

@@ -7,7 +7,7 @@ use std::alloc::Global;
 use std::sync::Arc;
 use vp_expr::Checked;
 
-/// The checked design of a text, to be shared; none where the text is no design, or for want of memory. For tests and measurements.
+/// The checked design of a text, to be shared; none where the text is no design, or out of memory. For tests and measurements.
 pub fn shared_of(alloc: Global, text: &str) -> Option<Arc<Checked>>
     ensures { IfSome result (λ checked. IsDesignOf text.now (arc_value checked)) }
 {

@@ -7,7 +7,7 @@ use Rattle.std.proofs.lemmas.List.{length-map}
 use Rattle.vp_diagnostic.specs.Expected.{expected_note, listed, told_limit}
 use Rattle.vp_diagnostic.specs.Rendering.{ellipsis}
 
--- a word as it is told
+-- a word as it is reported
 abbrev pub now_of : Bor (List ℕ) → List ℕ
 now_of w = w.now
 
@@ -28,7 +28,7 @@ listed_whole words few =
     joined_map (codes ", ") words
     ∙ sym (ap (λ (b : Bool). if b then join_by (λ w. w) (codes ", ") (take told_limit (map now_of words)) ++ (codes ", " ++ ellipsis) else join_by (λ w. w) (codes ", ") (map now_of words)) test)
 
--- where there are words they are told
+-- where there are words they are reported
 pub note_long : (found : List ℕ) (words : List (Bor (List ℕ))) → (length words == 0) ≡ false → codes "found " ++ (found ++ (codes "; here would be read: " ++ (listed (map (λ w. w.now) words) ++ codes "\n"))) ≡ expected_note found (map (λ w. w.now) words)
 note_long found [] e = cc
 note_long found (w ∷ words) e = refl

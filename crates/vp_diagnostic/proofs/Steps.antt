@@ -155,7 +155,7 @@ reason_none shown table otherwise word i l = ap (λ rest. reason_in (map shown r
 
 -- ---- faults
 
--- an error of a text that is not want of memory
+-- an error of a text that is not out of memory
 pub no_tokens : (text : List ℕ) (e : LexError) → IsFaultOf text e → (e ≡ error.NoMemory → ⊥) → HasNoTokens text
 no_tokens text e (inl same) other = absurd (other same)
 no_tokens text e (inr is) other = (e, is)

@@ -55,7 +55,7 @@ AreRead front (c ∷ table) words =
 
 -- ---- the note
 
--- at most so many are told
+-- at most so many are reported
 abbrev pub told_limit : ℕ
 told_limit = 6
 
@@ -69,7 +69,7 @@ listed words =
     if nat_lt told_limit (length words) then join_by (λ w. w) (codes ", ") (take told_limit words) ++ (codes ", " ++ ellipsis)
     else join_by (λ w. w) (codes ", ") words
 
--- a token, as it is told
+-- a token, as it is reported
 abbrev pub quoted : List ℕ → List ℕ
 quoted token = if nat_lt token_limit (length token) then codes "a long token" else codes "`" ++ (token ++ codes "`")
 

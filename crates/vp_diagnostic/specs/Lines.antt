@@ -45,6 +45,6 @@ blanks front = flat_map blank_of front
 abbrev pub count_characters : List ℕ → ℕ
 count_characters front = count_by (λ byte. not (goes_on_character byte)) front
 
--- the column after these bytes of a line: 1, and one more for each character; it is told up to 2 ^ 64 - 1
+-- the column after these bytes of a line: 1, and one more for each character; it is reported up to 2 ^ 64 - 1
 abbrev pub column_after : List ℕ → ℕ
 column_after front = min (count_characters front + 1) 18446744073709551615

@@ -39,7 +39,7 @@ const CANDIDATES: [(&str, &str); 24] = [
     ("module", "`module`"),
 ];
 
-/// At most so many are told.
+/// At most so many are reported.
 const TOLD_LIMIT: usize = 6;
 
 /// A token of more bytes is not repeated.
@@ -121,7 +121,7 @@ fn listed(alloc: Global, words: &[&str]) -> Result<String, AllocError>
     Ok(list)
 }
 
-/// A token, as it is told.
+/// A token, as it is reported.
 pub fn quoted(alloc: Global, token: &str) -> Result<String, AllocError>
     ensures { IfOk result (λ text. string_bytes text ≡ quoted token.now) }
 {
@@ -152,7 +152,7 @@ fn note(alloc: Global, found: &str, words: &[&str]) -> Result<String, AllocError
     listed_note(alloc, found, list.as_str())
 }
 
-/// What was found, as it is told: a token, or the end of the text.
+/// What was found, as it is reported: a token, or the end of the text.
 fn found(alloc: Global, text: &str, token: Token, at_end: bool) -> Result<String, AllocError>
     ensures { IfOk result (λ found. string_bytes found ≡ (if at_end
         then codes "the end of the text" else quoted (text_of text.now token))) }

@@ -11,7 +11,7 @@ use vp_lex::{LexError, TEXT_LIMIT, tokens};
 /// So many bytes of a line are looked at.
 const SOUGHT: usize = 1024;
 
-/// A text has tokens; or want of memory.
+/// A text has tokens; or out of memory.
 fn has_tokens(alloc: Global, text: &str) -> Result<bool, AllocError>
     requires { length text.now ≤ TEXT_LIMIT }
     ensures { IfOk result (λ has. MatchBool has (HasTokens text.now) (HasNoTokens text.now)) }

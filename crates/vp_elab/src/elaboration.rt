@@ -131,7 +131,7 @@ fn parts_of(alloc: Global, source: &Source, envelopes: &Envelopes) -> Result<Par
     })
 }
 
-/// The design of a source; or the first refusal that holds (501 to 509), or want of memory (510).
+/// The design of a source; or the first refusal that holds (501 to 509), or out of memory (510).
 /// The source and the envelopes are of one text, and the source's modules hold all of its lists, as those of each source do that
 /// `parse` gives; on a refusal both are dropped.
 pub fn elaborate(alloc: Global, source: Source, envelopes: Envelopes) -> Result<Design, ElabError>

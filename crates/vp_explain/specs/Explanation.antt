@@ -1,4 +1,4 @@
--- What a user was told, and what came to him, as a text (profile).
+-- What a user was shown, and what came to him, as a text (profile).
 use Rattle.std.specs.Prelude.{ℕ, ◌+◌, Bool, false, true, List, [], ◌∷◌, ◌++◌, drop, map, reverse, codes, decimal, Option, Some, None}
 use Rattle.std.specs.Option.{option_map_or}
 use Rattle.vp_bits.specs.declared.bit.Bit.{Bit}
@@ -26,24 +26,24 @@ use Rattle.vp_outline.specs.Outline.{access_text, words_text}
 abbrev pub item_line : (number : ℕ) → List (List ℕ) → List ℕ
 item_line number words = outline.line_of (decimal number ∷ words)
 
--- ---- what he was told
+-- ---- what he was shown
 
 -- the words for the item with which a value came; none where nothing came so
 abbrev pub origin_words : Option ℕ → List (List ℕ)
 origin_words None = []
 origin_words (Some number) = codes "of" ∷ decimal number ∷ []
 
--- the line for what he was told: the number of the item, that with which the value came, if it is one, and the line of the reply
+-- the line for what he was shown: the number of the item, that with which the value came, if it is one, and the line of the reply
 abbrev pub told_line : Explained → List ℕ
 told_line t = decimal t.item ++ (words_text (codes "told" ∷ origin_words t.brought) ++ 32 ∷ line_of t.reply)
 
--- the line for an event of his own, by what he was told from there on
+-- the line for an event of his own, by what he was shown from there on
 abbrev pub own_line : Option OwnEvent → List Explained → List ℕ
 own_line None told = []
 own_line (Some own_event) [] = []
 own_line (Some own_event) (t ∷ told) = told_line t
 
--- what he was told after an item
+-- what he was shown after an item
 abbrev pub told_after : Option OwnEvent → List Explained → List Explained
 told_after None told = told
 told_after (Some own_event) told = drop 1 told
@@ -87,17 +87,17 @@ abbrev pub view_after : View → Option GrantItem → View
 view_after v None = v
 view_after v (Some g) = g.view
 
--- the lines for items, in turn, from one of a number on, with what he was told by his own events
+-- the lines for items, in turn, from one of a number on, with what he was shown by his own events
 abbrev pub explanation_from : (number : ℕ) → View → List Item → List Explained → List ℕ
 explanation_from number v [] told = []
 explanation_from number v (i ∷ items) told =
     own_line i.own_event told ++ (item_lines v number i ++ explanation_from (number + 1) (view_after v i.granted) items (told_after i.own_event told))
 
--- what he was told and what came to him, from the first item on
+-- what he was shown and what came to him, from the first item on
 abbrev pub explanation_of : View → List Item → List Explained → List ℕ
 explanation_of v items told = explanation_from 1 v items told
 
--- what a user was told by a log of a world and what came to him of it
+-- what a user was shown by a log of a world and what came to him of it
 abbrev pub log_explanation : Opening → (user : ℕ) → List Entry → List ℕ
 log_explanation opening u log =
     let v : View = view_of opening.design (member_at opening.policy.members u) in

@@ -1,4 +1,4 @@
-//! What a user was told, and what came to him of a log, as a text (docs/FORMATS.md, "What a user was told").
+//! What a user was shown, and what came to him of a log, as a text (docs/FORMATS.md, "What a user was shown").
 #![tactic(auto)]
 
 mod lines;

@@ -35,7 +35,7 @@ fn push_origin(text: &mut String, brought: Option<u64>) -> Result<(), AllocError
     }
 }
 
-/// Adds the line for what the user was told.
+/// Adds the line for what the user was shown.
 fn push_told(alloc: Global, text: &mut String, told: &Explained) -> Result<(), AllocError>
     ensures { OnOk result (string_bytes text.new ≡ string_bytes text.old ++ told_line told.now) }
 {
@@ -133,7 +133,7 @@ fn push_item(
     Ok(())
 }
 
-/// Adds the line for an event of the user's own, by what he was told from there on, and gives what he was told after it.
+/// Adds the line for an event of the user's own, by what he was shown from there on, and gives what he was shown after it.
 fn push_own<'a>(
     alloc: Global,
     text: &mut String,
@@ -166,7 +166,7 @@ fn view_after<'a>(view: &'a View, item: &'a Item) -> &'a View
     }
 }
 
-/// What a user was told and what came to him, by what he sees at the opening, what of a log goes to him, and what he was told by his own events: a
+/// What a user was shown and what came to him, by what he sees at the opening, what of a log goes to him, and what he was shown by his own events: a
 /// line each, with the number of the item. Takes memory.
 pub fn explanation(
     alloc: Global,

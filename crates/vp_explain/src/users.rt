@@ -1,4 +1,4 @@
-// What a user of a log was told.
+// What a user of a log was shown.
 ghost use Rattle.std.specs.Prelude.{◌≡◌, [], IfOk, IsOkUnless};
 ghost use Rattle.vp_policy.specs.PolicyState.{Fits};
 ghost use Rattle.vp_audit.specs.History.{IsLegal};
@@ -14,8 +14,8 @@ use vp_expr::Checked;
 use vp_list::Text;
 use vp_policy::{Policy, UserId};
 
-/// What a user was told by a log of a world that opens with this design and policy, and what came to him of it: a line each, with the number of the
-/// item (docs/FORMATS.md, "What a user was told"). Of a legal log it is refused for want of memory alone (1307), of others by 1303 as well.
+/// What a user was shown by a log of a world that opens with this design and policy, and what came to him of it: a line each, with the number of the
+/// item (docs/FORMATS.md, "What a user was shown"). Of a legal log it is refused out of memory alone (1307), of others by 1303 as well.
 pub fn explain_user(
     alloc: Global,
     checked: &Checked,

@@ -75,7 +75,7 @@ module _ (d : Elaborated) where
     pub first : length os ≡ m.expressions.first
     pub are : operands_of d ≡ (os ++ map (operand_of d (scope_of d m)) (drop (length os) nodes)) ++ rest
 
-  -- the expressions of a module, of which some are told
+  -- the expressions of a module, of which some are reported
   told : (m : Module) (nodes following : List Expression) → es ≡ nodes ++ following → m.expressions.first ≤ length nodes → length nodes ≤ m.expressions.end → m.expressions.end ≤ length es → expressions_in d.source m ≡ drop m.expressions.first nodes ++ take (m.expressions.end - length nodes) following
   told m nodes following laid from to inside =
       let a = m.expressions.first in

@@ -98,7 +98,7 @@ impl Checked {
     }
 }
 
-/// The tables of a design that is not refused; or the first refusal that holds, or want of memory.
+/// The tables of a design that is not refused; or the first refusal that holds, or out of memory.
 fn checked_tables(alloc: Global, design: &Design) -> Result<Tables, ExprError>
     ensures tables { IfOk result (λ tables. IsChecked design.now tables) }
     ensures accepted { OnOk result (refusal_of design.now ≡ None) }
@@ -114,7 +114,7 @@ fn checked_tables(alloc: Global, design: &Design) -> Result<Tables, ExprError>
 }
 
 /// A design's expressions, checked; or the first refusal that holds, by its line: `TooWide` (601), `SignedCompare` (602), `BadSelect`
-/// (603), each tested over the whole text; or want of memory (604). On a refusal the design is dropped.
+/// (603), each tested over the whole text; or out of memory (604). On a refusal the design is dropped.
 pub fn check(alloc: Global, design: Design) -> Result<Checked, ExprError>
     ensures design { IfOk result (λ checked. checked ≡ design) }
     ensures accepted { OnOk result (refusal_of design ≡ None) }

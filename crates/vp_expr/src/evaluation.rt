@@ -245,7 +245,7 @@ pub fn place_set(
 }
 
 /// Adds the slots that the expression at a place of a design reads, those of indexes too, in the order of the text, to others. For
-/// want of memory it adds some of them. Takes memory.
+/// out of memory it adds some of them. Takes memory.
 pub fn add_reads(checked: &Checked, place: u32, slots: &mut Vec<Slot>) -> Result<(), AllocError>
     ensures read { OnOk result (slots.new.items
         ≡ slots.old.items ++ map slot_at (reads (term_at (tables_of checked.now).operands place))) }

@@ -12,7 +12,7 @@ use Rattle.vp_hub.specs.Calls.{LastStands, Passed, event_of}
 use Rattle.vp_hub.specs.Desks.{Calls, Desked, IsMade, refusal_of, out_of_memory}
 use Rattle.vp_hub.proofs.Explaining.{may_explain}
 
--- want of memory is no wrong receipt
+-- out of memory is no wrong receipt
 pub not_receipt : (e : HubError) → e ≡ out_of_memory → e ≢ Receipt
 not_receipt e is other = absurd (let same : out_of_memory ≡ Receipt = sym is ∙ other in cc)
 
@@ -28,7 +28,7 @@ not_standing d p r apart = record {
   left = inl (refl, refl);
 }
 
--- a refusal by the world, or want of memory
+-- a refusal by the world, or out of memory
 pub refused_so : (d next : Desked) (p q : Passed) (r : Request) (e : WorldError) → LastStands d.world.log p → MayExplain out_of_memory (refusal_of d (event_of p.session r)) (World e) → next ≡ d → q ≡ p → Calls d p r (Err (World e)) next q
 refused_so d next p q r e stood why desk pass = record {
   stood = tt;
@@ -40,7 +40,7 @@ refused_so d next p q r e stood why desk pass = record {
   left = inl (desk, pass);
 }
 
--- want of memory before the call
+-- out of memory before the call
 pub out_of_memory_so : (d : Desked) (p q : Passed) (r : Request) → LastStands d.world.log p → q ≡ p → Calls d p r (Err out_of_memory) d q
 out_of_memory_so d p q r stood pass = refused_so d d p q r world_error.NoMemory stood (λ other. absurd (other refl)) refl pass
 
@@ -48,7 +48,7 @@ out_of_memory_so d p q r stood pass = refused_so d d p q r world_error.NoMemory 
 pub world_refuses : (d next : Desked) (p q : Passed) (r : Request) (e : WorldError) → LastStands d.world.log p → Explains world_error.NoMemory (refused_by d.world (event_of p.session r)) e → next ≡ d → q ≡ p → Calls d p r (Err (World e)) next q
 world_refuses d next p q r e stood why desk pass = refused_so d next p q r e stood (may_explain (refused_by d.world (event_of p.session r)) e why) desk pass
 
--- a call that is made, and answered, or of which want of memory is told
+-- a call that is made, and answered, or of which out of memory is reported
 pub made_so : (d next : Desked) (p q : Passed) (r : Request) (result : Result Reply HubError) → LastStands d.world.log p → IsMade d p r next q → IfOk result (λ a. a ≡ answered_by d.world (event_of p.session r)) → IsOkUnless result out_of_memory → Calls d p r result next q
 made_so d next p q r (Ok a) stood made answer memory = record {
   stood = stood;

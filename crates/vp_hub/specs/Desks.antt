@@ -54,7 +54,7 @@ receipt_of d e r = record { place = length d.world.log; request = r; reply = ans
 abbrev pub refusal_of : Desked → Event → Option HubError
 refusal_of d e = option_map hub_error.World (refused_by d.world e)
 
--- want of memory
+-- out of memory
 abbrev pub out_of_memory : HubError
 out_of_memory = hub_error.World world_error.NoMemory
 
@@ -66,7 +66,7 @@ pub record IsMade (d : Desked) (p : Passed) (r : Request) (next : Desked) (q : P
 
 -- what a request of a pass comes to at a desk: it is made and answered; or it is refused, which leaves desk and pass as they were: as a
 -- receipt (1401) exactly where the pass's last one does not stand in the log, else by the world's first reason (1403), or, at any time,
--- for want of memory. Where the reply can't be shared between the pass and the caller, want of memory is told of a call that was made
+-- when out of memory. Where the reply can't be shared between the pass and the caller, out of memory is reported of a call that was made
 pub record Calls (d : Desked) (p : Passed) (r : Request) (result : Result Reply HubError) (next : Desked) (q : Passed) : Type 0 where
   pub stood : OnOk result (LastStands d.world.log p)
   pub made : OnOk result (IsMade d p r next q)

@@ -1,4 +1,4 @@
--- The numbers of the refusals of a hub, and what a line tells of them.
+-- The numbers of the refusals of a hub, and what a line reports of them.
 use Rattle.std.specs.Prelude.{ℕ}
 use Rattle.vp_answer.specs.declared.reply.Refusal.{Refusal}
 use Rattle.vp_answer.specs.declared.reply.Refusal.TheVariants.{BadReceipt}
@@ -12,7 +12,7 @@ code_of Receipt = 1401
 code_of Mismatch = 1402
 code_of (World e) = 1403
 
--- the refusal that a line tells of a hub's
+-- the refusal that a line reports of a hub's
 abbrev pub refusal_of : HubError → Refusal
 refusal_of (World e) = refusal_of_error e
 refusal_of Receipt = BadReceipt

@@ -40,7 +40,7 @@ pub record IsReceived (opening : Opening) (p : Passed) (r : Request) (a : Reply)
   pub end : length log ≡ place + 1
 
 -- what a request of a pass comes to at a hub: it is made and answered; or refused, and the pass is as it was. Where the reply can't be
--- shared between the pass and the caller, want of memory is told of a call that was made
+-- shared between the pass and the caller, out of memory is reported of a call that was made
 pub record IsAnswered (opening : Opening) (p : Passed) (r : Request) (result : Result Reply HubError) (q : Passed) : Type 0 where
   pub made : IfOk result (λ a. IsReceived opening p r a q)
   pub refused : IfErr result (λ e. (q ≡ p) ⊎ ((e ≡ out_of_memory) × (a : Reply) × IsReceived opening p r a q))

@@ -199,7 +199,7 @@ fn check_receipts<L: NamesOpening>(log: &[Entry], passes: &[Pass<L>]) -> Result<
 
 impl<L: NamesOpening> Desk<L> {
     /// Ends with the passes that were handed back. Refused where a receipt does not stand in the log, or two name one place (1401); where
-    /// the receipts are not as many as the log's entries of sessions (1402); or for want of memory.
+    /// the receipts are not as many as the log's entries of sessions (1402); or out of memory.
     pub(crate) fn close(self, passes: &[Pass<L>]) -> Result<Closed, HubError>
         ensures { IfOk result (λ closed. IsClosed L.opening passes.now closed) }
     {

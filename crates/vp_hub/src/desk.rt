@@ -65,7 +65,7 @@ fn ready(
     request.try_clone(alloc)
 }
 
-/// Adds the receipt of a call to those for which there is room, and shares its reply; or tells want of memory, where it can't be shared.
+/// Adds the receipt of a call to those for which there is room, and shares its reply; or reports out of memory, where it can't be shared.
 fn receive(
     receipts: &mut Vec<Receipt>,
     place: usize,
@@ -153,7 +153,7 @@ impl<L: NamesOpening> Desk<L> {
         Ok(reply)
     }
 
-    /// Opens a session for a user, and gives its pass. Refused by the world (1403: 1302, 1301, 1304), or for want of memory, which
+    /// Opens a session for a user, and gives its pass. Refused by the world (1403: 1302, 1301, 1304), or out of memory, which
     /// leaves the desk as it was.
     pub fn open(&mut self, user: Text, token: Text) -> Result<Pass<L>, HubError>
         ensures accepted { OnOk result
@@ -191,8 +191,8 @@ impl<L: NamesOpening> Desk<L> {
     }
 
     /// Answers a request of a session, and gives its pass back, with the receipt of the call. Refused where the pass's last receipt
-    /// does not stand in the log (1401), else by the world (1403: 1303, 1304), or for want of memory: then desk and pass are as they
-    /// were. But where the reply can't be shared between the pass and the caller, want of memory is told of a call that was made.
+    /// does not stand in the log (1401), else by the world (1403: 1303, 1304), or out of memory: then desk and pass are as they
+    /// were. But where the reply can't be shared between the pass and the caller, out of memory is reported of a call that was made.
     pub fn call(&mut self, pass: Pass<L>, request: Request) -> (Pass<L>, Result<Reply, HubError>)
         requires { IsCall request }
         ensures called { Calls self.old pass request result.1 self.new result.0 }
@@ -229,7 +229,7 @@ impl<L: NamesOpening> Desk<L> {
         }
     }
 
-    /// Lets an event happen that is of no session; else the world's refusal (1403), or want of memory, which leave the desk as it
+    /// Lets an event happen that is of no session; else the world's refusal (1403), or out of memory, which leave the desk as it
     /// was.
     pub fn event(&mut self, event: Event) -> Result<Reply, HubError>
         requires other { IsOther event }
@@ -257,7 +257,7 @@ impl<L: NamesOpening> Desk<L> {
         Ok(())
     }
 
-    /// Takes the oldest kept segment that was not handed out; none where there is none. Refused by a full log, or for want of memory.
+    /// Takes the oldest kept segment that was not handed out; none where there is none. Refused by a full log, or out of memory.
     pub(crate) fn take_job(&mut self) -> Result<Option<Arc<Segment>>, HubError>
         ensures { IfOk result (λ job. IfSome job
             (λ s. (arc_value s).start.design ≡ L.opening.design)) }
@@ -282,7 +282,7 @@ impl<L: NamesOpening> Desk<L> {
         Ok(Some(Arc::new(self.alloc, segment)?))
     }
 
-    /// Books a race, and tells whether it was: the book may refuse it. Refused by a full log, or for want of memory.
+    /// Books a race, and reports whether it was: the book may refuse it. Refused by a full log, or out of memory.
     pub(crate) fn book(&mut self, finding: Finding) -> Result<bool, HubError>
         requires { finding.segment.start.design ≡ L.opening.design }
     {

@@ -35,7 +35,7 @@ impl HubError {
         }
     }
 
-    /// What a line tells of the refusal: the world's own, else that a receipt is bad.
+    /// What a line reports of the refusal: the world's own, else that a receipt is bad.
     pub fn refusal(self) -> Refusal
         ensures { result ≡ refusal_of self }
     {

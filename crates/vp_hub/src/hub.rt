@@ -93,7 +93,7 @@ impl<L: NamesOpening> Hub<L> {
     }
 
     /// Lets at most so many events of the simulation happen, of which each takes the lock anew. Refused by a full log (1403: 1304) or
-    /// for want of memory (1403: 1307); what happened till then has happened.
+    /// when out of memory (1403: 1307); what happened till then has happened.
     pub fn run_sim<R: Wait>(&self, rt: &R, most: u64) -> Result<Ran, HubError>
         ensures most { IfOk result (λ ran. ran.events ≤ most) }
         ensures all { IfOk result (λ ran. ran.idle ≡ false → ran.events ≡ most) }
@@ -149,14 +149,14 @@ impl<L: NamesOpening> Hub<L> {
         self.desk.lock(rt).take_job()
     }
 
-    /// Books a race unless the book refuses it, and tells whether it was booked.
+    /// Books a race unless the book refuses it, and reports whether it was booked.
     fn book<R: Wait>(&self, rt: &R, finding: Finding) -> Result<bool, HubError>
         requires { finding.segment.start.design ≡ L.opening.design }
     {
         self.desk.lock(rt).book(finding)
     }
 
-    /// Books these races, one after another, each unless the book refuses it, and tells how many were booked.
+    /// Books these races, one after another, each unless the book refuses it, and reports how many were booked.
     fn book_all<R: Wait>(&self, rt: &R, findings: VecDeque<Finding>) -> Result<u32, HubError>
         requires { All (λ f. f.segment.start.design ≡ L.opening.design) findings.items }
     {
@@ -172,7 +172,7 @@ impl<L: NamesOpening> Hub<L> {
 
     /// Ends with the passes that were handed back: the log, and for each pass the places of its calls, in order. Refused where a receipt
     /// does not stand in the log, or two name one place (1401); where the receipts are not as many as the log's entries of sessions
-    /// (1402); or for want of memory (1403: 1307).
+    /// (1402); or out of memory (1403: 1307).
     pub fn close(self, passes: Vec<Pass<L>>) -> Result<Closed, HubError>
         ensures { IfOk result (λ closed. IsClosed L.opening passes.items closed) }
     {

@@ -105,7 +105,7 @@ cut_from_refused (suc turns) at (b ∷ bytes) refusal l h =
     ] in
     on (first_piece text) refl h
 
--- what is refused is so for the fault that is told, after pieces that are read
+-- what is refused is so for the fault that is reported, after pieces that are read
 pub cut_text_refused : (text : List ℕ) (refusal : Refusal) → cut_text text ≡ Err refusal → IsRefused text refusal
 cut_text_refused text refusal h =
     let r = cut_from_refused (length text) 0 text refusal (omega arith) h in
@@ -133,6 +133,6 @@ refused_is (suc turns) at told (b ∷ bytes) (piece ∷ pieces) remainder fault 
     ap (λ (r : Result Piece Fault). on_piece at r next) (first_piece_is text piece h.0 h.1 h.2)
     ∙ ap (following_piece piece) (ap (cut_from turns (at + length piece.bytes)) rest ∙ more)
 
--- and that fault is told, at that place
+-- and that fault is reported, at that place
 pub refused_is_told : (text : List ℕ) (refusal : Refusal) → IsRefused text refusal → cut_text text ≡ Err refusal
 refused_is_told text refusal h = refused_is (length text) 0 refusal.at text refusal.pieces h.remainder refusal.fault (omega arith) h.cut h.more h.why (omega (arith, h.at))

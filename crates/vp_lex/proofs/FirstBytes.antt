@@ -1,4 +1,4 @@
--- The first bytes of a piece tell its kind.
+-- The first bytes of a piece show its kind.
 use Rattle.std.proofs.Common.{◌≡◌, ℕ, ◌≤◌, Bool, true, false, cond, ◌&&◌, ◌||◌, ◌⊎◌, inl, inr, List, [], ◌∷◌, ◌++◌, length, leb, Option, Some, None, refl, sym, ◌∙◌, ap, subst, arith}
 use Rattle.std.specs.Prelude.{not, bytes_eq, is_some}
 use Rattle.std.specs.List.{list_all}

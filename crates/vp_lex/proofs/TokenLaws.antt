@@ -38,7 +38,7 @@ are_tokens_of text tokens h = ap (judged text) (sym (is_scan_of text h.0 h.1)) �
 pub tokens_of_error : (text : List ℕ) (error : LexError) → tokens_of text ≡ Err error → IsError text error
 tokens_of_error text error h = (scan_of text, scan_of_is text, h)
 
--- so is it told
+-- so is it reported
 pub error_of_text : (text : List ℕ) (error : LexError) → tokens_of text ≡ Err error → IsFaultOf text error
 error_of_text text error h = inr (tokens_of_error text error h)
 

@@ -35,7 +35,7 @@ on_fault text at marked (b ∷ bytes) before fault l e =
     let next : Piece → Result (List Piece) Refusal = λ piece. following_piece piece (cut_from (length bytes) (at + length piece.bytes) (drop (length piece.bytes) (b ∷ bytes))) in
     ap (λ (r : Result Piece Fault). scanned text before marked (on_piece at r next)) e
 
--- where no piece is read, its fault is told, by the line
+-- where no piece is read, its fault is reported, by the line
 pub fault_left : (text : List ℕ) (at : ℕ) (marked : Bool) (fault : Fault) → 1 ≤ length (drop at text) → first_piece (drop at text) ≡ Err fault → scan_left text at marked ≡ record { tokens = []; fault = Some (error_of fault (line_after (take at text))) }
 fault_left text at marked fault l e = on_fault text at marked (drop at text) (take at text) fault l e
 

@@ -133,7 +133,7 @@ abbrev pub first_piece : List ℕ → Result Piece Fault
 first_piece [] = Err BadCharacter
 first_piece (byte ∷ bytes) = piece_begun (kind_in_front byte bytes) byte bytes
 
--- goes on after a piece, or tells the fault at this place
+-- goes on after a piece, or reports the fault at this place
 abbrev pub on_piece : ℕ → Result Piece Fault → (Piece → Result (List Piece) Refusal) → Result (List Piece) Refusal
 on_piece at (Err fault) next = Err (record { fault = fault; at = at; pieces = [] })
 on_piece at (Ok piece) next = next piece

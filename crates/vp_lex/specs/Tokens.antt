@@ -144,7 +144,7 @@ AreTokens text tokens = (scan : Scan) × IsScan text scan × (judged text scan �
 abbrev pub IsError : List ℕ → LexError → Type 0
 IsError text error = (scan : Scan) × IsScan text scan × (judged text scan ≡ Err error)
 
--- an error is that of the text; want of memory may be told at any time
+-- an error is that of the text; out of memory may be reported at any time
 abbrev pub IsFaultOf : List ℕ → LexError → Type 0
 IsFaultOf text e = (e ≡ error.NoMemory) ⊎ IsError text e
 

@@ -5,7 +5,7 @@ use crate::piece::Fault;
 use std::alloc::{AllocError, AllocFailed};
 use thiserror::Error;
 
-/// Why a text has no tokens. The first fault in the order of the text is told, by its line.
+/// Why a text has no tokens. The first fault in the order of the text is reported, by its line.
 #[derive(Debug, Drop, Error)]
 pub enum LexError {
     /// No token begins with what stands here (201).
@@ -23,7 +23,7 @@ pub enum LexError {
     /// A `` `timescale`` that is followed by other texts than the first of the text (205), by its own line.
     #[error("line {line}: the timescale is not the first one")]
     TimescaleDiffers { line: u32 },
-    /// Want of memory (206).
+    /// Out of memory (206).
     #[error("no memory")]
     NoMemory,
 }

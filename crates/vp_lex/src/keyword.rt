@@ -124,7 +124,7 @@ const OF_NINE: [(&str, Keyword); 3] = [
 /// The keywords of ten letters and digits.
 const OF_TEN: [(&str, Keyword); 1] = [("localparam", Keyword::Localparam)];
 
-/// The keyword that a word is. Its length tells the table in which it may stand.
+/// The keyword that a word is. Its length says in which table it may stand.
 pub fn keyword_of(word: &str) -> Option<Keyword>
     ensures { result ≡ keyword_of word.now }
 {

@@ -97,7 +97,7 @@ fn element(characters: &[char]) -> (char, usize)
 
 /// The value of a string with its quotation marks, its escapes undone: `\"` and `\\` stand for the second character, `\n` for a newline,
 /// `\t` for a tab, a backslash with one to three octal digits (as many as follow) for the character of that number; another backslash
-/// stands for itself. A text that has no quotation marks around it has the empty value. Err is want of memory (clause 3.6; profile).
+/// stands for itself. A text that has no quotation marks around it has the empty value. Err is out of memory (clause 3.6; profile).
 pub fn string_value(alloc: Global, text: &str) -> Result<String, AllocError>
     ensures ok { IfOk result (λ value. string_bytes value ≡ string_value text.now) }
 {

@@ -246,7 +246,7 @@ fn scan(alloc: Global, text: &str) -> Result<ScannedText, AllocError>
     Ok(ScannedText { tokens, fault })
 }
 
-/// The tokens of a text, in order; or its first fault (201 to 205), or want of memory (206).
+/// The tokens of a text, in order; or its first fault (201 to 205), or out of memory (206).
 ///
 /// White space and comments separate tokens. A token is the longest piece that begins where it does. A timescale is at fault
 /// at the end of its line, so another fault on that line comes first.

@@ -119,7 +119,7 @@ impl<T: Copy + Drop + Same> TrackedList<T> {
     }
 }
 
-/// Remembers that a place is written, where all others are, and tells so; but not where there is no memory for that.
+/// Remembers that a place is written, where all others are, and reports so; but not where there is no memory for that.
 fn mark_written(
     is_complete: bool,
     changed: &mut Vec<usize>,
@@ -145,7 +145,7 @@ fn mark_written(
     true
 }
 
-/// Remembers that a chunk is written, where it is not known yet, and tells so; but not where there is no memory for that.
+/// Remembers that a chunk is written, where it is not known yet, and reports so; but not where there is no memory for that.
 fn remember_chunk(changed: &mut Vec<usize>, number: usize, written: Option<Written>) -> bool
     requires marked { IsWritten written → Contains changed.old.items number }
     ensures others { (n : ℕ) → Contains changed.old.items n → Contains changed.new.items n }

@@ -114,7 +114,7 @@ impl Asker {
         format!(in alloc; "{{\"op\":\"put\",\"h\":{handle},\"value\":\"{value}\"}}\n")
     }
 
-    /// A request to be told of an object's changes; where the client has as many callbacks as it may, one to remove the oldest.
+    /// A request to be notified of an object's changes; where the client has as many callbacks as it may, one to remove the oldest.
     fn watch_line(&mut self, alloc: Global) -> Result<String, AllocError> {
         if self.callbacks.saturating_sub(self.removed) >= CALLBACK_LIMIT {
             self.removed = self.removed.saturating_add(1);

@@ -1,4 +1,4 @@
-//! What was told, beside the log.
+//! What was shown, beside the log.
 ghost use Rattle.std.specs.Prelude.{◌≡◌};
 ghost use Rattle.std.specs.Arc.{arc_value};
 ghost use Rattle.vp_world.specs.Events.{IsWellFormed};
@@ -80,7 +80,7 @@ pub fn compare_world(alloc: Global, world: World, log: &[Entry]) -> Result<(), D
     Ok(())
 }
 
-/// Takes a line from what is left of what a user was told, and tells whether it was the next there.
+/// Takes a line from what is left of what a user was shown, and reports whether it was the next there.
 fn is_next(own: &mut &[u8], line: &[u8]) -> bool {
     match own.strip_prefix(line) {
         Some(rest) => {
@@ -91,8 +91,8 @@ fn is_next(own: &mut &[u8], line: &[u8]) -> bool {
     }
 }
 
-/// The line of the entry at a place of a log, which is of a session, is the next that its user was told; it is taken from what is left of what
-/// the users were told.
+/// The line of the entry at a place of a log, which is of a session, is the next that its user was shown; it is taken from what is left of what
+/// the users were shown.
 fn take_line(
     alloc: Global,
     rests: &mut [&[u8]],
@@ -123,7 +123,7 @@ fn whole_rests<'a>(alloc: Global, transcripts: &'a [Vec<u8>]) -> Result<Vec<&'a 
     Ok(rests)
 }
 
-/// Nothing is left of what the users were told.
+/// Nothing is left of what the users were shown.
 fn check_no_rest(rests: &[&[u8]]) -> Result<(), Difference> {
     for (place, own) in rests.iter().enumerate() {
         if !own.is_empty() {
@@ -134,7 +134,7 @@ fn check_no_rest(rests: &[&[u8]]) -> Result<(), Difference> {
     Ok(())
 }
 
-/// What each user was told are the lines of the replies to his session's events in a log, in order.
+/// What each user was shown are the lines of the replies to his session's events in a log, in order.
 fn compare_users(alloc: Global, users: &[Vec<u8>], log: &[Entry]) -> Result<(), Difference> {
     let mut rests = whole_rests(alloc, users)?;
     for (place, entry) in log.iter().enumerate() {
@@ -153,7 +153,7 @@ fn change_of(alloc: Global, number: usize, order: &Order) -> Result<GrantChange,
     }
 }
 
-/// The changes of grants of which the operator was told that they are done, in order, each with the number of its order.
+/// The changes of grants of which the operator was answered that they are done, in order, each with the number of its order.
 fn changes_of(alloc: Global, orders: &[Order]) -> Result<Vec<(usize, GrantChange)>, Difference> {
     let mut changes = Vec::new(alloc);
     for (place, order) in orders.iter().enumerate() {
@@ -165,7 +165,7 @@ fn changes_of(alloc: Global, orders: &[Order]) -> Result<Vec<(usize, GrantChange
     Ok(changes)
 }
 
-/// The changes of grants in a log are those of which the operator was told that they are done: each once, in order.
+/// The changes of grants in a log are those of which the operator was answered that they are done: each once, in order.
 fn compare_grants(alloc: Global, orders: &[Order], log: &[Entry]) -> Result<(), Difference> {
     let changes = changes_of(alloc, orders)?;
     let mut next = 0usize;
@@ -193,7 +193,7 @@ fn check_kinds(log: &[Entry]) -> Result<(), Difference> {
     Ok(())
 }
 
-/// Compares a log with what the clients and the operator were told.
+/// Compares a log with what the clients and the operator were shown.
 pub fn compare_transcripts(
     alloc: Global,
     log: &[Entry],
@@ -204,7 +204,7 @@ pub fn compare_transcripts(
     check_kinds(log)
 }
 
-/// Compares a log with what comes of its events in a fresh world, and with what the clients and the operator were told.
+/// Compares a log with what comes of its events in a fresh world, and with what the clients and the operator were shown.
 pub fn compare(
     alloc: Global,
     checked: &Arc<Checked>,

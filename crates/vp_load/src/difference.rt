@@ -31,7 +31,7 @@ pub enum Difference {
     Time { place: usize },
     #[error("entry {place}: its session is of no client")]
     Stranger { place: usize },
-    /// The reply of the entry is not what its user was told next.
+    /// The reply of the entry is not what its user was shown next.
     #[error("entry {place}: user {number} was told otherwise")]
     Transcript { place: usize, number: usize },
     #[error("user {number} was told more than the log has")]

@@ -12,7 +12,7 @@ use std::{io, thread};
 /// So many seconds a client waits for a reply.
 const PATIENCE: u64 = 100;
 
-/// What the clients and the operator were told.
+/// What the clients and the operator were shown.
 #[derive(Drop)]
 pub struct Transcripts {
     /// Of each user, by his number from 1, the lines that answered his session's, byte by byte.
@@ -45,7 +45,7 @@ fn connect_all<R: Net<Stream = TcpStream>>(
     Ok(clients)
 }
 
-/// Lets the clients talk, each in a thread of its own, and gives what they were told.
+/// Lets the clients talk, each in a thread of its own, and gives what they were shown.
 fn talk_all<R: Threads + Clock + Sync>(
     rt: &R,
     alloc: Global,
@@ -87,7 +87,7 @@ fn talk_beside<R: Threads + Clock + Sync>(
     })
 }
 
-/// Loads the server that listens on the port of a load, and gives what was told.
+/// Loads the server that listens on the port of a load, and gives what was shown.
 pub fn load_port<R: Net<Stream = TcpStream> + Threads + Clock + Sync>(
     rt: &R,
     alloc: Global,

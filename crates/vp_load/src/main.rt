@@ -1,7 +1,7 @@
-//! Loads a server with 64 clients and an operator over sockets of 127.0.0.1, and compares what each was told with the server's log.
+//! Loads a server with 64 clients and an operator over sockets of 127.0.0.1, and compares what each was shown with the server's log.
 //! `vp_load PORT MILLISECONDS ENTRIES` serves a world on a port, lets its clients ask for so many milliseconds, and paces them and the
-//! simulation so that about so many entries come to the log in a second. Then it changes this and that of what was told, which the comparison must find. It
-//! prints `right` (status 0), or `wrong: ` and what first differs (status 1); on standard error it tells how many entries there were. Ten minutes, in which about 3,000,000 entries come to the log, of
+//! simulation so that about so many entries come to the log in a second. Then it changes this and that of what was shown, which the comparison must find. It
+//! prints `right` (status 0), or `wrong: ` and what first differs (status 1); on standard error it reports how many entries there were. Ten minutes, in which about 3,000,000 entries come to the log, of
 //! 4,194,304 at most:
 //!
 //!     vp_load 46153 600000 5000
@@ -41,7 +41,7 @@ use std::{env, io};
 use vp_expr::Checked;
 use vp_world::Entry;
 
-/// Tells on standard error how many entries a log has, of which kinds, and how many came in a second.
+/// Reports on standard error how many entries a log has, of which kinds, and how many came in a second.
 fn tell_entries<R: Eprint>(rt: &R, log: &[Entry], milliseconds: u64) -> io::Result<()> {
     for kind in KINDS {
         let entries = count(log, kind);
@@ -53,7 +53,7 @@ fn tell_entries<R: Eprint>(rt: &R, log: &[Entry], milliseconds: u64) -> io::Resu
     eprintln!(rt; "{entries} entries in {milliseconds} ms, {rate} a second")
 }
 
-/// Compares what was told with the log of a server that has ended, and tries whether the comparison finds what differs.
+/// Compares what was shown with the log of a server that has ended, and tries whether the comparison finds what differs.
 fn compare_server<R: AllocGlobal + Eprint>(
     rt: &R,
     checked: &Arc<Checked>,
@@ -72,7 +72,7 @@ fn compare_server<R: AllocGlobal + Eprint>(
     }
 }
 
-/// Loads a server, and compares what was told with its log.
+/// Loads a server, and compares what was shown with its log.
 fn run_load<R>(rt: &R, load: Load) -> Result<(), Difference>
 where
     R: AllocGlobal

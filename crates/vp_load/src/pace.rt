@@ -44,7 +44,7 @@ impl Pace {
         }
     }
 
-    /// Waits until a turn is due, and tells whether it is to be taken.
+    /// Waits until a turn is due, and reports whether it is to be taken.
     pub fn await_turn<R: Clock>(&self, rt: &R, turn: u64) -> io::Result<bool> {
         let due = self
             .interval

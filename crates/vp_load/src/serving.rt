@@ -24,7 +24,7 @@ const WORKERS: u32 = 2;
 /// So many connections the server has: those of the users and the operator's.
 const CONNECTIONS: u32 = CLIENTS as u32 + 1;
 
-/// A server that has ended, and what those who loaded it were told.
+/// A server that has ended, and what those who loaded it were shown.
 #[derive(Drop)]
 pub struct LoadedServer {
     pub closed: Closed,

@@ -1,4 +1,4 @@
-//! That the comparison finds what differs. Each trial changes one thing of what was told or of the log, compares, and changes it back; a comparison
+//! That the comparison finds what differs. Each trial changes one thing of what was shown or of the log, compares, and changes it back; a comparison
 //! that finds nothing would fail them.
 ghost use Rattle.std.specs.Prelude.{IfOk};
 ghost use Rattle.vp_elab.specs.Built.{Elaborated};
@@ -17,12 +17,12 @@ use vp_list::Text;
 use vp_policy::UserId;
 use vp_world::{Asked, Entry, Limits, LoggedEvent, Login};
 
-/// What first differs between a log and what was told.
+/// What first differs between a log and what was shown.
 fn first_difference(alloc: Global, log: &[Entry], transcripts: &Transcripts) -> Option<Difference> {
     compare_transcripts(alloc, log, transcripts).err()
 }
 
-/// That the last byte that user 6 was told is another is found.
+/// That the last byte that user 6 was shown is another is found.
 fn is_byte_found(alloc: Global, log: &[Entry], transcripts: &mut Transcripts) -> Option<bool> {
     let own = transcripts.users.get_mut(5)?;
     let last = own.pop()?;
@@ -34,7 +34,7 @@ fn is_byte_found(alloc: Global, log: &[Entry], transcripts: &mut Transcripts) ->
     Some(matches!(difference, Some(Difference::Transcript { number: 6, .. })))
 }
 
-/// That user 8 was told a byte more is found.
+/// That user 8 was shown a byte more is found.
 fn is_excess_found(alloc: Global, log: &[Entry], transcripts: &mut Transcripts) -> Option<bool> {
     transcripts.users.get_mut(7)?.push(b'\n').ok()?;
     let difference = first_difference(alloc, log, transcripts);
@@ -65,7 +65,7 @@ fn are_orders_found(alloc: Global, log: &[Entry], transcripts: &mut Transcripts)
     )
 }
 
-/// That a log lacks its first entry is found: a grant by what the operator ordered, another by what a user was told.
+/// That a log lacks its first entry is found: a grant by what the operator ordered, another by what a user was shown.
 fn is_lack_found(alloc: Global, log: &[Entry], transcripts: &Transcripts) -> Option<bool> {
     let difference = first_difference(alloc, log.get(1..)?, transcripts)?;
     let is_grant = matches!(&log.first()?.happening, LoggedEvent::Grant { .. });
@@ -76,7 +76,7 @@ fn is_lack_found(alloc: Global, log: &[Entry], transcripts: &Transcripts) -> Opt
     })
 }
 
-/// A log in which u1 opened a session and asked the time, of which he was told this, and such was the time after it.
+/// A log in which u1 opened a session and asked the time, which he was answered with this, and such was the time after it.
 fn short_log(alloc: Global, reply: Reply, time: u64) -> Result<Vec<Entry>, AllocError>
     ensures { (design : Elaborated) → IfOk result (λ log. AreWellFormed design log.items) }
 {
@@ -140,7 +140,7 @@ fn are_replies_found(alloc: Global, checked: &Arc<Checked>) -> bool {
         && matches!(time, Some(Difference::Time { place: 1 }))
 }
 
-/// What of a log and of what was told can be changed so that the comparison does not find it; none where it finds each. What was told is then as it was.
+/// What of a log and of what was shown can be changed so that the comparison does not find it; none where it finds each. What was shown is then as it was.
 pub fn first_missed(
     alloc: Global,
     checked: &Arc<Checked>,

@@ -80,7 +80,7 @@ instantiates_itself :
 unfolding digits is_utf8 chars encode_utf8
 instantiates_itself = refl
 
--- two modules that instantiate each other, after one that instantiates the second: the first of the two is told
+-- two modules that instantiate each other, after one that instantiates the second: the first of the two is reported
 instantiate_each_other :
     refusal_of (source (codes "module t; b u(); endmodule\nmodule a; b u(); endmodule\nmodule b; a u(); endmodule")
     (module_of 1 (span 0 1) 0 (span 0 0) ∷ module_of 10 (span 1 2) 1 (span 0 0) ∷ module_of 19 (span 2 3) 2 (span 0 0) ∷ [])

@@ -33,7 +33,7 @@ pub fn first_bad_target(source: &Source, scopes: &[Names]) -> Option<u32>
     first
 }
 
-/// The first connection of a text that may not stand so; none, or want of memory.
+/// The first connection of a text that may not stand so; none, or out of memory.
 pub fn first_bad_connection(
     alloc: Global,
     source: &Source,
@@ -55,7 +55,7 @@ pub fn first_bad_connection(
     Ok(first)
 }
 
-/// The first place of a text at which a net is driven that is driven before; none, or want of memory.
+/// The first place of a text at which a net is driven that is driven before; none, or out of memory.
 pub fn first_driven_twice(
     alloc: Global,
     source: &Source,

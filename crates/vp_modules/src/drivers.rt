@@ -106,7 +106,7 @@ fn repeated(alloc: Global, source: &Source, places: &[u32]) -> Result<Option<u32
     Ok(None)
 }
 
-/// The first place in a module at which a net is driven that is driven before; none, or want of memory.
+/// The first place in a module at which a net is driven that is driven before; none, or out of memory.
 pub fn driven_twice(
     alloc: Global,
     source: &Source,

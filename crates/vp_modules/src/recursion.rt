@@ -165,7 +165,7 @@ fn earlier_recursive(
     }
 }
 
-/// The name of the first module of a text that instantiates itself, at any depth; none, or want of memory.
+/// The name of the first module of a text that instantiates itself, at any depth; none, or out of memory.
 pub fn first_recursive(
     alloc: Global,
     source: &Source,

@@ -82,7 +82,7 @@ fn check_uses(alloc: Global, source: &Source, tables: &Tables) -> Result<(), Ela
     Ok(())
 }
 
-/// Tests the items of a text by its names, and tells for each the number of the module that it instantiates, and which modules are
+/// Tests the items of a text by its names, and reports for each the number of the module that it instantiates, and which modules are
 /// top modules; or the first refusal after that of a name declared twice. Takes memory.
 fn check_items(
     alloc: Global,

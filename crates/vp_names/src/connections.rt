@@ -217,7 +217,7 @@ fn instance_fault(
     }
 }
 
-/// The first connection in a module that may not stand so; none, or want of memory.
+/// The first connection in a module that may not stand so; none, or out of memory.
 pub fn bad_connection(
     alloc: Global,
     source: &Source,

@@ -34,7 +34,7 @@ pub enum ElabError {
     /// A viewport that is on no item of its envelope (508).
     #[error("line {line}: no item of this name for a viewport")]
     ViewportUnknown { line: u32 },
-    /// Want of memory (510).
+    /// Out of memory (510).
     #[error("no memory")]
     NoMemory,
 }

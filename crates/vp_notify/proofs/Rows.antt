@@ -14,7 +14,7 @@ on number object = record { number = number; object = record { 0 = object } }
 abbrev change : (object : ℕ) → Change
 change object = record { object = record { 0 = object }; value = One ∷ [] }
 
--- what a callback is told of that change
+-- what a callback is notified of that change
 abbrev told : (number object time : ℕ) → Notice
 told number object time = record { callback = number; object = record { 0 = object }; time = time; value = One ∷ [] }
 
@@ -79,7 +79,7 @@ no_change = refl
 following : (due (due three (Some (change 2)) 5) (Some (change 1)) 7).waiting ≡ told 1 2 5 ∷ told 3 2 5 ∷ told 2 1 7 ∷ []
 following = refl
 
--- without callback 1 only 3 is told, and what waited stays
+-- without callback 1 only 3 is notified, and what waited stays
 removed_between : (due (without (due three (Some (change 2)) 5) 1) (Some (change 2)) 6).waiting ≡ told 1 2 5 ∷ told 3 2 5 ∷ told 3 2 6 ∷ []
 removed_between = refl
 

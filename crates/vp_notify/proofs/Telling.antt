@@ -1,4 +1,4 @@
--- What waits while callbacks are told of a change, one after another.
+-- What waits while callbacks are notified of a change, one after another.
 use Rattle.std.proofs.Common.{◌≡◌, ◌∙◌, ℕ, ◌+◌, ◌-◌, ◌^◌, ◌<◌, nat_lt, min, Bool, true, false, if◌then◌else◌, List, [], ◌∷◌, ◌++◌, map, length, take, get_or, ap, sym, refl}
 use Rattle.std.specs.List.{fold}
 use Rattle.std.proofs.lemmas.List.{map_more}
@@ -12,7 +12,7 @@ held : (r : RegistryState) (notice : Notice) (has_room : Bool) → record r { wa
 held r notice true = refl
 held r notice false = refl
 
--- where the callbacks before a place are told, the one at it is told next
+-- where the callbacks before a place are notified, the one at it is notified next
 pub told_more : (r s : RegistryState) (tell : Callback → Notice) (callbacks : List Callback) (i capacity : ℕ) (d : Callback) (notice : Notice) (waiting : List Notice) (lost : ℕ)
     → i < length callbacks
     → notice ≡ tell (get_or callbacks i d)

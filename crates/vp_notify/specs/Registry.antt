@@ -78,7 +78,7 @@ without r number = record r { callbacks = filter (λ callback. not (is_numbered 
 
 -- ---- notices
 
--- what a callback is told of a change (clause 27.33.1)
+-- what a callback is notified of a change (clause 27.33.1)
 abbrev pub notice_of : Change → (time : ℕ) → Callback → Notice
 notice_of change time callback = record { callback = callback.number; object = change.object; time = time; value = change.value }
 

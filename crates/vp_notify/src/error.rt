@@ -13,7 +13,7 @@ pub enum NotifyError {
     /// No callback has the number (1002).
     #[error("no such callback")]
     NoSuchCallback,
-    /// Want of memory (1003).
+    /// Out of memory (1003).
     #[error("no memory")]
     NoMemory,
 }

@@ -1,4 +1,4 @@
-//! The value-change callbacks of a session and the notices that wait to be told (IEEE Std 1364-2005, 27.33, cbValueChange).
+//! The value-change callbacks of a session and the notices that wait to be reported (IEEE Std 1364-2005, 27.33, cbValueChange).
 //!
 //! A [`Registry`] has the callbacks, each on an object. A change of the object's value makes a notice for each of them, which waits until
 //! it is drained. It holds so many callbacks and so many notices and no more; a notice for which there is no room is lost, and counted.

@@ -20,7 +20,7 @@ pub const CALLBACK_LIMIT: usize = 1_024;
 /// The most notices that wait at a time.
 pub const NOTICE_LIMIT: usize = 4_096;
 
-/// A callback: its number, and the object whose changes it is told of.
+/// A callback: its number, and the object of whose changes it is notified.
 #[derive(Clone, Copy)]
 pub struct Callback {
     pub number: u32,
@@ -65,7 +65,7 @@ fn has_number(callbacks: &[Callback], number: u32) -> bool
     callbacks.iter().any(|callback| callback.number == number)
 }
 
-/// What a callback is told of a change at a time.
+/// What a callback is notified of a change at a time.
 fn notice_of(change: &Change, time: u64, callback: &Callback) -> Notice
     ensures { result ≡ notice_of change.now time callback.now }
 {

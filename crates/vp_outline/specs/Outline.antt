@@ -28,7 +28,7 @@ word_if so word = if so then word ∷ [] else []
 
 -- ---- words
 
--- the rights, in the order in which they are told
+-- the rights, in the order in which they are reported
 abbrev pub every_right : List Right
 every_right = right.List ∷ right.Read ∷ right.Watch ∷ right.Put ∷ right.Race ∷ []
 

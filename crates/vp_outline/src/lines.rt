@@ -13,7 +13,7 @@ use std::alloc::{AllocError, Global};
 use vp_list::Text;
 use vp_policy::{SeenEnvelope, SeenObject, View};
 
-/// Adds the line that tells whether a user may let the design run.
+/// Adds the line that reports whether a user may let the design run.
 fn push_run(text: &mut String, run: bool) -> Result<(), AllocError>
     ensures { OnOk result (string_bytes text.new
         ≡ string_bytes text.old ++ line_of (word_if run (codes "run"))) }

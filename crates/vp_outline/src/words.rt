@@ -8,7 +8,7 @@ use std::alloc::{AllocError, Global};
 use vp_elab::Kind;
 use vp_pragma::{Right, Rights};
 
-/// The rights, in the order in which they are told.
+/// The rights, in the order in which they are reported.
 const EVERY_RIGHT: [Right; 5] = [
     Right::List,
     Right::Read,

@@ -42,7 +42,7 @@ stops_alike symbols (stop_of.LeftOut n) h = stopped_as (read symbols) (Unexpecte
 stops_alike symbols (stop_of.TooDeep n) h = stopped_as (read symbols) (TooDeep n) (sym (source_seen DEPTH_LIMIT symbols) ∙ h)
 stops_alike symbols stop_of.NoMemory h = tt
 
--- what tells where reading stops says that no derivation spells the symbols
+-- what says where reading stops says that no derivation spells the symbols
 pub tells_none : (tokens : List Token) (symbols : List Symbol) (e : ParseError) → Tells tokens symbols e (read symbols) → IsUnderivable symbols e
 tells_none tokens symbols (error.Syntax line) t = λ d is spelled. unexpected_has_none DEPTH_LIMIT symbols d t.0 t.1 is spelled
 tells_none tokens symbols (error.LeftOut word line) t = λ d is spelled. unexpected_has_none DEPTH_LIMIT symbols d t.0 t.1 is spelled

@@ -1,4 +1,4 @@
--- What the grammar sees of tokens, the lists of a source, and where an error is told, computed on examples.
+-- What the grammar sees of tokens, the lists of a source, and where an error is reported, computed on examples.
 use Rattle.std.proofs.Common.{◌≡◌, false, List, [], ◌∷◌, Some, None, refl}
 use Rattle.vp_source.specs.declared.expression.Expression.TheVariants as expression_of
 use Rattle.vp_source.specs.declared.expression.Selection.TheVariants as selection_of
@@ -192,7 +192,7 @@ lists_of_chosen : put_source chosen ≡ (
 )
 lists_of_chosen = refl
 
--- ---- where an error is told
+-- ---- where an error is reported
 
 -- three symbols
 abbrev three : List Symbol

@@ -1,4 +1,4 @@
--- What the error of a text tells: where reading its symbols stops.
+-- What the error of a text reports: where reading its symbols stops.
 use Rattle.std.specs.Prelude.{◌≡◌, ℕ, ◌-◌, max, List, length, Option, slice_get, Result, Err}
 use Rattle.std.specs.Option.{option_and_then, option_map_or}
 use Rattle.vp_lex.specs.declared.token.Token.{Token}
@@ -21,7 +21,7 @@ abbrev pub line_told : List Token → List Symbol → ℕ → ℕ
 line_told tokens symbols unread =
     option_map_or (λ (t : Token). t.line) (option_and_then (λ (s : Symbol). slice_get tokens s.place) (stopped_at symbols unread)) 0
 
--- an error tells why and where reading stops, a word left out as one that is unexpected; want of memory tells nothing of it
+-- an error reports why and where reading stops, a word left out as one that is unexpected; out of memory reports nothing of it
 abbrev pub Tells : List Token → List Symbol → ParseError → Result Derivation Stop → Type 0
 Tells tokens symbols (error.Syntax line) read =
     (unread : ℕ) × (read ≡ Err (Unexpected unread)) × (line ≡ line_told tokens symbols unread)

@@ -4,7 +4,7 @@ ghost use Rattle.vp_parse.specs.declared.error.ParseError.TheVariants.{NoMemory}
 use std::alloc::{AllocError, AllocFailed};
 use thiserror::Error;
 
-/// Why a text has no source. The first fault in the order of the text is told, by its line;
+/// Why a text has no source. The first fault in the order of the text is reported, by its line;
 /// one at the end of the text by the line of the last token that the grammar sees.
 #[derive(Debug, Drop, Error)]
 pub enum ParseError {
@@ -18,7 +18,7 @@ pub enum ParseError {
     /// More than 64 statements nested (403).
     #[error("line {line}: nested too deep")]
     TooDeep { line: u32 },
-    /// Want of memory (404).
+    /// Out of memory (404).
     #[error("no memory")]
     NoMemory,
 }

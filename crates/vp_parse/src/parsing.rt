@@ -165,7 +165,7 @@ fn source_with(
     })
 }
 
-/// The source of a text, of its tokens; or its first fault (401, 402, 403), or want of memory (404).
+/// The source of a text, of its tokens; or its first fault (401, 402, 403), or out of memory (404).
 pub fn parse(alloc: Global, text: &str, tokens: &[Token]) -> Result<Source, ParseError>
     requires { length tokens.now ≤ TEXT_LIMIT }
     // What is found lies in the source as a derivation of the symbols says.

@@ -32,7 +32,7 @@ stopped_as {A} view (Err t) s e = let h : t ≡ s = cc in ap (λ (s : Stop). sto
 pub holds_at : {A : Type 0} (P : A → Type 0) (r : Result A Stop) (y : A) → r ≡ Ok y → Holds P r → P y
 holds_at {A} P r y e h = subst (λ (r : Result A Stop). Holds P r) e h
 
--- what is not read, where the code stops for another reason than want of memory
+-- what is not read, where the code stops for another reason than out of memory
 pub none_at : {A : Type 0} (r : Result A Stop) (e : stop.Stop) → Fails e r → (e ≡ stop_of.NoMemory) ⊎ ((y : A) → r ≡ Ok y → ⊥)
 none_at r (stop_of.Syntax n) h = inr (λ y k. let off = sym h ∙ k in absurd cc)
 none_at r (stop_of.LeftOut n) h = inr (λ y k. let off = sym h ∙ k in absurd cc)
@@ -111,7 +111,7 @@ range_found ts view (Ok x) h =
     let t = holds_at (IsRangeTaken ts) (range_at ts) y.0 y.1 (range_takes ts) in
     (y.0.0, subst (λ (z : range.Range × List Symbol). IsRangeOf ts z y.0.0) y.2 (record { spelled = t.0; is = t.1; bounds = refl }))
 
--- what is refused begins with no range, since want of memory is no such refusal
+-- what is refused begins with no range, since out of memory is no such refusal
 pub range_none : {X : Type 0} (ts : List Symbol) (view : X → range.Range × List Symbol) (r : Result X stop.Stop) → Gives view r (range_into ts) → IfErr r (λ s. s ≢ stop_of.NoMemory) → IfErr r (λ _. NoRange ts)
 range_none ts view (Ok x) h told = tt
 range_none ts view (Err s) h told =
@@ -131,7 +131,7 @@ name_again : (place : ℕ) (rest : List Symbol) → terminal symbol.Name (symbol
 unfolding terminal
 name_again place rest = refl
 
--- what is refused begins with no name, since want of memory is no such refusal
+-- what is refused begins with no name, since out of memory is no such refusal
 pub name_none : {X : Type 0} (ts : List Symbol) (view : X → ℕ × List Symbol) (r : Result X stop.Stop) → Gives view r (terminal symbol.Name ts) → IfErr r (λ s. s ≢ stop_of.NoMemory) → IfErr r (λ _. NoTerminal symbol.Name ts)
 name_none ts view (Ok x) h told = tt
 name_none ts view (Err s) h told =

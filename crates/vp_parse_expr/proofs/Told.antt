@@ -1,4 +1,4 @@
--- A stop that tells how many symbols are left is no want of memory.
+-- A stop that reports how many symbols are left is not out of memory.
 use Rattle.std.proofs.Common.{◌≡◌, ◌≢◌}
 use Rattle.std.specs.Prelude.{Some}
 use Rattle.vp_parse_expr.specs.declared.reading.Stop as stop

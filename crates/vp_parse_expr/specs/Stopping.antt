@@ -45,7 +45,7 @@ unfoldable pub following : SymbolKind → List Symbol → Result (List Symbol) S
 following kind [] = refused []
 following kind (s ∷ ts) = if same_kind kind s.kind then Ok ts else refused (s ∷ ts)
 
--- the stop that the code tells; none for want of memory
+-- the stop that the code reports; none when out of memory
 abbrev pub stop_told : stop.Stop → Option Stop
 stop_told (stop_of.Syntax left) = Some (Unexpected left)
 stop_told (stop_of.LeftOut left) = Some (Unexpected left)

@@ -1,4 +1,4 @@
-// What is next among symbols, and what that tells.
+// What is next among symbols, and what that reports.
 ghost use Rattle.std.specs.Prelude.{◌≡◌, length, Some};
 ghost use Rattle.vp_source.specs.Operators.{binds};
 ghost use Rattle.vp_parse_expr.specs.Reading.{is_number as kind_is_number, is_base as kind_is_base, is_alone as kind_is_alone, is_base_next as base_is_next, is_number_before as number_is_before, is_part as part_is_next, is_bare as bare, is_size_of as size_of, is_choice as choice_is_next};
@@ -139,7 +139,7 @@ fn is_indexed_part(symbols: &[Symbol], left: usize) -> bool {
     }
 }
 
-/// Where an index stops: `+:` and `-:` are left out, told at their colon.
+/// Where an index stops: `+:` and `-:` are left out, reported at their colon.
 pub fn index_stop(stop: Stop, symbols: &[Symbol]) -> Stop
     ensures { stop_told result ≡ stop_told stop }
 {

@@ -7,7 +7,7 @@ use std::alloc::{AllocError, Global};
 use vp_lex::{Token, TokenKind};
 use vp_source::{NUMBER_LIMIT, Symbol, SymbolKind};
 
-/// Values of base parts of this size and above are told no further.
+/// Values of base parts of this size and above are reported no further.
 const VALUE_LIMIT: u64 = 1 << 32;
 
 /// A value with one more decimal digit, at most `NUMBER_LIMIT`; `_` counts for nothing.

@@ -98,7 +98,7 @@ whole_case : read_kinds (word keyword.Casez ∷ opening ∷ name ∷ closing ∷
 unfolding read_kinds
 whole_case = refl
 
--- a second default is told at its keyword (9.5)
+-- a second default is reported at its keyword (9.5)
 second_default : read_kinds (word keyword.Case ∷ opening ∷ name ∷ closing ∷ word keyword.Default ∷ semicolon ∷ word keyword.Default ∷ semicolon ∷ word keyword.Endcase ∷ []) ≡ Err (Unexpected 3)
 unfolding read_kinds
 second_default = refl

@@ -812,7 +812,7 @@ fn statement_at<'a>(
 
 /// The statement with which symbols begin, laid out after the parts of an arena: its place, and what follows it. Its
 /// expressions nest at most `limit` deep, and it nests itself at most `depth` deep. Stops where no statement goes on, or
-/// nests deeper, or for want of memory.
+/// nests deeper, or out of memory.
 pub fn statement<'a>(
     arena: &mut Arena,
     limit: u32,

@@ -218,7 +218,7 @@ abbrev users : ℕ → List ℕ → List Member
 users zero name = []
 users (suc n) name = user name ((9, nothing) ∷ []) ∷ users n (97 ∷ name)
 
--- too many are told before a grant for no envelope
+-- too many are reported before a grant for no envelope
 one_too_many : accepted 2 (file (users 257 (codes "a"))) ≡ Err TooManyUsers
 one_too_many = refl
 

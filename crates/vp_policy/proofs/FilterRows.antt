@@ -139,7 +139,7 @@ absent_stops = refl
 found_stops : stops_in instance_design ann (Some 3) (codes "s" ∷ []) ≡ None
 found_stops = refl
 
--- where nothing is hidden, an absent name is told
+-- where nothing is hidden, an absent name is reported
 nothing_hidden : look_up instance_design ann (codes "top" ∷ codes "zz" ∷ []) ≡ look.Absent
 nothing_hidden = refl
 

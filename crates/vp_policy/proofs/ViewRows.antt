@@ -99,7 +99,7 @@ viewport_elsewhere = record instance_design {
   viewports = record { envelope = 1; in_module = Some (codes "ip"); item = codes "s"; rights = reading; line = 9 } ∷ [];
 }
 
--- the line of a viewport is not told
+-- the line of a viewport is not reported
 line_of_a_viewport : view_of (of_tree viewport_elsewhere) ann ≡ view_of (of_tree instance_design) ann
 line_of_a_viewport = refl
 

@@ -230,7 +230,7 @@ marked-append (b ∷ marks) [] c x e = absurd cc
 marked-append (true ∷ marks) (y ∷ xs) c x e = ap (λ ys. y ∷ ys) (marked-append marks xs c x (omega (arith, e)))
 marked-append (false ∷ marks) (y ∷ xs) c x e = marked-append marks xs c x (omega (arith, e))
 
--- numbers tell which are marked
+-- numbers say which are marked
 marks_of_numbers : (n : ℕ) (marks : List Bool) → map is_some (numbers_from n marks) ≡ marks
 marks_of_numbers n [] = refl
 marks_of_numbers n (true ∷ marks) = ap (λ ms. true ∷ ms) (marks_of_numbers (n + 1) marks)

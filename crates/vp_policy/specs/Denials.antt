@@ -4,7 +4,7 @@ use Rattle.vp_pragma.specs.declared.rights.Right.{Right}
 use Rattle.vp_policy.specs.declared.denial.ShownBarrier.{ShownBarrier}
 use Rattle.vp_policy.specs.declared.denial.Words.{Words}
 
--- a denial in the words that its user is told: what keeps him out, the number of the envelope, the right that he lacks, the author of
+-- a denial in the words that its user is shown: what keeps him out, the number of the envelope, the right that he lacks, the author of
 -- the envelope, and the object of the viewport that keeps him out, if one does (profile)
 pub record DenialText : Type 0 where
   pub by : ShownBarrier

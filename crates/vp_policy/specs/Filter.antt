@@ -89,7 +89,7 @@ barrier_of (by.Viewport n) = barrier.Viewport
 barrier_of by.Envelope = barrier.Envelope
 barrier_of by.Grant = barrier.Grant
 
--- a denial in the words that its user is told: with the author of its envelope, and the object of the viewport that keeps him
+-- a denial in the words that its user is shown: with the author of its envelope, and the object of the viewport that keeps him
 -- out, if one does (profile)
 abbrev pub words_of : Tree → Denial → DenialText
 words_of tree d = record {

@@ -1,4 +1,4 @@
--- What a user sees of a design: all that he is ever told of it but the values that change.
+-- What a user sees of a design: all that he is ever shown of it but the values that change.
 use Rattle.std.specs.Prelude.{◌≡◌, ℕ, ◌<◌, ◌&&◌, Bool, true, false, if◌then◌else◌, List, [], ◌∷◌, ◌++◌, map, filter, length, slice_get, Option, Some, None}
 use Rattle.std.specs.List.{enumerate_from}
 use Rattle.vp_bits.specs.declared.bit.Bit.{Bit}
@@ -46,7 +46,7 @@ pub record View : Type 0 where
   pub envelopes : List (List ℕ × Bool)
   pub run : Bool
 
--- a viewport as every user sees it whose object it matches: its line is not told (profile)
+-- a viewport as every user sees it whose object it matches: its line is not reported (profile)
 abbrev pub seen_viewport : Viewport → SeenViewport
 seen_viewport v = record { object = object_of v; rights = v.rights }
 

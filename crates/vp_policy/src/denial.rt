@@ -51,7 +51,7 @@ pub struct Words {
     object: Option<SharedText>,
 }
 
-/// A denial in the words that its user is told, which several may hold at once. A viewport is named by its object: its number
+/// A denial in the words that its user is shown, which several may hold at once. A viewport is named by its object: its number
 /// would count viewports that he can't see. A contract sees the words.
 #[derive(Drop)]
 pub struct DenialText {

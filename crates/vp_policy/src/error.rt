@@ -19,7 +19,7 @@ pub enum PolicyError {
     /// There are more than 256 users (904).
     #[error("too many users")]
     TooManyUsers,
-    /// Want of memory (905).
+    /// Out of memory (905).
     #[error("no memory")]
     NoMemory,
 }

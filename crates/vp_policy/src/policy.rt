@@ -88,7 +88,7 @@ fn list_at(lists: &[Sequence<u8>], number: usize) -> &[u8]
     lists[number].as_slice()
 }
 
-/// Two tokens are the same. Each byte is compared, also after the first that differs: else the time that this takes would tell
+/// Two tokens are the same. Each byte is compared, also after the first that differs: else the time that this takes would reveal
 /// how far a token was guessed.
 fn same_bytes(a: &[u8], b: &[u8]) -> bool
     ensures { result ≡ bytes_eq a.now b.now }

@@ -275,7 +275,7 @@ fn policy_of(alloc: Global, file: &Value, design: &Design) -> Result<Policy, Pol
 
 /// The policy of a file, for a design, with the tables of its users' rights; or why it is refused, each reason tested over the
 /// whole file before the next: the bytes are no policy file (901), two users have one name (902), there are more than 256 (904),
-/// a grant is for an envelope that the design does not have (903). Want of memory (905) may be met at any time.
+/// a grant is for an envelope that the design does not have (903). Out of memory (905) may be met at any time.
 pub fn read_policy(alloc: Global, bytes: &[u8], design: &Design) -> Result<Policy, PolicyError>
     ensures ok { IfOk result
         (λ policy. file_of (length design.now.tree.authors) bytes.now ≡ Ok (file_in policy)) }

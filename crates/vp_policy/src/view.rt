@@ -1,4 +1,4 @@
-// What a user sees of a design: all that he is ever told of it but the values that change.
+// What a user sees of a design: all that he is ever shown of it but the values that change.
 ghost use Rattle.std.specs.Prelude.{◌≡◌, ◌<◌, ◌^◌, [], IfOk, IfSome, IsOkUnless, List, None, Some, false, filter, if◌then◌else◌, is_some, length, map, option_map, slice_get, take, unwrap_or};
 ghost use Rattle.vp_elab.specs.Tree.{Node, matches_at};
 ghost use Rattle.vp_pragma.specs.Rights.{set_of};
@@ -20,7 +20,7 @@ use vp_operand::fitted;
 use vp_pragma::{Right, Rights};
 use vp_resolve::constant_at;
 
-/// A viewport as a user sees it: its envelope is that of the object that it matches, and its line is not told.
+/// A viewport as a user sees it: its envelope is that of the object that it matches, and its line is not reported.
 #[derive(Drop)]
 pub struct SeenViewport {
     /// The object that it names, as it is written.

@@ -138,12 +138,12 @@ envelopes_after (Err e) = Err e
 envelopes_after (Ok r) = ended_all r r.begun
 
 -- the envelopes of a text and its viewports, or the first fault of its pragmas: what its lines do, one after the other; an envelope
--- left open is told last (clause 28, profile)
+-- left open is reported last (clause 28, profile)
 pub record AreEnvelopes (text : List ℕ) (tokens : List Token) (due : Result Protection PragmaError) : Type 0 where
   pub effects : List (Placed × PragmaEffect)
   pub done : LinesDo text (lines_of text tokens) effects
   pub are : due ≡ envelopes_after (after_effects text tokens (Ok at_start) effects)
 
--- an error is the first fault of the pragmas of a text; want of memory may be told at any time
+-- an error is the first fault of the pragmas of a text; out of memory may be reported at any time
 abbrev pub IsFaultOf : List ℕ → List Token → PragmaError → Type 0
 IsFaultOf text tokens e = (due : Result Protection PragmaError) × AreEnvelopes text tokens due × MayExplain error.NoMemory (result_err due) e

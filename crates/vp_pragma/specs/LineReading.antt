@@ -77,7 +77,7 @@ expression_at (p ∷ ps) =
     then option_map (λ v. (Assigned p.1 v.0, v.1)) (pragma_value (rest_of ps))
     else Some (Alone p.0 p.1, ps))
 
--- what follows an expression does: nothing where it is the last, and else what is told of the tokens after a comma
+-- what follows an expression does: nothing where it is the last, and else what is reported of the tokens after a comma
 abbrev pub next_effects : (List Placed → List PragmaEffect) → List Placed → List PragmaEffect
 next_effects more [] = []
 next_effects more (p ∷ ps) = if is_comma p.1.kind then more ps else Bad ∷ []

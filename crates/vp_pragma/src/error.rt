@@ -4,8 +4,8 @@ ghost use Rattle.vp_pragma.specs.declared.error.PragmaError.TheVariants.{NoMemor
 use std::alloc::{AllocError, AllocFailed};
 use thiserror::Error;
 
-/// Why the pragmas of a text are refused. The first fault in the order of the text is told, by its line;
-/// an envelope that is left open is told last.
+/// Why the pragmas of a text are refused. The first fault in the order of the text is reported, by its line;
+/// an envelope that is left open is reported last.
 #[derive(Debug, Drop, Error)]
 pub enum PragmaError {
     /// A `begin` within an envelope (301).
@@ -35,7 +35,7 @@ pub enum PragmaError {
     /// A pragma that is not well formed (309).
     #[error("line {line}: bad pragma")]
     BadPragma { line: u32 },
-    /// Want of memory (310).
+    /// Out of memory (310).
     #[error("no memory")]
     NoMemory,
 }

@@ -64,7 +64,7 @@ pub struct Before {
     around: Surroundings,
     /// The line of the pragma on which the token before stands.
     line: Option<u32>,
-    /// The grammar's next token is `else`. It is told on the line of a pragma alone.
+    /// The grammar's next token is `else`. It is reported on the line of a pragma alone.
     before_else: bool,
 }
 
@@ -396,7 +396,7 @@ fn begins_line(before: Option<u32>, token: Token) -> bool
     }
 }
 
-/// The grammar's next token from a place on is `else`, as it is told before the place if that is on a pragma's line.
+/// The grammar's next token from a place on is `else`, as it is reported before the place if that is on a pragma's line.
 fn else_from(tokens: &[Token], place: usize, before: Before) -> bool
     requires { IsBefore tokens.now place before }
     ensures { result ≡ is_before_else tokens.now place }
@@ -530,7 +530,7 @@ fn ended(alloc: Global, reading: Reading) -> Result<Envelopes, PragmaError>
 }
 
 /// The envelopes of a text and its viewports, of its tokens; or the first fault of its pragmas (301, 302, 304 to 309;
-/// 303 last), or want of memory (310).
+/// 303 last), or out of memory (310).
 pub fn envelopes(alloc: Global, text: &str, tokens: &[Token]) -> Result<Envelopes, PragmaError>
     requires { length tokens.now ≤ TEXT_LIMIT }
     ensures ok { IfOk result (λ envelopes. AreEnvelopes text.now tokens.now (Ok envelopes)) }

@@ -12,11 +12,11 @@ pub enum Right {
     List,
     /// To read its value.
     Read,
-    /// To be told of its changes.
+    /// To be notified of its changes.
     Watch,
     /// To set its value.
     Put,
-    /// To be told of its races.
+    /// To be shown its races.
     Race,
 }
 

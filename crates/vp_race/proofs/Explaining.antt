@@ -7,15 +7,15 @@ use Rattle.vp_race.specs.declared.error.RaceError.TheVariants.{NotAnOrder, NotCo
 use Rattle.vp_race.specs.Orders.{followed}
 use Rattle.vp_sim.specs.States.{State}
 
--- want of memory explains everything
+-- out of memory explains everything
 pub memory_explains : (o : Option State) (e : RaceError) → e ≡ NoMemory → MayExplain NoMemory (choices_refusal o) e
 memory_explains o e h other = absurd (other h)
 
--- where no refusal is due, none is told
+-- where no refusal is due, none is reported
 none_due : {A : Type 0} (e : RaceError) → None ≡ Some e → A
 none_due e h = absurd (cc)
 
--- but want of memory
+-- but out of memory
 no_refusal : (e : RaceError) → MayExplain NoMemory None e → e ≡ NoMemory
 no_refusal NoMemory h = refl
 no_refusal NotAnOrder h = none_due NotAnOrder (h (λ is. cc))
@@ -30,6 +30,6 @@ pub first_explains : (o : Option State) (choices : List ℕ) (e : RaceError) →
 first_explains None choices e h = h
 first_explains (Some s) choices e h = λ other. none_due e (h other)
 
--- choices that lead to a state are refused for want of memory alone
+-- choices that lead to a state are refused out of memory alone
 pub whole_explains : (o : Option State) (end : State) (e : RaceError) → o ≡ Some end → MayExplain NoMemory (choices_refusal o) e → e ≡ NoMemory
 whole_explains o end e there h = no_refusal e (subst (λ (p : Option State). MayExplain NoMemory (choices_refusal p) e) there h)

@@ -13,7 +13,7 @@ told_other : (m n : ℕ) → m ≢ n → ((m == n) ≡ true) × (m ≡ n) ⊎ ((
 told_other m n h (inl same) = absurd (h same.1)
 told_other m n h (inr other) = other.0
 
--- numbers that are not equal are not told to be
+-- numbers that are not equal are not reported to be
 pub not_equal : (m n : ℕ) → m ≢ n → (m == n) ≡ false
 not_equal m n h = told_other m n h (eqb_tells m n)
 

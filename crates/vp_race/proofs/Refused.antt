@@ -108,11 +108,11 @@ apart_race b object first end values one other leads led h =
 
 -- ---- errors
 
--- where no refusal is due, none is told
+-- where no refusal is due, none is reported
 none_due : {A : Type 0} (e : RaceError) → None ≡ Some e → A
 none_due e h = absurd (cc)
 
--- want of memory explains everything
+-- out of memory explains everything
 pub memory_refused : (o : Option RaceError) (e : RaceError) → e ≡ NoMemory → MayExplain NoMemory o e
 memory_refused o e h other = absurd (other h)
 

@@ -96,7 +96,7 @@ impl Book {
     }
 
     /// Books a finding, beside the kept segment of its number, if that is kept. Refused where its segment is another one or is not kept (1204), where
-    /// the object is booked for this segment (1205), where the book is full (1206), or for want of memory (1207). A refusal leaves the
+    /// the object is booked for this segment (1205), where the book is full (1206), or out of memory (1207). A refusal leaves the
     /// book as it was.
     pub fn add(&mut self, kept: Option<&Segment>, finding: Shared<Finding>) -> Result<(), RaceError>
         requires { IfSome kept (λ s. s.now.start.design ≡ finding.segment.start.design) }

@@ -32,7 +32,7 @@ fn values_apart(first: &Sim, second: &Sim, object: ObjectId) -> Option<(Bits, Bi
     Some((value, other))
 }
 
-/// The finding of an object, if it is a net or reg that has different values in the simulations after two orders; or want of memory
+/// The finding of an object, if it is a net or reg that has different values in the simulations after two orders; or out of memory
 /// (1207).
 pub fn finding_at(
     orders: &OrderPair,
@@ -61,7 +61,7 @@ pub fn finding_at(
 
 /// A segment with an order beside the run's, where these choices are one, by two simulations that stand at the segment's start: the first takes the run's
 /// order, and the second the other. Refused where a choice is no step's (1201), where something is left to do after the last (1202), or
-/// for want of memory (1207).
+/// when out of memory (1207).
 #[tactic(auto, using(crate::proofs::Refused::memory_refused, crate::proofs::Refused::choices_refused))]
 fn pair_of(
     alloc: Global,
@@ -143,7 +143,7 @@ fn check_beside(
 
 /// The finding of an object, where these choices are an order of the segment's time slot after which it has another value than after the
 /// run's. Refused where a choice is no step's (1201), where something is left to do after the last (1202), where the object is no net or reg or has
-/// the same value (1203), or for want of memory (1207).
+/// the same value (1203), or out of memory (1207).
 pub fn check(
     alloc: Global,
     segment: &Arc<Segment>,

@@ -25,7 +25,7 @@ pub enum RaceError {
     /// The book has as many races as it may (1206).
     #[error("book full")]
     BookFull,
-    /// Want of memory (1207).
+    /// Out of memory (1207).
     #[error("no memory")]
     NoMemory,
 }

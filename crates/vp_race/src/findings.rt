@@ -99,7 +99,7 @@ impl Findings {
         Ok(())
     }
 
-    /// Finds each net and reg that is not found and has different values in the simulations after two orders; or want of memory (1207).
+    /// Finds each net and reg that is not found and has different values in the simulations after two orders; or out of memory (1207).
     pub fn find_after(
         &mut self,
         orders: &OrderPair,

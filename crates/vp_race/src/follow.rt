@@ -35,7 +35,7 @@ pub fn is_signal(simulation: &Sim, object: ObjectId) -> bool
     }
 }
 
-/// Takes the event of a choice. Refused where the choice is no step's (1201), or for want of memory (1207).
+/// Takes the event of a choice. Refused where the choice is no step's (1201), or out of memory (1207).
 fn take(simulation: &mut Sim, choice: u32) -> Result<(), RaceError>
     ensures ok { OnOk result (reached (step simulation.old choice) ≡ Some simulation.new) }
     ensures refused { IfErr result (MayExplain NoMemory
@@ -68,7 +68,7 @@ pub fn follow(
     Ok(())
 }
 
-/// The order that the run took in a segment, with its sources, taken by a simulation that stands at the segment's start; or want of memory
+/// The order that the run took in a segment, with its sources, taken by a simulation that stands at the segment's start; or out of memory
 /// (1207).
 pub fn run_order(alloc: Global, segment: &Segment, simulation: &mut Sim) -> Result<Order, RaceError>
     requires { simulation.old ≡ segment.now.start }

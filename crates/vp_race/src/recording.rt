@@ -49,7 +49,7 @@ impl Model for Recording {
 }
 
 impl Recording {
-    /// A simulation of a design in which nothing has happened; or want of memory (806).
+    /// A simulation of a design in which nothing has happened; or out of memory (806).
     pub fn new(alloc: Global, checked: Arc<Checked>) -> Result<Recording, SimError>
         ensures simulation { IfOk result (λ r. r.simulation ≡ start (arc_value checked)) }
         ensures segments { IfOk result (λ r. r.segments ≡ first_segments r.simulation) }
@@ -80,9 +80,9 @@ impl Recording {
         self.closed.count()
     }
 
-    /// Takes the k-th of the events that a step can take, and tells what it changed. It belongs to the open segment, which closes where nothing is left
+    /// Takes the k-th of the events that a step can take, and reports what it changed. It belongs to the open segment, which closes where nothing is left
     /// to do in the time slot after it. Refused where `$finish` was executed (804), where nothing is left to do at the current time (801), where
-    /// there are not so many events (802), where something would happen at 2^62 or later (805), or for want of memory (806). A refusal leaves
+    /// there are not so many events (802), where something would happen at 2^62 or later (805), or out of memory (806). A refusal leaves
     /// all as it was.
     pub fn step(&mut self, k: u32) -> Result<Option<Change>, SimError>
         requires { self.old.segments.count + 1 < 2 ^ 64 }
@@ -95,7 +95,7 @@ impl Recording {
         ensures unchanged { OnErr result (self.new ≡ self.old) }
     {
         if make_ready(self.alloc, &mut self.simulation, &mut self.begun).is_err() {
-            // The simulation's own refusal comes before want of memory.
+            // The simulation's own refusal comes before out of memory.
             self.simulation.check_step(k as usize)?;
             return Err(SimError::NoMemory);
         }
@@ -109,7 +109,7 @@ impl Recording {
     }
 
     /// Goes on to the time of the next future event, where a segment begins. Refused where `$finish` was executed (804), where something is left
-    /// to do at the current time (803), where there is no future event (801), or for want of memory (806). A refusal leaves all as it was.
+    /// to do at the current time (803), where there is no future event (801), or out of memory (806). A refusal leaves all as it was.
     pub fn advance(&mut self) -> Result<(), SimError>
         ensures ok { OnOk result (advance self.old.simulation ≡ Goes self.new.simulation None) }
         ensures segments { OnOk result
@@ -123,8 +123,8 @@ impl Recording {
         Ok(())
     }
 
-    /// Gives an object a value at once, at the object's width, wakes what waits for the change, and tells what changed; the segment begins anew. Refused
-    /// where `$finish` was executed (804), or for want of memory (806). A refusal leaves all as it was.
+    /// Gives an object a value at once, at the object's width, wakes what waits for the change, and reports what changed; the segment begins anew. Refused
+    /// where `$finish` was executed (804), or out of memory (806). A refusal leaves all as it was.
     pub fn put(&mut self, object: ObjectId, value: Bits) -> Result<Option<Change>, SimError>
         ensures ok { IfOk result
             (λ change. put self.old.simulation object.0 value ≡ Goes self.new.simulation change) }
@@ -153,7 +153,7 @@ impl Recording {
         self.closed.next(self.last_job)
     }
 
-    /// Hands out the oldest kept segment that was not handed out, and tells its number; none where there is none, and nothing changes.
+    /// Hands out the oldest kept segment that was not handed out, and reports its number; none where there is none, and nothing changes.
     pub fn take_job(&mut self) -> Option<u64>
         ensures number { result ≡ option_map (λ run. run.number) (next_job self.old.segments) }
         ensures simulation { self.new.simulation ≡ self.old.simulation }

@@ -16,7 +16,7 @@ use std::alloc::Global;
 use std::sync::Arc;
 use vp_sim::Sim;
 
-/// Tries the order of a seed by a simulation, and finds what differs after it from another that stands after the run's order; or want of memory
+/// Tries the order of a seed by a simulation, and finds what differs after it from another that stands after the run's order; or out of memory
 /// (1207).
 fn try_seed(
     alloc: Global,
@@ -133,7 +133,7 @@ fn search_beside<G: Gate>(
 
 /// The races of a segment that the orders of so many seeds show, each of at most so many steps: each net and reg once, by seed and then by number. The gate
 /// is asked once before, and once after each order that was tried; where it answers no, what was found till then is the answer. A segment in
-/// which the run never had a choice has one order, and none is tried. The only refusal is want of memory (1207).
+/// which the run never had a choice has one order, and none is tried. The only refusal is out of memory (1207).
 pub fn search<G: Gate>(
     alloc: Global,
     segment: &Arc<Segment>,

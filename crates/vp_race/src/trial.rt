@@ -32,7 +32,7 @@ fn choice(seed: u64, number: u64, count: usize) -> u32
     }
 }
 
-/// Takes the event of a choice, whose process and number are appended to an order; or tells that it is no step's, or want of memory (1207).
+/// Takes the event of a choice, whose process and number are appended to an order; or reports that it is no step's, or out of memory (1207).
 fn take_into(simulation: &mut Sim, order: &mut Order, choice: u32) -> Result<bool, RaceError>
     ensures taken { IfOk result (λ taken. taken ≡ true
         → reached (step simulation.old choice) ≡ Some simulation.new) }
@@ -56,7 +56,7 @@ fn take_into(simulation: &mut Sim, order: &mut Order, choice: u32) -> Result<boo
 }
 
 /// Whether a simulation ends its time slot by at most so many steps, chosen by a seed; the order is appended to one that is empty. Else a step was refused, or
-/// something is left to do after the last; or there was want of memory (1207).
+/// something is left to do after the last; or when out of memory (1207).
 pub fn try_into(
     simulation: &mut Sim,
     order: &mut Order,

@@ -16,7 +16,7 @@ pub enum ExprError {
     /// A select of a scalar, a part-select that is not inside the declared range, or a replication of 0 (603).
     #[error("line {line}: bad select")]
     BadSelect { line: u32 },
-    /// Want of memory (604).
+    /// Out of memory (604).
     #[error("no memory")]
     NoMemory,
 }

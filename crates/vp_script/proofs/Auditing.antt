@@ -72,7 +72,7 @@ module _ (text bytes : List ℕ) (design : Elaborated) (policy : PolicyState) (r
   gives : Gives bytes design (file_in policy)
   gives = record { fits = read.fits; is_file = read.is_file }
 
-  -- want of memory is what a view may be refused by
+  -- a view may be refused when out of memory
   allocation_error : (name : List ℕ) (f : ServeFault) → IsOutOfMemory f → IsUntoldUnder bytes name design f
   allocation_error name (fault.Policy e) h = inr (file_in policy, gives, h)
   allocation_error name (fault.World e) h = inl h

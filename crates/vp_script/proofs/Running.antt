@@ -234,7 +234,7 @@ pub run_continues :
 run_continues w u v (n, happened) no_job none is =
     (suc n, (record { world = u; found = [] }, happened, turn_next u no_job none ∙ ap (λ (u' : WorldLog). Some (record { world = u'; found = [] })) (sym is)))
 
--- a run that ends for want of memory
+-- a run that ends when out of memory
 pub run_out_of_memory : (w u v : WorldLog) → (n : ℕ) × Happen n (record { world = w; found = [] }) (record { world = u; found = [] }) → GoesOn true (record { world = u; found = [] }) v → Runs true w v
 run_out_of_memory w u v (n, happened) (m, rest, more, end) = (m + n, rest, happen_then n m _ _ _ happened more, inl refl)
 

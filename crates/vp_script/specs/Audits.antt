@@ -1,4 +1,4 @@
--- An audit after a script: what one user was told is what comes of what he can know (profile).
+-- An audit after a script: what one user was shown is what comes of what he can know (profile).
 use Rattle.std.specs.Prelude.{◌≡◌, ◌⊎◌, ℕ, Bool, true, if◌then◌else◌, List, length, Option, Some, None}
 use Rattle.vp_policy.specs.declared.error.PolicyError.TheVariants as policy_error
 use Rattle.vp_policy.specs.Users.{user_of}
@@ -16,11 +16,11 @@ use Rattle.vp_script.specs.Views.{IsViewRefusedBy}
 
 -- ---- an audit
 
--- the audit of the user of a number, of a log: what he was told is the same, as many replies as there are to his own events
+-- the audit of the user of a number, of a log: what he was shown is the same, as many replies as there are to his own events
 abbrev pub audit_of : (user : ℕ) → List Entry → Audit
 audit_of user log = record { same = true; number = length (replies_of user log) }
 
--- what the user of a number was told by a log of a world of an opening, and what came to him of it, where it is asked for
+-- what the user of a number was shown by a log of a world of an opening, and what came to him of it, where it is asked for
 abbrev pub explanation_if : (explain : Bool) → Opening → (user : ℕ) → List Entry → Option (List ℕ)
 explanation_if explain opening user log = if explain then Some (log_explanation opening user log) else None
 
@@ -31,7 +31,7 @@ audited_of explain opening user log = record {
   explanation = explanation_if explain opening user log;
 }
 
--- a script, from how its world opens to what it is after an input: the input is read to its end, and what is told goes nowhere
+-- a script, from how its world opens to what it is after an input: the input is read to its end, and what is reported goes nowhere
 pub record RunsTo (opening : Opening) (unread still_unread : Option (List ℕ)) (following : Script) : Type 0 where
   pub out_of_memory : Bool
   pub lines : ℕ
@@ -64,13 +64,13 @@ IsOutOfMemory (fault.World e) = e ≡ error.NoMemory
 IsOutOfMemory fault.NoMemory = Unit {0}
 IsOutOfMemory f = ⊥
 
--- a script over an input has ended without an audit: by a fault of the reader; or at the end of the input, for want of memory
+-- a script over an input has ended without an audit: by a fault of the reader; or at the end of the input, when out of memory
 abbrev pub EndsRunBy : Opening → (unread still_unread : Option (List ℕ)) → ServeFault → Type 0
 EndsRunBy opening unread still_unread (fault.Lines e) = IsStopped e (opened opening) unread still_unread None None
 EndsRunBy opening unread still_unread fault.NoMemory = (following : Script) × RunsTo opening unread still_unread following
 EndsRunBy opening unread still_unread f = ⊥
 
--- the same, or before anything was read, for want of memory
+-- the same, or before anything was read, when out of memory
 abbrev pub EndsOpenedBy : Opening → (unread still_unread : Option (List ℕ)) → ServeFault → Type 0
 EndsOpenedBy opening unread still_unread f =
     (IsOutOfMemory f × (still_unread ≡ unread)) ⊎ EndsRunBy opening unread still_unread f

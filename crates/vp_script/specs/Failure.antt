@@ -1,4 +1,4 @@
--- What is told of a fault in words (profile).
+-- What is reported of a fault in words (profile).
 use Rattle.std.specs.Prelude.{◌≡◌, ◌⊎◌, ◌≤◌, IsUtf8, length, ℕ, List, [], codes}
 use Rattle.vp_design.specs.Designs.{text_limit}
 use Rattle.vp_diagnostic.specs.Diagnostics.{IsDesignDiagnostic}
@@ -49,13 +49,13 @@ IsDiagnostic design_name design policy_name (fault.Policy e) text = IsPolicyDiag
 IsDiagnostic design_name design policy_name fault.TooLong text = text ≡ file_text policy_name 1603 (words_of fault.TooLong)
 IsDiagnostic design_name design policy_name f text = text ≡ plain_text (code_of f) (words_of f)
 
--- what is told where there may be no memory for it: nothing then
+-- what is reported where there may be no memory for it: nothing then
 abbrev pub IsToldOr : (List ℕ → Type 0) → List ℕ → Type 0
 IsToldOr is text = (text ≡ []) ⊎ is text
 
 -- ---- a bundle
 
--- the name under which the parts of a bundle are told
+-- the name under which the parts of a bundle are reported
 abbrev pub standard_input : List ℕ
 standard_input = codes "standard input"
 

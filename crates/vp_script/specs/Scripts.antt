@@ -35,7 +35,7 @@ use Rattle.vp_script.specs.Designs.{IsRefusedBy}
 
 -- ---- one event
 
--- what a world does with an event, by its refusal: it answers and logs it, or tells the refusal; or there is no memory, and
+-- what a world does with an event, by its refusal: it answers and logs it, or reports the refusal; or there is no memory, and
 -- nothing happens
 abbrev pub AppliedBy : Option WorldError → WorldLog → Event → Reply → WorldLog → Type 0
 AppliedBy (Some e) w happens answer v = (answer ≡ reply.Error (refusal_of_error e)) × (v ≡ w)
@@ -164,7 +164,7 @@ pub record IsOpened (text policy : List ℕ) (script : Script) : Type 0 where
   pub is_file : file_of (length design.tree.authors) policy ≡ Ok file
   pub fresh : script ≡ opened (opening_of design (policy_for design.tree file))
 
--- a script over an input has read it to the end, so many lines, and each was told what the script answers it; and it is this script
+-- a script over an input has read it to the end, so many lines, and each was answered what the script answers it; and it is this script
 -- after that
 pub record IsAnswered (out_of_memory : Bool) (script following : Script) (unread still_unread held holds : Option (List ℕ)) (lines : ℕ) : Type 0 where
   pub end : Point Script
@@ -180,7 +180,7 @@ pub record IsScript (out_of_memory : Bool) (text policy : List ℕ) (unread stil
 
 -- ---- faults
 
--- a script over an input has stopped by a fault of the reader or the writer, and each line that was answered till then was told what
+-- a script over an input has stopped by a fault of the reader or the writer, and each line that was answered till then was answered what
 -- the script answers it
 pub record IsStopped (e : WireError) (script : Script) (unread still_unread held holds : Option (List ℕ)) : Type 0 where
   pub out_of_memory : Bool

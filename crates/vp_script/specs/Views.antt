@@ -1,4 +1,4 @@
--- What is told of a design and a policy before anything runs (profile).
+-- What is reported of a design and a policy before anything runs (profile).
 use Rattle.std.specs.Prelude.{◌≡◌, ◌⊎◌, ◌≤◌, ℕ, List, length, Some, None, Ok}
 use Rattle.vp_elab.specs.Built.{Elaborated}
 use Rattle.vp_policy.specs.declared.error.PolicyError.TheVariants as policy_error
@@ -47,9 +47,9 @@ IsSeenUnder policy name design view = (file : PolicyFile) × Gives policy design
 abbrev pub IsViewOf : (text policy name view : List ℕ) → Type 0
 IsViewOf text policy name view = (design : Elaborated) × IsDesignOf text design × IsSeenUnder policy name design view
 
--- ---- why it is not told
+-- ---- why it is not reported
 
--- what the user of a name among these sees is not told for this fault: there is no such user, or memory is lacking
+-- what the user of a name among these sees is not reported for this fault: there is no such user, or memory is lacking
 abbrev pub IsUntold : List Member → (name : List ℕ) → ServeFault → Type 0
 IsUntold users name fault.NoSuchUser = user_of users name ≡ None
 IsUntold users name (fault.Policy e) = e ≡ policy_error.NoMemory

@@ -1,4 +1,4 @@
-// Audits: whether what a user was told by a script is what comes of what he can know.
+// Audits: whether what a user was shown by a script is what comes of what he can know.
 ghost use Rattle.std.specs.Prelude.{◌≡◌, IfErr, IfOk, IsOkUnless, OnOk};
 ghost use Rattle.std.specs.Arc.{arc_value};
 ghost use Rattle.vp_explain.specs.Openings.{IsRight};
@@ -26,11 +26,11 @@ use vp_wire::Counted;
 #[derive(Drop)]
 pub struct Audited {
     pub audit: Audit,
-    /// Where it is asked for: what the user was told and what came to him (docs/FORMATS.md, "What a user was told").
+    /// Where it is asked for: what the user was shown and what came to him (docs/FORMATS.md, "What a user was shown").
     pub explanation: Option<Text>,
 }
 
-/// The audit of a user, of a kept script's log, by the design and the policy with which its world opened; or want of memory.
+/// The audit of a user, of a kept script's log, by the design and the policy with which its world opened; or out of memory.
 fn log_audit(
     alloc: Global,
     checked: &Checked,
@@ -50,7 +50,7 @@ fn log_audit(
     }
 }
 
-/// What a user was told by a kept script's log and what came to him of it, where it is asked for; or want of memory.
+/// What a user was shown by a kept script's log and what came to him of it, where it is asked for; or out of memory.
 fn log_explanation(
     alloc: Global,
     checked: &Checked,
@@ -75,7 +75,7 @@ fn log_explanation(
     }
 }
 
-/// What an audit of a user gives, of a kept script's log, by the design and the policy with which its world opened; or want of memory.
+/// What an audit of a user gives, of a kept script's log, by the design and the policy with which its world opened; or out of memory.
 fn log_audited(
     alloc: Global,
     checked: &Checked,
@@ -97,7 +97,7 @@ fn log_audited(
     })
 }
 
-/// Answers the lines of a reader by a script, up to the end of the input, and tells no reply; or the fault of the reader.
+/// Answers the lines of a reader by a script, up to the end of the input, and reports no reply; or the fault of the reader.
 fn run_to_end<R: Read>(
     alloc: Global,
     script_session: &mut ScriptSession,
@@ -119,7 +119,7 @@ fn run_to_end<R: Read>(
     }
 }
 
-/// A fresh script of a design and a policy, which the caller keeps; or want of memory.
+/// A fresh script of a design and a policy, which the caller keeps; or out of memory.
 fn script_session_for(
     alloc: Global,
     checked: &Arc<Checked>,
@@ -134,7 +134,7 @@ fn script_session_for(
     script_session_of(alloc, Arc::try_clone(checked)?, own_policy)
 }
 
-/// Runs a fresh script, which the caller keeps, over a reader, and audits a user after it; or the fault of the reader, or want of memory at
+/// Runs a fresh script, which the caller keeps, over a reader, and audits a user after it; or the fault of the reader, or out of memory at
 /// the end of the input.
 fn run_and_audit<R: Read>(
     alloc: Global,
@@ -190,9 +190,9 @@ fn script_audit<R: Read>(
     audited
 }
 
-/// Runs the lines of a reader as `run_script` does, but tells no reply, and then audits the user of a name: what he was told is the same
+/// Runs the lines of a reader as `run_script` does, but reports no reply, and then audits the user of a name: what he was shown is the same
 /// as what comes of what he can know, in so many replies as his sessions have events; and, where it is asked for, an explanation. Or the first fault: of the design, then of the
-/// policy, then that the policy has no such user (1604), before which nothing is read; then of the reader; or want of memory, before
+/// policy, then that the policy has no such user (1604), before which nothing is read; then of the reader; or out of memory, before
 /// anything is read or at the end of the input (905, 1307, 1607).
 pub fn audit_script<R: Read>(
     alloc: Global,

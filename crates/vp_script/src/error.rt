@@ -41,7 +41,7 @@ pub enum ServeFault {
     /// The thread of the simulation or a worker's can't be started (1606).
     #[error("no thread")]
     NoThread,
-    /// Want of memory (1607).
+    /// Out of memory (1607).
     #[error("no memory")]
     NoMemory,
 }

@@ -18,7 +18,7 @@ use vp_list::Text;
 use vp_policy::PolicyError;
 use vp_wire::WireError;
 
-/// The name under which the parts of a bundle are told.
+/// The name under which the parts of a bundle are reported.
 pub const STANDARD_INPUT: &str = "standard input";
 
 /// A fault, and its diagnostic, which is empty where there is no memory for it.
@@ -158,7 +158,7 @@ impl Sources<'_, '_> {
         }
     }
 
-    /// The design, read again to find the key at which the policy is at fault; none for want of memory, which is at no key.
+    /// The design, read again to find the key at which the policy is at fault; none when out of memory, which is at no key.
     fn design_for(self, alloc: Global, error: &PolicyError) -> Option<Arc<Checked>> {
         match error {
             PolicyError::NoMemory => None,

@@ -20,17 +20,17 @@ fn file_bytes<R: AllocGlobal + Files>(rt: &R, path: &str) -> Result<Vec<u8>, Ser
     read_at_most(rt.alloc(), file, TEXT_LIMIT)
 }
 
-/// The bytes of a file, as `file_bytes` reads them; a fault is told with the name of the file.
+/// The bytes of a file, as `file_bytes` reads them; a fault is reported with the name of the file.
 fn named_bytes<R: AllocGlobal + Files>(rt: &R, path: &str) -> Result<Vec<u8>, Failure> {
     file_bytes(rt, path).map_err(|fault| Failure::of_file(rt.alloc(), path, fault))
 }
 
-/// The text of a design's bytes; a fault is told with the name of its file.
+/// The text of a design's bytes; a fault is reported with the name of its file.
 fn named_text<'a>(alloc: Global, path: &str, bytes: &'a [u8]) -> Result<&'a str, Failure> {
     text_of(bytes, ServeFault::ReadFailed).map_err(|fault| Failure::of_file(alloc, path, fault))
 }
 
-/// Reads the file of a design; or tells its first fault.
+/// Reads the file of a design; or reports its first fault.
 fn check_design_file<R: AllocGlobal + Files>(rt: &R, path: &str) -> Result<(), Failure> {
     let alloc = rt.alloc();
     let bytes = named_bytes(rt, path)?;
@@ -54,7 +54,7 @@ pub struct SourceFiles<'d, 'p> {
 }
 
 impl<'d, 'p> SourceFiles<'d, 'p> {
-    /// Reads both files, the design's first; a fault is told with the name of the file.
+    /// Reads both files, the design's first; a fault is reported with the name of the file.
     pub fn read<R: AllocGlobal + Files>(
         rt: &R,
         design_name: &'d str,
@@ -79,7 +79,7 @@ impl<'d, 'p> SourceFiles<'d, 'p> {
     }
 }
 
-/// Reads the file of a design, and that of a policy if there is one, as `run_files` does; or tells the first fault.
+/// Reads the file of a design, and that of a policy if there is one, as `run_files` does; or reports the first fault.
 pub fn check_files<R: AllocGlobal + Files>(
     rt: &R,
     design: &str,

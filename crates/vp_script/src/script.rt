@@ -31,7 +31,7 @@ pub struct Ran {
     pub out_of_memory: bool,
 }
 
-/// The checked design of a text, to be shared; or its first fault, or want of memory (1607).
+/// The checked design of a text, to be shared; or its first fault, or out of memory (1607).
 pub(crate) fn checked(alloc: Global, text: &str) -> Result<Arc<Checked>, ServeFault>
     ensures design { IfOk result (λ checked. IsDesignOf text.now (arc_value checked)) }
     ensures refused { IfErr result (λ fault. IsRefusedBy text.now fault) }
@@ -53,7 +53,7 @@ pub(crate) fn policy_of(alloc: Global, bytes: &[u8], design: &Design) -> Result<
     Ok(read_policy(alloc, bytes, design)?)
 }
 
-/// A world of a design and a policy, with the greatest limits, in which nothing has happened; or want of memory.
+/// A world of a design and a policy, with the greatest limits, in which nothing has happened; or out of memory.
 fn world_of(alloc: Global, checked: Arc<Checked>, policy: Policy) -> Result<World, ServeFault>
     requires { Fits policy (arc_value checked).tree }
     ensures world { IfOk result
@@ -63,7 +63,7 @@ fn world_of(alloc: Global, checked: Arc<Checked>, policy: Policy) -> Result<Worl
     Ok(World::new(alloc, checked, policy, Limits::GREATEST)?)
 }
 
-/// A fresh world of a design and a policy, whose script has no session yet; or want of memory.
+/// A fresh world of a design and a policy, whose script has no session yet; or out of memory.
 pub(crate) fn script_session_of(
     alloc: Global,
     checked: Arc<Checked>,
@@ -78,7 +78,7 @@ pub(crate) fn script_session_of(
 }
 
 /// A world of the text of a design and the file of a policy, with the greatest limits, in which nothing has happened; or the first
-/// fault of the design, then of the policy, as `run_script` tells them; or want of memory (905, 1307, 1607).
+/// fault of the design, then of the policy, as `run_script` reports them; or out of memory (905, 1307, 1607).
 pub fn fresh_world(alloc: Global, design: &str, policy: &[u8]) -> Result<World, ServeFault>
     ensures world { IfOk result
         (λ world. IsOpened design.now policy.now (begun world)) }
@@ -122,7 +122,7 @@ pub(crate) fn answered<R: Read, W: Write>(
 }
 
 /// Answers the lines of a reader about a design under a policy, up to the end of the input; or the first fault: of the design, then of
-/// the policy, before which nothing is read and nothing written; then of the reader or the writer; or want of memory to begin (1607).
+/// the policy, before which nothing is read and nothing written; then of the reader or the writer; or out of memory to begin (1607).
 pub fn run_script<R: Read, W: Write>(
     alloc: Global,
     design: &str,

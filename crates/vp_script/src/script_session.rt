@@ -40,7 +40,7 @@ fn event_of(session: Option<SessionId>, request: Request) -> Option<Event>
     }
 }
 
-/// What a world answers to an event, if there is one, or tells where it refuses it.
+/// What a world answers to an event, if there is one, or says where it refuses it.
 fn applied(world: &mut World, event: Option<Event>) -> Reply
     requires { IfSome event (IsWellFormed world.old.opening.design) }
     ensures { Applied event world.old result world.new }
@@ -55,7 +55,7 @@ fn applied(world: &mut World, event: Option<Event>) -> Reply
 }
 
 /// Lets the next event of the simulation happen: the first that a step can take, or, where nothing is left to do at the current
-/// time, an advance; or tells why not.
+/// time, an advance; or reports why not.
 fn run_next(world: &mut World) -> Result<(), WorldError>
     ensures ok { OnOk result
         ((refused_by world.old (next_event world.old) ≡ None)
@@ -70,7 +70,7 @@ fn run_next(world: &mut World) -> Result<(), WorldError>
     }
 }
 
-/// Lets an event happen whose reply nobody needs; else its refusal, or want of memory, which leave the world as it was.
+/// Lets an event happen whose reply nobody needs; else its refusal, or out of memory, which leave the world as it was.
 fn happens(world: &mut World, event: Event) -> Result<(), WorldError>
     requires { IsWellFormed world.old.opening.design event }
     ensures { Applies world.old event result world.new }
@@ -79,7 +79,7 @@ fn happens(world: &mut World, event: Event) -> Result<(), WorldError>
     Ok(())
 }
 
-/// Lets an event happen if the world lets it, and tells whether it did; or want of memory, which leaves the world as it was.
+/// Lets an event happen if the world lets it, and reports whether it did; or out of memory, which leaves the world as it was.
 fn tried(world: &mut World, event: Event) -> Result<bool, AllocError>
     requires { IsWellFormed world.old.opening.design event }
     ensures done { IfOk result (λ done. done ≡ true
@@ -95,7 +95,7 @@ fn tried(world: &mut World, event: Event) -> Result<bool, AllocError>
     }
 }
 
-/// Books a race that was found, unless the world refuses it; or want of memory, which leaves the world as it was.
+/// Books a race that was found, unless the world refuses it; or out of memory, which leaves the world as it was.
 fn book(alloc: Global, world: &mut World, finding: Finding) -> Result<(), AllocError>
     requires { finding.segment.start.design ≡ world.old.opening.design }
     ensures booked { OnOk result (world.new ≡ with_event_if world.old (event.Book finding)) }
@@ -143,7 +143,7 @@ fn search_segment(
     book_all(alloc, world, &mut findings)
 }
 
-/// The segment of the next job, to be shared, if there is one; or want of memory.
+/// The segment of the next job, to be shared, if there is one; or out of memory.
 fn next_segment(alloc: Global, world: &World) -> Result<Option<Arc<Segment>>, AllocError>
     ensures job { IfOk result (λ job. option_map arc_value job
         ≡ next_job (state_after world.now.opening world.now.log).segments) }
@@ -157,7 +157,7 @@ fn next_segment(alloc: Global, world: &World) -> Result<Option<Arc<Segment>>, Al
     Ok(Some(Arc::new(alloc, segment)?))
 }
 
-/// Takes the next job, if there is one, searches its segment for races and books them, and tells whether there was one; or as far as
+/// Takes the next job, if there is one, searches its segment for races and books them, and reports whether there was one; or as far as
 /// there is memory for.
 fn search_next(alloc: Global, world: &mut World) -> Result<bool, AllocError>
     ensures none { IfOk result (λ found. found ≡ false → (world.new ≡ world.old)

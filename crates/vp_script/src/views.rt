@@ -1,4 +1,4 @@
-// What is told of a design and a policy before anything runs.
+// What is reported of a design and a policy before anything runs.
 ghost use Rattle.std.specs.Prelude.{IfErr, IfOk, OnOk};
 ghost use Rattle.vp_policy.specs.PolicyState.{Fits};
 ghost use Rattle.vp_script.specs.Designs.{IsRefusedBy};
@@ -13,7 +13,7 @@ use vp_list::Text;
 use vp_outline::outline;
 use vp_policy::Policy;
 
-/// Reads a design, and nothing more; or tells its first fault, as a run does.
+/// Reads a design, and nothing more; or reports its first fault, as a run does.
 pub fn check_design(alloc: Global, design: &str) -> Result<(), ServeFault>
     ensures design { OnOk result (HasDesign design.now) }
     ensures refused { IfErr result (λ fault. IsRefusedBy design.now fault) }
@@ -31,7 +31,7 @@ fn check_file(alloc: Global, design: &Design, policy: &[u8]) -> Result<(), Serve
     Ok(())
 }
 
-/// Reads a design and a policy, and nothing more; or tells the first fault of the design, then of the policy, as a run does.
+/// Reads a design and a policy, and nothing more; or reports the first fault of the design, then of the policy, as a run does.
 pub fn check_policy(alloc: Global, design: &str, policy: &[u8]) -> Result<(), ServeFault>
     ensures right { OnOk result (AreRight design.now policy.now) }
     ensures refused { IfErr result (λ fault. IsUnopened design.now policy.now fault) }

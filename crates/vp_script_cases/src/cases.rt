@@ -30,21 +30,21 @@ fn parts(bundle: &str) -> Option<(&str, &str, &str)> {
     Some((design, policy, script))
 }
 
-/// The line that tells a fault.
+/// The line that reports a fault.
 pub fn fault_line(alloc: Global, fault: &ServeFault) -> Result<String, AllocError> {
     let code = fault.code();
     let line = fault.line();
     format!(in alloc; "fault {code} line {line}\n")
 }
 
-/// The line that tells an audit.
+/// The line that reports an audit.
 fn audit_line(alloc: Global, audit: Audit) -> Result<String, AllocError> {
     let Audit { same, number } = audit;
     let word = if same { "same" } else { "differs" };
     format!(in alloc; "{word} {number}\n")
 }
 
-/// The lines that tell what an audit gives.
+/// The lines that report what an audit gives.
 pub fn audit_lines(alloc: Global, audited: Audited) -> Result<String, AllocError> {
     let Audited { audit, explanation } = audited;
     let mut lines = audit_line(alloc, audit)?;
@@ -54,7 +54,7 @@ pub fn audit_lines(alloc: Global, audited: Audited) -> Result<String, AllocError
     Ok(lines)
 }
 
-/// A user who is audited, and whether what he was told is explained.
+/// A user who is audited, and whether what he was shown is explained.
 #[derive(Drop)]
 struct Audits {
     user: String,

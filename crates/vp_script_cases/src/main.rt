@@ -2,9 +2,9 @@
 //! name, the bundle, a line `==`, and the lines that the bundle must print; after a line `=/=` the bundle's last line lacks its
 //! newline. A line `%* COUNT TEXT` of a bundle stands for so many copies of the text, and a newline; of a line `%+ COUNT TEXT` the
 //! next line goes on. For each line `%@ USER`, which is no line of the bundle, the user is audited by its script, and a line more is
-//! printed, which begins with his name; for each line `%? USER` what he was told is explained as well, by lines after that. For a line `%!` the diagnostic of the bundle's fault is
-//! printed after the line of the fault. Then it runs designs and policies of files on the script of standard input, checks them, tells
-//! what users see of them, and audits users. Last it tells the faults of a server whose replies and log do not agree.
+//! printed, which begins with his name; for each line `%? USER` what he was shown is explained as well, by lines after that. For a line `%!` the diagnostic of the bundle's fault is
+//! printed after the line of the fault. Then it runs designs and policies of files on the script of standard input, checks them, reports
+//! what users see of them, and audits users. Last it reports the faults of a server whose replies and log do not agree.
 #![tactic(auto)]
 
 mod cases;
@@ -28,7 +28,7 @@ fn is_as_wanted<R: AllocGlobal + Print>(rt: &R, case: &Case) -> io::Result<bool>
     Ok(as_wanted)
 }
 
-/// Runs the cases of a file, and tells how many print what they must.
+/// Runs the cases of a file, and reports how many print what they must.
 fn check_file<R: AllocGlobal + Files + Print>(rt: &R, file: &str) -> io::Result<()> {
     let alloc = rt.alloc();
     let cases = read_cases(alloc, BufReader::new(alloc, fs::open(rt, file)?)?)?;
@@ -42,18 +42,18 @@ fn check_file<R: AllocGlobal + Files + Print>(rt: &R, file: &str) -> io::Result<
     println!(rt; "{file}: {count} cases, {agreeing} as wanted")
 }
 
-/// Tells a fault, and its diagnostic.
+/// Reports a fault, and its diagnostic.
 fn print_fault<R: AllocGlobal + Print>(rt: &R, refused: &Failure) -> io::Result<()> {
     rt.print(fault_line(rt.alloc(), &refused.fault)?.as_str())?;
     rt.print(refused.diagnostic.as_str())
 }
 
-/// Tells the fault of a server whose hub can't be closed.
+/// Reports the fault of a server whose hub can't be closed.
 fn print_unclosed<R: AllocGlobal + Print>(rt: &R, error: HubError) -> io::Result<()> {
     print_fault(rt, &Failure::new(rt.alloc(), ServeFault::Hub(error)))
 }
 
-/// Runs a design and a policy of files, and tells the fault that ends the run, if one does.
+/// Runs a design and a policy of files, and reports the fault that ends the run, if one does.
 fn print_run<R: AllocGlobal + Files + Input + Print>(
     rt: &R,
     design: &str,
@@ -66,7 +66,7 @@ fn print_run<R: AllocGlobal + Files + Input + Print>(
     }
 }
 
-/// Checks a design of a file, and a policy if there is one, and tells the fault, if there is one.
+/// Checks a design of a file, and a policy if there is one, and reports the fault, if there is one.
 fn print_check<R: AllocGlobal + Files + Print>(
     rt: &R,
     design: &str,
@@ -80,7 +80,7 @@ fn print_check<R: AllocGlobal + Files + Print>(
     }
 }
 
-/// Tells what a user sees of a design under a policy, or the fault for which that is not told.
+/// Reports what a user sees of a design under a policy, or the fault for which that is not reported.
 fn print_view<R: AllocGlobal + Files + Print>(
     rt: &R,
     design: &str,

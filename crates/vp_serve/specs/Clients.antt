@@ -11,7 +11,7 @@ use Rattle.vp_hub.specs.declared.error.HubError.{HubError}
 use Rattle.vp_hub.specs.Calls.{Passed}
 use Rattle.vp_hub.specs.Hubs.{IsAnswered, IsOpened}
 
--- what a client is told of what a hub answers
+-- what a client is shown of what a hub answers
 abbrev pub reply_of : Result Reply HubError → Reply
 reply_of (Ok answer) = answer
 reply_of (Err e) = reply.Error (refusal_of e)

@@ -40,7 +40,7 @@ impl<L: NamesOpening> Passes<L> {
         self.expected = self.expected.saturating_sub(1);
     }
 
-    /// Adds the pass of a connection, for which there is room; else want of memory, and the pass is lost.
+    /// Adds the pass of a connection, for which there is room; else out of memory, and the pass is lost.
     pub(crate) fn keep(&mut self, pass: Pass<L>) -> Result<(), AllocFailed<Pass<L>>>
         ensures kept { OnOk result (self.new.ended.items ≡ self.old.ended.items ++ pass ∷ []) }
         ensures lost { OnErr result (self.new.ended.items ≡ self.old.ended.items) }

@@ -19,7 +19,7 @@ use std::time::Clock;
 use vp_hub::{Closed, Desk, Hub, Limits, NamesOpening, World};
 use vp_race::Gate;
 
-/// Starts the thread of the simulation and those of the workers, and tells whether all could be started.
+/// Starts the thread of the simulation and those of the workers, and reports whether all could be started.
 fn start<
     's,
     'a,
@@ -39,7 +39,7 @@ fn start<
     true
 }
 
-/// Serves the connections of a listener, each in a thread, until they have ended; and tells whether the threads could be started that serve
+/// Serves the connections of a listener, each in a thread, until they have ended; and reports whether the threads could be started that serve
 /// all of them.
 fn run<'a, L: NamesOpening + Send + Sync, R: Threads + Wait + Clock + Sync, G: Gate + Sync>(
     rt: &R,
@@ -57,7 +57,7 @@ fn run<'a, L: NamesOpening + Send + Sync, R: Threads + Wait + Clock + Sync, G: G
     })
 }
 
-/// Serves a world in which nothing has happened to the connections of a listener, and gives what is left of it; or tells that a thread
+/// Serves a world in which nothing has happened to the connections of a listener, and gives what is left of it; or reports that a thread
 /// can't be started (1606), or why the hub can't be closed (1401 to 1403).
 fn serve_world<L: NamesOpening + Send + Sync, R: Threads + Wait + Clock + Sync, G: Gate + Sync>(
     rt: &R,

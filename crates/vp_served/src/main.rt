@@ -31,7 +31,7 @@ fn print_refused<R: Print + Eprint>(rt: &R, refused: &Failure) -> io::Result<Exi
 }
 
 /// Prints the fault that ended a run, if one did; the status is 1 then. That there was no memory to let the simulation run on is
-/// told on standard error.
+/// reported on standard error.
 fn run_status<R: Print + Eprint>(rt: &R, ran: Result<Ran, Failure>) -> io::Result<ExitCode> {
     match ran {
         Ok(ran) => {
@@ -52,7 +52,7 @@ fn fault_status<R: Print + Eprint>(rt: &R, done: Result<(), Failure>) -> io::Res
     }
 }
 
-/// Prints what a user sees, or the fault for which that is not told; the status is 1 then.
+/// Prints what a user sees, or the fault for which that is not reported; the status is 1 then.
 fn view_status<R: Print + Eprint>(rt: &R, view: Result<Text, Failure>) -> io::Result<ExitCode> {
     match view {
         Ok(text) => print_text(rt, &text),
@@ -60,7 +60,7 @@ fn view_status<R: Print + Eprint>(rt: &R, view: Result<Text, Failure>) -> io::Re
     }
 }
 
-/// Prints an audit; the status is 0 where the user was told what he may know, else 1.
+/// Prints an audit; the status is 0 where the user was shown what he may know, else 1.
 fn print_audit<R: Print>(rt: &R, audit: Audit) -> io::Result<ExitCode> {
     let Audit { same, number } = audit;
     let word = if same { "same" } else { "differs" };
@@ -72,7 +72,7 @@ fn print_audit<R: Print>(rt: &R, audit: Audit) -> io::Result<ExitCode> {
     })
 }
 
-/// Prints what an audit gives, of which the explanation is told on standard error, or the fault for which there is none; the status is
+/// Prints what an audit gives, of which the explanation is reported on standard error, or the fault for which there is none; the status is
 /// that of the audit, or 1.
 fn audit_status<R: Print + Eprint>(
     rt: &R,

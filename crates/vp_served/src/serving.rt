@@ -35,7 +35,7 @@ fn world_of_files<R: AllocGlobal + Files>(
     }
 }
 
-/// Prints a line; or tells that it can't be printed (1505).
+/// Prints a line; or reports that it can't be printed (1505).
 fn print_line<R: AllocGlobal + Print>(rt: &R, word: &str, number: u64) -> Result<(), Failure> {
     match println!(rt; "{word} {number}") {
         Ok(()) => Ok(()),
@@ -46,7 +46,7 @@ fn print_line<R: AllocGlobal + Print>(rt: &R, word: &str, number: u64) -> Result
     }
 }
 
-/// Listens on a port of 127.0.0.1, and prints `listening` and the port; or tells that it can't be listened on (1605).
+/// Listens on a port of 127.0.0.1, and prints `listening` and the port; or reports that it can't be listened on (1605).
 fn listen<R>(rt: &R, port: u16) -> Result<TcpListener, Failure>
 where
     R: AllocGlobal + Print + Net<Listener = TcpListener, Stream = TcpStream>,

@@ -42,7 +42,7 @@ steps tables outcome [] = outcome
 steps tables (Refuses e) (k ∷ ks) = Refuses e
 steps tables (Goes s change) (k ∷ ks) = steps tables (step_by tables s k) ks
 
--- what is told of an outcome: what changed, or the refusal
+-- what is reported of an outcome: what changed, or the refusal
 abbrev told : Outcome → Result (Option Change) SimError
 told (Goes s change) = Ok change
 told (Refuses e) = Err e

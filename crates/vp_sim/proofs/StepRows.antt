@@ -65,7 +65,7 @@ none_wait = wait.Nothing ∷ wait.Nothing ∷ wait.Nothing ∷ []
 abbrev both_wait : List Waiting
 both_wait = wait.Operands ∷ wait.Operands ∷ wait.Nothing ∷ []
 
--- what is told of an outcome: what changed, or the refusal
+-- what is reported of an outcome: what changed, or the refusal
 abbrev told : Outcome → Result (Option Change) SimError
 told (Goes s change) = Ok change
 told (Refuses e) = Err e

@@ -22,7 +22,7 @@ pub enum SimError {
     /// An event would come at 2^62 or later (805).
     #[error("time limit")]
     TimeLimit,
-    /// Want of memory (806).
+    /// Out of memory (806).
     #[error("no memory")]
     NoMemory,
 }

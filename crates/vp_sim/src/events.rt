@@ -66,7 +66,7 @@ impl Machine {
     }
 
     /// The evaluation of a continuous process, the k-th of the eligible events, with this value of what it drives the net with; or
-    /// want of memory (806).
+    /// out of memory (806).
     fn drive(
         &mut self,
         k: usize,

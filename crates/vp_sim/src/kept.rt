@@ -84,7 +84,7 @@ impl SimCheckpoint {
             && self.values.is_same(&other.values)
     }
 
-    /// Its lists, to be written in place; or want of memory (806).
+    /// Its lists, to be written in place; or out of memory (806).
     fn lists(&self) -> Result<Lists, SimError>
         ensures values { IfOk result (λ l. l.values ≡ self.now.values) }
         ensures remaining { IfOk result (λ l. l.remaining ≡ self.now.remaining) }
@@ -103,7 +103,7 @@ impl SimCheckpoint {
         })
     }
 
-    /// A queue with its events; or want of memory (806).
+    /// A queue with its events; or out of memory (806).
     fn events(&self) -> Result<Strata, SimError>
         ensures queue { IfOk result (λ s. s.queue ≡ self.now.queue) }
         ensures processes { IfOk result (λ s. s.processes
@@ -130,7 +130,7 @@ impl SimCheckpoint {
 }
 
 impl Machine {
-    /// A copy of its lists to be kept; or want of memory (806).
+    /// A copy of its lists to be kept; or out of memory (806).
     fn keep_lists(&mut self) -> Result<KeptLists, SimError>
         ensures values { IfOk result (λ l. l.values ≡ self.old.state.values) }
         ensures remaining { IfOk result (λ l. l.remaining ≡ self.old.state.remaining) }
@@ -150,7 +150,7 @@ impl Machine {
         })
     }
 
-    /// A copy of the simulation to be kept; or want of memory (806).
+    /// A copy of the simulation to be kept; or out of memory (806).
     pub fn checkpoint(&mut self) -> Result<SimCheckpoint, SimError>
         ensures copy { IfOk result (λ copy. copy ≡ self.old.state) }
         ensures same { self.new.state ≡ self.old.state }
@@ -173,7 +173,7 @@ impl Machine {
         })
     }
 
-    /// A simulation that goes on from a copy; or want of memory (806).
+    /// A simulation that goes on from a copy; or out of memory (806).
     pub fn of_kept(kept: &SimCheckpoint) -> Result<Machine, SimError>
         ensures state { IfOk result (λ m. m.state ≡ kept.now) }
         ensures err { IsOkUnless result NoMemory }
@@ -195,7 +195,7 @@ impl Machine {
         })
     }
 
-    /// All processes can wait so; or want of memory (806).
+    /// All processes can wait so; or out of memory (806).
     fn listen_all(&mut self, waiting: &[Waiting]) -> Result<(), SimError>
         ensures heard { OnOk result (AreHeard (tables_of self.old.state.design) self.new.lists
             waiting.now) }
@@ -206,7 +206,7 @@ impl Machine {
         Ok(())
     }
 
-    /// The simulation goes on from a copy, whose lists these are, and whose processes can wait; or want of memory (806).
+    /// The simulation goes on from a copy, whose lists these are, and whose processes can wait; or out of memory (806).
     fn go_on(&mut self, kept: &SimCheckpoint, lists: Lists) -> Result<(), SimError>
         requires design { self.old.state.design ≡ kept.now.design }
         requires values { lists.values ≡ kept.now.values }
@@ -229,7 +229,7 @@ impl Machine {
         Ok(())
     }
 
-    /// The simulation goes on from a copy; or want of memory (806).
+    /// The simulation goes on from a copy; or out of memory (806).
     pub fn restore(&mut self, kept: &SimCheckpoint) -> Result<(), SimError>
         requires { self.old.state.design ≡ kept.now.design }
         ensures ok { OnOk result (self.new.state ≡ kept.now) }

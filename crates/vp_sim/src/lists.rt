@@ -27,7 +27,7 @@ pub struct KeptLists {
     pub waiting: SharedList<Waiting>,
 }
 
-/// The lists at the start of a simulation of a design; or want of memory (806).
+/// The lists at the start of a simulation of a design; or out of memory (806).
 pub fn first_lists(alloc: Global, checked: &Checked) -> Result<Lists, SimError>
     ensures values { IfOk result (λ l. l.values ≡ (start checked.now).values) }
     ensures remaining { IfOk result (λ l. l.remaining ≡ (start checked.now).remaining) }

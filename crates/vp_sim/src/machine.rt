@@ -68,7 +68,7 @@ impl Machine {
         self.listeners.checked()
     }
 
-    /// Makes room for so many events; or want of memory (806).
+    /// Makes room for so many events; or out of memory (806).
     pub fn room(&mut self, count: usize) -> Result<(), SimError>
         ensures room { OnOk result (count ≤ self.new.spare) }
         ensures state { self.new.state ≡ self.old.state }
@@ -81,7 +81,7 @@ impl Machine {
         }
     }
 
-    /// Makes room for the evaluations of all that may wait for a change; or want of memory (806).
+    /// Makes room for the evaluations of all that may wait for a change; or out of memory (806).
     pub fn room_for(&mut self, change: &Option<Change>) -> Result<(), SimError>
         ensures room { OnOk result (count_of self.old.lists change.now ≤ self.new.spare) }
         ensures state { self.new.state ≡ self.old.state }
@@ -97,7 +97,7 @@ impl Machine {
         }
     }
 
-    /// A process can begin to wait so; or want of memory (806).
+    /// A process can begin to wait so; or out of memory (806).
     pub fn listen(&mut self, process: usize, waiting: Waiting) -> Result<(), SimError>
         ensures heard { OnOk result (IsHeard self.new.lists
             (awaited_by (tables_of self.old.state.design) waiting process) process) }
@@ -171,7 +171,7 @@ impl Machine {
         }
     }
 
-    /// An update that makes this change, if it makes one, is the k-th of the eligible events; or want of memory (806).
+    /// An update that makes this change, if it makes one, is the k-th of the eligible events; or out of memory (806).
     pub fn update(&mut self, k: usize, change: &Option<Change>) -> Result<(), SimError>
         requires fits { IfSome change.now
             (λ c. length (slice_index_or self.old.state.values c.object.0 c.value)

@@ -139,7 +139,7 @@ impl Machine {
         self.queue.take(k);
     }
 
-    /// This happens so much later; or want of memory (806).
+    /// This happens so much later; or out of memory (806).
     fn schedule(&mut self, delay: u32, event: Delayed) -> Result<(), SimError>
         requires on_time { self.old.state.time + delay < TIME_LIMIT }
         ensures ok { OnOk result (self.new.state ≡ delayed self.old.state delay event) }
@@ -168,7 +168,7 @@ impl Machine {
         let _ = self.queue.push_nba(update);
     }
 
-    /// A blocking assignment, the k-th of the eligible events, and what it changes; or want of memory (806).
+    /// A blocking assignment, the k-th of the eligible events, and what it changes; or out of memory (806).
     fn assign(
         &mut self,
         k: usize,
@@ -250,7 +250,7 @@ impl Machine {
     }
 
     /// An event control, or a wait that goes on waiting, the k-th of the eligible events: the procedure goes on with a statement at a
-    /// change for which the one at a place waits; or want of memory (806).
+    /// change for which the one at a place waits; or out of memory (806).
     fn control(&mut self, k: usize, process: usize, place: u32, next: u32) -> Result<(), SimError>
         ensures ok { OnOk result (performs self.old.state k process (Some next)
             (effect.Awaits place next) ≡ Goes self.new.state None) }

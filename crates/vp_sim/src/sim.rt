@@ -33,7 +33,7 @@ impl Model for Sim {
 }
 
 impl Sim {
-    /// A simulation of a design in which nothing has happened; or want of memory (806).
+    /// A simulation of a design in which nothing has happened; or out of memory (806).
     pub fn new(alloc: Global, checked: Arc<Checked>) -> Result<Sim, SimError>
         ensures state { IfOk result (λ sim. sim ≡ start (arc_value checked)) }
         ensures err { IsOkUnless result NoMemory }
@@ -44,7 +44,7 @@ impl Sim {
         })
     }
 
-    /// A copy of the simulation to be kept, which shares what was not written since the last one; or want of memory (806).
+    /// A copy of the simulation to be kept, which shares what was not written since the last one; or out of memory (806).
     pub fn checkpoint(&mut self) -> Result<SimCheckpoint, SimError>
         ensures copy { IfOk result (λ copy. copy ≡ self.old) }
         ensures same { self.new ≡ self.old }
@@ -53,7 +53,7 @@ impl Sim {
         self.machine.checkpoint()
     }
 
-    /// A simulation that goes on from a copy; or want of memory (806).
+    /// A simulation that goes on from a copy; or out of memory (806).
     pub fn of_kept(kept: &SimCheckpoint) -> Result<Sim, SimError>
         ensures state { IfOk result (λ sim. sim ≡ kept.now) }
         ensures err { IsOkUnless result NoMemory }
@@ -64,7 +64,7 @@ impl Sim {
         })
     }
 
-    /// The simulation goes on from a copy of one of the same design; or want of memory (806), which leaves it as it was.
+    /// The simulation goes on from a copy of one of the same design; or out of memory (806), which leaves it as it was.
     pub fn restore(&mut self, kept: &SimCheckpoint) -> Result<(), SimError>
         requires { self.old.design ≡ kept.now.design }
         ensures ok { OnOk result (self.new ≡ kept.now) }
@@ -137,9 +137,9 @@ impl Sim {
         self.machine.source(k)
     }
 
-    /// Takes the k-th of the events that a step can take, and tells what it changed. Refused where `$finish` was executed (804), where
+    /// Takes the k-th of the events that a step can take, and reports what it changed. Refused where `$finish` was executed (804), where
     /// nothing is left to do at the current time (801), where there are not so many events (802), where something would happen at
-    /// 2^62 or later (805), or for want of memory (806). A refusal leaves the simulation as it was.
+    /// 2^62 or later (805), or out of memory (806). A refusal leaves the simulation as it was.
     pub fn step(&mut self, k: usize) -> Result<Option<Change>, SimError>
         ensures ok { IfOk result (λ change. step self.old k ≡ Goes self.new change) }
         ensures refused { IfErr result (Explains NoMemory (refusal_in (step self.old k))) }
@@ -165,7 +165,7 @@ impl Sim {
     }
 
     /// Goes on to the time of the next future event. Refused where `$finish` was executed (804), where something is left to do at the
-    /// current time (803), where there is no future event (801), or for want of memory (806). A refusal leaves the simulation as it was.
+    /// current time (803), where there is no future event (801), or out of memory (806). A refusal leaves the simulation as it was.
     pub fn advance(&mut self) -> Result<(), SimError>
         ensures ok { OnOk result (advance self.old ≡ Goes self.new None) }
         ensures refused { IfErr result (Explains NoMemory (refusal_in (advance self.old))) }
@@ -174,8 +174,8 @@ impl Sim {
         self.machine.advance()
     }
 
-    /// Gives an object a value at once, at the object's width, wakes what waits for the change, and tells what changed. Refused where
-    /// `$finish` was executed (804), or for want of memory (806). A refusal leaves the simulation as it was.
+    /// Gives an object a value at once, at the object's width, wakes what waits for the change, and reports what changed. Refused where
+    /// `$finish` was executed (804), or out of memory (806). A refusal leaves the simulation as it was.
     pub fn put(&mut self, object: ObjectId, value: Bits) -> Result<Option<Change>, SimError>
         ensures ok { IfOk result (λ change. put self.old object.0 value ≡ Goes self.new change) }
         ensures refused { IfErr result (Explains NoMemory

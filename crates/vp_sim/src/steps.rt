@@ -59,7 +59,7 @@ fn process_of(event: Event) -> usize
 }
 
 impl Machine {
-    /// A simulation of a design in which nothing has happened; or want of memory (806).
+    /// A simulation of a design in which nothing has happened; or out of memory (806).
     pub fn new(alloc: Global, checked: Arc<Checked>) -> Result<Machine, SimError>
         ensures state { IfOk result (λ m. m.state ≡ start (arc_value checked)) }
         ensures err { IsOkUnless result NoMemory }
@@ -138,7 +138,7 @@ impl Machine {
         }
     }
 
-    /// Takes the k-th of the events that a step can take, and tells what it changed; else the refusal (804, 801, 802, 805, 806).
+    /// Takes the k-th of the events that a step can take, and reports what it changed; else the refusal (804, 801, 802, 805, 806).
     pub fn step(&mut self, k: usize) -> Result<Option<Change>, SimError>
         ensures ok { IfOk result (λ change. step self.old.state k ≡ Goes self.new.state change) }
         ensures refused { IfErr result (Explains NoMemory (refusal_in (step self.old.state k))) }
@@ -209,7 +209,7 @@ impl Machine {
         }
     }
 
-    /// Gives an object a value at once, and tells what changed; else the refusal (804, 806).
+    /// Gives an object a value at once, and reports what changed; else the refusal (804, 806).
     pub fn put(&mut self, object: ObjectId, value: Bits) -> Result<Option<Change>, SimError>
         ensures ok { IfOk result (λ change. put self.old.state object.0 value
             ≡ Goes self.new.state change) }

@@ -1,4 +1,4 @@
--- The kinds of symbols, told apart, and a symbol of a kind at a place.
+-- The kinds of symbols, distinguished, and a symbol of a kind at a place.
 use Rattle.std.specs.Prelude.{ℕ, Bool, ◌&&◌, ◌==◌}
 use Rattle.vp_lex.specs.declared.keyword.Keyword.{Keyword}
 use Rattle.vp_lex.specs.declared.keyword.Keyword.TheVariants as keyword

@@ -1,6 +1,6 @@
 use vp_lex::{Keyword, Punctuator};
 
-/// Numbers of this size and above are told no further.
+/// Numbers of this size and above are reported no further.
 pub const NUMBER_LIMIT: u32 = 1 << 31;
 
 /// What the grammar sees of a token.

@@ -10,7 +10,7 @@ pub enum StrataError {
     /// A time of 2^62 or more (702).
     #[error("time limit")]
     TimeLimit,
-    /// Want of memory (701).
+    /// Out of memory (701).
     #[error("no memory")]
     NoMemory,
 }

@@ -82,7 +82,7 @@ impl StrataCheckpoint {
             .checked_add(self.nonblocking.len())
     }
 
-    /// A queue with these events. An `Err` is want of memory (701).
+    /// A queue with these events. An `Err` is out of memory (701).
     pub fn to_strata(&self, alloc: Global) -> Result<Strata, StrataError>
         ensures queue { IfOk result (λ s. s.queue ≡ self.now.queue) }
         ensures processes { IfOk result (λ s. s.processes ≡ self.now.processes) }

@@ -63,7 +63,7 @@ impl Model for Strata {
 }
 
 impl Strata {
-    /// The empty queue of so many processes. An `Err` is want of memory (701).
+    /// The empty queue of so many processes. An `Err` is out of memory (701).
     pub fn new(alloc: Global, processes: usize) -> Result<Strata, StrataError>
         ensures queue { IfOk result (λ s. s.queue ≡ no_events) }
         ensures processes { IfOk result (λ s. s.processes ≡ processes) }
@@ -79,7 +79,7 @@ impl Strata {
         })
     }
 
-    /// A copy of the events as they are, which shares the future ones. An `Err` is want of memory (701). It costs what is active, inactive
+    /// A copy of the events as they are, which shares the future ones. An `Err` is out of memory (701). It costs what is active, inactive
     /// and nonblocking, and a count for each chunk of 64 future events, or fewer.
     pub fn checkpoint(&self, alloc: Global) -> Result<StrataCheckpoint, StrataError>
         ensures queue { IfOk result (λ k. k.queue ≡ self.now.queue) }
@@ -96,7 +96,7 @@ impl Strata {
         })
     }
 
-    /// The events are again those that were kept, of a queue of as many processes. An `Err` is want of memory (701), and changes no event.
+    /// The events are again those that were kept, of a queue of as many processes. An `Err` is out of memory (701), and changes no event.
     /// It costs what the events do that were and are active, inactive and nonblocking, and a count for each chunk of future events.
     pub fn restore(&mut self, kept: &StrataCheckpoint) -> Result<(), StrataError>
         requires { self.old.processes ≡ kept.now.processes }
@@ -135,7 +135,7 @@ impl Strata {
         self.spare -= count;
     }
 
-    /// Makes room: the next `count` events that are pushed need no memory. An `Err` is want of memory (701). No event changes.
+    /// Makes room: the next `count` events that are pushed need no memory. An `Err` is out of memory (701). No event changes.
     pub fn room(&mut self, count: usize) -> Result<(), StrataError>
         ensures spare { OnOk result (count ≤ self.new.spare) }
         ensures no_less { self.old.spare ≤ self.new.spare }
@@ -150,7 +150,7 @@ impl Strata {
         }
     }
 
-    /// Makes room for so many events, which are more than there is room for. An `Err` is want of memory (701). No event changes.
+    /// Makes room for so many events, which are more than there is room for. An `Err` is out of memory (701). No event changes.
     #[inline(never)]
     fn grow(&mut self, count: usize) -> Result<(), StrataError>
         requires { self.old.spare ≤ count }
@@ -184,7 +184,7 @@ impl Strata {
         }
     }
 
-    /// The evaluation of a process becomes active. An `Err` is want of memory (701), and changes no event.
+    /// The evaluation of a process becomes active. An `Err` is out of memory (701), and changes no event.
     pub fn push_active(&mut self, process: usize) -> Result<(), StrataError>
         ensures queue { OnOk result (self.new.queue
             ≡ with_active self.old.queue (self.old.queue.active ++ Evaluation process ∷ [])) }
@@ -200,7 +200,7 @@ impl Strata {
         Ok(())
     }
 
-    /// An update of the net that a process drives becomes active. An `Err` is want of memory (701), and changes no event.
+    /// An update of the net that a process drives becomes active. An `Err` is out of memory (701), and changes no event.
     pub fn push_net_update(&mut self, process: usize, value: Bits) -> Result<(), StrataError>
         requires { process < self.old.processes }
         ensures queue { OnOk result (self.new.queue
@@ -217,7 +217,7 @@ impl Strata {
         Ok(())
     }
 
-    /// One more process is inactive: it goes on after the active events (9.7.1). An `Err` is want of memory (701), and changes no event.
+    /// One more process is inactive: it goes on after the active events (9.7.1). An `Err` is out of memory (701), and changes no event.
     pub fn push_inactive(&mut self, process: usize) -> Result<(), StrataError>
         ensures queue { OnOk result (self.new.queue
             ≡ with_inactive self.old.queue (self.old.queue.inactive ++ process ∷ [])) }
@@ -233,7 +233,7 @@ impl Strata {
         Ok(())
     }
 
-    /// One more update of a nonblocking assignment, at the current time (9.2.2). An `Err` is want of memory (701), and changes no event.
+    /// One more update of a nonblocking assignment, at the current time (9.2.2). An `Err` is out of memory (701), and changes no event.
     pub fn push_nba(&mut self, update: NonblockingUpdate) -> Result<(), StrataError>
         ensures queue { OnOk result (self.new.queue
             ≡ with_nonblocking self.old.queue (self.old.queue.nonblocking ++ update ∷ [])) }
@@ -249,7 +249,7 @@ impl Strata {
         Ok(())
     }
 
-    /// One more future event, at a time in time units. A time of 2^62 or more is refused (702); another `Err` is want of memory
+    /// One more future event, at a time in time units. A time of 2^62 or more is refused (702); another `Err` is out of memory
     /// (701). Each changes no event.
     pub fn push_future(&mut self, time: u64, event: Delayed) -> Result<(), StrataError>
         ensures late { TIME_LIMIT ≤ time → result ≡ Err TimeLimit }
@@ -437,7 +437,7 @@ impl Strata {
     }
 
     /// Time goes on to that of the first future event, if there is one: the processes that go on then become active, and the updates are
-    /// nonblocking events of that time (11.4). An `Err` is want of memory (701), and changes no event.
+    /// nonblocking events of that time (11.4). An `Err` is out of memory (701), and changes no event.
     pub fn advance(&mut self) -> Result<(), StrataError>
         ensures queue { OnOk result (self.new.queue ≡ advanced self.old.queue) }
         ensures unchanged { OnErr result (self.new.queue ≡ self.old.queue) }

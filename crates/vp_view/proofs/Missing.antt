@@ -80,13 +80,13 @@ listed_is v n None missing_right at there is none tells = absurd cc
 listed_is v n (Some o) missing_right at there is none tells =
     none_told missing_right none tells ∙ listed_by v n (slice_get v.nodes n) (node_after (take n v.nodes) o.now) missing_right at is
 
--- a denial is told, if there is a first step that lacks the right
+-- a denial is reported, if there is a first step that lacks the right
 pub denied_is : (v : View) (r : Right) (n : ℕ) (first : Option (Bor SeenObject)) → option_map (λ o. own_step o.now) first ≡ find (is_missing r) (path_seen v n)
     → denied_seen v r n ≡ option_map (λ o. words_at v r (own_step o.now)) first
 denied_is v r n None is = denial_is v r (path_seen v n) ∙ ap (option_map (words_at v r)) (sym is)
 denied_is v r n (Some o) is = denial_is v r (path_seen v n) ∙ ap (option_map (words_at v r)) (sym is)
 
--- and then it is there, whatever an error is told for
+-- and then it is there, whatever an error is reported for
 pub denied_error : {T E : Type 0} (v : View) (r : Right) (n : ℕ) (first : Option (Bor SeenObject)) (o : Bor SeenObject) (told : Result T E) → option_map (λ o. own_step o.now) first ≡ find (is_missing r) (path_seen v n)
     → first ≡ Some o → OnErr told (IsSome (denied_seen v r n))
 denied_error v r n first o (Ok x) is there = tt

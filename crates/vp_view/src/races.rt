@@ -6,7 +6,7 @@ use std::alloc::{AllocError, Global};
 use vp_list::{Sequence, Text};
 use vp_vpi::{RaceDetails, RaceLine, Shared, ShownRace};
 
-/// At most so many races are told in one list.
+/// At most so many races are reported in one list.
 const RACE_LIMIT: usize = 100;
 
 /// Copies of texts. Takes memory.

@@ -12,7 +12,7 @@ use Rattle.vp_vpi.specs.Calls.{line_of, lines_from, race_details, shown_at}
 use Rattle.vp_vpi.specs.declared.races.ShownRace.{ShownRace}
 use Rattle.vp_vpi.specs.Races.{is_shown, race_seen, races_seen}
 
--- the races that are told from a number on, of those after so many
+-- the races that are reported from a number on, of those after so many
 abbrev pub told_from : (from number : ℕ) → List ShownRace → List RaceLine
 told_from from number [] = []
 told_from from number (s ∷ ss) = (if nat_le from (suc number) then line_of (suc number) s ∷ [] else []) ++ told_from from (suc number) ss
@@ -40,7 +40,7 @@ reply_with false from number s ss is h =
     h ∙ ap (λ n. lines_from n (drop (from - suc (suc number)) ss)) next
     ∙ sym (ap (λ n. lines_from (max (suc number) from) (drop n (s ∷ ss))) more)
 
--- told one by one they are those from a number on
+-- reported one by one they are those from a number on
 pub told_all : (from number : ℕ) (races : List ShownRace) → told_from from number races ≡ lines_from (max (suc number) from) (drop (from - suc number) races)
 told_all from number [] = sym (ap (lines_from (max (suc number) from)) (drop_nil (from - suc number) [] refl))
 told_all from number (s ∷ ss) = reply_with (nat_le from (suc number)) from number s ss refl (told_all from (suc number) ss)
@@ -52,7 +52,7 @@ shown_map f [] (suc n) = refl
 shown_map f (x ∷ xs) (suc zero) = refl
 shown_map f (x ∷ xs) (suc (suc n)) = shown_map f xs (suc n)
 
--- so many lines at most are all, where nothing is left or as many are told
+-- so many lines at most are all, where nothing is left or as many are reported
 pub whole : (n : ℕ) (all lines rest : List RaceLine) → all ≡ lines ++ rest → length lines ≤ n → (rest ≡ []) ⊎ (n ≤ length lines) → take n all ≡ lines
 whole n all lines rest h few (inl none) = ap (take n) (h ∙ ap (λ r. lines ++ r) none ∙ append-nil lines) ∙ take_all n lines few
 whole n all lines rest h few (inr many) = ap (take n) h ∙ take-append-le n lines rest many ∙ take_all n lines few

@@ -101,12 +101,12 @@ abbrev pub items_from : (name : ℕ → List ℕ) → (handle : ℕ) → List �
 items_from name handle [] = []
 items_from name handle (o ∷ os) = record { handle = handle; name = name o } ∷ items_from name (suc handle) os
 
--- what an iteration gives: what is told of it, and the handles that it makes
+-- what an iteration gives: what is reported of it, and the handles that it makes
 pub record Iterated : Type 0 where
   pub listing : Listing
   pub handles : List (Option ObjectId)
 
--- an iteration over these objects: it tells the numbers of the envelopes that are closed in its scope, too (profile)
+-- an iteration over these objects: it reports the numbers of the envelopes that are closed in its scope, too (profile)
 abbrev pub iteration : Observer → List (Option ObjectId) → (scope : Option ℕ) → List ℕ → Iterated
 iteration observation handles scope objects = record {
   listing = record { closed = observation.closed scope; items = items_from observation.name (next_handle handles) objects };
@@ -240,11 +240,11 @@ abbrev pub lines_from : (number : ℕ) → List ShownRace → List RaceLine
 lines_from number [] = []
 lines_from number (seen ∷ rest) = line_of number seen ∷ lines_from (suc number) rest
 
--- at most so many races are told in one list (profile)
+-- at most so many races are reported in one list (profile)
 abbrev pub race_limit : ℕ
 race_limit = 100
 
--- the races that are told from a number on, of those that are shown, which are numbered from 1; from 0 on is from 1 on (profile)
+-- the races that are reported from a number on, of those that are shown, which are numbered from 1; from 0 on is from 1 on (profile)
 abbrev pub lines_of : Observer → (from : ℕ) → List RaceLine
 lines_of observation from = take race_limit (lines_from (max 1 from) (drop (from - 1) observation.races))
 
@@ -270,22 +270,22 @@ same_of a b =
 
 -- ---- errors
 
--- an error tells a refusal: it is the refusal; want of memory may stand in the place of a denial, whose words take memory
+-- an error reports a refusal: it is the refusal; out of memory may stand in the place of a denial, whose words take memory
 abbrev pub Tells : VpiError → VpiError → Type 0
 Tells (error.Denied words) e = (e ≡ error.Denied words) ⊎ (e ≡ error.NoMemory)
 Tells refusal e = e ≡ refusal
 
--- an error tells the refusal of an answer, which has one
+-- an error reports the refusal of an answer, which has one
 abbrev pub Refuses : {A : Type 0} → Result A VpiError → VpiError → Type 0
 Refuses (Ok x) e = ⊥
 Refuses (Err refusal) e = Tells refusal e
 
--- an error tells the refusal of an answer; want of memory may stand in the place of a value, too
+-- an error reports the refusal of an answer; out of memory may stand in the place of a value, too
 abbrev pub Explains : {A : Type 0} → Result A VpiError → VpiError → Type 0
 Explains (Ok x) e = e ≡ error.NoMemory
 Explains (Err refusal) e = Tells refusal e
 
--- an error tells the refusal of an iteration; want of memory may stand in the place of an iteration, too, and of too many handles,
+-- an error reports the refusal of an iteration; out of memory may stand in the place of an iteration, too, and of too many handles,
 -- since what is listed is found first, which takes memory
 abbrev pub ExplainsIteration : Result Iterated VpiError → VpiError → Type 0
 ExplainsIteration (Err error.TooManyHandles) e = (e ≡ error.TooManyHandles) ⊎ (e ≡ error.NoMemory)

@@ -79,12 +79,12 @@ without_callback callback s = record s { registry = registry.without s.registry 
 abbrev pub with_due : Option Change → (time : ℕ) → SessionState → SessionState
 with_due change time s = record s { registry = registry.due s.registry change time }
 
--- what a poll tells: the notices that wait, oldest first, and how many were lost since the last poll
+-- what a poll reports: the notices that wait, oldest first, and how many were lost since the last poll
 pub record Polled : Type 0 where
   pub notices : List PolledNotice
   pub lost : ℕ
 
--- what a session's poll tells (profile)
+-- what a session's poll reports (profile)
 abbrev pub polled : SessionState → Polled
 polled s = record { notices = map registry.polled_notice s.registry.waiting; lost = s.registry.lost }
 

@@ -1,4 +1,4 @@
-// What is told, and the value of a put, are compared by their contents.
+// What is reported, and the value of a put, are compared by their contents.
 ghost use Rattle.std.specs.Prelude.{◌≡◌, true};
 
 use crate::iteration::{ListedObject, Listing, SharedListing};

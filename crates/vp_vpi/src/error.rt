@@ -28,7 +28,7 @@ pub enum VpiError {
     NoSuchCallback,
     /// No race of this number is shown (1108).
     NoSuchRace,
-    /// Want of memory (1107).
+    /// Out of memory (1107).
     NoMemory,
 }
 

@@ -1,4 +1,4 @@
-// What an iteration over a scope tells, and the handles that it makes (docs/FORMATS.md, "Lines").
+// What an iteration over a scope reports, and the handles that it makes (docs/FORMATS.md, "Lines").
 ghost use Rattle.std.specs.Prelude.{◌≡◌, ℕ, suc, ◌+◌, ◌≤◌, List, filter, length, map, IfOk};
 ghost use Rattle.vp_vpi.specs.Calls.{is_of, is_same, items_from};
 ghost use Rattle.vp_vpi.specs.SessionStates.{handle_to, number_limit};
@@ -17,7 +17,7 @@ pub struct ListedObject {
     pub name: Text,
 }
 
-/// What is told of an iteration.
+/// What is reported of an iteration.
 #[derive(Drop)]
 pub struct Listing {
     /// The numbers of the envelopes that are closed to the user in the scope: rising, each once.
@@ -26,7 +26,7 @@ pub struct Listing {
     pub items: Sequence<ListedObject>,
 }
 
-/// What is told of an iteration, which several may hold. A contract sees what is told.
+/// What is reported of an iteration, which several may hold. A contract sees what is reported.
 #[derive(Drop)]
 pub struct SharedListing {
     listing: Arc<Listing>,
@@ -61,7 +61,7 @@ impl SharedListing {
         })
     }
 
-    /// What is told.
+    /// What is reported.
     pub fn listing(&self) -> &Listing
         ensures { result.now ≡ self.now }
     {
@@ -69,7 +69,7 @@ impl SharedListing {
     }
 }
 
-/// An iteration over the objects of a scope. A contract sees what is told of it, and the handles that it makes.
+/// An iteration over the objects of a scope. A contract sees what is reported of it, and the handles that it makes.
 #[derive(Drop)]
 pub struct Iteration {
     listing: SharedListing,
@@ -85,7 +85,7 @@ impl Model for Iteration {
 }
 
 impl Iteration {
-    /// An iteration over these objects: it tells these numbers of envelopes, and the handles after the last one. Takes memory.
+    /// An iteration over these objects: it reports these numbers of envelopes, and the handles after the last one. Takes memory.
     pub(crate) fn new<E: Observe>(
         alloc: Global,
         observation: &E,
@@ -111,7 +111,7 @@ impl Iteration {
         Ok(Iteration { listing, handles })
     }
 
-    /// What is told of it.
+    /// What is reported of it.
     pub fn listing(&self) -> &SharedListing
         ensures { result.now ≡ self.now.listing }
     {

@@ -1,4 +1,4 @@
-// What a poll tells (docs/FORMATS.md, "Lines").
+// What a poll reports (docs/FORMATS.md, "Lines").
 ghost use Rattle.std.specs.Prelude.{◌≡◌, IfOk};
 
 use std::alloc::{AllocError, Global};
@@ -6,7 +6,7 @@ use std::marker::Model;
 use std::sync::Arc;
 use vp_notify::{Notices, PolledNotice};
 
-/// What a poll tells, which several may hold. A contract sees the notices and how many were lost.
+/// What a poll reports, which several may hold. A contract sees the notices and how many were lost.
 #[derive(Drop)]
 pub struct SharedNotices {
     notices: Arc<Notices>,

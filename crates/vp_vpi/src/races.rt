@@ -1,4 +1,4 @@
-// What a user is told of races (docs/FORMATS.md, "Lines").
+// What a user is shown of races (docs/FORMATS.md, "Lines").
 ghost use Rattle.std.specs.Prelude.{◌≡◌};
 ghost use Rattle.vp_vpi.specs.Calls.{race_details};
 
@@ -21,7 +21,7 @@ pub struct ShownRace {
     pub second_steps: Sequence<Text>,
 }
 
-/// A race in the list that a user is told.
+/// A race in the list that a user is shown.
 #[derive(Drop)]
 pub struct RaceLine {
     /// The full name of its net or reg.

@@ -60,7 +60,7 @@ fn object_at(handles: &[Option<ObjectId>], place: usize) -> Option<ObjectId>
     handles.get(place).copied().flatten()
 }
 
-/// Frees the handle at a place of a list; tells whether it was one.
+/// Frees the handle at a place of a list; reports whether it was one.
 fn take_at(handles: &mut Vec<Option<ObjectId>>, place: usize) -> bool
     ensures taken { handles.new.items ≡ slice_set handles.old.items place None }
     ensures there { result ≡ is_some (option_flatten (slice_get handles.old.items place)) }
@@ -79,7 +79,7 @@ fn open_in(handles: &[Option<ObjectId>]) -> usize
 }
 
 impl Session {
-    /// A session without handles and callbacks; or want of memory (1107).
+    /// A session without handles and callbacks; or out of memory (1107).
     pub fn new(alloc: Global, user: UserId) -> Result<Session, VpiError>
         ensures session { IfOk result (λ s. s ≡ new_session_state user.0) }
         ensures refused { IsOkUnless result VpiError.NoMemory }
@@ -119,7 +119,7 @@ impl Session {
     }
 
     /// The object of a handle, on which the user has a right. Refused where the number is no handle (1101), or the user lacks the
-    /// right (1109), or for want of memory (1107).
+    /// right (1109), or out of memory (1107).
     fn allowed<E: Observe>(
         &self,
         observation: &E,
@@ -143,7 +143,7 @@ impl Session {
     }
 
     /// The scope of a handle, which is a module; without a handle that of the top modules. Refused where the number is no handle
-    /// (1101), the user may not list it (1109), or it is no module (1102), or for want of memory (1107).
+    /// (1101), the user may not list it (1109), or it is no module (1102), or out of memory (1107).
     fn scope<E: Observe>(
         &self,
         observation: &E,
@@ -202,7 +202,7 @@ impl Session {
 
     /// A new handle of the object of a dotted name, in the scope of a handle or among the top modules. Refused where the scope is
     /// no handle (1101), may not be listed (1109) or is no module (1102), the user may not list the object or the scope hides something
-    /// (1109), with too many handles (1105), where nothing is there (1106), or for want of memory (1107). A refusal leaves the session
+    /// (1109), with too many handles (1105), where nothing is there (1106), or out of memory (1107). A refusal leaves the session
     /// as it was.
     pub fn handle_by_name<E: Observe>(
         &mut self,
@@ -260,7 +260,7 @@ impl Session {
 
     /// An iteration over the objects of a kind in the scope of a handle, or over the top modules: of a list that is made at once,
     /// with a new handle of each object. `scan` makes the handles. Refused where the scope is no handle (1101), may not be listed (1109)
-    /// or is no module (1102), with too many handles (1105), or for want of memory (1107), which may come before 1105.
+    /// or is no module (1102), with too many handles (1105), or out of memory (1107), which may come before 1105.
     pub fn iterate<E: Observe>(
         &self,
         observation: &E,
@@ -282,7 +282,7 @@ impl Session {
         Ok(self.iteration(observation, above, objects.as_slice())?)
     }
 
-    /// Makes the handles of an iteration, all of them; or none, for want of memory.
+    /// Makes the handles of an iteration, all of them; or none, when out of memory.
     pub fn scan(&mut self, iteration: &Iteration) -> Result<(), AllocError>
         requires { IsTrue (has_room (length iteration.now.handles) self.now.handles) }
         ensures made { OnOk result (self.new ≡ with_handles iteration.now.handles self.old) }
@@ -294,7 +294,7 @@ impl Session {
     }
 
     /// A number of a handle's object. Refused where the number is no handle (1101), the user may not list the object (1109), or it has no
-    /// such number (1102), or for want of memory (1107).
+    /// such number (1102), or out of memory (1107).
     pub fn get<E: Observe>(
         &self,
         observation: &E,
@@ -343,7 +343,7 @@ impl Session {
     }
 
     /// A text of a handle's object, which several may hold. Refused where the number is no handle (1101), the user may not list the object
-    /// (1109), or it has no such text (1102), or for want of memory (1107).
+    /// (1109), or it has no such text (1102), or out of memory (1107).
     pub fn get_str<E: Observe>(
         &self,
         observation: &E,
@@ -362,7 +362,7 @@ impl Session {
     }
 
     /// The value of a handle's object. Refused where the number is no handle (1101), the user lacks the right to read (1109), or the
-    /// object is no net, reg or parameter (1102), or for want of memory (1107).
+    /// object is no net, reg or parameter (1102), or out of memory (1107).
     pub fn get_value<E: Observe>(&self, observation: &E, handle: u32) -> Result<Bits, VpiError>
         requires { E.is_sound observation.now }
         ensures ok { IfOk result (λ value. value_of (E.observer observation.now)
@@ -379,7 +379,7 @@ impl Session {
 
     /// What a put of a value on a handle's object sets: the object, and the bits that it is given. Refused where the number is no handle (1101), the
     /// user lacks the right to put (1109), the object is no reg (1102), the value does not have its width (1103), or `$finish` was
-    /// executed (1104), or for want of memory (1107).
+    /// executed (1104), or out of memory (1107).
     pub fn put_value<E: Observe>(
         &self,
         observation: &E,

@@ -12,7 +12,7 @@ use vp_policy::{Policy, UserId};
 use vp_pragma::Right;
 use vp_race::{Finding, Shared};
 
-/// The name of a step of an object; or want of memory.
+/// The name of a step of an object; or out of memory.
 fn step_name(alloc: Global, design: &Design, object: ObjectId) -> Result<Text, AllocError>
     ensures { IfOk result (λ name. name ≡ step_name design.now.tree object.0) }
 {
@@ -27,7 +27,7 @@ fn step_name(alloc: Global, design: &Design, object: ObjectId) -> Result<Text, A
     }
 }
 
-/// The names of those of some steps whose object a user may list; or want of memory.
+/// The names of those of some steps whose object a user may list; or out of memory.
 fn steps_seen(
     alloc: Global,
     design: &Design,

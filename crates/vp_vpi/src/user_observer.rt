@@ -16,7 +16,7 @@ use vp_policy::{DenialText, Look, Policy, UserId};
 use vp_pragma::Right;
 use vp_race::{Book, Finding, Sim};
 
-/// At most so many races are told in one list.
+/// At most so many races are reported in one list.
 const RACE_LIMIT: usize = 100;
 
 /// A simulation and a book of races, as a user of a policy looks into them.
@@ -55,7 +55,7 @@ impl UserObserver<'_> {
         is_race_shown(self.policy, self.user, finding)
     }
 
-    /// A race in the user's list, by its number there; or want of memory.
+    /// A race in the user's list, by its number there; or out of memory.
     fn race_line(
         &self,
         alloc: Global,

@@ -55,7 +55,7 @@ is_negedge HighImpedance One = false
 is_negedge HighImpedance Unknown = false
 is_negedge HighImpedance HighImpedance = false
 
--- the least significant bit, by which an edge of a vector is told (clause 9.7.2)
+-- the least significant bit, by which an edge of a vector is found (clause 9.7.2)
 abbrev pub first_bit : List Bit → Bit
 first_bit bits = slice_index_or bits 0 Unknown
 

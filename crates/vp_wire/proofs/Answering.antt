@@ -11,7 +11,7 @@ use Rattle.vp_wire.specs.declared.line.LineError.{LineError}
 use Rattle.vp_wire.specs.declared.line.LineError.TheVariants as error
 use Rattle.vp_wire.specs.Reading.{text_of, turn_by}
 
--- what was told, and one line more
+-- what was reported, and one line more
 pub concat_more : (reply_lines : List (List ℕ)) (line : List ℕ) → concat (reply_lines ++ line ∷ []) ≡ concat reply_lines ++ line
 concat_more [] line = append-nil line
 concat_more (t ∷ reply_lines) line = ap (λ (bs : List ℕ). t ++ bs) (concat_more reply_lines line) ∙ sym (append_assoc t (concat reply_lines) line)
@@ -28,7 +28,7 @@ pub answers_no_memory : {C : Type 0} (calls : C → Request → Reply → C → 
 answers_no_memory calls (Tells text) p = (inr refl, refl)
 answers_no_memory calls (Calls r) p = inr (refl, refl)
 
--- a line that is answered at once tells its error
+-- a line that is answered at once reports its error
 pub answered_at_once : {C : Type 0} (calls : C → Request → Reply → C → Type 0) (turn : Turn) (p : Point C) (turned : Result Request LineError) (e : LineError) → turned ≡ Err e → IsErrOf turned error.NoMemory ⊎ (turn ≡ turn_by turned) → Answers calls turn p (error_line (text_of e)) p
 answered_at_once calls turn p turned e turned_is (inl none) =
     let same : e ≡ error.NoMemory = cc in

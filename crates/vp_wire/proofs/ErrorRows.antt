@@ -1,4 +1,4 @@
--- The lines that tell an error, computed. Each row is an equation that holds by computation.
+-- The lines that report an error, computed. Each row is an equation that holds by computation.
 use Rattle.std.proofs.Common.{◌≡◌, refl}
 use Rattle.std.specs.Prelude.{codes}
 use Rattle.serde_json.proofs.OnLiterals.{serde_json_on_literals}

@@ -59,7 +59,7 @@ abbrev pub is_grant : Request → Bool
 is_grant (request.Grant change) = true
 is_grant r = false
 
--- an `open` is asked once; before it is answered every other request is told that no session is open
+-- an `open` is asked once; before it is answered every other request is answered that no session is open
 abbrev pub turn_by_opening : Stage → Request → (opens : Bool) → Turn
 turn_by_opening Before r true = Calls r
 turn_by_opening Before r false = Tells (codes "not open")
@@ -83,7 +83,7 @@ abbrev pub turn_of : Stage → List ℕ → Turn
 turn_of stage line =
     if nat_lt line_limit (length line) then Tells (codes "line too long") else turn_of_meaning stage (meaning_of line)
 
--- the line that tells an error
+-- the line of an error
 abbrev pub error_line : List ℕ → List ℕ
 error_line text = compact_text (only (codes "error") (string text)) ++ 10 ∷ []
 
@@ -102,11 +102,11 @@ pub record Point (C : Type 0) : Type 0 where
   pub stage : Stage
   pub caller : C
 
--- what is written to tell a line: that line, or, where memory runs out, the one that says so
+-- what is written to report a line: that line, or, where memory runs out, the one that says so
 abbrev pub IsReplyLine : List ℕ → List ℕ → Type 0
 IsReplyLine line reply_line = (reply_line ≡ line) ⊎ (reply_line ≡ error_line (codes "no memory"))
 
--- a caller is asked, from one point of a dialogue to the next: its reply is told, and opens or closes the session
+-- a caller is asked, from one point of a dialogue to the next: its reply is reported, and opens or closes the session
 pub record Asked {C : Type 0} (calls : C → Request → Reply → C → Type 0) (r : Request) (p : Point C) (reply_line : List ℕ) (q : Point C) : Type 0 where
   pub reply : Reply
   pub called : calls p.caller r reply q.caller
@@ -127,7 +127,7 @@ AnswersAll calls (line ∷ lines) p [] q = ⊥
 AnswersAll {C} calls (line ∷ lines) p (reply_line ∷ more) q =
     (next : Point C) × Answers calls (turn_of p.stage line) p reply_line next × AnswersAll calls lines next more q
 
--- at the end of a dialogue an open session is closed, and that reply is not told
+-- at the end of a dialogue an open session is closed, and that reply is not reported
 abbrev pub Closes : {C : Type 0} → (C → Request → Reply → C → Type 0) → Stage → C → C → Type 0
 Closes calls Before c d = d ≡ c
 Closes calls Open c d = (reply : Reply) × calls c request.Close reply d
@@ -151,16 +151,16 @@ AreWhole input lines = lines ≡ whole_lines input
 abbrev pub AreFirst : List ℕ → List (List ℕ) → Type 0
 AreFirst input lines = (more : List (List ℕ)) × (lines_of input ≡ lines ++ more)
 
--- what goes out: all that was told
+-- what goes out: all that was reported
 abbrev pub IsOut : List (List ℕ) → List ℕ → Type 0
 IsOut reply_lines written = written ≡ concat reply_lines
 
--- what goes out where a writer fails: all that was told, or all but the end of the last line
+-- what goes out where a writer fails: all that was reported, or all but the end of the last line
 abbrev pub IsCutShort : List (List ℕ) → List ℕ → Type 0
 IsCutShort reply_lines written = (written ≡ concat reply_lines) ⊎ ((before : List (List ℕ)) × (last : List ℕ) × (front : List ℕ) ×
     (reply_lines ≡ before ++ last ∷ []) × IsFront front last × (written ≡ concat before ++ front))
 
--- a dialogue from a caller to a point: what was read of a reader, the lines of that which were answered, what was told to them,
+-- a dialogue from a caller to a point: what was read of a reader, the lines of that which were answered, what was reported to them,
 -- and what of that went out of a writer
 pub record IsDialogue {C : Type 0} (calls : C → Request → Reply → C → Type 0)
     (are_lines : List ℕ → List (List ℕ) → Type 0) (goes_out : List (List ℕ) → List ℕ → Type 0)

@@ -95,7 +95,7 @@ numbers_data numbers = array (items_of (map (λ n. number (unsigned n)) numbers)
 abbrev pub listed_data : ListedObject → Data
 listed_data o = object (member (codes "h") (number (unsigned o.handle)) (member (codes "name") (string o.name) no_members))
 
--- what is told of an iteration as JSON, its keys in the order of their bytes (profile)
+-- what is reported of an iteration as JSON, its keys in the order of their bytes (profile)
 abbrev pub listing_data : Listing → Data
 listing_data l =
     object (member (codes "closed") (numbers_data l.closed) (member (codes "items") (array (items_of (map listed_data l.items))) no_members))
@@ -145,7 +145,7 @@ notice_data n =
     object (member (codes "cb") (number (unsigned n.callback))
     (member (codes "time") (number (unsigned n.time)) (member (codes "value") (digits_data n.value) no_members)))
 
--- what a poll tells as JSON, its keys in the order of their bytes (profile)
+-- what a poll reports as JSON, its keys in the order of their bytes (profile)
 abbrev pub polled_data : Polled → Data
 polled_data p =
     object (member (codes "lost") (number (unsigned p.lost))
@@ -383,15 +383,15 @@ compare_request d =
 abbrev pub free_request : Data → Option Request
 free_request d = of_keys (codes "h" ∷ []) d (option_map request.Free (number_at (codes "h") d))
 
--- the request to be told of an object's changes
+-- the request to be notified of an object's changes
 abbrev pub watch_request : Data → Option Request
 watch_request d = of_keys (codes "h" ∷ []) d (option_map request.Watch (number_at (codes "h") d))
 
--- the request not to be told by a callback any more
+-- the request not to be notified by a callback any more
 abbrev pub unwatch_request : Data → Option Request
 unwatch_request d = of_keys (codes "cb" ∷ []) d (option_map request.Unwatch (number_at (codes "cb") d))
 
--- the request of what was to be told
+-- the request of what was to be reported
 abbrev pub poll_request : Data → Option Request
 poll_request d = of_keys [] d (Some request.Poll)
 

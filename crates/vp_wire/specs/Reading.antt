@@ -35,12 +35,12 @@ Keeps kept.NoMemory bytes begun = 0 < length begun
 abbrev pub IsBegun : Line → List ℕ → Type 0
 IsBegun line begun = Keeps line.kept line.bytes.items begun
 
--- what becomes of a request at a stage: the caller is asked, or an error is told at once
+-- what becomes of a request at a stage: the caller is asked, or an error is reported at once
 abbrev pub turn_by : Result Request LineError → Turn
 turn_by (Ok r) = Calls r
 turn_by (Err e) = Tells (text_of e)
 
--- the text that tells a reply's line, or an error
+-- the text that reports a reply's line, or an error
 abbrev pub reply_text : {V : Type 0} → (V → List ℕ) → Result V LineError → List ℕ
 reply_text items (Ok line) = items line
 reply_text items (Err e) = error_line (text_of e)
@@ -50,7 +50,7 @@ abbrev pub is_closing : Request → Bool
 is_closing request.Close = true
 is_closing r = false
 
--- what is written of a line that is told: all of it, or a front where the writer fails
+-- what is written of a line that is reported: all of it, or a front where the writer fails
 abbrev pub Writes : {T E : Type 0} → Result T E → List ℕ → Option (List ℕ) → Option (List ℕ) → Type 0
 Writes (Ok x) reply_line held holds = Appends held holds reply_line
 Writes (Err e) reply_line held holds = (front : List ℕ) × IsFront front reply_line × Appends held holds front

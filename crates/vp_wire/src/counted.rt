@@ -47,7 +47,7 @@ impl<T> Counted<T> {
 }
 
 impl<R: Read> Counted<R> {
-    /// Reads some bytes to the front of a buffer, and tells how many: none of them at the end of the input. `None` where the
+    /// Reads some bytes to the front of a buffer, and reports how many: none of them at the end of the input. `None` where the
     /// call was interrupted.
     pub fn read(&mut self, buffer: &mut [u8]) -> Result<Option<usize>, Failed>
         ensures bytes { IfOk result

@@ -281,7 +281,7 @@ impl Dialogue {
     }
 
     /// Reads once, and answers the lines that end in what was read; at the end of the input also one that lacks its newline.
-    /// Tells whether the input has ended.
+    /// Reports whether the input has ended.
     fn turn<R: Read, W: Write, C: Caller>(
         &mut self,
         chunk: &mut [u8; CHUNK],

@@ -16,7 +16,7 @@ pub enum WireError {
     /// A line that is no request (1502).
     #[error("bad request")]
     BadRequest,
-    /// Want of memory (1507).
+    /// Out of memory (1507).
     #[error("no memory")]
     NoMemory,
     /// The reader failed (1504).

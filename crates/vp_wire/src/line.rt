@@ -23,7 +23,7 @@ pub enum LineError {
 }
 
 impl LineError {
-    /// The line that tells it.
+    /// The line that reports it.
     pub fn line(self) -> &'static [u8]
         ensures { result.now ≡ error_line (text_of self) }
     {

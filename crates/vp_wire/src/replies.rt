@@ -69,7 +69,7 @@ fn items_value(alloc: Global, objects: &[ListedObject]) -> Result<Value, AllocEr
     Ok(Value::Array(items))
 }
 
-/// What is told of an iteration.
+/// What is reported of an iteration.
 fn listing_value(alloc: Global, listing: &Listing) -> Result<Value, AllocError>
     ensures { IfOk result (λ v. view v ≡ listing_data listing.now) }
 {
@@ -189,7 +189,7 @@ fn notices_value(alloc: Global, notices: &[PolledNotice]) -> Result<Value, Alloc
     Ok(Value::Array(items))
 }
 
-/// What a poll tells.
+/// What a poll reports.
 fn polled_value(alloc: Global, polled: &SharedNotices) -> Result<Value, AllocError>
     ensures { IfOk result (λ v. view v ≡ polled_data polled.now) }
 {

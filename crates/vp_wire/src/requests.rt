@@ -359,7 +359,7 @@ fn free_request(value: &Value) -> Option<Request>
     }
 }
 
-/// The request to be told of an object's changes.
+/// The request to be notified of an object's changes.
 fn watch_request(value: &Value) -> Option<Request>
     ensures { result ≡ watch_request (view value.now) }
 {
@@ -372,7 +372,7 @@ fn watch_request(value: &Value) -> Option<Request>
     }
 }
 
-/// The request not to be told by a callback any more.
+/// The request not to be notified by a callback any more.
 fn unwatch_request(value: &Value) -> Option<Request>
     ensures { result ≡ unwatch_request (view value.now) }
 {
@@ -385,7 +385,7 @@ fn unwatch_request(value: &Value) -> Option<Request>
     }
 }
 
-/// The request of what was to be told.
+/// The request of what was to be reported.
 fn poll_request(value: &Value) -> Option<Request>
     ensures { result ≡ poll_request (view value.now) }
 {
@@ -509,7 +509,7 @@ fn request_of(alloc: Global, value: &Value) -> Result<Request, WireError>
     }
 }
 
-/// The request of a line without its newline; or `BadJson` (1501), `BadRequest` (1502), or want of memory (1507).
+/// The request of a line without its newline; or `BadJson` (1501), `BadRequest` (1502), or out of memory (1507).
 #[tactic(auto, using(crate::proofs::Meanings::meaning_of_other))]
 pub fn request(alloc: Global, line: &[u8]) -> Result<Request, WireError>
     ensures ok { IfOk result (λ r. meaning_of line.now ≡ Asks r) }

@@ -11,7 +11,7 @@ use Rattle.vp_race.specs.Segments.{Run, FindingState}
 use Rattle.vp_world.specs.declared.error.WorldError.TheVariants.{Race}
 use Rattle.vp_world.specs.Faults.{error_of_race}
 
--- no want of memory
+-- no out of memory
 abbrev IsOwn : Option RaceError → Type 0
 IsOwn None = Unit {0}
 IsOwn (Some e) = e ≢ NoMemory

@@ -166,7 +166,7 @@ none_on watched object (c ∷ callbacks) quiet marked =
     let off : is_on object c ≡ false = off_object watched object c quiet parts.0 (is_on object c) refl in
     ap (λ b. cond b (c ∷ filter (is_on object) callbacks) (filter (is_on object) callbacks)) off ∙ rest
 
--- a change of such an object is told to nobody
+-- a change of such an object is shown to nobody
 pub quiet_told : (watched : List Bool) (change : Change) (time : ℕ) (sessions : List OpenSession) → may_be_watched watched change.object.0 ≡ false → all_marked watched sessions ≡ true → map (notified_session (Some change) time) sessions ≡ sessions
 quiet_told watched change time [] quiet marked = refl
 quiet_told watched change time (s ∷ sessions) quiet marked =

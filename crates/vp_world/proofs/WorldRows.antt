@@ -192,7 +192,7 @@ bad_token = refl
 sessions_full : refused (opens ∷ []) opens ≡ Some error.SessionsFull
 sessions_full = refl
 
--- a wrong token is told before a full house
+-- a wrong token is reported before a full house
 bad_token_first : refused (opens ∷ []) (event.Open (codes "ann") (codes "t2")) ≡ Some error.BadToken
 bad_token_first = refl
 
@@ -234,7 +234,7 @@ grants token user envelope access = event.Grant (record { token = token; user = 
 abbrev grants_to : List ℕ → ℕ → RightSet → Event
 grants_to user envelope access = grants (codes "op") user envelope access
 
--- a grant opens the envelope, and then an absent name is told as such
+-- a grant opens the envelope, and then an absent name is reported as such
 granted_name : answered (opens ∷ grants_to (codes "ann") 1 reading ∷ []) (asks (codes "top.k")) ≡ reply.Handle 1
 granted_name = refl
 
@@ -292,7 +292,7 @@ abbrev answered_after_a_put : Event → Reply
 answered_after_a_put e =
     answer shared (after shared (fold (after shared) (start shared) watching) (event.Ask first (request.Put 1 (Digits (codes "1"))))) e
 
--- the second is told of it, and the first has nothing to be told
+-- the second is notified of it, and the first has no notice
 put_told : answered_after_a_put (event.Ask second request.Poll) ≡ reply.Notices (record { notices = record { callback = 1; time = 0; value = One ∷ [] } ∷ []; lost = 0 })
 unfolding digits is_utf8 chars encode sizes_in tables_of effect_at
 put_told = refl
@@ -318,7 +318,7 @@ callback_gone = refl
 
 -- ---- logs
 
--- a full log is told before the goal, and after a session that is not open
+-- a full log is reported before the goal, and after a session that is not open
 log_full_first : refusal_of opening true (following (opens ∷ [])) (steps 0) ≡ Some error.LogFull
 log_full_first = refl
 

@@ -22,12 +22,12 @@ code_of (Sim e) = 1308
 code_of (Race e) = 1309
 code_of NoMemory = 1307
 
--- the refusal by an error of the simulation; its want of memory is the world's
+-- the refusal by an error of the simulation; its out of memory is the world's
 abbrev pub error_of : SimError → WorldError
 error_of sim.NoMemory = NoMemory
 error_of e = Sim e
 
--- the refusal by an error of the book; its want of memory is the world's
+-- the refusal by an error of the book; its out of memory is the world's
 abbrev pub error_of_race : RaceError → WorldError
 error_of_race race.NoMemory = NoMemory
 error_of_race e = Race e

@@ -103,7 +103,7 @@ abbrev pub refusal_of_booking : Bool → Option RaceError → Option WorldError
 refusal_of_booking full refusal = if full then Some error.LogFull else option_map error.Race refusal
 
 -- the first refusal of an event that holds, in a state, after a log that is full or not; none where the event is accepted.
--- Want of memory is no part of it (profile)
+-- Out of memory is no part of it (profile)
 abbrev pub refusal_of : Opening → Bool → State → Event → Option WorldError
 refusal_of opening full s (event.Open name token) = refusal_of_open opening full s (login_of s.policy.members name token)
 refusal_of opening full s (event.Ask id request) = refusal_of_session full (index_of s.sessions id)
@@ -204,11 +204,11 @@ raised goal (Some until) = Some (later goal until)
 abbrev pub with_notice : Option Change → (time : ℕ) → OpenSessionState → OpenSessionState
 with_notice change time s = record s { session_state = with_due change time s.session_state }
 
--- the open sessions after a change at a time: each of them is told, whoever made it (profile)
+-- the open sessions after a change at a time: each of them is notified, whoever made it (profile)
 abbrev pub noticed : Option Change → (time : ℕ) → List OpenSessionState → List OpenSessionState
 noticed change time sessions = map (with_notice change time) sessions
 
--- the state after what the simulation does, of whose change the open sessions are told; the segments after it are a matter of what it did. A refusal
+-- the state after what the simulation does, of whose change the open sessions are notified; the segments after it are a matter of what it did. A refusal
 -- changes nothing
 abbrev pub stepped : State → (segments : sim.State → Segments) → sim.Outcome → State
 stepped s segments (sim.Goes run change) = record s {
@@ -331,7 +331,7 @@ abbrev pub with_entry : WorldLog → Event → WorldLog
 with_entry w e = record w { log = w.log ++ entry_of w.opening (state_after w.opening w.log) e ∷ [] }
 
 -- an event is applied to a world, which becomes another: it is accepted and logged; or refused by the first reason that holds, or, where
--- none does, for want of memory, and the world stays as it was
+-- none does, when out of memory, and the world stays as it was
 pub record Applies {T : Type 0} (w : WorldLog) (e : Event) (result : Result T WorldError) (v : WorldLog) : Type 0 where
   pub accepted : OnOk result (refused_by w e ≡ None)
   pub logged : OnOk result (v ≡ with_entry w e)

@@ -1,4 +1,4 @@
--- Which objects may be watched: a change of another one is told to nobody.
+-- Which objects may be watched: a change of another one is shown to nobody.
 use Rattle.std.specs.Prelude.{ℕ, Bool, true, false, List, slice_index_or}
 use Rattle.std.specs.List.{list_all, list_any}
 use Rattle.vp_notify.specs.declared.registry.Callback.{Callback}

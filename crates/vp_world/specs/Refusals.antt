@@ -1,10 +1,10 @@
--- What a line is told where the world refuses its event.
+-- What a line is answered where the world refuses its event.
 use Rattle.vp_answer.specs.declared.reply.Refusal.{Refusal}
 use Rattle.vp_answer.specs.declared.reply.Refusal.TheVariants.{BadToken, SessionsFull, NotOpen, BadOperator, NoSuchUser, NoSuchEnvelope, LogFull, BeyondGoal, NoJob, Simulation, Race, NoMemory}
 use Rattle.vp_world.specs.declared.error.WorldError.{WorldError}
 use Rattle.vp_world.specs.declared.error.WorldError.TheVariants as error
 
--- what a line is told where the world refuses its event (profile)
+-- what a line is answered where the world refuses its event (profile)
 abbrev pub refusal_of_error : WorldError → Refusal
 refusal_of_error error.BadToken = BadToken
 refusal_of_error error.SessionsFull = SessionsFull

@@ -15,7 +15,7 @@ use Rattle.vp_world.specs.Worlds.{OpenSessionState, WorldState}
 abbrev pub session_shown : OpenSession → OpenSessionState
 session_shown s = record { id = s.id; session_state = s.session }
 
--- an open session that is told of a change at a time
+-- an open session that is notified of a change at a time
 abbrev pub notified_session : Option Change → (time : ℕ) → OpenSession → OpenSession
 notified_session change time s = record { id = s.id; session = with_due change time s.session }
 

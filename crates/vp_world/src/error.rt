@@ -33,7 +33,7 @@ pub enum WorldError {
     Sim(SimError),
     /// The book refuses it (1309).
     Race(RaceError),
-    /// Want of memory (1307).
+    /// Out of memory (1307).
     NoMemory,
 }
 

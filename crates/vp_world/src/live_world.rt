@@ -126,7 +126,7 @@ fn set_count(opens: &mut Vec<u64>, user: UserId, count: u64)
 }
 
 impl LiveWorld {
-    /// A world in which nothing has happened; or want of memory (1307).
+    /// A world in which nothing has happened; or out of memory (1307).
     pub fn new(
         alloc: Global,
         checked: Arc<Checked>,
@@ -332,7 +332,7 @@ impl LiveWorld {
             .map_err(WorldError::Sim)
     }
 
-    /// Opens a session of a user, for which there is room; or want of memory (1307), which leaves the world as it was.
+    /// Opens a session of a user, for which there is room; or out of memory (1307), which leaves the world as it was.
     pub fn open_for(&mut self, user: UserId) -> Result<SessionId, WorldError>
         requires { is_full self.old.opening self.old.state user.0 ≡ false }
         ensures id { IfOk result (λ id. id ≡ next_session self.old.state user.0) }
@@ -354,7 +354,7 @@ impl LiveWorld {
     }
 
     /// Makes a user's grant for an envelope exactly what an operator orders: the changed policy is in force, and what the user may
-    /// not watch any more is taken out of his sessions; or want of memory (1307), which leaves the world as it was.
+    /// not watch any more is taken out of his sessions; or out of memory (1307), which leaves the world as it was.
     pub fn grant(&mut self, user: UserId, change: &GrantChange) -> Result<(), WorldError>
         requires there { user_of self.old.state.policy.members change.now.user ≡ Some user.0 }
         requires envelope { change.now.envelope ≤ length self.old.state.policy.tree.authors }
@@ -383,8 +383,8 @@ impl LiveWorld {
         self.sessions.remove(place);
     }
 
-    /// Takes the k-th of the events that a step can take, and tells what it changes, which is due to the callbacks on it; else the
-    /// simulation's refusal (1308), or want of memory (1307). A refusal leaves the world as it was.
+    /// Takes the k-th of the events that a step can take, and reports what it changes, which is due to the callbacks on it; else the
+    /// simulation's refusal (1308), or out of memory (1307). A refusal leaves the world as it was.
     #[tactic(auto, using(crate::proofs::Outcomes::step_explained))]
     pub fn step(&mut self, k: u32) -> Result<Option<Change>, WorldError>
         requires { self.old.state.segments.count + 1 < 2 ^ 64 }
@@ -409,7 +409,7 @@ impl LiveWorld {
         }
     }
 
-    /// Goes on to the time of the next event; else the simulation's refusal (1308), or want of memory (1307). A refusal leaves the
+    /// Goes on to the time of the next event; else the simulation's refusal (1308), or out of memory (1307). A refusal leaves the
     /// world as it was.
     #[tactic(auto, using(crate::proofs::Outcomes::advance_explained, crate::proofs::Noticing::noticed_none))]
     pub fn advance(&mut self) -> Result<(), WorldError>
@@ -467,7 +467,7 @@ impl LiveWorld {
         }
     }
 
-    /// Hands out the oldest kept segment that was not handed out, and tells its number.
+    /// Hands out the oldest kept segment that was not handed out, and reports its number.
     pub fn take_job(&mut self) -> Option<u64>
         ensures number { result
             ≡ option_map (λ run. run.number) (next_job self.old.state.segments) }
@@ -490,7 +490,7 @@ impl LiveWorld {
         self.book.check(kept, finding).map_err(WorldError::Race)
     }
 
-    /// Books a finding; else the book's refusal (1309), or want of memory (1307), which leaves the world as it was.
+    /// Books a finding; else the book's refusal (1309), or out of memory (1307), which leaves the world as it was.
     pub fn book(&mut self, finding: Shared<Finding>) -> Result<(), WorldError>
         requires { finding.segment.start.design ≡ self.old.opening.design }
         ensures accepted { OnOk result
@@ -506,7 +506,7 @@ impl LiveWorld {
         Ok(())
     }
 
-    /// Answers a request of the session in a place, whose change is due to the callbacks on it; or want of memory (1307), which leaves
+    /// Answers a request of the session in a place, whose change is due to the callbacks on it; or out of memory (1307), which leaves
     /// the world as it was.
     pub fn ask(&mut self, place: usize, request: &Request) -> Result<AnswerWithChange, WorldError>
         requires asked { IsAsked request.now }

@@ -31,7 +31,7 @@ pub struct AnswerWithChange {
     pub change: Option<Change>,
 }
 
-/// Makes a put, if there is one, where `$finish` was not executed, and tells what it changes; or want of memory (1307), which leaves the
+/// Makes a put, if there is one, where `$finish` was not executed, and reports what it changes; or out of memory (1307), which leaves the
 /// simulation as it was.
 fn make_put(
     run: &mut Recording,
@@ -54,7 +54,7 @@ fn make_put(
     }
 }
 
-/// Answers a session's request by what its user can look up, and makes its put, if it has one; or want of memory (1307), which leaves the
+/// Answers a session's request by what its user can look up, and makes its put, if it has one; or out of memory (1307), which leaves the
 /// session and the simulation as they were.
 pub fn answer_request(
     session: &mut Session,

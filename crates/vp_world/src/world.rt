@@ -44,7 +44,7 @@ impl Model for World {
 }
 
 impl World {
-    /// A world in which nothing has happened; or want of memory (1307).
+    /// A world in which nothing has happened; or out of memory (1307).
     pub fn new(
         alloc: Global,
         checked: Arc<Checked>,
@@ -126,7 +126,7 @@ impl World {
         let full = self.is_full();
         self.present.check_goal(full)?;
         if let Err(missing_right) = self.log.reserve(1) {
-            // The simulation's own refusal comes before want of memory.
+            // The simulation's own refusal comes before out of memory.
             self.present.check_step(k)?;
             return Err(WorldError::from(missing_right));
         }

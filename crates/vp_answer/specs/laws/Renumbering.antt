@@ -1,4 +1,4 @@
--- What a session is answered tells nothing of the numbers of objects.
+-- What a session is answered reports nothing of the numbers of objects.
 use Rattle.std.proofs.Common.{◌≡◌, ℕ, zero, suc, ◌+◌, ◌≤◌, Bool, false, true, List, [], ◌∷◌, ◌++◌, length, Option, Some, None, refl, ap, sym, subst, ◌∙◌, arith}
 use Rattle.std.specs.Prelude.{cond, fold, ◌==◌, ◌&&◌, ◌||◌, ◌^◌, ◌-◌, drop, max, min, take, nat_le, nat_lt, not, if◌then◌else◌, count_by, filter, is_some, map, option_map, slice_get, slice_set, Result, Ok, Err}
 use Rattle.std.specs.List.{list_any}
@@ -267,7 +267,7 @@ handle_under n seen observation alike handles scope name =
 
 -- ---- iterations
 
--- an iteration, under other numbers: what is told of it is the same
+-- an iteration, under other numbers: what is reported of it is the same
 abbrev pub iterated_under : Renumbering → Iterated → Iterated
 iterated_under n i = record { listing = i.listing; handles = map (under.handle n) i.handles }
 

@@ -1,4 +1,4 @@
--- The promise: what a user was told in a log is a function of what he sees at its opening and of what of it goes to him.
+-- The promise: what a user was shown in a log is a function of what he sees at its opening and of what of it goes to him.
 use Rattle.std.proofs.Common.{◌≡◌, ℕ, Bool, List, [], ◌∷◌, ◌++◌, Option, Some, None, refl, ap, sym, ◌∙◌}
 use Rattle.std.specs.Prelude.{option_map}
 use Rattle.std.specs.List.{cons_option}
@@ -18,7 +18,7 @@ use Rattle.vp_audit.specs.Openings.{IsRight}
 use Rattle.vp_audit.specs.laws.Openings.{first_is}
 use Rattle.vp_audit.specs.laws.Promise.{event_follows, item_at}
 
--- an item that is none changes nothing, and another is told
+-- an item that is none changes nothing, and another is shown
 item_replies : (p : Part) (own_event : Option OwnEvent) (granted : Option GrantItem) (change : Option Change) (time : Option ℕ) (finished : Option Bool) (race : Option ShownRace) (rest : List Item)
     → (let i : Item = record { own_event = own_event; granted = granted; change = change; time = time; finished = finished; race = race } in
     replies_from p (cons_option (item_if i) rest) ≡ cons_option (option_map (reply_of p) i.own_event) (replies_from (part_after p i) rest))
@@ -58,7 +58,7 @@ replies_are opening right u log legal =
     replies_follow opening opening.design u [] log (start opening) (known_at_first opening u)
     (first_part (view_of opening.design (member_at opening.policy.members u)) (projection opening u log).values) refl (first_is opening right u) legal
 
--- so two users of two worlds, who see the same at the openings and to whom the same goes of the logs, are told the same
+-- so two users of two worlds, who see the same at the openings and to whom the same goes of the logs, are shown the same
 pub replies_alike : (one other : Opening) → IsRight one → IsRight other → (u v : ℕ) (first second : List Entry) → IsLegal one [] first → IsLegal other [] second
     → view_of one.design (member_at one.policy.members u) ≡ view_of other.design (member_at other.policy.members v) → projection one u first ≡ projection other v second
     → replies_of u first ≡ replies_of v second

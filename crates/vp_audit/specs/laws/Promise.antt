@@ -1,4 +1,4 @@
--- What a user is told is a function of what he sees at the opening and of what of the log goes to him.
+-- What a user is shown is a function of what he sees at the opening and of what of the log goes to him.
 use Rattle.std.proofs.Common.{◌≡◌, ℕ, ◌<◌, Bool, false, true, List, length, Option, Some, None, refl, ap, sym, subst, ◌∙◌, arith}
 use Rattle.std.specs.Prelude.{◌==◌, if◌then◌else◌, map, option_and_then, option_map, slice_get, unwrap_or}
 use Rattle.std.specs.List.{remove}

@@ -242,7 +242,7 @@ module _ (d : ℕ) (next : ℕ → Reader Expr) (following : (least : ℕ) → I
       (λ x le. Within-bind n (more_at next d (length x.1) least x.0 x.1) _ (more_within (length x.1) least x.0 n x.1 le)
       (λ y le. choice_within least y.0 n y.1 le))
 
--- the symbol before an expression is told where nothing may nest
+-- the symbol before an expression is reported where nothing may nest
 pub expr_after : (limit least : ℕ) → IsAfter (expr_at limit least)
 unfolding expr_at
 expr_after zero least n ts le = omega arith

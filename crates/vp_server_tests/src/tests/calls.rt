@@ -88,7 +88,7 @@ pub fn value() -> Request
     }
 }
 
-/// The value that a reply tells.
+/// The value that a reply reports.
 fn value_told(reply: Reply) -> Option<Bits> {
     match reply {
         Reply::Value(bits) => Some(bits),
@@ -96,7 +96,7 @@ fn value_told(reply: Reply) -> Option<Bits> {
     }
 }
 
-/// A session is told the value of the object of its first handle.
+/// A session is shown the value of the object of its first handle.
 pub fn read<L: NamesOpening, R: Wait>(
     rt: &R,
     hub: &Hub<L>,

@@ -59,7 +59,7 @@ pub fn line(alloc: Global, stream: &TcpStream) -> Option<Vec<u8>> {
     None
 }
 
-/// Sends a line, and tells whether this is its reply.
+/// Sends a line, and reports whether this is its reply.
 pub fn is_told(alloc: Global, stream: &TcpStream, request: &str, reply: &str) -> bool {
     if send(stream, request).is_none() {
         return false;
@@ -80,7 +80,7 @@ pub fn is_ended(stream: &TcpStream) -> bool {
     }
 }
 
-/// Sends each of these lines in turn, and tells whether these are its replies.
+/// Sends each of these lines in turn, and reports whether these are its replies.
 pub fn are_told(alloc: Global, stream: &TcpStream, lines: &[(&str, &str)]) -> bool {
     for (request, reply) in lines {
         if !is_told(alloc, stream, request, reply) {
@@ -90,7 +90,7 @@ pub fn are_told(alloc: Global, stream: &TcpStream, lines: &[(&str, &str)]) -> bo
     true
 }
 
-/// Connects, sends each of these lines in turn, and tells whether these are its replies.
+/// Connects, sends each of these lines in turn, and reports whether these are its replies.
 pub fn talk<R: Net<Stream = TcpStream> + Clock>(
     rt: &R,
     alloc: Global,

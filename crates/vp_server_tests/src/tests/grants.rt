@@ -25,14 +25,14 @@ const ENTRIES: u32 = 4_096;
 /// All five rights.
 const ALL: &str = "list+read+watch+put+race";
 
-/// A session's pass, and what it was told, in order.
+/// A session's pass, and what it was answered, in order.
 #[derive(Drop)]
 struct Conversation<L: NamesOpening> {
     pass: Pass<L>,
     replies: Vec<Reply>,
 }
 
-/// What is left of a hub, what Bob was told there, and the grants that were answered that they were done.
+/// What is left of a hub, what Bob was shown there, and the grants that were answered that they were done.
 #[derive(Drop)]
 struct Ended {
     closed: Closed,
@@ -83,7 +83,7 @@ fn grants<L: NamesOpening, R: Wait + Clock>(
     Some(grants)
 }
 
-/// A session polls, or reads `k`, and what it is told is kept.
+/// A session polls, or reads `k`, and what it is answered is kept.
 fn ask_next<L: NamesOpening, R: Wait>(
     rt: &R,
     hub: &Hub<L>,
@@ -125,7 +125,7 @@ fn begin<L: NamesOpening, R: Wait>(rt: &R, hub: &Hub<L>, alloc: Global) -> Optio
     put(rt, hub, alloc, pass, "1")
 }
 
-/// What Bob is told on one thread while his grant changes on another.
+/// What Bob is shown on one thread while his grant changes on another.
 fn beside<L: NamesOpening + Send + Sync, R: Threads + Wait + Clock + Sync>(
     rt: &R,
     stage: &Stage<L>,

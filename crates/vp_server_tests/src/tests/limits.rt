@@ -163,7 +163,7 @@ fn open_all<R: Net<Stream = TcpStream> + Clock>(
     Some(clients)
 }
 
-/// Each of the clients is answered; one more is told that there are too many sessions.
+/// Each of the clients is answered; one more is answered that there are too many sessions.
 fn be_many<R: Net<Stream = TcpStream> + Clock>(rt: &R, alloc: Global, port: u16) -> bool {
     let Some(clients) = open_all(rt, alloc, port, 64) else {
         return false;

@@ -85,7 +85,7 @@ where
     }
 }
 
-/// What a server of a text comes to, as `served` tells it, and its clients beside it.
+/// What a server of a text comes to, as `served` reports it, and its clients beside it.
 pub fn beside<R, G, C, T>(
     rt: &R,
     alloc: Global,

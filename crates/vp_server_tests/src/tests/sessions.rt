@@ -178,7 +178,7 @@ fn value_given(entry: &Entry) -> Option<Bits> {
     }
 }
 
-/// The value that an entry tells a session, if it asked for one there.
+/// The value that an entry shows a session, if it asked for one there.
 fn value_told(entry: &Entry, session: SessionId) -> Option<Bits> {
     match &entry.happening {
         LoggedEvent::Ask {

@@ -1,4 +1,4 @@
--- What a simulation refuses, it refuses for a reason of its own: want of memory is no part of the definition.
+-- What a simulation refuses, it refuses for a reason of its own: out of memory is no part of the definition.
 use Rattle.std.proofs.Common.{◌≡◌, ◌≢◌, ℕ, Bool, true, false, if◌then◌else◌, Option, Some, None}
 use Rattle.vp_elab.specs.declared.object.ObjectId.{ObjectId}
 use Rattle.vp_expr.specs.declared.tables.Process.{Process}
@@ -12,7 +12,7 @@ use Rattle.vp_strata.specs.Queues.{first_time, is_done, peeked}
 use Rattle.vp_sim.specs.declared.error.SimError.TheVariants.{NoMemory}
 use Rattle.vp_sim.specs.States.{Outcome, Goes, Refuses, State, advance, advanced_to, with_activation, delay_of, evaluated, happened, is_late, next_effect, step, run_procedure}
 
--- what a step does, or a refusal that is no want of memory
+-- what a step does, or a refusal that is not out of memory
 abbrev pub IsOwn : Outcome → Type 0
 IsOwn (Goes s c) = Unit {0}
 IsOwn (Refuses e) = e ≢ NoMemory

@@ -1,4 +1,4 @@
-//! What users can know of a world whose grants change, and what they were told there.
+//! What users can know of a world whose grants change, and what they were shown there.
 use crate::tests::grants::{DESIGN, POLICY, grant, open_both, session_of, watch_both};
 use crate::tests::sessions::{order_in, poll_in, put_in};
 use std::alloc::Global;
@@ -9,7 +9,7 @@ use vp_policy::UserId;
 use vp_world::{Entry, Limits, World};
 use vp_world_samples::{policy_of, world_of};
 
-/// Ann and Bob watch `k`, of which Bob is told, and Ann no more after her grant has changed. Each has five events of his own.
+/// Ann and Bob watch `k`, of which Bob is notified, and Ann no more after her grant has changed. Each has five events of his own.
 fn happens(alloc: Global, world: &mut World) -> Option<()> {
     open_both(alloc, world)?;
     watch_both(alloc, world)?;

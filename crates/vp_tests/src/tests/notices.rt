@@ -1,4 +1,4 @@
-//! Callbacks on changes, and the notices that they are told by.
+//! Callbacks on changes, and the notices that notify them.
 
 use std::alloc::Global;
 use vp_bits::Bits;
@@ -34,7 +34,7 @@ fn shape_of(notices: &Notices) -> (usize, u64, Option<(u32, u64)>, Option<(u32, 
     (notices.notices.len(), notices.lost, first, last)
 }
 
-/// What is told of two changes of object 2, between which callback 1 is taken out.
+/// What is reported of two changes of object 2, between which callback 1 is taken out.
 fn told(
     alloc: Global,
 ) -> Result<(usize, u64, Option<(u32, u64)>, Option<(u32, u64)>), NotifyError> {
@@ -50,7 +50,7 @@ fn notices_in_order(rt: HostRuntime) {
     assert_eq!(rt; told(rt.alloc()), Ok((3, 0, Some((1, 5)), Some((3, 6)))));
 }
 
-/// What is told of many changes, and then of none.
+/// What is reported of many changes, and then of none.
 fn told_of_many(alloc: Global) -> Result<(usize, u64, usize, u64), NotifyError> {
     let mut registry = three(alloc)?;
     for time in 0..MANY {

@@ -27,7 +27,7 @@ fn is_watchable(kind: Option<Kind>) -> bool
 
 impl Session {
     /// The object of a handle, whose changes the user may watch. Refused where the number is no handle (1101), the user lacks the right
-    /// to watch (1109), or the object is no net or reg (1102), or for want of memory (1107).
+    /// to watch (1109), or the object is no net or reg (1102), or out of memory (1107).
     fn watchable<E: Observe>(&self, observation: &E, handle: u32) -> Result<ObjectId, VpiError>
         requires { E.is_sound observation.now }
         ensures ok { IfOk result (λ o. watchable_of (E.observer observation.now)
@@ -44,7 +44,7 @@ impl Session {
     }
 
     /// A callback on the changes of a handle's object, and its number (27.33). Refused where the number is no handle (1101), the user
-    /// lacks the right to watch (1109), the object is no net or reg (1102), with too many callbacks (1001), or for want of memory (1107).
+    /// lacks the right to watch (1109), the object is no net or reg (1102), with too many callbacks (1001), or out of memory (1107).
     /// A refusal leaves the session as it was.
     pub fn register_cb<E: Observe>(&mut self, observation: &E, handle: u32) -> Result<u32, VpiError>
         requires { E.is_sound observation.now }
@@ -60,7 +60,7 @@ impl Session {
         Ok(self.registry.register(object)?)
     }
 
-    /// Removes the callback of a number (27.34); what it has not yet been told stays. Refused where no callback has the number (1002),
+    /// Removes the callback of a number (27.34); its notices that wait stay. Refused where no callback has the number (1002),
     /// which leaves the session as it was.
     pub fn remove_cb(&mut self, callback: u32) -> Result<(), VpiError>
         ensures found { IsOk result
@@ -110,7 +110,7 @@ impl Session {
         self.registry.on_changes(change, time);
     }
 
-    /// The notices that wait, and how many were lost since the last `drain`; or want of memory (1107). `drain` takes them out.
+    /// The notices that wait, and how many were lost since the last `drain`; or out of memory (1107). `drain` takes them out.
     pub fn poll(&self) -> Result<SharedNotices, VpiError>
         ensures told { IfOk result (λ n. n ≡ polled self.now) }
         ensures refused { IsOkUnless result VpiError.NoMemory }

@@ -1,4 +1,4 @@
-// The races that a session is told.
+// The races that a session is shown.
 ghost use Rattle.std.specs.Prelude.{◌≡◌, Ok, IfErr, IfOk, IsOkUnless};
 ghost use Rattle.vp_vpi.specs.Calls.{Explains, lines_of, race_of};
 
@@ -11,7 +11,7 @@ use vp_race::Shared;
 
 impl Session {
     /// The races that the user is shown, from a number on, at most 100; they are numbered from 1, and from 0 on is from 1 on. The only
-    /// refusal is want of memory (1107).
+    /// refusal is out of memory (1107).
     pub fn races<E: Observe>(
         &self,
         observation: &E,

@@ -3,7 +3,7 @@ use Rattle.vp_audit.specs.Explained.{explained_from}
 use Rattle.vp_audit.specs.Parts.{takes_all}
 use Rattle.vp_audit.proofs.explaining.explain_items.Given as goal
 
--- what he was told so far and what he is told by the items that are left, and what is taken up if these are
+-- what he was shown so far and what he is shown by the items that are left, and what is taken up if these are
 abbrev pub invariant-loop-place : goal.invariant-loop-place
 invariant-loop-place l = record {
   told :

@@ -2,7 +2,7 @@ use Rattle.std.proofs.Common.{◌≡◌, ◌++◌, Some, drop, map, take}
 use Rattle.vp_world.specs.Shown.{notified_session}
 use Rattle.vp_world.proofs.session.notify_sessions.Given as goal
 
--- the sessions before this one are told
+-- the sessions before this one are notified
 abbrev pub invariant-loop-opened : goal.invariant-loop-opened
 invariant-loop-opened l =
     l.opened-items

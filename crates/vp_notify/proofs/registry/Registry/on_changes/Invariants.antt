@@ -3,7 +3,7 @@ use Rattle.std.specs.List.{fold}
 use Rattle.vp_notify.specs.Registry.{notice_of, with_notice}
 use Rattle.vp_notify.proofs.registry.Registry.on_changes.Given as goal
 
--- what the callbacks before this one are told waits, as far as it isn't lost
+-- what the callbacks before this one are notified of waits, as far as it isn't lost
 abbrev pub invariant-loop-callback : goal.invariant-loop-callback
 invariant-loop-callback l =
     -- while its callbacks are lent, the fields of a registry stand in a row: the fourth is what waits, and the fifth what is lost

@@ -4,7 +4,7 @@ use Rattle.vp_vpi.specs.Races.{races_seen}
 use Rattle.vp_vpi.proofs.Telling.{told_from}
 use Rattle.vp_vpi.proofs.user_observer.UserObserverObserve.race_lines.Given as goal
 
--- the races that are told so far, and those of what is left
+-- the races that are reported so far, and those of what is left
 abbrev pub invariant-loop-finding : goal.invariant-loop-finding
 invariant-loop-finding l = record {
   told :
