@@ -56,7 +56,7 @@ class Script:
 
 def race_bundle():
     """The bundle of the case of a race between envelopes."""
-    cases = (TOP / "crates" / "vp_script_cases" / "data" / "rows.cases").read_text()
+    cases = (TOP / "crates" / "vp_cases" / "data" / "rows.cases").read_text()
     return cases.split(f"## {RACE}\n")[1].split("==\n")[0]
 
 

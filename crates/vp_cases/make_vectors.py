@@ -1,5 +1,5 @@
 #!/usr/bin/env python3
-"""Makes the file stdin: random operands, and what Icarus Verilog computes of them (Debian's package iverilog).
+"""Makes the file data/vectors.txt: random operands, and what Icarus Verilog computes of them (Debian's package iverilog).
 
 Run it in this folder: ./make_cases.py. The seed is fixed, so that it makes the same file again.
 Rows that were worked out by hand come first; Icarus has to agree with them. Each operation runs in vvp, on regs of the
@@ -187,7 +187,7 @@ def main():
     results = [by_profile(case, found) for case, found in zip(cases, computed(cases), strict=True)]
     for (operands, place, digits), found in zip(WORKED, results):
         assert found[place].rstrip("*") == digits, (operands, place, found)
-    with open("stdin", "w") as f:
+    with open("data/vectors.txt", "w") as f:
         f.write(HEAD)
         for case, found in zip(cases, results):
             f.write(" ".join(case + found) + "\n")

@@ -1,4 +1,4 @@
-//! Runs the cases of the files that its words name: bundles, each with what it must print. A case is a line `## ` with its
+//! Checks `vp_bits` on the vectors of a file, whose results Icarus Verilog computed. Then it runs the cases of the files that its words name: bundles, each with what it must print. A case is a line `## ` with its
 //! name, the bundle, a line `==`, and the lines that the bundle must print; after a line `=/=` the bundle's last line lacks its
 //! newline. A line `%* COUNT TEXT` of a bundle stands for so many copies of the text, and a newline; of a line `%+ COUNT TEXT` the
 //! next line goes on. For each line `%@ USER`, which is no line of the bundle, the user is audited by its script, and a line more is
@@ -8,13 +8,47 @@
 #![tactic(auto)]
 
 mod cases;
+mod vectors;
 
 use crate::cases::{Case, audit_lines, fault_line, read_cases};
-use std::io::BufReader;
+use crate::vectors::{Kind, Tally, check_line};
+use std::io::{BufRead, BufReader};
 use std::rt::Files;
 use std::{env, fs, io};
 use vp_hub::HubError;
 use vp_script::{Failure, ServeFault, audit_files, check_files, run_files, view_files};
+
+/// Prints what came of the lines of a kind.
+fn print_tally<R: Print>(rt: &R, kind: &str, tally: &Tally) -> io::Result<()> {
+    let lines = tally.lines;
+    let results = tally.results;
+    let agreeing = tally.agreeing;
+    println!(rt; "{kind}: {lines} lines, {results} results, {agreeing} as wanted")
+}
+
+/// Checks the vectors of a file, and prints what came of each kind of line.
+fn check_vectors<R: AllocGlobal + Files + Print>(rt: &R, file: &str) -> io::Result<()> {
+    let alloc = rt.alloc();
+    let mut pairs = Tally::new();
+    let mut shifts = Tally::new();
+    let mut joins = Tally::new();
+    let mut parts = Tally::new();
+    for line in BufReader::new(alloc, fs::open(rt, file)?)?.lines(alloc) {
+        let line = line?;
+        let checked = check_line(alloc, line.as_str());
+        match checked.kind {
+            Some(Kind::Pair) => pairs.add(&checked),
+            Some(Kind::Shift) => shifts.add(&checked),
+            Some(Kind::Join) => joins.add(&checked),
+            Some(Kind::Part) => parts.add(&checked),
+            None => {}
+        }
+    }
+    print_tally(rt, "pair", &pairs)?;
+    print_tally(rt, "shift", &shifts)?;
+    print_tally(rt, "join", &joins)?;
+    print_tally(rt, "part", &parts)
+}
 
 /// Whether a case prints what it must; what it prints is shown where it does not.
 fn is_as_wanted<R: AllocGlobal + Print>(rt: &R, case: &Case) -> io::Result<bool> {
@@ -109,6 +143,7 @@ fn print_audit<R: AllocGlobal + Files + Input + Print>(
 }
 
 fn main(rt: HostRuntime) -> io::Result<()> {
+    check_vectors(&rt, "vectors.txt")?;
     let words: Vec<String> = env::args(&rt)?.collect(rt.alloc())?;
     for file in words.iter().skip(1) {
         check_file(&rt, file.as_str())?;
