@@ -1,7 +1,7 @@
 #!/usr/bin/env python3
 """Makes the file data/vectors.txt: random operands, and what Icarus Verilog computes of them (Debian's package iverilog).
 
-Run it in this folder: ./make_cases.py. The seed is fixed, so that it makes the same file again.
+Run it in this folder: ./make_vectors.py. The seed is fixed, so that it makes the same file again.
 Rows that were worked out by hand come first; Icarus has to agree with them. Each operation runs in vvp, on regs of the
 operands' widths. A result with a star departs from Icarus, by a rule
 of docs/DECISIONS.md ("Vectors"): the script puts the profile's result there, and only there.
