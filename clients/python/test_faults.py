@@ -1,4 +1,4 @@
-"""Tests of the faults that no text brings: words that ask nothing, standard input or output that fails, and want of memory and of threads. Each but the
+"""Tests of the faults that no text brings: words that ask nothing, standard input or output that fails, and out of memory and of threads. Each but the
 first is told by its number on standard output, and in words on standard error. python3 -m unittest, in this folder, over the program of test_loddrume.
 """
 
@@ -21,7 +21,7 @@ EXAMPLE = TOP / "docs" / "policy"
 # Sets the size of a pipe (fcntl(2)); Python has the name from 3.10 on.
 F_SETPIPE_SZ = 1031
 
-# What is told of each want of memory, by docs/FORMATS.md: of the design d.v and the policy p.json.
+# What is told of each out of memory, by docs/FORMATS.md: of the design d.v and the policy p.json.
 WANTS = {
     **{number: [f"d.v: fault {number}: no memory (no line is known for it)\n"] for number in (206, 310, 404, 510, 604)},
     905: ["p.json: fault 905: no memory (no line is known for it)\n"],
@@ -151,7 +151,7 @@ class Memory(unittest.TestCase):
         return found
 
     def check(self, command: str, design: str, rules: str, *wanted: int) -> None:
-        """Each fault of a design and a policy is want of memory and told so, and among them are these."""
+        """Each fault of a design and a policy is out of memory and told so, and among them are these."""
         with tempfile.TemporaryDirectory() as folder:
             (Path(folder) / "d.v").write_text(design)
             (Path(folder) / "p.json").write_text(rules)

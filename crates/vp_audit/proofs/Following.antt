@@ -48,20 +48,20 @@ opens s None = nothing s
 opens s (Some u) = record { design = refl; values = refl; policy = refl; booked = refl }
 
 -- a request
-asks : (s : State) (place : ℕ) (session : Option OpenSessionState) (r : Request) → Stays s (state_asked s place session r) (changed_by s session r) s.book
-asks s place None r = nothing s
-asks s place (Some session) r =
+asks : (s : State) (index : ℕ) (session : Option OpenSessionState) (r : Request) → Stays s (state_asked s index session r) (changed_by s session r) s.book
+asks s index None r = nothing s
+asks s index (Some session) r =
     let given = response_of s session.session_state r in
     does s _ refl refl refl (segments_of_put s.segments given.put) (outcome_of_put s.run given.put) (outcome_leaves s.run given.put) (outcome_changes s.run given.put)
 
-asks_at : (s : State) (place : Option ℕ) (r : Request) → Stays s (asked_at s place r) (changed_by s (option_and_then (slice_get s.sessions) place) r) s.book
+asks_at : (s : State) (index : Option ℕ) (r : Request) → Stays s (asked_at s index r) (changed_by s (option_and_then (slice_get s.sessions) index) r) s.book
 asks_at s None r = nothing s
-asks_at s (Some place) r = asks s place (slice_get s.sessions place) r
+asks_at s (Some index) r = asks s index (slice_get s.sessions index) r
 
 -- a closing
-closes : (s : State) (place : Option ℕ) → Stays s (closed_at s place) None s.book
+closes : (s : State) (index : Option ℕ) → Stays s (closed_at s index) None s.book
 closes s None = nothing s
-closes s (Some place) = record { design = refl; values = refl; policy = refl; booked = refl }
+closes s (Some index) = record { design = refl; values = refl; policy = refl; booked = refl }
 
 -- an event that is no change of grants
 abbrev pub IsNoGrant : Event → Type 0

@@ -17,12 +17,12 @@ use Rattle.vp_audit.specs.Parts.{Asks, Item, Part, observer_of_part, part_after_
 use Rattle.vp_audit.specs.laws.Events.{map_same}
 
 -- what stands in a place
-pub at_place : {X : Type 0} (xs : List X) (i : ℕ) (x : X) → i < length xs → x ≡ slice_index_or xs i x → slice_get xs i ≡ Some x
-at_place [] i x within is = absurd (omega arith)
-at_place (y ∷ xs) zero x within is = ap Some (sym is)
-at_place (y ∷ xs) (suc i) x within is = at_place xs i x (omega arith) is
+pub at_index : {X : Type 0} (xs : List X) (i : ℕ) (x : X) → i < length xs → x ≡ slice_index_or xs i x → slice_get xs i ≡ Some x
+at_index [] i x within is = absurd (omega arith)
+at_index (y ∷ xs) zero x within is = ap Some (sym is)
+at_index (y ∷ xs) (suc i) x within is = at_index xs i x (omega arith) is
 
-module _ (p : Part) (id : SessionId) (r : Request) (place : ℕ) (session : OpenSessionState) (at : index_of p.sessions id ≡ Some place) (there : slice_get p.sessions place ≡ Some session) where
+module _ (p : Part) (id : SessionId) (r : Request) (index : ℕ) (session : OpenSessionState) (at : index_of p.sessions id ≡ Some index) (there : slice_get p.sessions index ≡ Some session) where
   -- the reply to a request is that of its session
   pub asked_reply : reply_of p (Asks id r) ≡ (respond (observer_of_part p) session.session_state r).reply
   asked_reply =
@@ -30,11 +30,11 @@ module _ (p : Part) (id : SessionId) (r : Request) (place : ℕ) (session : Open
       ∙ ap (λ x. option_map_or (λ (g : Response). g.reply) (response_in p x r) (reply.Error refusal.NotOpen)) there
 
   -- and the session is as it leaves it
-  pub asked_after : with_own p (Asks id r) ≡ record p { sessions = slice_set p.sessions place (record { id = session.id; session_state = (respond (observer_of_part p) session.session_state r).session_state }) }
+  pub asked_after : with_own p (Asks id r) ≡ record p { sessions = slice_set p.sessions index (record { id = session.id; session_state = (respond (observer_of_part p) session.session_state r).session_state }) }
   asked_after =
       ap (λ (ts : List OpenSessionState). (let q : Part = record p { sessions = ts } in q))
       (ap (λ n. option_map_or (λ k. with_answer p.sessions k (slice_get p.sessions k) (response_in p (slice_get p.sessions k) r)) n p.sessions) at
-      ∙ ap (λ x. with_answer p.sessions place x (response_in p x r)) there)
+      ∙ ap (λ x. with_answer p.sessions index x (response_in p x r)) there)
 
 -- what can be looked up in a part, by its fields
 pub observations_are : (v : View) (values values' : List (Option (List Bit))) (time : ℕ) (finished : Bool) (races races' : List ShownRace) → values ≡ values' → races ≡ races'

@@ -11,8 +11,8 @@ known_also tree u (k ∷ known) [] = []
 known_also tree u (k ∷ known) (node ∷ nodes) = (k || is_listed tree u node) ∷ known_also tree u known nodes
 
 -- the place of the marked of a number; after the last of them it goes on past all places
-abbrev pub place_of : (marks : List Bool) → ℕ → ℕ
-place_of [] k = k
-place_of (true ∷ marks) zero = zero
-place_of (true ∷ marks) (suc k) = suc (place_of marks k)
-place_of (false ∷ marks) k = suc (place_of marks k)
+abbrev pub index_of : (marks : List Bool) → ℕ → ℕ
+index_of [] k = k
+index_of (true ∷ marks) zero = zero
+index_of (true ∷ marks) (suc k) = suc (index_of marks k)
+index_of (false ∷ marks) k = suc (index_of marks k)

@@ -70,16 +70,16 @@ reply_of p (Asks id r) = option_map_or (λ g. g.reply) (response_in p (session_i
 reply_of p (Closes id) = reply.Done
 
 -- sessions of which the one in a place is as a response leaves it
-abbrev pub with_answer : List OpenSessionState → (place : ℕ) → Option OpenSessionState → Option Response → List OpenSessionState
-with_answer sessions place None given = sessions
-with_answer sessions place (Some session) None = sessions
-with_answer sessions place (Some session) (Some given) = slice_set sessions place (record session { session_state = given.session_state })
+abbrev pub with_answer : List OpenSessionState → (index : ℕ) → Option OpenSessionState → Option Response → List OpenSessionState
+with_answer sessions index None given = sessions
+with_answer sessions index (Some session) None = sessions
+with_answer sessions index (Some session) (Some given) = slice_set sessions index (record session { session_state = given.session_state })
 
 -- the open sessions after an event of his own
 abbrev pub sessions_after : Part → OwnEvent → List OpenSessionState
 sessions_after p (Opens id) = p.sessions ++ record { id = record { user = id.user; opens = p.opens + 1 }; session_state = new_session_state id.user.0 } ∷ []
 sessions_after p (Asks id r) =
-    option_map_or (λ place. with_answer p.sessions place (slice_get p.sessions place) (response_in p (slice_get p.sessions place) r)) (index_of p.sessions id) p.sessions
+    option_map_or (λ index. with_answer p.sessions index (slice_get p.sessions index) (response_in p (slice_get p.sessions index) r)) (index_of p.sessions id) p.sessions
 sessions_after p (Closes id) = option_map_or (remove p.sessions) (index_of p.sessions id) p.sessions
 
 -- how often he has opened a session after an event of his own

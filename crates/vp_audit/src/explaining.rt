@@ -57,8 +57,8 @@ fn bring(alloc: Global, brought: &mut Vec<u64>, number: u64, item: &Item) -> Res
         return Ok(());
     }
     if let Some(change) = &item.change {
-        if let Some(place) = brought.get_mut(change.object.0 as usize) {
-            *place = number;
+        if let Some(index) = brought.get_mut(change.object.0 as usize) {
+            *index = number;
         }
     }
     Ok(())
@@ -120,8 +120,8 @@ fn explain_items<'a>(
     ensures refused { IfErr result (MayRefuse (takes_all part.old items.now)) }
 {
     let mut told = Vec::new(alloc);
-    for (place, item) in items.iter().enumerate() {
-        let number = place as u64 + 1;
+    for (index, item) in items.iter().enumerate() {
+        let number = index as u64 + 1;
         if let Some(one) = explain_item(alloc, part, brought, number, item)? {
             told.push(one)?;
         }

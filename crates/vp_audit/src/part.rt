@@ -76,8 +76,8 @@ fn copied_races(
 fn set_value(values: &mut Vec<Option<Bits>>, object: ObjectId, value: Bits)
     ensures { values.new.items ≡ slice_set values.old.items object.0 (Some value) }
 {
-    if let Some(place) = values.get_mut(object.0 as usize) {
-        *place = Some(value);
+    if let Some(index) = values.get_mut(object.0 as usize) {
+        *index = Some(value);
     }
 }
 
@@ -129,7 +129,7 @@ impl<'a> Part<'a> {
         ensures accepted { OnOk result (takes_own self.old (own_event.Asks id request.now) ≡ true) }
         ensures refused { IfErr result (MayRefuse (takes_own self.old (own_event.Asks id request.now))) }
     {
-        let Some(place) = session_index(&self.sessions, id) else {
+        let Some(index) = session_index(&self.sessions, id) else {
             return Err(AuditError::NotOpen);
         };
         let observation = PartObserver::new(
@@ -139,7 +139,7 @@ impl<'a> Part<'a> {
             self.finished,
             &self.races,
         );
-        let reply = self.sessions[place].ask(&observation, request)?;
+        let reply = self.sessions[index].ask(&observation, request)?;
         Ok(reply)
     }
 
@@ -150,10 +150,10 @@ impl<'a> Part<'a> {
         ensures accepted { OnOk result (takes_own self.old (own_event.Closes id) ≡ true) }
         ensures refused { IfErr result (MayRefuse (takes_own self.old (own_event.Closes id))) }
     {
-        let Some(place) = session_index(&self.sessions, id) else {
+        let Some(index) = session_index(&self.sessions, id) else {
             return Err(AuditError::NotOpen);
         };
-        self.sessions.remove(place);
+        self.sessions.remove(index);
         Ok(Reply::Done)
     }
 
@@ -204,8 +204,8 @@ impl<'a> Part<'a> {
         let OwnEvent::Asks(id, Request::Value { handle, .. }) = own_event else {
             return None;
         };
-        let place = session_index(&self.sessions, *id)?;
-        self.sessions[place].object(*handle)
+        let index = session_index(&self.sessions, *id)?;
+        self.sessions[index].object(*handle)
     }
 
     /// A change of his grants is taken up.

@@ -113,8 +113,8 @@ impl PartSession {
 
 /// Where the open session of a name stands.
 pub fn session_index(sessions: &[PartSession], id: SessionId) -> Option<usize>
-    ensures place { result ≡ index_of sessions.now id }
-    ensures within { IfSome result (λ place. place < length sessions.now) }
+    ensures index { result ≡ index_of sessions.now id }
+    ensures within { IfSome result (λ index. index < length sessions.now) }
 {
     sessions.iter().position(|session| session.is(id))
 }

@@ -121,8 +121,8 @@ fn either_marked(alloc: Global, first: &[bool], second: &[bool]) -> Result<Vec<b
     ensures { IfOk result (λ marks. marks.items ≡ either_marked first.now second.now) }
 {
     let mut marks = Vec::new(alloc);
-    for place in 0..first.len() {
-        marks.push(first[place] || second[place])?;
+    for index in 0..first.len() {
+        marks.push(first[index] || second[index])?;
     }
     Ok(marks)
 }
@@ -213,8 +213,8 @@ fn change_in(happening: &LoggedEvent) -> Option<&Change>
 fn set_value(values: &mut Vec<Bits>, change: &Change)
     ensures { values.new.items ≡ slice_set values.old.items change.now.object.0 change.now.value }
 {
-    if let Some(place) = values.get_mut(change.object.0 as usize) {
-        *place = change.value;
+    if let Some(index) = values.get_mut(change.object.0 as usize) {
+        *index = change.value;
     }
 }
 

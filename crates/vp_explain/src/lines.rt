@@ -180,8 +180,8 @@ pub fn explanation(
     let mut text = String::new(alloc);
     let mut sees = view;
     let mut rest = told;
-    for (place, item) in projection.items.as_slice().iter().enumerate() {
-        let number = place as u64 + 1;
+    for (index, item) in projection.items.as_slice().iter().enumerate() {
+        let number = index as u64 + 1;
         rest = push_own(alloc, &mut text, item, rest)?;
         push_item(alloc, &mut text, sees, number, item)?;
         sees = view_after(sees, item);

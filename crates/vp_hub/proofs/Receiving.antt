@@ -19,10 +19,10 @@ use Rattle.vp_hub.proofs.Calling.{not_receipt}
 use Rattle.vp_hub.proofs.Standing.{call_within, stands_before, stands_last}
 
 -- the last receipt is of an earlier place
-last_earlier : (log : List Entry) (p : Passed) → LastStands log p → IfSome (last_of p) (λ last. last.place < length log)
+last_earlier : (log : List Entry) (p : Passed) → LastStands log p → IfSome (last_of p) (λ last. last.index < length log)
 last_earlier log p stood =
-    subst (λ o. IfSome o (λ (last : Receipt). last.place < length log)) (sym stood.1)
-    (call_within log stood.0.place _ stood.2)
+    subst (λ o. IfSome o (λ (last : Receipt). last.index < length log)) (sym stood.1)
+    (call_within log stood.0.index _ stood.2)
 
 -- a call that is made is received
 pub received : (opening : Opening) (d next : Desked) (p q : Passed) (r : Request) → LastStands d.world.log p → IsMade d p r next q → IsLegal opening [] next.world.log → IsReceived opening p r (answered_by d.world (event_of p.session r)) q
@@ -33,7 +33,7 @@ received opening d next p q r stood made legal =
     let added : next.world.log ≡ w.log ++ e ∷ [] = ap (λ (x : Desked). x.world.log) made.desk in
     record {
       log = next.world.log;
-      place = length w.log;
+      index = length w.log;
       pass = made.pass;
       later = last_earlier w.log p stood;
       legal = legal;
@@ -70,7 +70,7 @@ opened opening d next p user token desk told receipts share legal =
     let added : next.world.log ≡ w.log ++ e ∷ [] = ap (λ (x : WorldLog). x.log) desk.0 in
     record {
       log = next.world.log;
-      place = length w.log;
+      index = length w.log;
       receipts = receipts ∙ ap (λ (a : Reply). receipt (length w.log) r a ∷ []) told;
       amount = share.0;
       parts = share.1;

@@ -42,11 +42,11 @@ session_in e answer = None
 
 -- the event and the reply in a place of a log, if there is an entry
 abbrev pub call_at : List Entry → ℕ → Option (Event × Reply)
-call_at log place = option_map (λ e. (e.event, e.reply)) (slice_get log place)
+call_at log index = option_map (λ e. (e.event, e.reply)) (slice_get log index)
 
 -- a receipt of a session stands in a log: at its place are its event and its reply
 abbrev pub Stands : List Entry → SessionId → Receipt → Type 0
-Stands log id r = call_at log r.place ≡ Some (event_of id r.request, r.reply)
+Stands log id r = call_at log r.index ≡ Some (event_of id r.request, r.reply)
 
 -- a receipt is of a session
 abbrev pub IsOf : SessionId → Receipt → Type 0

@@ -15,7 +15,7 @@ is_own id e = option_map_or (λ own. same_session own id) (session_in e.event e.
 
 -- an entry of a session stands at a place of a log
 abbrev pub is_own_at : List Entry → SessionId → ℕ → Bool
-is_own_at log id place = option_map_or (is_own id) (slice_get log place) false
+is_own_at log id index = option_map_or (is_own id) (slice_get log index) false
 
 -- the places at which the entries of a session stand in a log, rising
 abbrev pub entry_indexes : List Entry → SessionId → List ℕ
@@ -23,7 +23,7 @@ entry_indexes log id = filter (is_own_at log id) (below (length log))
 
 -- a pass has just the calls of its session in a log: its receipts are of the places of the session's entries, in order, and stand there
 pub record HasAll (log : List Entry) (p : Passed) : Type 0 where
-  pub places : map (λ r. r.place) p.receipts ≡ entry_indexes log p.session
+  pub indexes : map (λ r. r.index) p.receipts ≡ entry_indexes log p.session
   pub stand : All (Stands log p.session) p.receipts
 
 -- what is left of a hub of an opening to which these passes were handed back: its log is legal, the passes are of different sessions and

@@ -48,7 +48,7 @@ with_pass d e next = (next.world ≡ with_entry d.world e) × (next.total ≡ d.
 
 -- the receipt of a request that a desk accepts
 abbrev pub receipt_of : Desked → Event → Request → Receipt
-receipt_of d e r = record { place = length d.world.log; request = r; reply = answered_by d.world e }
+receipt_of d e r = record { index = length d.world.log; request = r; reply = answered_by d.world e }
 
 -- why a desk's world refuses an event, if it does
 abbrev pub refusal_of : Desked → Event → Option HubError

@@ -12,32 +12,32 @@ use Rattle.vp_hub.specs.Calls.{LastStands, Passed, Stands, last_of, with_receipt
 use Rattle.vp_hub.specs.Desks.{out_of_memory}
 
 -- a receipt of these parts
-abbrev pub receipt : (place : ℕ) → Request → Reply → Receipt
-receipt place r a = record { place = place; request = r; reply = a }
+abbrev pub receipt : (index : ℕ) → Request → Reply → Receipt
+receipt index r a = record { index = index; request = r; reply = a }
 
 -- a session was opened so: its pass has the receipt of its opening alone, which stands at the end of a legal log of the hub's opening,
 -- and a share of one part and of amount one
 pub record IsOpened (opening : Opening) (r : Request) (p : Passed) : Type 0 where
   pub log : List Entry
-  pub place : ℕ
-  pub receipts : p.receipts ≡ receipt place r (reply.Opened p.session) ∷ []
+  pub index : ℕ
+  pub receipts : p.receipts ≡ receipt index r (reply.Opened p.session) ∷ []
   pub amount : p.amount ≡ 1
   pub parts : p.parts ≡ 1
   pub legal : IsLegal opening [] log
-  pub stands : Stands log p.session (receipt place r (reply.Opened p.session))
-  pub end : length log ≡ place + 1
+  pub stands : Stands log p.session (receipt index r (reply.Opened p.session))
+  pub end : length log ≡ index + 1
 
 -- a call of a pass was made and answered so: the pass has the receipt of this request with this reply more, at a later place, and there is
 -- a legal log of the hub's opening in which its last receipt before and this one stand, this one at the end
 pub record IsReceived (opening : Opening) (p : Passed) (r : Request) (a : Reply) (q : Passed) : Type 0 where
   pub log : List Entry
-  pub place : ℕ
-  pub pass : q ≡ with_receipt p (receipt place r a)
-  pub later : IfSome (last_of p) (λ last. last.place < place)
+  pub index : ℕ
+  pub pass : q ≡ with_receipt p (receipt index r a)
+  pub later : IfSome (last_of p) (λ last. last.index < index)
   pub legal : IsLegal opening [] log
   pub stood : LastStands log p
-  pub stands : Stands log p.session (receipt place r a)
-  pub end : length log ≡ place + 1
+  pub stands : Stands log p.session (receipt index r a)
+  pub end : length log ≡ index + 1
 
 -- what a request of a pass comes to at a hub: it is made and answered; or refused, and the pass is as it was. Where the reply can't be
 -- shared between the pass and the caller, out of memory is reported of a call that was made

@@ -66,15 +66,15 @@ fn entry_indexes(
     log: &[Entry],
     session: SessionId,
 ) -> Result<Sequence<usize>, AllocError>
-    ensures { IfOk result (λ places. places ≡ entry_indexes log.now session) }
+    ensures { IfOk result (λ indexes. indexes ≡ entry_indexes log.now session) }
 {
-    let mut places = Vec::new(alloc);
-    for place in 0..log.len() {
-        if is_own(&log[place], session) {
-            places.push(place)?;
+    let mut indexes = Vec::new(alloc);
+    for index in 0..log.len() {
+        if is_own(&log[index], session) {
+            indexes.push(index)?;
         }
     }
-    Ok(Sequence::from_vec(places))
+    Ok(Sequence::from_vec(indexes))
 }
 
 /// How many entries of a log are of sessions.
@@ -103,14 +103,14 @@ fn all_stand(log: &[Entry], session: SessionId, receipts: &[Receipt]) -> bool
 }
 
 /// Receipts are of these places, in order.
-fn are_of(receipts: &[Receipt], places: &[usize]) -> bool
-    ensures { result ≡ true → map (λ r. r.place) receipts.now ≡ places.now }
+fn are_of(receipts: &[Receipt], indexes: &[usize]) -> bool
+    ensures { result ≡ true → map (λ r. r.index) receipts.now ≡ indexes.now }
 {
-    if receipts.len() != places.len() {
+    if receipts.len() != indexes.len() {
         return false;
     }
-    for number in 0..places.len() {
-        if receipts[number].place != places[number] {
+    for number in 0..indexes.len() {
+        if receipts[number].index != indexes[number] {
             return false;
         }
     }
@@ -119,36 +119,36 @@ fn are_of(receipts: &[Receipt], places: &[usize]) -> bool
 
 /// The places of a pass's calls in a log, in order, if these are those of its session's entries there; else that there are not as many
 /// receipts as entries (1402). Takes memory.
-fn own_places<L: NamesOpening>(
+fn own_indexes<L: NamesOpening>(
     alloc: Global,
     log: &[Entry],
     pass: &Pass<L>,
 ) -> Result<Sequence<usize>, HubError>
-    ensures places { IfOk result (λ places. places ≡ entry_indexes log.now pass.now.session) }
+    ensures indexes { IfOk result (λ indexes. indexes ≡ entry_indexes log.now pass.now.session) }
     ensures own { OnOk result
-        (map (λ r. r.place) pass.now.receipts ≡ entry_indexes log.now pass.now.session) }
+        (map (λ r. r.index) pass.now.receipts ≡ entry_indexes log.now pass.now.session) }
 {
-    let places = entry_indexes(alloc, log, pass.session())?;
-    if !are_of(pass.receipts(), places.as_slice()) {
+    let indexes = entry_indexes(alloc, log, pass.session())?;
+    if !are_of(pass.receipts(), indexes.as_slice()) {
         return Err(HubError::Mismatch);
     }
-    Ok(places)
+    Ok(indexes)
 }
 
 /// The same of each of these passes.
-fn all_places<L: NamesOpening>(
+fn all_indexes<L: NamesOpening>(
     alloc: Global,
     log: &[Entry],
     passes: &[Pass<L>],
 ) -> Result<Sequence<Sequence<usize>>, HubError>
-    ensures places { IfOk result
+    ensures indexes { IfOk result
         (λ lists. lists ≡ map (λ p. entry_indexes log.now p.session) passes.now) }
     ensures own { OnOk result
-        (All (λ p. map (λ r. r.place) p.receipts ≡ entry_indexes log.now p.session) passes.now) }
+        (All (λ p. map (λ r. r.index) p.receipts ≡ entry_indexes log.now p.session) passes.now) }
 {
     let mut lists = Vec::new(alloc);
     for pass in passes {
-        lists.push(own_places(alloc, log, pass)?)?;
+        lists.push(own_indexes(alloc, log, pass)?)?;
     }
     Ok(Sequence::from_vec(lists))
 }
@@ -232,6 +232,6 @@ impl<L: NamesOpening> Desk<L> {
         if !are_so_many(passes, count_entries(log)) {
             return Err(HubError::Mismatch);
         }
-        Ok(all_places(self.alloc(), log, passes)?)
+        Ok(all_indexes(self.alloc(), log, passes)?)
     }
 }

@@ -68,13 +68,13 @@ fn ready(
 /// Adds the receipt of a call to those for which there is room, and shares its reply; or reports out of memory, where it can't be shared.
 fn receive(
     receipts: &mut Vec<Receipt>,
-    place: usize,
+    index: usize,
     request: Request,
     reply: Reply,
 ) -> Result<Reply, HubError>
     requires { vec_len receipts.old < vec_capacity receipts.old }
     ensures receipts { receipts.new.items ≡ receipts.old.items ++ record {
-      place = place;
+      index = index;
       request = request;
       reply = reply;
     } ∷ [] }
@@ -83,7 +83,7 @@ fn receive(
 {
     let told = reply.try_clone();
     receipts.push_reserved(Receipt {
-        place,
+        index,
         request,
         reply,
     });
@@ -171,7 +171,7 @@ impl<L: NamesOpening> Desk<L> {
         let mut receipts = Vec::new(self.alloc);
         receipts.reserve(1)?;
         let request = open_request(self.alloc, &user, &token)?;
-        let place = self.world.log().len();
+        let index = self.world.log().len();
         let reply = self.world.apply(Event::Open { user, token })?;
         let Reply::Opened(session) = reply else {
             unreachable!()
@@ -179,7 +179,7 @@ impl<L: NamesOpening> Desk<L> {
         let mut share = self.rest.split_off(1, 0);
         self.calls.add(&mut share, 1);
         receipts.push_reserved(Receipt {
-            place,
+            index,
             request,
             reply: Reply::Opened(session),
         });
@@ -218,10 +218,10 @@ impl<L: NamesOpening> Desk<L> {
             drop(request);
             return Err(HubError::World(WorldError::NoMemory));
         };
-        let place = self.world.log().len();
+        let index = self.world.log().len();
         let event = event_of(pass.session, request);
         match self.count(&mut pass.share, event) {
-            Ok(reply) => receive(&mut pass.receipts, place, asked, reply),
+            Ok(reply) => receive(&mut pass.receipts, index, asked, reply),
             Err(error) => {
                 drop(asked);
                 Err(HubError::World(error))

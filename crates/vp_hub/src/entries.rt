@@ -96,7 +96,7 @@ pub fn stands(log: &[Entry], session: SessionId, receipt: &Receipt) -> bool
     ensures stands { result ≡ true → Stands log.now session receipt.now }
     ensures apart { Stands log.now session receipt.now → result ≡ true }
 {
-    match log.get(receipt.place) {
+    match log.get(receipt.index) {
         Some(entry) => is_call(&entry.happening, session, &receipt.request, &receipt.reply),
         None => false,
     }

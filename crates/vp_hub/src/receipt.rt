@@ -3,7 +3,7 @@ use vp_answer::{Reply, Request};
 /// A call of a session: the place of its entry in the log, what was asked, and what was answered.
 #[derive(Drop)]
 pub struct Receipt {
-    pub place: usize,
+    pub index: usize,
     pub request: Request,
     pub reply: Reply,
 }

@@ -21,7 +21,7 @@ use vp_wire::{reply_line, request};
 use vp_world::{Entry, Event, Limits, LoggedEvent, World};
 
 /// What a world answers to the event of the entry at a place of a log; or by which number it refuses it.
-fn answer(world: &mut World, place: usize, event: Event) -> Result<Reply, Difference>
+fn answer(world: &mut World, index: usize, event: Event) -> Result<Reply, Difference>
     requires { IsWellFormed world.old.opening.design event }
     ensures { world.new.opening ≡ world.old.opening }
 {
@@ -29,7 +29,7 @@ fn answer(world: &mut World, place: usize, event: Event) -> Result<Reply, Differ
         Ok(reply) => Ok(reply),
         Err(error) => {
             let code = error.code();
-            Err(Difference::Refusal { place, code })
+            Err(Difference::Refusal { index, code })
         }
     }
 }
@@ -38,34 +38,34 @@ fn answer(world: &mut World, place: usize, event: Event) -> Result<Reply, Differ
 fn check_reply(
     alloc: Global,
     reply: &Reply,
-    place: usize,
+    index: usize,
     entry: &Entry,
 ) -> Result<(), Difference> {
     let own = reply_line(alloc, reply)?;
     let line = line_of(alloc, &entry.happening)?;
     if own.as_slice() != line.as_slice() {
-        return Err(Difference::Reply { place });
+        return Err(Difference::Reply { index });
     }
     Ok(())
 }
 
 /// The last that has happened to a world has left it at the time, and as finished, as the entry at a place of a log has it.
-fn check_time(world: &World, place: usize, entry: &Entry) -> Result<(), Difference> {
+fn check_time(world: &World, index: usize, entry: &Entry) -> Result<(), Difference> {
     match world.log().last() {
         Some(own) if own.time == entry.time && own.finished == entry.finished => Ok(()),
-        _ => Err(Difference::Time { place }),
+        _ => Err(Difference::Time { index }),
     }
 }
 
 /// Lets the event of the entry at a place of a log happen to a world, which is to answer it as the entry has it, and to come to the same time.
-fn repeat(alloc: Global, world: &mut World, place: usize, entry: &Entry) -> Result<(), Difference>
+fn repeat(alloc: Global, world: &mut World, index: usize, entry: &Entry) -> Result<(), Difference>
     requires { IsWellFormed world.old.opening.design entry.now.event }
     ensures { world.new.opening ≡ world.old.opening }
 {
     let event = event_of(alloc, &entry.happening)?;
-    let reply = answer(world, place, event)?;
-    check_reply(alloc, &reply, place, entry)?;
-    check_time(world, place, entry)
+    let reply = answer(world, index, event)?;
+    check_reply(alloc, &reply, index, entry)?;
+    check_time(world, index, entry)
 }
 
 /// The events of a log, one by one, come to the same in a fresh world.
@@ -73,8 +73,8 @@ pub fn compare_world(alloc: Global, world: World, log: &[Entry]) -> Result<(), D
     requires { AreWellFormed world.opening.design log.now }
 {
     let mut world = world;
-    for (place, entry) in log.iter().enumerate() {
-        repeat(alloc, &mut world, place, entry)?;
+    for (index, entry) in log.iter().enumerate() {
+        repeat(alloc, &mut world, index, entry)?;
     }
     drop(world);
     Ok(())
@@ -97,19 +97,19 @@ fn take_line(
     alloc: Global,
     rests: &mut [&[u8]],
     session: SessionId,
-    place: usize,
+    index: usize,
     entry: &Entry,
 ) -> Result<(), Difference> {
     let line = line_of(alloc, &entry.happening)?;
     if session.opens != 1 {
-        return Err(Difference::Stranger { place });
+        return Err(Difference::Stranger { index });
     }
     let Some(own) = rests.get_mut(session.user.0) else {
-        return Err(Difference::Stranger { place });
+        return Err(Difference::Stranger { index });
     };
     if !is_next(own, line.as_slice()) {
         let number = session.user.0.saturating_add(1);
-        return Err(Difference::Transcript { place, number });
+        return Err(Difference::Transcript { index, number });
     }
     Ok(())
 }
@@ -125,9 +125,9 @@ fn whole_rests<'a>(alloc: Global, transcripts: &'a [Vec<u8>]) -> Result<Vec<&'a 
 
 /// Nothing is left of what the users were shown.
 fn check_no_rest(rests: &[&[u8]]) -> Result<(), Difference> {
-    for (place, own) in rests.iter().enumerate() {
+    for (index, own) in rests.iter().enumerate() {
         if !own.is_empty() {
-            let number = place.saturating_add(1);
+            let number = index.saturating_add(1);
             return Err(Difference::Excess { number });
         }
     }
@@ -137,9 +137,9 @@ fn check_no_rest(rests: &[&[u8]]) -> Result<(), Difference> {
 /// What each user was shown are the lines of the replies to his session's events in a log, in order.
 fn compare_users(alloc: Global, users: &[Vec<u8>], log: &[Entry]) -> Result<(), Difference> {
     let mut rests = whole_rests(alloc, users)?;
-    for (place, entry) in log.iter().enumerate() {
+    for (index, entry) in log.iter().enumerate() {
         if let Some(session) = session_of(&entry.happening) {
-            take_line(alloc, &mut rests, session, place, entry)?;
+            take_line(alloc, &mut rests, session, index, entry)?;
         }
     }
     check_no_rest(&rests)
@@ -156,9 +156,9 @@ fn change_of(alloc: Global, number: usize, order: &Order) -> Result<GrantChange,
 /// The changes of grants of which the operator was answered that they are done, in order, each with the number of its order.
 fn changes_of(alloc: Global, orders: &[Order]) -> Result<Vec<(usize, GrantChange)>, Difference> {
     let mut changes = Vec::new(alloc);
-    for (place, order) in orders.iter().enumerate() {
+    for (index, order) in orders.iter().enumerate() {
         if order.reply.as_slice() == OK {
-            let number = place.saturating_add(1);
+            let number = index.saturating_add(1);
             changes.push((number, change_of(alloc, number, order)?))?;
         }
     }
@@ -169,11 +169,11 @@ fn changes_of(alloc: Global, orders: &[Order]) -> Result<Vec<(usize, GrantChange
 fn compare_grants(alloc: Global, orders: &[Order], log: &[Entry]) -> Result<(), Difference> {
     let changes = changes_of(alloc, orders)?;
     let mut next = 0usize;
-    for (place, entry) in log.iter().enumerate() {
+    for (index, entry) in log.iter().enumerate() {
         if let LoggedEvent::Grant { change } = &entry.happening {
             match changes.get(next) {
                 Some((_, own)) if own.is_same(change) => next = next.saturating_add(1),
-                _ => return Err(Difference::Grant { place }),
+                _ => return Err(Difference::Grant { index }),
             }
         }
     }

@@ -23,23 +23,23 @@ pub enum Difference {
     #[error("the line of a reply: {0}")]
     Line(#[from] WireError),
     /// A fresh world refuses the event of the entry.
-    #[error("entry {place}: a fresh world refuses it by {code}")]
-    Refusal { place: usize, code: u32 },
-    #[error("entry {place}: a fresh world answers it otherwise")]
-    Reply { place: usize },
-    #[error("entry {place}: the time or the finish behind it is another in a fresh world")]
-    Time { place: usize },
-    #[error("entry {place}: its session is of no client")]
-    Stranger { place: usize },
+    #[error("entry {index}: a fresh world refuses it by {code}")]
+    Refusal { index: usize, code: u32 },
+    #[error("entry {index}: a fresh world answers it otherwise")]
+    Reply { index: usize },
+    #[error("entry {index}: the time or the finish behind it is another in a fresh world")]
+    Time { index: usize },
+    #[error("entry {index}: its session is of no client")]
+    Stranger { index: usize },
     /// The reply of the entry is not what its user was shown next.
-    #[error("entry {place}: user {number} was told otherwise")]
-    Transcript { place: usize, number: usize },
+    #[error("entry {index}: user {number} was told otherwise")]
+    Transcript { index: usize, number: usize },
     #[error("user {number} was told more than the log has")]
     Excess { number: usize },
     #[error("order {number} is no change of a grant")]
     NoOrder { number: usize },
-    #[error("entry {place}: the operator did not order this next, or was not told that it is done")]
-    Grant { place: usize },
+    #[error("entry {index}: the operator did not order this next, or was not told that it is done")]
+    Grant { index: usize },
     #[error("the log lacks order {number}, of which the operator was told that it is done")]
     LostOrder { number: usize },
     #[error("the log has nothing of the kind {0}")]

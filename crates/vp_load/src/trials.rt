@@ -136,8 +136,8 @@ fn are_replies_found(alloc: Global, checked: &Arc<Checked>) -> bool {
     let reply = short_difference(alloc, checked, 7, 0);
     let time = short_difference(alloc, checked, 0, 7);
     alike.is_none()
-        && matches!(reply, Some(Difference::Reply { place: 1 }))
-        && matches!(time, Some(Difference::Time { place: 1 }))
+        && matches!(reply, Some(Difference::Reply { index: 1 }))
+        && matches!(time, Some(Difference::Time { index: 1 }))
 }
 
 /// What of a log and of what was shown can be changed so that the comparison does not find it; none where it finds each. What was shown is then as it was.

@@ -144,8 +144,8 @@ fn renumber_callbacks(callbacks: &mut Vec<Callback>, numbers: &[u32])
     ensures { callbacks.new.items
         ≡ map (moved_callback (number_now numbers.now)) callbacks.old.items }
 {
-    for place in 0..callbacks.len() {
-        callbacks[place] = renumbered(callbacks[place], numbers);
+    for index in 0..callbacks.len() {
+        callbacks[index] = renumbered(callbacks[index], numbers);
     }
 }
 
@@ -217,8 +217,8 @@ impl Registry {
             return Err(NotifyError::TooManyCallbacks);
         }
         let number = self.given + 1;
-        let place = count_by(&self.callbacks, object);
-        self.callbacks.insert(place, Callback { number, object })?;
+        let index = count_by(&self.callbacks, object);
+        self.callbacks.insert(index, Callback { number, object })?;
         self.given = number;
         Ok(number)
     }

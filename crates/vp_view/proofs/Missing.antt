@@ -100,6 +100,6 @@ item_got f xs n None h = sym (slice_get-map f xs n ∙ ap (option_map f) (slice_
 item_got f xs n (Some x) h = sym (slice_get-map f xs n ∙ ap (option_map f) (slice_get_read xs (length xs) n x.now refl h.3.0 h.1))
 
 -- the envelopes are numbered from 1
-pub envelope_there : (v : View) (n place : ℕ) → 1 ≤ n → n - 1 ≡ place → slice_get v.envelopes place ≡ envelope_at v n
-envelope_there v zero place some is = absurd (omega arith)
-envelope_there v (suc n) place some is = ap (slice_get v.envelopes) (omega arith)
+pub envelope_there : (v : View) (n index : ℕ) → 1 ≤ n → n - 1 ≡ index → slice_get v.envelopes index ≡ envelope_at v n
+envelope_there v zero index some is = absurd (omega arith)
+envelope_there v (suc n) index some is = ap (slice_get v.envelopes) (omega arith)

@@ -40,8 +40,8 @@ fn are_same_notices(first: &[PolledNotice], second: &[PolledNotice]) -> bool
     if first.len() != second.len() {
         return false;
     }
-    for place in 0..first.len() {
-        if !is_same_notice(&first[place], &second[place]) {
+    for index in 0..first.len() {
+        if !is_same_notice(&first[index], &second[index]) {
             return false;
         }
     }

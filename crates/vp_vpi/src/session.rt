@@ -54,18 +54,18 @@ impl Model for Session {
 }
 
 /// The object at a place of a list of handles; none where it was freed, and past the end.
-fn object_at(handles: &[Option<ObjectId>], place: usize) -> Option<ObjectId>
-    ensures { result ≡ option_flatten (slice_get handles.now place) }
+fn object_at(handles: &[Option<ObjectId>], index: usize) -> Option<ObjectId>
+    ensures { result ≡ option_flatten (slice_get handles.now index) }
 {
-    handles.get(place).copied().flatten()
+    handles.get(index).copied().flatten()
 }
 
 /// Frees the handle at a place of a list; reports whether it was one.
-fn take_at(handles: &mut Vec<Option<ObjectId>>, place: usize) -> bool
-    ensures taken { handles.new.items ≡ slice_set handles.old.items place None }
-    ensures there { result ≡ is_some (option_flatten (slice_get handles.old.items place)) }
+fn take_at(handles: &mut Vec<Option<ObjectId>>, index: usize) -> bool
+    ensures taken { handles.new.items ≡ slice_set handles.old.items index None }
+    ensures there { result ≡ is_some (option_flatten (slice_get handles.old.items index)) }
 {
-    match handles.get_mut(place) {
+    match handles.get_mut(index) {
         Some(object) => object.take().is_some(),
         None => false,
     }
@@ -105,8 +105,8 @@ impl Session {
     pub fn object(&self, handle: u32) -> Option<ObjectId>
         ensures { option_map (λ o. o.0) result ≡ object_of self.now.handles handle }
     {
-        let place = (handle as usize).checked_sub(1)?;
-        object_at(&self.handles, place)
+        let index = (handle as usize).checked_sub(1)?;
+        object_at(&self.handles, index)
     }
 
     /// There is room for so many handles more.
@@ -427,10 +427,10 @@ impl Session {
         ensures absent { OnErr result (object_of self.old.handles handle ≡ None) }
         ensures unchanged { OnErr result (self.new ≡ self.old) }
     {
-        let Some(place) = (handle as usize).checked_sub(1) else {
+        let Some(index) = (handle as usize).checked_sub(1) else {
             return Err(VpiError::BadHandle);
         };
-        if !take_at(&mut self.handles, place) {
+        if !take_at(&mut self.handles, index) {
             return Err(VpiError::BadHandle);
         }
         self.open_handles -= 1;

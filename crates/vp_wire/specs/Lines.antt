@@ -340,7 +340,7 @@ value_request d =
 
 -- the number of 32 bits at a place of an array
 abbrev pub number_in : ℕ → Data → Option ℕ
-number_in place d = option_and_then word_of (option_and_then as_u64 (option_and_then as_number (at place d)))
+number_in index d = option_and_then word_of (option_and_then as_u64 (option_and_then as_number (at index d)))
 
 -- a word of a vector of two numbers
 abbrev pub vector_word : ℕ → ℕ → VectorWord

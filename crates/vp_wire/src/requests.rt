@@ -239,10 +239,10 @@ fn value_request(value: &Value) -> Option<Request>
 }
 
 /// The number of 32 bits at a place of an array.
-fn number_in(array: &Value, place: usize) -> Option<u32>
-    ensures { result ≡ number_in place (view array.now) }
+fn number_in(array: &Value, index: usize) -> Option<u32>
+    ensures { result ≡ number_in index (view array.now) }
 {
-    match array.get(place).and_then(Value::as_u64) {
+    match array.get(index).and_then(Value::as_u64) {
         Some(number) => u32::try_from(number).ok(),
         None => None,
     }

@@ -32,29 +32,29 @@ use Rattle.vp_answer.specs.laws.Puts.{put_only}
 use Rattle.vp_world.specs.Worlds.{OpenSessionState, WorldState, State}
 
 -- the session of a place, as it is shown
-session_found : (sessions : List OpenSession) (place : ℕ) (session : OpenSession) → place < length sessions → session ≡ slice_index_or sessions place session → slice_get (map session_shown sessions) place ≡ Some (session_shown session)
-session_found sessions place session within is =
-    slice_get-map session_shown sessions place
-    ∙ ap (λ there. option_map session_shown there) (slice_get-get_or sessions place session within)
+session_found : (sessions : List OpenSession) (index : ℕ) (session : OpenSession) → index < length sessions → session ≡ slice_index_or sessions index session → slice_get (map session_shown sessions) index ≡ Some (session_shown session)
+session_found sessions index session within is =
+    slice_get-map session_shown sessions index
+    ∙ ap (λ there. option_map session_shown there) (slice_get-get_or sessions index session within)
     ∙ ap (λ x. Some (session_shown x)) (sym is)
 
 -- the place of a session that is shown is one of the list
 pub within_shown :
-    (run : Recorded) (book : List FindingState) (first policy : PolicyState) (limits : Limits) (sessions : List OpenSession) (opens : List ℕ) (goal : Option ℕ) (place : ℕ) (w : WorldState)
-    → shown run book first policy limits sessions opens goal ≡ w → place < length w.state.sessions → place < length sessions
-within_shown run book first policy limits sessions opens goal place w is within =
-    subst (λ n. place < n) (length-map sessions session_shown) (subst (λ v. place < length v.state.sessions) (sym is) within)
+    (run : Recorded) (book : List FindingState) (first policy : PolicyState) (limits : Limits) (sessions : List OpenSession) (opens : List ℕ) (goal : Option ℕ) (index : ℕ) (w : WorldState)
+    → shown run book first policy limits sessions opens goal ≡ w → index < length w.state.sessions → index < length sessions
+within_shown run book first policy limits sessions opens goal index w is within =
+    subst (λ n. index < n) (length-map sessions session_shown) (subst (λ v. index < length v.state.sessions) (sym is) within)
 
 -- an open session with another seat
 abbrev pub with_session : OpenSession → SessionState → OpenSession
 with_session session session_state = record { id = session.id; session = session_state }
 
 -- a session that is set back as it was
-pub set_same : (sessions : List OpenSession) (place : ℕ) (session : OpenSession) (new : SessionState) → new ≡ session.session → session ≡ slice_index_or sessions place session → slice_set sessions place (with_session session new) ≡ sessions
-set_same sessions place session new same at =
-    ap (λ (session_state : SessionState). slice_set sessions place (with_session session session_state)) same
-    ∙ ap (λ s. slice_set sessions place s) at
-    ∙ set-get_or sessions place session
+pub set_same : (sessions : List OpenSession) (index : ℕ) (session : OpenSession) (new : SessionState) → new ≡ session.session → session ≡ slice_index_or sessions index session → slice_set sessions index (with_session session new) ≡ sessions
+set_same sessions index session new same at =
+    ap (λ (session_state : SessionState). slice_set sessions index (with_session session session_state)) same
+    ∙ ap (λ s. slice_set sessions index s) at
+    ∙ set-get_or sessions index session
 
 -- the design of an outcome
 abbrev design_in : sim.State → sim.Outcome → Elaborated
@@ -130,9 +130,9 @@ with_run w design run segments sessions = record {
 -- what is known of the fields of a world in which a session of a place is asked
 module _
     (run : Recorded) (book : BookState) (first policy : PolicyState) (limits : Limits) (sessions : List OpenSession) (opens : List ℕ) (goal : Option ℕ)
-    (place : ℕ) (session : OpenSession) (r : Request) (w : WorldState)
-    (is : shown run book.races first policy limits sessions opens goal ≡ w) (inside : place < length w.state.sessions)
-    (at : session ≡ slice_index_or sessions place session)
+    (index : ℕ) (session : OpenSession) (r : Request) (w : WorldState)
+    (is : shown run book.races first policy limits sessions opens goal ≡ w) (inside : index < length w.state.sessions)
+    (at : session ≡ slice_index_or sessions index session)
   where
     abbrev old : WorldState
     old = shown run book.races first policy limits sessions opens goal
@@ -140,45 +140,45 @@ module _
     abbrev pub due : Response
     due = due_of run book policy session.session r
 
-    found : slice_get (map session_shown sessions) place ≡ Some (session_shown session)
-    found = session_found sessions place session (within_shown run book.races first policy limits sessions opens goal place w is inside) at
+    found : slice_get (map session_shown sessions) index ≡ Some (session_shown session)
+    found = session_found sessions index session (within_shown run book.races first policy limits sessions opens goal index w is inside) at
 
-    pub told_given : (run' : Recorded) (new : SessionState) (a : AnswerWithChange) → Gives due run run' new a → a.reply ≡ asked_in w place r
+    pub told_given : (run' : Recorded) (new : SessionState) (a : AnswerWithChange) → Gives due run run' new a → a.reply ≡ asked_in w index r
     told_given run' new a given =
-        given.gives_reply ∙ ap (λ there. asked old.state there r) (sym found) ∙ ap (λ (v : WorldState). asked_in v place r) is
+        given.gives_reply ∙ ap (λ there. asked old.state there r) (sym found) ∙ ap (λ (v : WorldState). asked_in v index r) is
 
-    pub kept_given : (run' : Recorded) (new : SessionState) (a : AnswerWithChange) → Gives due run run' new a → a.entry_reply ≡ asked_in w place r
+    pub kept_given : (run' : Recorded) (new : SessionState) (a : AnswerWithChange) → Gives due run run' new a → a.entry_reply ≡ asked_in w index r
     kept_given run' new a given =
-        given.gives_entry ∙ ap (λ there. asked old.state there r) (sym found) ∙ ap (λ (v : WorldState). asked_in v place r) is
+        given.gives_entry ∙ ap (λ there. asked old.state there r) (sym found) ∙ ap (λ (v : WorldState). asked_in v index r) is
 
-    pub changed_given : (run' : Recorded) (new : SessionState) (a : AnswerWithChange) → Gives due run run' new a → a.change ≡ changed_in w place r
+    pub changed_given : (run' : Recorded) (new : SessionState) (a : AnswerWithChange) → Gives due run run' new a → a.change ≡ changed_in w index r
     changed_given run' new a given =
-        sym (ap change_of given.put) ∙ ap (λ there. changed_by old.state there r) (sym found) ∙ ap (λ (v : WorldState). changed_in v place r) is
+        sym (ap change_of given.put) ∙ ap (λ there. changed_by old.state there r) (sym found) ∙ ap (λ (v : WorldState). changed_in v index r) is
 
     -- the state in which the session has this seat, and this is the goal
     abbrev with_session_state : SessionState → Option ℕ → State
     with_session_state session_state goal' = record old.state {
-      sessions = slice_set (map session_shown sessions) place (record { id = session.id; session_state = session_state });
+      sessions = slice_set (map session_shown sessions) index (record { id = session.id; session_state = session_state });
       goal = goal';
     }
 
     pub state_given :
         (run' : Recorded) (new : SessionState) (told : List OpenSession) (goal' : Option ℕ) (a : AnswerWithChange) → Gives due run run' new a → goal' ≡ raised goal a.goal
-        → map session_shown told ≡ noticed a.change run'.simulation.time (map session_shown (slice_set sessions place (with_session session new)))
-        → shown run' book.races first policy limits told opens goal' ≡ with_state w (asked_at w.state (Some place) r)
+        → map session_shown told ≡ noticed a.change run'.simulation.time (map session_shown (slice_set sessions index (with_session session new)))
+        → shown run' book.races first policy limits told opens goal' ≡ with_state w (asked_at w.state (Some index) r)
     state_given run' new told goal' a given raises tells =
         let next = run'.simulation in
         let segments : sim.State → Segments = segments_of_put run.segments due.put in
         let between : SessionState → Option ℕ → WorldState = λ session_state goal'. record old { state = with_session_state session_state goal' } in
         let following : SessionState → Option ℕ → sim.Outcome → WorldState = λ session_state goal' o. with_state old (stepped (with_session_state session_state goal') segments o) in
-        ap (with_run (between new goal') next.design next run'.segments) (tells ∙ ap (noticed a.change next.time) (map-set session_shown sessions place (with_session session new)))
+        ap (with_run (between new goal') next.design next run'.segments) (tells ∙ ap (noticed a.change next.time) (map-set session_shown sessions index (with_session session new)))
         ∙ ap (λ d. with_run (between new goal') d next run'.segments (noticed a.change next.time (with_session_state new goal').sessions)) (ap (design_in run.simulation) (sym given.put) ∙ put_design run.simulation due.put)
         ∙ ap (λ (s : Segments). with_run (between new goal') run.simulation.design next s (noticed a.change next.time (with_session_state new goal').sessions)) given.segments
         ∙ ap (following new goal') (sym given.put)
         ∙ ap (λ session_state. following session_state goal' (outcome_of_put run.simulation due.put)) given.session_state
         ∙ ap (λ goal'. following due.session_state goal' (outcome_of_put run.simulation due.put)) (raises ∙ ap (raised goal) given.goal)
-        ∙ ap (λ there. with_state old (state_asked old.state place there r)) (sym found)
-        ∙ ap (λ v. with_state v (asked_at v.state (Some place) r)) is
+        ∙ ap (λ there. with_state old (state_asked old.state index there r)) (sym found)
+        ∙ ap (λ v. with_state v (asked_at v.state (Some index) r)) is
 
 -- the world after a step
 pub step_shown :

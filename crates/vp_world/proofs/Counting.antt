@@ -39,18 +39,18 @@ outcome_closes s segments (sim.Goes run change) closes = closes run
 outcome_closes s segments (sim.Refuses e) closes = omega arith
 
 -- by a request of an open session
-session_closes : (s : State) (place : ℕ) (there : Option OpenSessionState) (r : Request) → ClosesOne s.segments (state_asked s place there r).segments
-session_closes s place None r = omega arith
-session_closes s place (Some session) r =
+session_closes : (s : State) (index : ℕ) (there : Option OpenSessionState) (r : Request) → ClosesOne s.segments (state_asked s index there r).segments
+session_closes s index None r = omega arith
+session_closes s index (Some session) r =
     let given = response_of s session.session_state r in
     outcome_closes
-    (record s { sessions = slice_set s.sessions place (record session { session_state = given.session_state }); goal = raised s.goal given.goal })
+    (record s { sessions = slice_set s.sessions index (record session { session_state = given.session_state }); goal = raised s.goal given.goal })
     (segments_of_put s.segments given.put) (outcome_of_put s.run given.put) (put_closes s.segments given.put)
 
 -- by a request
-request_closes : (s : State) (place : Option ℕ) (r : Request) → ClosesOne s.segments (asked_at s place r).segments
+request_closes : (s : State) (index : Option ℕ) (r : Request) → ClosesOne s.segments (asked_at s index r).segments
 request_closes s None r = omega arith
-request_closes s (Some place) r = session_closes s place (slice_get s.sessions place) r
+request_closes s (Some index) r = session_closes s index (slice_get s.sessions index) r
 
 -- by a session that is opened
 opening_closes : (s : State) (user : Option ℕ) → (let next : State = option_map_or (opened_by s) user s in ClosesOne s.segments next.segments)
@@ -58,9 +58,9 @@ opening_closes s None = omega arith
 opening_closes s (Some u) = omega arith
 
 -- by one that is closed
-closing_closes : (s : State) (place : Option ℕ) → ClosesOne s.segments (closed_at s place).segments
+closing_closes : (s : State) (index : Option ℕ) → ClosesOne s.segments (closed_at s index).segments
 closing_closes s None = omega arith
-closing_closes s (Some place) = omega arith
+closing_closes s (Some index) = omega arith
 
 -- by a change of a grant
 granting_closes : (s : State) (change : GrantChange) (user : Option ℕ) → (let next : State = option_map_or (granted_to s change) user s in ClosesOne s.segments next.segments)

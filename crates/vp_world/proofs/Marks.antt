@@ -108,22 +108,22 @@ marked_after watched (x ∷ sessions) s marked own =
     both (are_marked watched x.session.registry.callbacks) (all_marked watched (sessions ++ s ∷ [])) parts.0 (marked_after watched sessions s parts.1 own)
 
 -- one less
-pub marked_without : (watched : List Bool) (sessions : List OpenSession) (place : ℕ) → all_marked watched sessions ≡ true → all_marked watched (remove sessions place) ≡ true
+pub marked_without : (watched : List Bool) (sessions : List OpenSession) (index : ℕ) → all_marked watched sessions ≡ true → all_marked watched (remove sessions index) ≡ true
 marked_without watched [] zero marked = refl
-marked_without watched [] (suc place) marked = refl
+marked_without watched [] (suc index) marked = refl
 marked_without watched (x ∷ sessions) zero marked = (both_parts (are_marked watched x.session.registry.callbacks) (all_marked watched sessions) marked).1
-marked_without watched (x ∷ sessions) (suc place) marked =
+marked_without watched (x ∷ sessions) (suc index) marked =
     let parts = both_parts (are_marked watched x.session.registry.callbacks) (all_marked watched sessions) marked in
-    both (are_marked watched x.session.registry.callbacks) (all_marked watched (remove sessions place)) parts.0 (marked_without watched sessions place parts.1)
+    both (are_marked watched x.session.registry.callbacks) (all_marked watched (remove sessions index)) parts.0 (marked_without watched sessions index parts.1)
 
 -- another in a place
-pub marked_set : (watched : List Bool) (sessions : List OpenSession) (place : ℕ) (s : OpenSession) → all_marked watched sessions ≡ true → are_marked watched s.session.registry.callbacks ≡ true → all_marked watched (slice_set sessions place s) ≡ true
-marked_set watched [] place s marked own = refl
+pub marked_set : (watched : List Bool) (sessions : List OpenSession) (index : ℕ) (s : OpenSession) → all_marked watched sessions ≡ true → are_marked watched s.session.registry.callbacks ≡ true → all_marked watched (slice_set sessions index s) ≡ true
+marked_set watched [] index s marked own = refl
 marked_set watched (x ∷ sessions) zero s marked own =
     both (are_marked watched s.session.registry.callbacks) (all_marked watched sessions) own (both_parts (are_marked watched x.session.registry.callbacks) (all_marked watched sessions) marked).1
-marked_set watched (x ∷ sessions) (suc place) s marked own =
+marked_set watched (x ∷ sessions) (suc index) s marked own =
     let parts = both_parts (are_marked watched x.session.registry.callbacks) (all_marked watched sessions) marked in
-    both (are_marked watched x.session.registry.callbacks) (all_marked watched (slice_set sessions place s)) parts.0 (marked_set watched sessions place s parts.1 own)
+    both (are_marked watched x.session.registry.callbacks) (all_marked watched (slice_set sessions index s)) parts.0 (marked_set watched sessions index s parts.1 own)
 
 -- ---- changes
 
@@ -178,13 +178,13 @@ quiet_told watched change time (s ∷ sessions) quiet marked =
     ∙ ap (λ more. s ∷ more) (quiet_told watched change time sessions quiet parts.1)
 
 -- the callbacks of the session in a place
-pub marked_at : (watched : List Bool) (sessions : List OpenSession) (place : ℕ) (s : OpenSession) → place < length sessions → s ≡ slice_index_or sessions place s → all_marked watched sessions ≡ true → are_marked watched s.session.registry.callbacks ≡ true
-marked_at watched [] place s within at marked = absurd (omega (arith, within))
+pub marked_at : (watched : List Bool) (sessions : List OpenSession) (index : ℕ) (s : OpenSession) → index < length sessions → s ≡ slice_index_or sessions index s → all_marked watched sessions ≡ true → are_marked watched s.session.registry.callbacks ≡ true
+marked_at watched [] index s within at marked = absurd (omega (arith, within))
 marked_at watched (x ∷ sessions) zero s within at marked =
     ap (λ (y : OpenSession). are_marked watched y.session.registry.callbacks) at
     ∙ (both_parts (are_marked watched x.session.registry.callbacks) (all_marked watched sessions) marked).0
-marked_at watched (x ∷ sessions) (suc place) s within at marked =
-    marked_at watched sessions place s (omega (arith, within)) at (both_parts (are_marked watched x.session.registry.callbacks) (all_marked watched sessions) marked).1
+marked_at watched (x ∷ sessions) (suc index) s within at marked =
+    marked_at watched sessions index s (omega (arith, within)) at (both_parts (are_marked watched x.session.registry.callbacks) (all_marked watched sessions) marked).1
 
 -- out of one of two sessions callbacks are taken
 retired_marked_by : (watched : List Bool) (gone : ℕ → Bool) (session_state : SessionState) (his : Bool) → are_marked watched session_state.registry.callbacks ≡ true

@@ -35,17 +35,17 @@ granted_book : (s : State) (change : GrantChange) (o : Option ℕ) → (option_m
 granted_book s change None = refl
 granted_book s change (Some u) = refl
 
-session_book : (s : State) (place : ℕ) (o : Option OpenSessionState) (r : Request) → (state_asked s place o r).book ≡ s.book
-session_book s place None r = refl
-session_book s place (Some session) r = stepped_book _ _ _
+session_book : (s : State) (index : ℕ) (o : Option OpenSessionState) (r : Request) → (state_asked s index o r).book ≡ s.book
+session_book s index None r = refl
+session_book s index (Some session) r = stepped_book _ _ _
 
 asked_book : (s : State) (o : Option ℕ) (r : Request) → (asked_at s o r).book ≡ s.book
 asked_book s None r = refl
-asked_book s (Some place) r = session_book s place (slice_get s.sessions place) r
+asked_book s (Some index) r = session_book s index (slice_get s.sessions index) r
 
 closed_book : (s : State) (o : Option ℕ) → (closed_at s o).book ≡ s.book
 closed_book s None = refl
-closed_book s (Some place) = refl
+closed_book s (Some index) = refl
 
 -- ---- what is booked
 

@@ -53,14 +53,14 @@ with_sessions w sessions opens = record { opening = w.opening; state = record w.
 
 -- a session is taken out
 pub closed_shown :
-    (r : Recorded) (book : List FindingState) (first policy : PolicyState) (limits : Limits) (sessions left : List OpenSession) (opens : List ℕ) (goal : Option ℕ) (place : ℕ) (w : WorldState)
-    → shown r book first policy limits sessions opens goal ≡ w → left ≡ remove sessions place
+    (r : Recorded) (book : List FindingState) (first policy : PolicyState) (limits : Limits) (sessions left : List OpenSession) (opens : List ℕ) (goal : Option ℕ) (index : ℕ) (w : WorldState)
+    → shown r book first policy limits sessions opens goal ≡ w → left ≡ remove sessions index
     → shown r book first policy limits left opens goal
-    ≡ record { opening = w.opening; state = record w.state { sessions = remove w.state.sessions place } }
-closed_shown r book first policy limits sessions left opens goal place w is taken =
+    ≡ record { opening = w.opening; state = record w.state { sessions = remove w.state.sessions index } }
+closed_shown r book first policy limits sessions left opens goal index w is taken =
     ap (λ s. shown r book first policy limits s opens goal) taken
-    ∙ ap (λ s. with_sessions (shown r book first policy limits sessions opens goal) s opens) (map-remove session_shown sessions place)
-    ∙ ap (λ (v : WorldState). with_sessions v (remove v.state.sessions place) v.state.opens) is
+    ∙ ap (λ s. with_sessions (shown r book first policy limits sessions opens goal) s opens) (map-remove session_shown sessions index)
+    ∙ ap (λ (v : WorldState). with_sessions v (remove v.state.sessions index) v.state.opens) is
 
 -- a session is opened
 pub opened_shown :

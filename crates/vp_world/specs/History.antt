@@ -51,7 +51,7 @@ refusal_of_open opening full s (Some u) = if is_full opening s u then Some error
 -- why an event of a session is refused: it is not open, then a full log (profile)
 abbrev pub refusal_of_session : Bool → Option ℕ → Option WorldError
 refusal_of_session full None = Some error.NotOpen
-refusal_of_session full (Some place) = refusal_of_log full
+refusal_of_session full (Some index) = refusal_of_log full
 
 -- why a change of a grant for an envelope is refused, by the number of the user who was found under its name: there is none, no envelope
 -- has the number, then a full log (profile)
@@ -220,25 +220,25 @@ stepped s segments (sim.Refuses e) = s
 
 -- the state after what comes of a request of the session in a place: the session is as the request leaves it, and then the put is made
 abbrev pub with_response : State → ℕ → OpenSessionState → Response → State
-with_response s place session given =
+with_response s index session given =
     stepped
-    (record s { sessions = slice_set s.sessions place (record session { session_state = given.session_state }); goal = raised s.goal given.goal })
+    (record s { sessions = slice_set s.sessions index (record session { session_state = given.session_state }); goal = raised s.goal given.goal })
     (segments_of_put s.segments given.put) (outcome_of_put s.run given.put)
 
 -- the state after a request of the session in a place
 abbrev pub state_asked : State → ℕ → Option OpenSessionState → Request → State
-state_asked s place None r = s
-state_asked s place (Some session) r = with_response s place session (response_of s session.session_state r)
+state_asked s index None r = s
+state_asked s index (Some session) r = with_response s index session (response_of s session.session_state r)
 
 -- the state after a request of a session, which is open in a place
 abbrev pub asked_at : State → Option ℕ → Request → State
 asked_at s None r = s
-asked_at s (Some place) r = state_asked s place (slice_get s.sessions place) r
+asked_at s (Some index) r = state_asked s index (slice_get s.sessions index) r
 
 -- the state without the session in a place
 abbrev pub closed_at : State → Option ℕ → State
 closed_at s None = s
-closed_at s (Some place) = record s { sessions = remove s.sessions place }
+closed_at s (Some index) = record s { sessions = remove s.sessions index }
 
 -- an open session after a change of what the user of a number is granted: if it is his, what he may not watch any more is taken out of
 -- it (profile)
@@ -350,11 +350,11 @@ refusal_in w full e = refusal_of w.opening full w.state e
 
 -- the reply to a request of the session in a place
 abbrev pub asked_in : WorldState → ℕ → Request → Reply
-asked_in w place r = asked w.state (slice_get w.state.sessions place) r
+asked_in w index r = asked w.state (slice_get w.state.sessions index) r
 
 -- what a request of the session in a place changes
 abbrev pub changed_in : WorldState → ℕ → Request → Option Change
-changed_in w place r = changed_by w.state (slice_get w.state.sessions place) r
+changed_in w index r = changed_by w.state (slice_get w.state.sessions index) r
 
 -- the refusal of a step, after a log that is full or not, by its outcome
 abbrev pub step_refusal : WorldState → Bool → sim.Outcome → Option WorldError

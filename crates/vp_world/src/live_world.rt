@@ -120,8 +120,8 @@ fn check_due(full: bool, is_past_goal: bool) -> Result<(), WorldError>
 fn set_count(opens: &mut Vec<u64>, user: UserId, count: u64)
     ensures { opens.new.items ≡ slice_set opens.old.items user.0 count }
 {
-    if let Some(place) = opens.get_mut(user.0) {
-        *place = count;
+    if let Some(index) = opens.get_mut(user.0) {
+        *index = count;
     }
 }
 
@@ -243,19 +243,19 @@ impl LiveWorld {
     }
 
     /// Where the open session of a name stands, where its event is not refused; else the refusal (1303, 1304).
-    pub fn place(&self, id: SessionId, full: bool) -> Result<usize, WorldError>
-        ensures place { IfOk result (λ place. index_of self.now.state.sessions id ≡ Some place) }
-        ensures within { IfOk result (λ place. place < length self.now.state.sessions) }
+    pub fn index(&self, id: SessionId, full: bool) -> Result<usize, WorldError>
+        ensures index { IfOk result (λ index. index_of self.now.state.sessions id ≡ Some index) }
+        ensures within { IfOk result (λ index. index < length self.now.state.sessions) }
         ensures accepted { OnOk result
             (refusal_of_session full (index_of self.now.state.sessions id) ≡ None) }
         ensures refused { IfErr result
             (λ e. refusal_of_session full (index_of self.now.state.sessions id) ≡ Some e) }
     {
-        let Some(place) = session_index(self.sessions.as_slice(), id) else {
+        let Some(index) = session_index(self.sessions.as_slice(), id) else {
             return Err(WorldError::NotOpen);
         };
         check_log(full)?;
-        Ok(place)
+        Ok(index)
     }
 
     /// The user whose grant an operator changes, where that is not refused; else the refusal (1310, 1311, 1312, 1304).
@@ -376,11 +376,11 @@ impl LiveWorld {
     }
 
     /// Closes the session in a place.
-    pub fn close(&mut self, place: usize)
-        requires { place < length self.old.state.sessions }
-        ensures { self.new ≡ with_state self.old (closed_at self.old.state (Some place)) }
+    pub fn close(&mut self, index: usize)
+        requires { index < length self.old.state.sessions }
+        ensures { self.new ≡ with_state self.old (closed_at self.old.state (Some index)) }
     {
-        self.sessions.remove(place);
+        self.sessions.remove(index);
     }
 
     /// Takes the k-th of the events that a step can take, and reports what it changes, which is due to the callbacks on it; else the
@@ -508,20 +508,20 @@ impl LiveWorld {
 
     /// Answers a request of the session in a place, whose change is due to the callbacks on it; or out of memory (1307), which leaves
     /// the world as it was.
-    pub fn ask(&mut self, place: usize, request: &Request) -> Result<AnswerWithChange, WorldError>
+    pub fn ask(&mut self, index: usize, request: &Request) -> Result<AnswerWithChange, WorldError>
         requires asked { IsAsked request.now }
-        requires within { place < length self.old.state.sessions }
-        ensures reply { IfOk result (λ a. a.reply ≡ asked_in self.old place request.now) }
-        ensures entry { IfOk result (λ a. a.entry_reply ≡ asked_in self.old place request.now) }
-        ensures change { IfOk result (λ a. a.change ≡ changed_in self.old place request.now) }
+        requires within { index < length self.old.state.sessions }
+        ensures reply { IfOk result (λ a. a.reply ≡ asked_in self.old index request.now) }
+        ensures entry { IfOk result (λ a. a.entry_reply ≡ asked_in self.old index request.now) }
+        ensures change { IfOk result (λ a. a.change ≡ changed_in self.old index request.now) }
         ensures done { IfOk result (λ a. IfSome a.change (λ c. a.entry_reply ≡ reply.Done)) }
         ensures after { OnOk result
             (self.new ≡ with_state self.old
-            (asked_at self.old.state (Some place) request.now)) }
+            (asked_at self.old.state (Some index) request.now)) }
         ensures refused { IsOkUnless result world_error.NoMemory }
         ensures unchanged { OnErr result (self.new ≡ self.old) }
     {
-        let session = &mut self.sessions[place].session;
+        let session = &mut self.sessions[index].session;
         let answer = answer_request(session, &self.policy, &mut self.run, &self.book, request)?;
         mark_asked(&mut self.watched, session, request);
         self.goal = raised(self.goal, answer.goal);

@@ -33,12 +33,12 @@ fn is_same(a: SessionId, b: SessionId) -> bool
 
 /// Where the open session of a name stands.
 pub fn session_index(sessions: &[OpenSession], id: SessionId) -> Option<usize>
-    ensures place { result ≡ index_of (map session_shown sessions.now) id }
-    ensures within { IfSome result (λ place. place < length sessions.now) }
+    ensures index { result ≡ index_of (map session_shown sessions.now) id }
+    ensures within { IfSome result (λ index. index < length sessions.now) }
 {
-    for place in 0..sessions.len() {
-        if is_same(sessions[place].id, id) {
-            return Some(place);
+    for index in 0..sessions.len() {
+        if is_same(sessions[index].id, id) {
+            return Some(index);
         }
     }
     None

@@ -263,10 +263,10 @@ impl World {
             (λ reply. reply ≡ answered_by self.old (event.Ask session request)) }
     {
         let full = self.is_full();
-        let place = self.present.place(session, full)?;
+        let index = self.present.index(session, full)?;
         self.log.reserve(1)?;
         let asked = Arc::new(self.alloc, Asked { session, request })?;
-        let answer = self.present.ask(place, &asked.request)?;
+        let answer = self.present.ask(index, &asked.request)?;
         let entry = Entry {
             happening: LoggedEvent::of_asked(asked, answer.entry_reply, answer.change),
             time: self.present.time(),
@@ -282,9 +282,9 @@ impl World {
         ensures reply { IfOk result (λ reply. reply ≡ answered_by self.old (event.Close session)) }
     {
         let full = self.is_full();
-        let place = self.present.place(session, full)?;
+        let index = self.present.index(session, full)?;
         self.log.reserve(1)?;
-        self.present.close(place);
+        self.present.close(index);
         self.log.push_reserved(Entry {
             happening: LoggedEvent::Close { session },
             time: self.present.time(),

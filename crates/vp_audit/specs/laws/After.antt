@@ -30,12 +30,12 @@ use Rattle.vp_answer.specs.declared.reply.Reply.TheVariants as reply
 use Rattle.vp_answer.specs.Answers.{Response, freed, made, only_told, putting, refused, respond, response_by, scanned, value_in, watching}
 use Rattle.vp_answer.specs.Renumbering as under
 use Rattle.vp_answer.specs.laws.Renumbering.{due_under}
-use Rattle.vp_audit.specs.Known.{place_of}
+use Rattle.vp_audit.specs.Known.{index_of}
 use Rattle.vp_audit.specs.Parts.{values_after}
 use Rattle.vp_audit.specs.Projections.{change_seen, is_followed, number_in}
 use Rattle.vp_view.specs.Seen.{denied_seen, kind_seen, observer_seen}
 use Rattle.vp_audit.specs.laws.Alike.{AreValues}
-use Rattle.vp_audit.specs.laws.Known.{by_place}
+use Rattle.vp_audit.specs.laws.Known.{by_index}
 use Rattle.vp_audit.specs.laws.Looks.{filter_mapped}
 use Rattle.vp_audit.specs.laws.Names.{filter_all}
 use Rattle.vp_audit.specs.laws.Sims.{IsWithin}
@@ -43,25 +43,25 @@ use Rattle.vp_audit.specs.laws.Sims.{IsWithin}
 -- ---- numbers
 
 -- the number of what stands in the place of a number
-pub place_number : (known : List Bool) (k : ℕ) → place_of known k < length known → number_in known (place_of known k) ≡ Some k
-place_number [] k l = absurd (omega arith)
-place_number (true ∷ known) zero l = refl
-place_number (true ∷ known) (suc k) l = ap (option_map suc) (place_number known k (omega arith))
-place_number (false ∷ known) k l = place_number known k (omega arith)
+pub index_number : (known : List Bool) (k : ℕ) → index_of known k < length known → number_in known (index_of known k) ≡ Some k
+index_number [] k l = absurd (omega arith)
+index_number (true ∷ known) zero l = refl
+index_number (true ∷ known) (suc k) l = ap (option_map suc) (index_number known k (omega arith))
+index_number (false ∷ known) k l = index_number known k (omega arith)
 
 -- the place of the next
-next_place : (known : List Bool) (o k : ℕ) (n : Option ℕ) → number_in known o ≡ n → option_map suc n ≡ Some k → ((j : ℕ) → number_in known o ≡ Some j → place_of known j ≡ o)
-    → place_of (true ∷ known) k ≡ suc o
-next_place known o k None is f rest = absurd (cc)
-next_place known o k (Some n) is f rest = let same : suc n ≡ k = cc in ap (place_of (true ∷ known)) (sym same) ∙ ap suc (rest n is)
+next_index : (known : List Bool) (o k : ℕ) (n : Option ℕ) → number_in known o ≡ n → option_map suc n ≡ Some k → ((j : ℕ) → number_in known o ≡ Some j → index_of known j ≡ o)
+    → index_of (true ∷ known) k ≡ suc o
+next_index known o k None is f rest = absurd (cc)
+next_index known o k (Some n) is f rest = let same : suc n ≡ k = cc in ap (index_of (true ∷ known)) (sym same) ∙ ap suc (rest n is)
 
 -- and its place
-pub number_place : (known : List Bool) (o k : ℕ) → number_in known o ≡ Some k → place_of known k ≡ o
-number_place [] o k e = absurd (cc)
-number_place (true ∷ known) zero k e = let same : 0 ≡ k = cc in ap (place_of (true ∷ known)) (sym same)
-number_place (false ∷ known) zero k e = absurd (cc)
-number_place (true ∷ known) (suc o) k e = next_place known o k (number_in known o) refl e (number_place known o)
-number_place (false ∷ known) (suc o) k e = ap suc (number_place known o k e)
+pub number_index : (known : List Bool) (o k : ℕ) → number_in known o ≡ Some k → index_of known k ≡ o
+number_index [] o k e = absurd (cc)
+number_index (true ∷ known) zero k e = let same : 0 ≡ k = cc in ap (index_of (true ∷ known)) (sym same)
+number_index (false ∷ known) zero k e = absurd (cc)
+number_index (true ∷ known) (suc o) k e = next_index known o k (number_in known o) refl e (number_index known o)
+number_index (false ∷ known) (suc o) k e = ap suc (number_index known o k e)
 
 -- ---- lists
 
@@ -105,7 +105,7 @@ none_of f None e = refl
 none_of f (Some x) e = absurd (cc)
 
 -- a change of the object in the place of another's number
-same_change : (known : List Bool) (d c : Change) → place_of known d.object.0 ≡ c.object.0 → d.value ≡ c.value → under.change (by_place known) d ≡ c
+same_change : (known : List Bool) (d c : Change) → index_of known d.object.0 ≡ c.object.0 → d.value ≡ c.value → under.change (by_index known) d ≡ c
 same_change known d c at value =
     ap (λ (o : ℕ). record { object = record { 0 = o }; value = d.value }) at ∙ ap (λ (v : List Bit). record { object = c.object; value = v }) value
 
@@ -126,31 +126,31 @@ or_second false b e = e
 -- ---- changes that a user may follow
 
 module _ (design : Elaborated) (u : Member) (known : List Bool) (long : length known ≡ length design.tree.nodes)
-    (denied_is : (r : Right) (k : ℕ) → denied_seen (known_view design u known) r k ≡ option_map (words_of design.tree) (denial_at design.tree u r (place_of known k))) where
+    (denied_is : (r : Right) (k : ℕ) → denied_seen (known_view design u known) r k ≡ option_map (words_of design.tree) (denial_at design.tree u r (index_of known k))) where
   -- a right that is not denied in the view is not denied
-  none_denied : (r : Right) (k : ℕ) → denied_seen (known_view design u known) r k ≡ None → is_none (denial_at design.tree u r (place_of known k)) ≡ true
-  none_denied r k e = none_of (words_of design.tree) (denial_at design.tree u r (place_of known k)) (sym (denied_is r k) ∙ e)
+  none_denied : (r : Right) (k : ℕ) → denied_seen (known_view design u known) r k ≡ None → is_none (denial_at design.tree u r (index_of known k)) ≡ true
+  none_denied r k e = none_of (words_of design.tree) (denial_at design.tree u r (index_of known k)) (sym (denied_is r k) ∙ e)
 
   -- the change of an object that may be read or watched goes to its user
-  pub followed : (c : Change) (k : ℕ) → place_of known k ≡ c.object.0 → c.object.0 < length known → is_followed design.tree u c.object.0 ≡ true
+  pub followed : (c : Change) (k : ℕ) → index_of known k ≡ c.object.0 → c.object.0 < length known → is_followed design.tree u c.object.0 ≡ true
       → change_seen design.tree u known (Some c) ≡ Some (record { object = record { 0 = k }; value = c.value })
   followed c k at l is =
-      let number = ap (number_in known) (sym at) ∙ place_number known k (omega (arith, at, l)) in
+      let number = ap (number_in known) (sym at) ∙ index_number known k (omega (arith, at, l)) in
       ap (option_map (λ (n : ℕ). record { object = record { 0 = n }; value = c.value }))
       (ap (λ (b : Bool). if b then number_in known c.object.0 else None) is ∙ number)
 
   -- what goes to him is the change of that object
-  pub change_is : (c : Change) (d : Change) → change_seen design.tree u known (Some c) ≡ Some d → (place_of known d.object.0 ≡ c.object.0) × (d.value ≡ c.value)
+  pub change_is : (c : Change) (d : Change) → change_seen design.tree u known (Some c) ≡ Some d → (index_of known d.object.0 ≡ c.object.0) × (d.value ≡ c.value)
   change_is c d e = by_test (is_followed design.tree u c.object.0) (number_in known c.object.0) refl e where
     by_number : (n : Option ℕ) → number_in known c.object.0 ≡ n → option_map (λ (k : ℕ). record { object = record { 0 = k }; value = c.value }) n ≡ Some d
-        → (place_of known d.object.0 ≡ c.object.0) × (d.value ≡ c.value)
+        → (index_of known d.object.0 ≡ c.object.0) × (d.value ≡ c.value)
     by_number None is f = absurd (cc)
     by_number (Some k) is f =
         let same : record { object = record { 0 = k }; value = c.value } ≡ d = cc in
-        (ap (λ (x : Change). place_of known x.object.0) (sym same) ∙ number_place known c.object.0 k is, ap (λ (x : Change). x.value) (sym same))
+        (ap (λ (x : Change). index_of known x.object.0) (sym same) ∙ number_index known c.object.0 k is, ap (λ (x : Change). x.value) (sym same))
 
     by_test : (b : Bool) (n : Option ℕ) → number_in known c.object.0 ≡ n → option_map (λ (k : ℕ). record { object = record { 0 = k }; value = c.value }) (if b then n else None) ≡ Some d
-        → (place_of known d.object.0 ≡ c.object.0) × (d.value ≡ c.value)
+        → (index_of known d.object.0 ≡ c.object.0) × (d.value ≡ c.value)
     by_test true n is f = by_number n is f
     by_test false n is f = absurd (cc)
 
@@ -161,7 +161,7 @@ module _ (design : Elaborated) (u : Member) (known : List Bool) (long : length k
       → (c : Option Change) → IsWithin all c → AreValues design (values_with all c) u known (values_after values (change_seen design.tree u known c))
   values_kept all values many are None within = are
   values_kept all values many are (Some c) within = λ k open_to readable.
-      elim (cases_eq (place_of known k) c.object.0) [
+      elim (cases_eq (index_of known k) c.object.0) [
         | inl at ↦
             let before = are k open_to readable in
             let l : c.object.0 < length known = omega (arith, within, many, long) in
@@ -175,18 +175,18 @@ module _ (design : Elaborated) (u : Member) (known : List Bool) (long : length k
             by_goes k open_to readable other (change_seen design.tree u known (Some c)) refl
       ]
     where
-      by_goes : (k : ℕ) → denied_seen (known_view design u known) right.Read k ≡ None → is_readable (kind_seen (known_view design u known) k) ≡ true → (place_of known k ≡ c.object.0 → ⊥)
+      by_goes : (k : ℕ) → denied_seen (known_view design u known) right.Read k ≡ None → is_readable (kind_seen (known_view design u known) k) ≡ true → (index_of known k ≡ c.object.0 → ⊥)
           → (d : Option Change) → change_seen design.tree u known (Some c) ≡ d
-          → slice_get (values_after values (change_seen design.tree u known (Some c))) k ≡ Some (Some (slice_index_or (slice_set all c.object.0 c.value) (place_of known k) (Unknown ∷ [])))
+          → slice_get (values_after values (change_seen design.tree u known (Some c))) k ≡ Some (Some (slice_index_or (slice_set all c.object.0 c.value) (index_of known k) (Unknown ∷ [])))
       by_goes k open_to readable other None is =
           ap (λ d. slice_get (values_after values d) k) is ∙ are k open_to readable
-          ∙ ap (λ (v : List Bit). Some (Some v)) (sym (index_other all c.object.0 (place_of known k) c.value (Unknown ∷ []) other))
+          ∙ ap (λ (v : List Bit). Some (Some v)) (sym (index_other all c.object.0 (index_of known k) c.value (Unknown ∷ []) other))
       by_goes k open_to readable other (Some d) is =
           let (at, value) = change_is c d is in
           ap (λ x. slice_get (values_after values x) k) is
-          ∙ get_other values d.object.0 k (Some d.value) (λ same. other (ap (place_of known) same ∙ at))
+          ∙ get_other values d.object.0 k (Some d.value) (λ same. other (ap (index_of known) same ∙ at))
           ∙ are k open_to readable
-          ∙ ap (λ (v : List Bit). Some (Some v)) (sym (index_other all c.object.0 (place_of known k) c.value (Unknown ∷ []) other))
+          ∙ ap (λ (v : List Bit). Some (Some v)) (sym (index_other all c.object.0 (index_of known k) c.value (Unknown ∷ []) other))
 
   -- ---- notices
 
@@ -203,37 +203,37 @@ module _ (design : Elaborated) (u : Member) (known : List Bool) (long : length k
   -- a change is due to a session as what goes to its user of it is due to his part of it
   pub due_same : (all : List (List Bit)) → length all ≡ length design.tree.nodes → (s : SessionState) (c : Option Change) (time : ℕ) → IsWithin all c
       → All (λ (b : Callback). denied_seen (known_view design u known) right.Watch b.object.0 ≡ None) s.registry.callbacks
-      → with_due c time (under.session_state (by_place known) s) ≡ under.session_state (by_place known) (with_due (change_seen design.tree u known c) time s)
-  due_same all many s None time within watched = due_under (by_place known) None time s
+      → with_due c time (under.session_state (by_index known) s) ≡ under.session_state (by_index known) (with_due (change_seen design.tree u known c) time s)
+  due_same all many s None time within watched = due_under (by_index known) None time s
   due_same all many s (Some c) time within watched = by_goes (change_seen design.tree u known (Some c)) refl where
     not_on : change_seen design.tree u known (Some c) ≡ None → (b : Callback) → denied_seen (known_view design u known) right.Watch b.object.0 ≡ None
-        → registry.is_on c.object.0 (under.callback (by_place known) b) ≡ false
+        → registry.is_on c.object.0 (under.callback (by_index known) b) ≡ false
     not_on gone b open_to =
-        elim (cases_eq (place_of known b.object.0) c.object.0) [
+        elim (cases_eq (index_of known b.object.0) c.object.0) [
           | inl at ↦
               let l : c.object.0 < length known = omega (arith, within, many, long) in
               let goes = followed c b.object.0 at l
               (or_second (is_none (denial_at design.tree u right.Read c.object.0)) (is_none (denial_at design.tree u right.Watch c.object.0))
               (subst (λ (o : ℕ). is_none (denial_at design.tree u right.Watch o) ≡ true) at (none_denied right.Watch b.object.0 open_to))) in
               absurd (cc)
-          | inr other ↦ not_same (place_of known b.object.0) c.object.0 other
+          | inr other ↦ not_same (index_of known b.object.0) c.object.0 other
         ]
 
     by_goes : (d : Option Change) → change_seen design.tree u known (Some c) ≡ d
-        → with_due (Some c) time (under.session_state (by_place known) s) ≡ under.session_state (by_place known) (with_due (change_seen design.tree u known (Some c)) time s)
+        → with_due (Some c) time (under.session_state (by_index known) s) ≡ under.session_state (by_index known) (with_due (change_seen design.tree u known (Some c)) time s)
     by_goes None is =
-        let none = filter_mapped (under.callback (by_place known)) (registry.is_on c.object.0) s.registry.callbacks
-        ∙ ap (map (under.callback (by_place known))) (none_left (λ b. registry.is_on c.object.0 (under.callback (by_place known) b)) s.registry.callbacks
+        let none = filter_mapped (under.callback (by_index known)) (registry.is_on c.object.0) s.registry.callbacks
+        ∙ ap (map (under.callback (by_index known))) (none_left (λ b. registry.is_on c.object.0 (under.callback (by_index known) b)) s.registry.callbacks
         (λ k d l. not_on is (slice_index_or s.registry.callbacks k d) (watched k d l))) in
-        ap (λ r. record { user = s.user; handles = map (under.handle (by_place known)) s.handles; registry = r })
-        (due_none (under.registry (by_place known) s.registry) c time none)
-        ∙ sym (ap (λ d. under.session_state (by_place known) (with_due d time s)) is)
+        ap (λ r. record { user = s.user; handles = map (under.handle (by_index known)) s.handles; registry = r })
+        (due_none (under.registry (by_index known) s.registry) c time none)
+        ∙ sym (ap (λ d. under.session_state (by_index known) (with_due d time s)) is)
     by_goes (Some d) is =
         let (at, value) = change_is c d is in
         let same = same_change known d c at value in
-        ap (λ x. with_due x time (under.session_state (by_place known) s)) (ap Some (sym same))
-        ∙ due_under (by_place known) (Some d) time s
-        ∙ sym (ap (λ x. under.session_state (by_place known) (with_due x time s)) is)
+        ap (λ x. with_due x time (under.session_state (by_index known) s)) (ap Some (sym same))
+        ∙ due_under (by_index known) (Some d) time s
+        ∙ sym (ap (λ x. under.session_state (by_index known) (with_due x time s)) is)
 
 -- ---- callbacks
 

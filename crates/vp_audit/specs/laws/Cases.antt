@@ -35,7 +35,7 @@ use Rattle.vp_view.specs.Seen.{observer_seen}
 use Rattle.vp_audit.specs.laws.Alike.{IsKnown, seen_as}
 use Rattle.vp_audit.specs.laws.After.{AreWatched, watched_kept}
 use Rattle.vp_audit.specs.laws.Events.{AreSessions, IsPartOf, after_is, is_of, map_same, part_following, same_number, session_under, stepped_is}
-use Rattle.vp_audit.specs.laws.Known.{by_place}
+use Rattle.vp_audit.specs.laws.Known.{by_index}
 use Rattle.vp_audit.specs.laws.Looks.{first_passes}
 use Rattle.vp_audit.specs.laws.Sessions.{apart_remove, apart_set, stands_from, user_kept}
 use Rattle.vp_audit.specs.laws.Sims.{Changes, put_changes}
@@ -120,17 +120,17 @@ part_none u known mine world are id none =
     ∙ none_of_some (λ (t : OpenSessionState). same_session t.id id) (is_of u) world 0 (sym (position_from-zero (λ (t : OpenSessionState). same_session t.id id) world) ∙ none) 0
 
 -- one is open: it stands in his part, under the numbers of what he knows
-pub record StandsIn (u : ℕ) (known : List Bool) (mine world : List OpenSessionState) (id : SessionId) (place : ℕ) : Type 0 where
+pub record StandsIn (u : ℕ) (known : List Bool) (mine world : List OpenSessionState) (id : SessionId) (index : ℕ) : Type 0 where
   pub session : OpenSessionState
-  pub there : slice_get world place ≡ Some session
+  pub there : slice_get world index ≡ Some session
   pub its_name : same_session session.id id ≡ true
   pub inner : ℕ
   pub found : index_of mine id ≡ Some inner
   pub his : OpenSessionState
   pub there_too : slice_get mine inner ≡ Some his
   pub is_under : session_under known his ≡ session
-  pub exchanged : (y : OpenSessionState) → is_of u (session_under known y) ≡ true → AreSessions u known (slice_set mine inner y) (slice_set world place (session_under known y))
-  pub removed : AreSessions u known (remove mine inner) (remove world place)
+  pub exchanged : (y : OpenSessionState) → is_of u (session_under known y) ≡ true → AreSessions u known (slice_set mine inner y) (slice_set world index (session_under known y))
+  pub removed : AreSessions u known (remove mine inner) (remove world index)
 
 -- one that is taken out, under a form
 map_remove : {X Y : Type 0} (f : X → Y) (xs : List X) (i : ℕ) → map f (remove xs i) ≡ remove (map f xs) i
@@ -140,11 +140,11 @@ map_remove f (x ∷ xs) zero = refl
 map_remove f (x ∷ xs) (suc i) = ap (λ ys. f x ∷ ys) (map_remove f xs i)
 
 -- so it stands in his part
-pub part_stands : (u : ℕ) (known : List Bool) (mine world : List OpenSessionState) → AreSessions u known mine world → (id : SessionId) → (id.user.0 == u) ≡ true → (place : ℕ)
-    → index_of world id ≡ Some place → StandsIn u known mine world id place
-part_stands u known mine world are id own_event place e =
-    let s = stands_from (λ (t : OpenSessionState). same_session t.id id) (is_of u) (same_own u id own_event) world 0 place (sym (position_from-zero (λ (t : OpenSessionState). same_session t.id id) world) ∙ e) in
-    let at : place ≡ s.index = let is = s.place_is in omega (arith, is) in
+pub part_stands : (u : ℕ) (known : List Bool) (mine world : List OpenSessionState) → AreSessions u known mine world → (id : SessionId) → (id.user.0 == u) ≡ true → (index : ℕ)
+    → index_of world id ≡ Some index → StandsIn u known mine world id index
+part_stands u known mine world are id own_event index e =
+    let s = stands_from (λ (t : OpenSessionState). same_session t.id id) (is_of u) (same_own u id own_event) world 0 index (sym (position_from-zero (λ (t : OpenSessionState). same_session t.id id) world) ∙ e) in
+    let at : index ≡ s.index = let is = s.index_is in omega (arith, is) in
     let mapped = slice_get-map (session_under known) mine s.inner in
     let (his, his_at, his_is) = formed (session_under known) (slice_get mine s.inner) s.thing (sym mapped ∙ ap (λ ts. slice_get ts s.inner) are ∙ s.there_too) in
     record {
@@ -167,7 +167,7 @@ part_stands u known mine world are id own_event place e =
 
 -- what comes of a request of a session of a user's, and of his in his part
 pub response_is : (design : Elaborated) (u : ℕ) (s : State) (known : List Bool) (p : Part) → IsPartOf design u s known p → (his : SessionState) → his.user ≡ u → (r : Request)
-    → response_of s (under.session_state (by_place known) his) r ≡ under.response (by_place known) (respond (observer_of_part p) his r)
+    → response_of s (under.session_state (by_index known) his) r ≡ under.response (by_index known) (respond (observer_of_part p) his r)
 response_is design u s known p is his user r =
     let m = member_at s.policy.members u in
     let observation = seen_as s.run m known p.values s.book (subst (λ d. IsKnown d s.run.values m known p.values) (sym is.its_design) is.is_known) in
@@ -176,9 +176,9 @@ response_is design u s known p is his user r =
     ∙ ap (λ (n : ℕ). observer_seen (known_view s.run.design m known) p.values n p.finished p.races) is.time
     ∙ ap (λ b. observer_seen (known_view s.run.design m known) p.values s.run.time b p.races) is.finished
     ∙ ap (observer_seen (known_view s.run.design m known) p.values s.run.time s.run.finished) (is.races ∙ ap (λ (d : Elaborated). races_seen d.tree m s.book) (sym is.its_design)) in
-    ap (λ (n : ℕ). respond (observer_with s.run (member_at s.policy.members n) s.book) (under.session_state (by_place known) his) r) user
-    ∙ respond_under (by_place known) (observer_seen (known_view s.run.design m known) p.values s.run.time s.run.finished (races_seen s.run.design.tree m s.book)) (observer_with s.run m s.book) observation his r
-    ∙ ap (λ e. under.response (by_place known) (respond e his r)) (sym same)
+    ap (λ (n : ℕ). respond (observer_with s.run (member_at s.policy.members n) s.book) (under.session_state (by_index known) his) r) user
+    ∙ respond_under (by_index known) (observer_seen (known_view s.run.design m known) p.values s.run.time s.run.finished (races_seen s.run.design.tree m s.book)) (observer_with s.run m s.book) observation his r
+    ∙ ap (λ e. under.response (by_index known) (respond e his r)) (sym same)
 
 -- a put, or none, changes the values by its change alone
 pub outcome_changes : (run : sim.State) (put : Option (ℕ × List Bit)) → Changes run.values (outcome_of_put run put)
@@ -225,38 +225,38 @@ nothing_case design u s known p is answered =
     }
 
 -- a request of a user's open session
-pub asked_own : (design : Elaborated) (u : ℕ) (s : State) (known : List Bool) (p : Part) → IsPartOf design u s known p → (id : SessionId) (r : Request) → (id.user.0 == u) ≡ true → (place : ℕ)
-    → index_of s.sessions id ≡ Some place
-    → ComesTo design u s (asked_at s (Some place) r) known p (Some (Asks id r)) (changed_by s (slice_get s.sessions place) r) (asked s (slice_get s.sessions place) r) p.races
-asked_own design u s known p is id r own_event place at =
-    let i = part_stands u known p.sessions s.sessions is.sessions id own_event place at in
+pub asked_own : (design : Elaborated) (u : ℕ) (s : State) (known : List Bool) (p : Part) → IsPartOf design u s known p → (id : SessionId) (r : Request) → (id.user.0 == u) ≡ true → (index : ℕ)
+    → index_of s.sessions id ≡ Some index
+    → ComesTo design u s (asked_at s (Some index) r) known p (Some (Asks id r)) (changed_by s (slice_get s.sessions index) r) (asked s (slice_get s.sessions index) r) p.races
+asked_own design u s known p is id r own_event index at =
+    let i = part_stands u known p.sessions s.sessions is.sessions id own_event index at in
     let user : i.his.session_state.user ≡ u =
     ap (λ (t : OpenSessionState). t.session_state.user) i.is_under
-    ∙ all_get (λ (t : OpenSessionState). t.session_state.user ≡ t.id.user.0) s.sessions place i.session is.named i.there
+    ∙ all_get (λ (t : OpenSessionState). t.session_state.user ≡ t.id.user.0) s.sessions index i.session is.named i.there
     ∙ same_number i.session.id.user.0 u (same_own u id own_event i.session i.its_name) in
     let mine = respond (observer_of_part p) i.his.session_state r in
-    let session_states : i.session.session_state ≡ under.session_state (by_place known) i.his.session_state = ap (λ (t : OpenSessionState). t.session_state) (sym i.is_under) in
-    let world : response_of s i.session.session_state r ≡ under.response (by_place known) mine =
+    let session_states : i.session.session_state ≡ under.session_state (by_index known) i.his.session_state = ap (λ (t : OpenSessionState). t.session_state) (sym i.is_under) in
+    let world : response_of s i.session.session_state r ≡ under.response (by_index known) mine =
     ap (λ x. response_of s x r) session_states ∙ response_is design u s known p is i.his.session_state user r in
-    let given = under.response (by_place known) mine in
+    let given = under.response (by_index known) mine in
     let new : OpenSessionState = record { id = i.his.id; session_state = mine.session_state } in
     let named_new : given.session_state.user ≡ i.his.id.user.0 =
     user_kept (observer_of_part p) i.his.session_state r ∙ ap (λ (t : OpenSessionState). t.session_state.user) i.is_under
-    ∙ all_get (λ (t : OpenSessionState). t.session_state.user ≡ t.id.user.0) s.sessions place i.session is.named i.there ∙ ap (λ (t : OpenSessionState). t.id.user.0) (sym i.is_under) in
-    let stays = stepped_is design u s known p is (raised s.goal mine.goal) p.opens (slice_set p.sessions i.inner new) (slice_set s.sessions place (session_under known new))
+    ∙ all_get (λ (t : OpenSessionState). t.session_state.user ≡ t.id.user.0) s.sessions index i.session is.named i.there ∙ ap (λ (t : OpenSessionState). t.id.user.0) (sym i.is_under) in
+    let stays = stepped_is design u s known p is (raised s.goal mine.goal) p.opens (slice_set p.sessions i.inner new) (slice_set s.sessions index (session_under known new))
     (segments_of_put s.segments given.put) (outcome_of_put s.run given.put) (outcome_changes s.run given.put) (outcome_leaves s.run given.put)
     (i.exchanged new (ap (λ (t : OpenSessionState). t.id.user.0 == u) i.is_under ∙ same_own u id own_event i.session i.its_name))
-    (all_set (λ (t : OpenSessionState). t.session_state.user ≡ t.id.user.0) s.sessions place (session_under known new) is.named named_new)
+    (all_set (λ (t : OpenSessionState). t.session_state.user ≡ t.id.user.0) s.sessions index (session_under known new) is.named named_new)
     (all_set (λ (t : OpenSessionState). AreWatched p.view t.session_state.registry.callbacks) p.sessions i.inner new is.watched
     (watched_kept p.view p.values p.time p.finished p.races i.his.session_state r
     (all_get (λ (t : OpenSessionState). AreWatched p.view t.session_state.registry.callbacks) p.sessions i.inner i.his is.watched i.there_too)))
     is.opens in
     let ids : i.his.id ≡ i.session.id = ap (λ (t : OpenSessionState). t.id) i.is_under in
-    let after_world : asked_at s (Some place) r ≡ with_response s place i.his given =
-    ap (λ x. state_asked s place x r) i.there ∙ ap (with_response s place i.session) world
-    ∙ ap (λ (n : SessionId). stepped (record s { sessions = slice_set s.sessions place (record { id = n; session_state = given.session_state }); goal = raised s.goal given.goal })
+    let after_world : asked_at s (Some index) r ≡ with_response s index i.his given =
+    ap (λ x. state_asked s index x r) i.there ∙ ap (with_response s index i.session) world
+    ∙ ap (λ (n : SessionId). stepped (record s { sessions = slice_set s.sessions index (record { id = n; session_state = given.session_state }); goal = raised s.goal given.goal })
     (segments_of_put s.segments given.put) (outcome_of_put s.run given.put)) (sym ids) in
-    let change_is : changed_by s (slice_get s.sessions place) r ≡ change_of (outcome_of_put s.run given.put) =
+    let change_is : changed_by s (slice_get s.sessions index) r ≡ change_of (outcome_of_put s.run given.put) =
     ap (λ x. changed_by s x r) i.there ∙ ap (λ (g : Response). change_of (outcome_of_put s.run g.put)) world in
     let mine_is : sessions_after p (Asks id r) ≡ slice_set p.sessions i.inner new =
     ap (λ n. option_map_or (λ k. with_answer p.sessions k (slice_get p.sessions k) (response_in p (slice_get p.sessions k) r)) n p.sessions) i.found
@@ -267,31 +267,31 @@ asked_own design u s known p is id r own_event place at =
     record {
       part =
           subst (λ (t : State). IsPartOf design u t known (part_following p design.tree (member_at s.policy.members u) known p.opens (sessions_after p (Asks id r))
-          (changed_by s (slice_get s.sessions place) r) t.run p.races)) (sym after_world)
-          (subst (λ c. IsPartOf design u (with_response s place i.his given) known (part_following p design.tree (member_at s.policy.members u) known p.opens (sessions_after p (Asks id r)) c
-          (with_response s place i.his given).run p.races)) (sym change_is)
-          (subst (λ ts. IsPartOf design u (with_response s place i.his given) known (part_following p design.tree (member_at s.policy.members u) known p.opens ts
-          (change_of (outcome_of_put s.run given.put)) (with_response s place i.his given).run p.races)) (sym mine_is) stays));
+          (changed_by s (slice_get s.sessions index) r) t.run p.races)) (sym after_world)
+          (subst (λ c. IsPartOf design u (with_response s index i.his given) known (part_following p design.tree (member_at s.policy.members u) known p.opens (sessions_after p (Asks id r)) c
+          (with_response s index i.his given).run p.races)) (sym change_is)
+          (subst (λ ts. IsPartOf design u (with_response s index i.his given) known (part_following p design.tree (member_at s.policy.members u) known p.opens ts
+          (change_of (outcome_of_put s.run given.put)) (with_response s index i.his given).run p.races)) (sym mine_is) stays));
       replied = ap Some (ap (λ x. asked s x r) i.there ∙ ap (λ (g : Response). g.reply) world ∙ sym reply_is);
     }
 
 -- a request of a session of another's
-pub asked_other : (design : Elaborated) (u : ℕ) (s : State) (known : List Bool) (p : Part) → IsPartOf design u s known p → (id : SessionId) (r : Request) → (id.user.0 == u) ≡ false → (place : ℕ)
-    → index_of s.sessions id ≡ Some place → (session : Option OpenSessionState) → slice_get s.sessions place ≡ session → (answered : Reply)
-    → ComesTo design u s (state_asked s place session r) known p None (changed_by s session r) answered p.races
-asked_other design u s known p is id r other place at None there answered = nothing_case design u s known p is answered
-asked_other design u s known p is id r other place at (Some session) there answered =
-    let (t, t_at, t_is) = first_passes (λ (x : OpenSessionState). same_session x.id id) s.sessions place at in
+pub asked_other : (design : Elaborated) (u : ℕ) (s : State) (known : List Bool) (p : Part) → IsPartOf design u s known p → (id : SessionId) (r : Request) → (id.user.0 == u) ≡ false → (index : ℕ)
+    → index_of s.sessions id ≡ Some index → (session : Option OpenSessionState) → slice_get s.sessions index ≡ session → (answered : Reply)
+    → ComesTo design u s (state_asked s index session r) known p None (changed_by s session r) answered p.races
+asked_other design u s known p is id r other index at None there answered = nothing_case design u s known p is answered
+asked_other design u s known p is id r other index at (Some session) there answered =
+    let (t, t_at, t_is) = first_passes (λ (x : OpenSessionState). same_session x.id id) s.sessions index at in
     let same : session ≡ t = some_same session t (sym there ∙ t_at) in
     let not_his : is_of u session ≡ false = ap (is_of u) same ∙ same_other u id other t t_is in
     let given = response_of s session.session_state r in
     let new : OpenSessionState = record session { session_state = given.session_state } in
     record {
-      part = stepped_is design u s known p is (raised s.goal given.goal) p.opens p.sessions (slice_set s.sessions place new) (segments_of_put s.segments given.put)
+      part = stepped_is design u s known p is (raised s.goal given.goal) p.opens p.sessions (slice_set s.sessions index new) (segments_of_put s.segments given.put)
           (outcome_of_put s.run given.put) (outcome_changes s.run given.put) (outcome_leaves s.run given.put)
-          (is.sessions ∙ sym (apart_set (is_of u) s.sessions place session new there not_his not_his))
-          (all_set (λ (x : OpenSessionState). x.session_state.user ≡ x.id.user.0) s.sessions place new is.named
-          (user_kept (observer_at s (member_at s.policy.members session.session_state.user)) session.session_state r ∙ all_get (λ (x : OpenSessionState). x.session_state.user ≡ x.id.user.0) s.sessions place session is.named there))
+          (is.sessions ∙ sym (apart_set (is_of u) s.sessions index session new there not_his not_his))
+          (all_set (λ (x : OpenSessionState). x.session_state.user ≡ x.id.user.0) s.sessions index new is.named
+          (user_kept (observer_at s (member_at s.policy.members session.session_state.user)) session.session_state r ∙ all_get (λ (x : OpenSessionState). x.session_state.user ≡ x.id.user.0) s.sessions index session is.named there))
           is.watched is.opens;
       replied = refl;
     }
@@ -299,14 +299,14 @@ asked_other design u s known p is id r other place at (Some session) there answe
 -- ---- closings
 
 -- a session of his is closed
-pub closed_own : (design : Elaborated) (u : ℕ) (s : State) (known : List Bool) (p : Part) → IsPartOf design u s known p → (id : SessionId) → (id.user.0 == u) ≡ true → (place : ℕ)
-    → index_of s.sessions id ≡ Some place → ComesTo design u s (closed_at s (Some place)) known p (Some (Closes id)) None reply.Done p.races
-closed_own design u s known p is id own_event place at =
-    let i = part_stands u known p.sessions s.sessions is.sessions id own_event place at in
-    let t = closed_at s (Some place) in
-    let stays = after_is design u s known p is t None p.opens (remove p.sessions i.inner) (remove s.sessions place) p.races refl is.its_design refl tt
-    (sym (map_same (with_notice None s.run.time) (λ x. refl) (remove s.sessions place))) i.removed
-    (all_remove (λ (x : OpenSessionState). x.session_state.user ≡ x.id.user.0) s.sessions place is.named)
+pub closed_own : (design : Elaborated) (u : ℕ) (s : State) (known : List Bool) (p : Part) → IsPartOf design u s known p → (id : SessionId) → (id.user.0 == u) ≡ true → (index : ℕ)
+    → index_of s.sessions id ≡ Some index → ComesTo design u s (closed_at s (Some index)) known p (Some (Closes id)) None reply.Done p.races
+closed_own design u s known p is id own_event index at =
+    let i = part_stands u known p.sessions s.sessions is.sessions id own_event index at in
+    let t = closed_at s (Some index) in
+    let stays = after_is design u s known p is t None p.opens (remove p.sessions i.inner) (remove s.sessions index) p.races refl is.its_design refl tt
+    (sym (map_same (with_notice None s.run.time) (λ x. refl) (remove s.sessions index))) i.removed
+    (all_remove (λ (x : OpenSessionState). x.session_state.user ≡ x.id.user.0) s.sessions index is.named)
     (all_remove (λ (x : OpenSessionState). AreWatched p.view x.session_state.registry.callbacks) p.sessions i.inner is.watched) refl is.opens is.races in
     record {
       part = subst (λ ts. IsPartOf design u t known (part_following p design.tree (member_at s.policy.members u) known p.opens ts None t.run p.races))
@@ -315,16 +315,16 @@ closed_own design u s known p is id own_event place at =
     }
 
 -- one of another's is
-pub closed_other : (design : Elaborated) (u : ℕ) (s : State) (known : List Bool) (p : Part) → IsPartOf design u s known p → (id : SessionId) → (id.user.0 == u) ≡ false → (place : ℕ)
-    → index_of s.sessions id ≡ Some place → ComesTo design u s (closed_at s (Some place)) known p None None reply.Done p.races
-closed_other design u s known p is id other place at =
-    let (x, x_at, x_is) = first_passes (λ (y : OpenSessionState). same_session y.id id) s.sessions place at in
-    let t = closed_at s (Some place) in
+pub closed_other : (design : Elaborated) (u : ℕ) (s : State) (known : List Bool) (p : Part) → IsPartOf design u s known p → (id : SessionId) → (id.user.0 == u) ≡ false → (index : ℕ)
+    → index_of s.sessions id ≡ Some index → ComesTo design u s (closed_at s (Some index)) known p None None reply.Done p.races
+closed_other design u s known p is id other index at =
+    let (x, x_at, x_is) = first_passes (λ (y : OpenSessionState). same_session y.id id) s.sessions index at in
+    let t = closed_at s (Some index) in
     record {
-      part = after_is design u s known p is t None p.opens p.sessions (remove s.sessions place) p.races refl is.its_design refl tt
-          (sym (map_same (with_notice None s.run.time) (λ y. refl) (remove s.sessions place)))
-          (is.sessions ∙ sym (apart_remove (is_of u) s.sessions place x x_at (same_other u id other x x_is)))
-          (all_remove (λ (y : OpenSessionState). y.session_state.user ≡ y.id.user.0) s.sessions place is.named) is.watched refl is.opens is.races;
+      part = after_is design u s known p is t None p.opens p.sessions (remove s.sessions index) p.races refl is.its_design refl tt
+          (sym (map_same (with_notice None s.run.time) (λ y. refl) (remove s.sessions index)))
+          (is.sessions ∙ sym (apart_remove (is_of u) s.sessions index x x_at (same_other u id other x x_is)))
+          (all_remove (λ (y : OpenSessionState). y.session_state.user ≡ y.id.user.0) s.sessions index is.named) is.watched refl is.opens is.races;
       replied = refl;
     }
 

@@ -25,7 +25,7 @@ use Rattle.vp_audit.specs.Projections.{change_seen, other_flag, other_number}
 use Rattle.vp_audit.specs.laws.Alike.{IsKnown}
 use Rattle.vp_audit.specs.laws.After.{AreWatched, due_same, values_kept, watched_due}
 use Rattle.vp_audit.specs.laws.Denials.{denied_seen_at}
-use Rattle.vp_audit.specs.laws.Known.{by_place}
+use Rattle.vp_audit.specs.laws.Known.{by_index}
 use Rattle.vp_audit.specs.laws.Sims.{Changes, IsWithin}
 
 -- a session is one of a user
@@ -34,7 +34,7 @@ is_of u t = t.id.user.0 == u
 
 -- a session under the numbers of what is known
 abbrev pub session_under : List Bool → OpenSessionState → OpenSessionState
-session_under known t = record { id = t.id; session_state = under.session_state (by_place known) t.session_state }
+session_under known t = record { id = t.id; session_state = under.session_state (by_index known) t.session_state }
 
 -- a part's sessions are those of its user in a world, under the numbers of what he knows
 abbrev pub AreSessions : ℕ → List Bool → (part world : List OpenSessionState) → Type 0

@@ -368,8 +368,8 @@ pub found_by_names : (nodes : List Node) (k : ℕ) (node : Node) → Differ (key
 found_by_names nodes k node d at =
     let test : Node → Bool = λ n. is_named (names_of node.path) n.path in
     let there = node_at nodes k node node at in
-    let place = position_or_len_is test nodes k node (omega (arith, there.0))
+    let index = position_or_len_is test nodes k node (omega (arith, there.0))
     (λ j l. not_named (test (slice_index_or nodes j node))
     (λ is. none_before nodes k node d at j l (names_only (names_of node.path) (slice_index_or nodes j node).path is)))
     (λ l. subst (λ (n : Node). test n ≡ true) (sym there.1) (own_names node.path)) in
-    ap (λ (i : ℕ). cond (nat_lt i (length nodes)) (Some i) None) place ∙ within k (length nodes) there.0
+    ap (λ (i : ℕ). cond (nat_lt i (length nodes)) (Some i) None) index ∙ within k (length nodes) there.0

@@ -72,9 +72,9 @@ open_case design u s known p is (Some v) within = by_test (v == u) refl where
       (opened_other design u s known p is v e (reply.Opened (next_session s v)))
 
 -- a request, by the place of its session
-ask_case : (design : Elaborated) (u : ℕ) (s : State) (known : List Bool) (p : Part) → IsPartOf design u s known p → (id : SessionId) (r : Request) (place : Option ℕ) → index_of s.sessions id ≡ place
+ask_case : (design : Elaborated) (u : ℕ) (s : State) (known : List Bool) (p : Part) → IsPartOf design u s known p → (id : SessionId) (r : Request) (index : Option ℕ) → index_of s.sessions id ≡ index
     → (b : Bool) → (id.user.0 == u) ≡ b
-    → ComesTo design u s (asked_at s place r) known p (own_if u id (Asks id r)) (changed_by s (option_and_then (slice_get s.sessions) place) r) (asked s (option_and_then (slice_get s.sessions) place) r) p.races
+    → ComesTo design u s (asked_at s index r) known p (own_if u id (Asks id r)) (changed_by s (option_and_then (slice_get s.sessions) index) r) (asked s (option_and_then (slice_get s.sessions) index) r) p.races
 ask_case design u s known p is id r None at true own_event =
     let gone = part_none u known p.sessions s.sessions is.sessions id at in
     let base = nothing_case design u s known p is (reply.Error refusal.NotOpen) in
@@ -86,16 +86,16 @@ ask_case design u s known p is id r None at true own_event =
     })
 ask_case design u s known p is id r None at false own_event =
     subst (λ o. ComesTo design u s s known p o None (reply.Error refusal.NotOpen) p.races) (sym (own_not u id (Asks id r) own_event)) (nothing_case design u s known p is (reply.Error refusal.NotOpen))
-ask_case design u s known p is id r (Some place) at true own_event =
-    subst (λ o. ComesTo design u s (asked_at s (Some place) r) known p o (changed_by s (slice_get s.sessions place) r) (asked s (slice_get s.sessions place) r) p.races) (sym (own_is u id (Asks id r) own_event))
-    (asked_own design u s known p is id r own_event place at)
-ask_case design u s known p is id r (Some place) at false own_event =
-    subst (λ o. ComesTo design u s (asked_at s (Some place) r) known p o (changed_by s (slice_get s.sessions place) r) (asked s (slice_get s.sessions place) r) p.races) (sym (own_not u id (Asks id r) own_event))
-    (asked_other design u s known p is id r own_event place at (slice_get s.sessions place) refl (asked s (slice_get s.sessions place) r))
+ask_case design u s known p is id r (Some index) at true own_event =
+    subst (λ o. ComesTo design u s (asked_at s (Some index) r) known p o (changed_by s (slice_get s.sessions index) r) (asked s (slice_get s.sessions index) r) p.races) (sym (own_is u id (Asks id r) own_event))
+    (asked_own design u s known p is id r own_event index at)
+ask_case design u s known p is id r (Some index) at false own_event =
+    subst (λ o. ComesTo design u s (asked_at s (Some index) r) known p o (changed_by s (slice_get s.sessions index) r) (asked s (slice_get s.sessions index) r) p.races) (sym (own_not u id (Asks id r) own_event))
+    (asked_other design u s known p is id r own_event index at (slice_get s.sessions index) refl (asked s (slice_get s.sessions index) r))
 
 -- a closing, by the place of its session
-close_case : (design : Elaborated) (u : ℕ) (s : State) (known : List Bool) (p : Part) → IsPartOf design u s known p → (id : SessionId) (place : Option ℕ) → index_of s.sessions id ≡ place
-    → (b : Bool) → (id.user.0 == u) ≡ b → ComesTo design u s (closed_at s place) known p (own_if u id (Closes id)) None reply.Done p.races
+close_case : (design : Elaborated) (u : ℕ) (s : State) (known : List Bool) (p : Part) → IsPartOf design u s known p → (id : SessionId) (index : Option ℕ) → index_of s.sessions id ≡ index
+    → (b : Bool) → (id.user.0 == u) ≡ b → ComesTo design u s (closed_at s index) known p (own_if u id (Closes id)) None reply.Done p.races
 close_case design u s known p is id None at true own_event =
     let gone = part_none u known p.sessions s.sessions is.sessions id at in
     let base = nothing_case design u s known p is reply.Done in
@@ -107,10 +107,10 @@ close_case design u s known p is id None at true own_event =
     })
 close_case design u s known p is id None at false own_event =
     subst (λ o. ComesTo design u s s known p o None reply.Done p.races) (sym (own_not u id (Closes id) own_event)) (nothing_case design u s known p is reply.Done)
-close_case design u s known p is id (Some place) at true own_event =
-    subst (λ o. ComesTo design u s (closed_at s (Some place)) known p o None reply.Done p.races) (sym (own_is u id (Closes id) own_event)) (closed_own design u s known p is id own_event place at)
-close_case design u s known p is id (Some place) at false own_event =
-    subst (λ o. ComesTo design u s (closed_at s (Some place)) known p o None reply.Done p.races) (sym (own_not u id (Closes id) own_event)) (closed_other design u s known p is id own_event place at)
+close_case design u s known p is id (Some index) at true own_event =
+    subst (λ o. ComesTo design u s (closed_at s (Some index)) known p o None reply.Done p.races) (sym (own_is u id (Closes id) own_event)) (closed_own design u s known p is id own_event index at)
+close_case design u s known p is id (Some index) at false own_event =
+    subst (λ o. ComesTo design u s (closed_at s (Some index)) known p o None reply.Done p.races) (sym (own_not u id (Closes id) own_event)) (closed_other design u s known p is id own_event index at)
 
 -- each event that is no change of grants
 pub event_comes : (opening : Opening) (design : Elaborated) (u : ℕ) (s : State) (known : List Bool) (p : Part) → IsPartOf design u s known p → (e : Event) → IsNoGrant e

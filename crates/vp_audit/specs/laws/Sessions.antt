@@ -16,11 +16,11 @@ use Rattle.vp_answer.specs.Answers.{Response, freed, made, only_told, putting, r
 -- ---- lists
 
 -- where the first of some things that passes a test stands among those that pass another, which it passes too
-pub record Stands {X : Type 0} (p q : X → Bool) (xs : List X) (from place : ℕ) : Type 0 where
+pub record Stands {X : Type 0} (p q : X → Bool) (xs : List X) (from index_from : ℕ) : Type 0 where
   pub index : ℕ
   pub inner : ℕ
   pub thing : X
-  pub place_is : place ≡ from + index
+  pub index_is : index_from ≡ from + index
   pub there : slice_get xs index ≡ Some thing
   pub passes : p thing ≡ true
   pub found : (o : ℕ) → position_from p o (filter q xs) ≡ Some (o + inner)
@@ -29,13 +29,13 @@ pub record Stands {X : Type 0} (p q : X → Bool) (xs : List X) (from place : �
   pub removed : filter q (remove xs index) ≡ remove (filter q xs) inner
 
 -- one more before them that passes neither, or the second alone
-stands_more : {X : Type 0} (p q : X → Bool) (x : X) (xs : List X) (from place : ℕ) → p x ≡ false → (b : Bool) → q x ≡ b → Stands p q xs (from + 1) place → Stands p q (x ∷ xs) from place
-stands_more p q x xs from place fails true is s =
+stands_more : {X : Type 0} (p q : X → Bool) (x : X) (xs : List X) (from index_from : ℕ) → p x ≡ false → (b : Bool) → q x ≡ b → Stands p q xs (from + 1) index_from → Stands p q (x ∷ xs) from index_from
+stands_more p q x xs from index_from fails true is s =
     record {
       index = suc s.index;
       inner = suc s.inner;
       thing = s.thing;
-      place_is = let at = s.place_is in omega (arith, at);
+      index_is = let at = s.index_is in omega (arith, at);
       there = s.there;
       passes = s.passes;
       found = λ o.
@@ -53,12 +53,12 @@ stands_more p q x xs from place fails true is s =
 
     kept : filter q (x ∷ xs) ≡ x ∷ filter q xs
     kept = ap (λ (b : Bool). if b then x ∷ filter q xs else filter q xs) is
-stands_more p q x xs from place fails false is s =
+stands_more p q x xs from index_from fails false is s =
     record {
       index = suc s.index;
       inner = s.inner;
       thing = s.thing;
-      place_is = let at = s.place_is in omega (arith, at);
+      index_is = let at = s.index_is in omega (arith, at);
       there = s.there;
       passes = s.passes;
       found = λ o. ap (λ ys. position_from p o ys) kept ∙ s.found o;
@@ -74,21 +74,21 @@ stands_more p q x xs from place fails false is s =
     kept = ap (λ (b : Bool). if b then x ∷ filter q xs else filter q xs) is
 
 -- so it stands
-pub stands_from : {X : Type 0} (p q : X → Bool) → ((x : X) → p x ≡ true → q x ≡ true) → (xs : List X) (from place : ℕ) → position_from p from xs ≡ Some place → Stands p q xs from place
-stands_from p q both [] from place e = absurd (cc)
-stands_from p q both (x ∷ xs) from place e = by_test (p x) refl e (stands_from p q both xs (from + 1) place) where
-  by_test : (b : Bool) → p x ≡ b → cond b (Some from) (position_from p (from + 1) xs) ≡ Some place → (position_from p (from + 1) xs ≡ Some place → Stands p q xs (from + 1) place)
-      → Stands p q (x ∷ xs) from place
-  by_test false is e rest = stands_more p q x xs from place is (q x) refl (rest e)
+pub stands_from : {X : Type 0} (p q : X → Bool) → ((x : X) → p x ≡ true → q x ≡ true) → (xs : List X) (from index_from : ℕ) → position_from p from xs ≡ Some index_from → Stands p q xs from index_from
+stands_from p q both [] from index_from e = absurd (cc)
+stands_from p q both (x ∷ xs) from index_from e = by_test (p x) refl e (stands_from p q both xs (from + 1) index_from) where
+  by_test : (b : Bool) → p x ≡ b → cond b (Some from) (position_from p (from + 1) xs) ≡ Some index_from → (position_from p (from + 1) xs ≡ Some index_from → Stands p q xs (from + 1) index_from)
+      → Stands p q (x ∷ xs) from index_from
+  by_test false is e rest = stands_more p q x xs from index_from is (q x) refl (rest e)
   by_test true is e rest =
       let yes = both x is in
       let kept : filter q (x ∷ xs) ≡ x ∷ filter q xs = ap (λ (b : Bool). if b then x ∷ filter q xs else filter q xs) yes in
-      let same : from ≡ place = cc in
+      let same : from ≡ index_from = cc in
       record {
         index = 0;
         inner = 0;
         thing = x;
-        place_is = omega (arith, same);
+        index_is = omega (arith, same);
         there = refl;
         passes = is;
         found = λ o.

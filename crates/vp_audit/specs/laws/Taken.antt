@@ -46,7 +46,7 @@ AreWithin p = list_all (is_session_within (length p.view.nodes)) p.sessions ≡ 
 -- after an event of his own
 own_within : (p : Part) (own_event : OwnEvent) → AreWithin p → list_all (is_session_within (length p.view.nodes)) (sessions_after p own_event) ≡ true
 own_within p (Opens id) h = all_join (is_session_within (length p.view.nodes)) p.sessions _ h refl
-own_within p (Asks id r) h = by_place (index_of p.sessions id) where
+own_within p (Asks id r) h = by_index (index_of p.sessions id) where
   n : ℕ
   n = length p.view.nodes
 
@@ -56,14 +56,14 @@ own_within p (Asks id r) h = by_place (index_of p.sessions id) where
       all_set (is_session_within n) p.sessions k _ h
       (respond_within n (observer_of_part p) (seen_within p.view p.values p.time p.finished p.races) t.session_state r (all_at (is_session_within n) p.sessions k t h at))
 
-  by_place : (place : Option ℕ)
-      → list_all (is_session_within n) (option_map_or (λ k. with_answer p.sessions k (slice_get p.sessions k) (response_in p (slice_get p.sessions k) r)) place p.sessions) ≡ true
-  by_place None = h
-  by_place (Some k) = by_session k (slice_get p.sessions k) refl
-own_within p (Closes id) h = by_place (index_of p.sessions id) where
-  by_place : (place : Option ℕ) → list_all (is_session_within (length p.view.nodes)) (option_map_or (remove p.sessions) place p.sessions) ≡ true
-  by_place None = h
-  by_place (Some k) = all_removed (is_session_within (length p.view.nodes)) p.sessions k h
+  by_index : (index : Option ℕ)
+      → list_all (is_session_within n) (option_map_or (λ k. with_answer p.sessions k (slice_get p.sessions k) (response_in p (slice_get p.sessions k) r)) index p.sessions) ≡ true
+  by_index None = h
+  by_index (Some k) = by_session k (slice_get p.sessions k) refl
+own_within p (Closes id) h = by_index (index_of p.sessions id) where
+  by_index : (index : Option ℕ) → list_all (is_session_within (length p.view.nodes)) (option_map_or (remove p.sessions) index p.sessions) ≡ true
+  by_index None = h
+  by_index (Some k) = all_removed (is_session_within (length p.view.nodes)) p.sessions k h
 
 -- after what of an entry goes to him, if that is no change of his grants
 entry_within : (p : Part) (own_event : Option OwnEvent) (i : Item) → AreWithin p → AreWithin (part_after_entry p own_event i)
@@ -183,13 +183,13 @@ module _ (opening : Opening) (design : Elaborated) (u : ℕ) (s : State) (known 
   takes_session : (id : SessionId) (own_event : OwnEvent) → (takes_by p (Some own_event) None ≡ is_some (index_of p.sessions id)) → (full : Bool) → refusal_of_session full (index_of s.sessions id) ≡ None
       → takes_by p (own_if u id own_event) None ≡ true
   takes_session id own_event test full accepted = by_user (id.user.0 == u) refl where
-    by_place : (id.user.0 == u) ≡ true → (place : Option ℕ) → index_of s.sessions id ≡ place → refusal_of_session full place ≡ None → is_some (index_of p.sessions id) ≡ true
-    by_place his None at f = absurd (cc)
-    by_place his (Some place) at f = ap is_some (part_stands u known p.sessions s.sessions is.sessions id his place at).found
+    by_index : (id.user.0 == u) ≡ true → (index : Option ℕ) → index_of s.sessions id ≡ index → refusal_of_session full index ≡ None → is_some (index_of p.sessions id) ≡ true
+    by_index his None at f = absurd (cc)
+    by_index his (Some index) at f = ap is_some (part_stands u known p.sessions s.sessions is.sessions id his index at).found
 
     by_user : (b : Bool) → (id.user.0 == u) ≡ b → takes_by p (if b then Some own_event else None) None ≡ true
     by_user false e = refl
-    by_user true e = test ∙ by_place e (index_of s.sessions id) refl accepted
+    by_user true e = test ∙ by_index e (index_of s.sessions id) refl accepted
 
   -- an event that is accepted
   event_taken : AreWithin p → (full : Bool) (e : Event) → refusal_of opening full s e ≡ None → takes p (item_at opening u s known e) ≡ true

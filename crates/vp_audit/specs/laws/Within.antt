@@ -181,12 +181,12 @@ module _ (n : ℕ) where
   -- the object of a handle
   object_in : (handles : List (Option ObjectId)) (handle : ℕ) → list_all (is_handle_within n) handles ≡ true → IsSomeIn (object_of handles handle)
   object_in handles zero e = tt
-  object_in handles (suc k) e = by_place handles k e where
-    by_place : (hs : List (Option ObjectId)) (k : ℕ) → list_all (is_handle_within n) hs ≡ true → IsSomeIn (option_map (λ (o : ObjectId). o.0) (option_flatten (slice_get hs k)))
-    by_place [] k f = tt
-    by_place (None ∷ hs) zero f = tt
-    by_place (Some o ∷ hs) zero f = both_first (nat_lt o.0 n) (list_all (is_handle_within n) hs) f
-    by_place (h ∷ hs) (suc k) f = by_place hs k (both_second (is_handle_within n h) (list_all (is_handle_within n) hs) f)
+  object_in handles (suc k) e = by_index handles k e where
+    by_index : (hs : List (Option ObjectId)) (k : ℕ) → list_all (is_handle_within n) hs ≡ true → IsSomeIn (option_map (λ (o : ObjectId). o.0) (option_flatten (slice_get hs k)))
+    by_index [] k f = tt
+    by_index (None ∷ hs) zero f = tt
+    by_index (Some o ∷ hs) zero f = both_first (nat_lt o.0 n) (list_all (is_handle_within n) hs) f
+    by_index (h ∷ hs) (suc k) f = by_index hs k (both_second (is_handle_within n h) (list_all (is_handle_within n) hs) f)
 
   module _ (observation : Observer) (is : IsOf observation n) where
     -- the object of a handle on which the user has a right

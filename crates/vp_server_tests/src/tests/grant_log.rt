@@ -76,8 +76,8 @@ fn after_reply(watch: Watch, request: &Request) -> Watch {
 }
 
 /// The reply at a place of a list is this one.
-fn is_at(replies: &[Reply], place: usize, reply: &Reply) -> bool {
-    match replies.get(place) {
+fn is_at(replies: &[Reply], index: usize, reply: &Reply) -> bool {
+    match replies.get(index) {
         Some(own) => own.is_same(reply),
         None => false,
     }
@@ -108,8 +108,8 @@ pub fn are_right(log: &[Entry], replies: &[Reply]) -> bool {
 }
 
 /// The grant at a place of a list is this one.
-fn is_grant_at(grants: &[GrantChange], place: usize, change: &GrantChange) -> bool {
-    match grants.get(place) {
+fn is_grant_at(grants: &[GrantChange], index: usize, change: &GrantChange) -> bool {
+    match grants.get(index) {
         Some(grant) => grant.is_same(change),
         None => false,
     }

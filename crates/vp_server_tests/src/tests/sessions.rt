@@ -234,17 +234,17 @@ fn is_own(entry: &Entry, session: SessionId) -> bool {
 }
 
 /// These are the places of a session's entries in a log, in order, and no others.
-fn are_own_places(log: &[Entry], session: SessionId, places: &[usize]) -> bool {
+fn are_own_indexes(log: &[Entry], session: SessionId, indexes: &[usize]) -> bool {
     let mut count = 0;
-    for place in 0..log.len() {
-        if is_own(&log[place], session) {
-            if places.get(count) != Some(&place) {
+    for index in 0..log.len() {
+        if is_own(&log[index], session) {
+            if indexes.get(count) != Some(&index) {
                 return false;
             }
             count += 1;
         }
     }
-    count == places.len()
+    count == indexes.len()
 }
 
 /// What a session read is what `c` was given, and its receipts are of its entries; how many it read, and how many entries it has.
@@ -252,11 +252,11 @@ fn counts(ended: &Ended, number: usize) -> Option<(usize, usize)> {
     let log = ended.closed.log();
     let session = *ended.sessions.get(number)?;
     let values = ended.values.get(number)?.as_slice();
-    let places = ended.closed.receipts.as_slice().get(number)?.as_slice();
-    if !are_those_given(log, session, values) || !are_own_places(log, session, places) {
+    let indexes = ended.closed.receipts.as_slice().get(number)?.as_slice();
+    if !are_those_given(log, session, values) || !are_own_indexes(log, session, indexes) {
         return None;
     }
-    Some((values.len(), places.len()))
+    Some((values.len(), indexes.len()))
 }
 
 /// The same of both sessions, and whether the design changed `c` beside them.

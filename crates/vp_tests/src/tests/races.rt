@@ -72,8 +72,8 @@ fn orders_that_are_no_race(rt: HostRuntime) {
 }
 
 /// The finding of a place is of this object: 1 after the run and 0 after the first order that is tried, which takes the last event each time.
-fn is_found(findings: &[Finding], place: usize, object: u32) -> bool {
-    let Some(finding) = findings.get(place) else {
+fn is_found(findings: &[Finding], index: usize, object: u32) -> bool {
+    let Some(finding) = findings.get(index) else {
         return false;
     };
     let values = finding.values();

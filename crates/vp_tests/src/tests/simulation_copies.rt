@@ -26,21 +26,21 @@ fn copies_of(list: &mut TrackedList<u32>) -> [Option<(u32, u32)>; 3] {
     let second = list.checkpoint().ok();
     list.set(70, 9);
     let third = list.checkpoint().ok();
-    let places = [
+    let indexes = [
         two_of(first.as_ref()),
         two_of(second.as_ref()),
         two_of(third.as_ref()),
     ];
     drop((first, second, third));
-    places
+    indexes
 }
 
 /// The same of the numbers.
 fn copies(alloc: Global) -> Option<[Option<(u32, u32)>; 3]> {
     let mut list = numbers(alloc)?;
-    let places = copies_of(&mut list);
+    let indexes = copies_of(&mut list);
     drop(list);
-    Some(places)
+    Some(indexes)
 }
 
 #[test]

@@ -41,8 +41,8 @@ fn renumbered(handle: Option<ObjectId>, numbers: &[u32]) -> Option<ObjectId>
 fn renumber_handles(handles: &mut Vec<Option<ObjectId>>, numbers: &[u32])
     ensures { handles.new.items ≡ map (moved_handle (number_now numbers.now)) handles.old.items }
 {
-    for place in 0..handles.len() {
-        handles[place] = renumbered(handles[place], numbers);
+    for index in 0..handles.len() {
+        handles[index] = renumbered(handles[index], numbers);
     }
 }
 

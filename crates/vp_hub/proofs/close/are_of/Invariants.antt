@@ -4,4 +4,4 @@ use Rattle.vp_hub.proofs.close.are_of.Given as goal
 
 -- those so far are of the places so far
 abbrev pub invariant-loop-number : goal.invariant-loop-number
-invariant-loop-number l = map (λ (r : Receipt). r.place) (take l.number l.receipts) ≡ take l.number l.places
+invariant-loop-number l = map (λ (r : Receipt). r.index) (take l.number l.receipts) ≡ take l.number l.indexes

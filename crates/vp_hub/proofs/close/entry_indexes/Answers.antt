@@ -6,18 +6,18 @@ use Rattle.vp_hub.proofs.Closings.{own_more, own_same}
 use Rattle.vp_hub.proofs.close.entry_indexes.Goals.{then-is_own+in_ok-push, else-is_own}
 use Rattle.vp_hub.proofs.close.entry_indexes.Goals as goal
 
-pub loop-place-preserved : goal.loop-place-preserved
-loop-place-preserved c =
+pub loop-index-preserved : goal.loop-index-preserved
+loop-index-preserved c =
     let log = c.args.log.now in
     let id = c.args.session in
-    let n = c.loop-place.place in
-    let e : Entry = c.index-log-place.result in
-    let at : slice_get log n ≡ Some e = slice_get-get_or log n e c.loop-place-test.true ∙ ap Some (sym c.index-log-place.is) in
+    let n = c.loop-index.index in
+    let e : Entry = c.index-log-index.result in
+    let at : slice_get log n ≡ Some e = slice_get-get_or log n e c.loop-index-test.true ∙ ap Some (sym c.index-log-index.is) in
     elim c.if-is_own.branch [
       | then-is_own+in_ok-push w ↦
-          ap (λ v. v.items) w.places-is ∙ (w.in_ok-push.ensures {u = tt}).items ∙ ap (λ ns. ns ++ n ∷ []) c.loop-place.invariant
+          ap (λ v. v.items) w.indexes-is ∙ (w.in_ok-push.ensures {u = tt}).items ∙ ap (λ ns. ns ++ n ∷ []) c.loop-index.invariant
           ∙ sym (own_more log id n e at (sym c.is_own.ensures ∙ w.if-is_own.true))
       | else-is_own w ↦
-          ap (λ v. v.items) w.places-is ∙ c.loop-place.invariant
+          ap (λ v. v.items) w.indexes-is ∙ c.loop-index.invariant
           ∙ sym (own_same log id n e at (sym c.is_own.ensures ∙ w.if-is_own.false))
     ]

@@ -6,8 +6,8 @@ use Rattle.vp_view.proofs.denials.envelope_at.Goals as goal
 
 pub returns : goal.returns
 returns c =
-    let place = c.in_ok-before.before in
+    let index = c.in_ok-before.before in
     let below = c.in_ok-before.ensures {u = tt} in
-    item_got envelope_shown c.envelopes.result.now place c.get.result c.get.ensures.lookup
-    ∙ ap (λ es. slice_get es place) c.envelopes.ensures
-    ∙ envelope_there c.args.view.now c.args.number place below.0 (sym below.1)
+    item_got envelope_shown c.envelopes.result.now index c.get.result c.get.ensures.lookup
+    ∙ ap (λ es. slice_get es index) c.envelopes.ensures
+    ∙ envelope_there c.args.view.now c.args.number index below.0 (sym below.1)

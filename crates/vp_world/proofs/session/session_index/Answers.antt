@@ -4,5 +4,5 @@ use Rattle.vp_world.specs.Shown.{session_shown}
 use Rattle.vp_world.specs.Worlds.{same_session}
 use Rattle.vp_world.proofs.session.session_index.Goals as goal
 
-pub loop-place-init : goal.loop-place-init
-loop-place-init c = sym (position_from-zero (λ s. same_session s.id c.args.id) (map session_shown c.args.sessions.now))
+pub loop-index-init : goal.loop-index-init
+loop-index-init c = sym (position_from-zero (λ s. same_session s.id c.args.id) (map session_shown c.args.sessions.now))

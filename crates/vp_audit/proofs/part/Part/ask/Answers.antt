@@ -5,7 +5,7 @@ use Rattle.vp_answer.specs.Answers.{respond}
 use Rattle.vp_world.specs.Worlds.{OpenSessionState, index_of}
 use Rattle.vp_view.specs.Seen.{observer_seen}
 use Rattle.vp_audit.specs.Parts.{Asks, Part, observer_of_part, reply_of, with_own}
-use Rattle.vp_audit.proofs.PartSteps.{asked_after, asked_reply, at_place, observations_are}
+use Rattle.vp_audit.proofs.PartSteps.{asked_after, asked_reply, at_index, observations_are}
 use Rattle.vp_audit.proofs.part.Part.ask.Goals as goal
 
 module _ (c : goal.In_ok-reply) where
@@ -24,14 +24,14 @@ module _ (c : goal.In_ok-reply) where
   abbrev session : OpenSessionState
   session = c.index_mut.result.now
 
-  at : index_of before.sessions c.args.id ≡ Some c.in-Some.place
-  at = sym (ap (λ (ts : List OpenSessionState). index_of ts c.args.id) c.deref.ensures.value) ∙ sym c.session_index.ensures.place ∙ c.in-Some.is
+  at : index_of before.sessions c.args.id ≡ Some c.in-Some.index
+  at = sym (ap (λ (ts : List OpenSessionState). index_of ts c.args.id) c.deref.ensures.value) ∙ sym c.session_index.ensures.index ∙ c.in-Some.is
 
-  within : c.in-Some.place < length before.sessions
-  within = subst (λ (ts : List OpenSessionState). c.in-Some.place < length ts) c.deref.ensures.value c.in-Some.ensures.within
+  within : c.in-Some.index < length before.sessions
+  within = subst (λ (ts : List OpenSessionState). c.in-Some.index < length ts) c.deref.ensures.value c.in-Some.ensures.within
 
-  there : slice_get before.sessions c.in-Some.place ≡ Some session
-  there = at_place before.sessions c.in-Some.place session within c.index_mut.ensures.value
+  there : slice_get before.sessions c.in-Some.index ≡ Some session
+  there = at_index before.sessions c.in-Some.index session within c.index_mut.ensures.value
 
   abbrev observation : Observer
   observation = observer_seen c.new-observation.result.view.now c.new-observation.result.values.now c.new-observation.result.time c.new-observation.result.finished c.new-observation.result.races.now
@@ -43,7 +43,7 @@ pub returns-clause-reply : goal.returns-clause-reply
 returns-clause-reply c =
     let r = c.args.request.now in
     (c.in_ok-reply.ensures {u = tt}).reply ∙ ap (λ e. (respond e (session c).session_state r).reply) (observation_is c)
-    ∙ sym (asked_reply (before c) c.args.id r c.in-Some.place (session c) (at c) (there c))
+    ∙ sym (asked_reply (before c) c.args.id r c.in-Some.index (session c) (at c) (there c))
     ∙ ap (λ (q : Part). reply_of q (Asks c.args.id r)) c.self.view_is
 
 pub returns-clause-after : goal.returns-clause-after
@@ -52,6 +52,6 @@ returns-clause-after c =
     let q = before c in
     let new : c.ask.new.self ≡ record { id = (session c).id; session_state = (respond (observer_of_part q) (session c).session_state r).session_state } =
     (c.in_ok-reply.ensures {u = tt}).after ∙ ap (λ e. (let t : OpenSessionState = record { id = (session c).id; session_state = (respond e (session c).session_state r).session_state } in t)) (observation_is c) in
-    ap (λ (t : OpenSessionState). (let x : Part = record q { sessions = slice_set q.sessions c.in-Some.place t } in x)) new
-    ∙ sym (asked_after q c.args.id r c.in-Some.place (session c) (at c) (there c))
+    ap (λ (t : OpenSessionState). (let x : Part = record q { sessions = slice_set q.sessions c.in-Some.index t } in x)) new
+    ∙ sym (asked_after q c.args.id r c.in-Some.index (session c) (at c) (there c))
     ∙ ap (λ (x : Part). with_own x (Asks c.args.id r)) c.self.view_is

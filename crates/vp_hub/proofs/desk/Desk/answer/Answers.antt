@@ -30,13 +30,13 @@ returns-in-Ok-count g c =
     let happens : Event = event_of p.session c.args.request in
     let stood : LastStands d.world.log p = subst (λ (l : List Entry). LastStands l p) c.log.ensures.log (c.stands_in.ensures.stands c.if-not-stands_in.false) in
     let is_event : c.event_of-event.result ≡ happens = c.event_of-event.ensures.event ∙ ap (λ (x : Passed). event_of x.session c.args.request) c.pass.view_is in
-    let log_is : c.log-place.result.now ≡ d.world.log = c.log-place.ensures.log ∙ ap (λ (x : Desked). x.world.log) c.self.view_is in
+    let log_is : c.log-index.result.now ≡ d.world.log = c.log-index.ensures.log ∙ ap (λ (x : Desked). x.world.log) c.self.view_is in
     let yes = c.in-Ok-count.ensures {u = tt} in
     let due : Receipt = receipt_of d happens c.args.request in
     let told : c.in-Ok-count.reply ≡ answered_by d.world happens = yes.reply ∙ ap (λ (v : Event). answered_by d.world v) is_event in
     let copied : c.in-Ok.asked ≡ c.args.request = (c.in-Ok.ensures {u = tt}).copy in
-    let received : (let x : Receipt = record { place = length c.log-place.result.now; request = c.in-Ok.asked; reply = c.in-Ok-count.reply } in x) ≡ due =
-    λ i. record { place = length (log_is i); request = copied i; reply = told i } in
+    let received : (let x : Receipt = record { index = length c.log-index.result.now; request = c.in-Ok.asked; reply = c.in-Ok-count.reply } in x) ≡ due =
+    λ i. record { index = length (log_is i); request = copied i; reply = told i } in
     let receipts : c.receive.new.receipts.items ≡ c.pass.inside.receipts.items ++ due ∷ [] =
     c.receive.ensures.receipts ∙ (λ i. c.ready.ensures.same i ++ received i ∷ []) in
     let same : (let x : Passed = record { session = c.pass.inside.session; receipts = c.receive.new.receipts.items; amount = c.count.new.share.amount; parts = c.count.new.share.parts } in x) ≡ with_receipt p due =

@@ -7,13 +7,13 @@ use Rattle.vp_notify.proofs.Rising.{as_many}
 use Rattle.vp_vpi.specs.Renumbered.{moved_handle}
 use Rattle.vp_vpi.proofs.session.renumbering.renumber_handles.Goals as goal
 
-pub loop-place-preserved : goal.loop-place-preserved
-loop-place-preserved c =
+pub loop-index-preserved : goal.loop-index-preserved
+loop-index-preserved c =
     let f : Option ObjectId → Option ObjectId = moved_handle (number_now c.args.numbers.now) in
-    let so_far = c.loop-place.handles.items in
-    let place = c.loop-place.place in
+    let so_far = c.loop-index.handles.items in
+    let index = c.loop-index.index in
     let here : Option ObjectId = c.index.result.now in
-    let long : length so_far ≡ length c.args.handles.now.items = as_many f c.args.handles.now.items so_far place c.loop-place.invariant in
-    let within : place < length so_far = omega (arith, long) in
-    let same : here ≡ get_or so_far place here = c.index.ensures in
-    ap (λ (x : Option ObjectId). slice_set so_far place x) c.renumbered.ensures ∙ map_over_more f c.args.handles.now.items so_far place here (omega (arith, long, within)) c.loop-place.invariant same
+    let long : length so_far ≡ length c.args.handles.now.items = as_many f c.args.handles.now.items so_far index c.loop-index.invariant in
+    let within : index < length so_far = omega (arith, long) in
+    let same : here ≡ get_or so_far index here = c.index.ensures in
+    ap (λ (x : Option ObjectId). slice_set so_far index x) c.renumbered.ensures ∙ map_over_more f c.args.handles.now.items so_far index here (omega (arith, long, within)) c.loop-index.invariant same

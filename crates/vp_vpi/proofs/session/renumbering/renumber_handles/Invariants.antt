@@ -4,5 +4,5 @@ use Rattle.vp_vpi.specs.Renumbered.{moved_handle}
 use Rattle.vp_vpi.proofs.session.renumbering.renumber_handles.Given as goal
 
 -- those so far have their numbers now
-abbrev pub invariant-loop-place : goal.invariant-loop-place
-invariant-loop-place l = l.handles.items ≡ map (moved_handle (number_now l.numbers)) (take l.place l.fn.handles.items) ++ drop l.place l.fn.handles.items
+abbrev pub invariant-loop-index : goal.invariant-loop-index
+invariant-loop-index l = l.handles.items ≡ map (moved_handle (number_now l.numbers)) (take l.index l.fn.handles.items) ++ drop l.index l.fn.handles.items

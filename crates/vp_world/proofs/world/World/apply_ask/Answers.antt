@@ -23,8 +23,8 @@ module _ (c : goal.After-push_reserved) where
   abbrev entry : Entry
   entry = record { event = happens; reply = c.in_ok-answer.answer.entry_reply; change = c.in_ok-answer.answer.change; time = c.time.result; finished = c.finished.result }
 
-  found : index_of w.state.sessions c.args.session ≡ Some c.in_ok-place.place
-  found = (c.in_ok-place.ensures {u = tt}).place
+  found : index_of w.state.sessions c.args.session ≡ Some c.in_ok-index.index
+  found = (c.in_ok-index.ensures {u = tt}).index
 
   same : c.deref.result.now.request ≡ c.args.request
   same = ap (λ (a : Asked). a.request) (c.deref.ensures ∙ (c.in_ok-asked.ensures {u = tt}).ok)
@@ -32,19 +32,19 @@ module _ (c : goal.After-push_reserved) where
   following : c.ask.new.self ≡ with_state w (after w.opening w.state happens)
   following =
       (c.in_ok-answer.ensures {u = tt}).after
-      ∙ ap (λ (r : Request). with_state w (asked_at w.state (Some c.in_ok-place.place) r)) same
+      ∙ ap (λ (r : Request). with_state w (asked_at w.state (Some c.in_ok-index.index) r)) same
       ∙ ap (λ (o : Option ℕ). with_state w (asked_at w.state o c.args.request)) (sym found)
 
   kept : c.in_ok-answer.answer.entry_reply ≡ answer w.opening w.state happens
   kept =
       (c.in_ok-answer.ensures {u = tt}).entry
-      ∙ ap (λ (r : Request). asked_in w c.in_ok-place.place r) same
+      ∙ ap (λ (r : Request). asked_in w c.in_ok-index.index r) same
       ∙ ap (λ (o : Option ℕ). asked w.state (option_and_then (slice_get w.state.sessions) o) c.args.request) (sym found)
 
   changes : c.in_ok-answer.answer.change ≡ changed w.state happens
   changes =
       (c.in_ok-answer.ensures {u = tt}).change
-      ∙ ap (λ (r : Request). changed_in w c.in_ok-place.place r) same
+      ∙ ap (λ (r : Request). changed_in w c.in_ok-index.index r) same
       ∙ ap (λ (o : Option ℕ). changed_by w.state (option_and_then (slice_get w.state.sessions) o) c.args.request) (sym found)
 
   added : c.push_reserved.new.self.items ≡ log ++ entry ∷ []

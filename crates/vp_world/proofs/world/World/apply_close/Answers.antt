@@ -12,7 +12,7 @@ invariant_of-self-2 c =
     let w = c.self.inside.present in
     let log = c.self.inside.log.items in
     let id = c.args.session in
-    let found : index_of w.state.sessions id ≡ Some c.in_ok-place.place = (c.in_ok-place.ensures {u = tt}).place in
+    let found : index_of w.state.sessions id ≡ Some c.in_ok-index.index = (c.in_ok-index.ensures {u = tt}).index in
     let entry : Entry = record { event = event.Close id; reply = reply.Done; change = None; time = c.time.result; finished = c.finished.result } in
     let added : c.push_reserved.new.self.items ≡ log ++ entry ∷ [] = search rules in
     let accepted : refusal_after w.opening log (event.Close id) ≡ None = search rules in

@@ -3,7 +3,7 @@ use Rattle.vp_hub.specs.declared.receipt.Receipt.{Receipt}
 use Rattle.vp_hub.specs.Calls.{Passed}
 use Rattle.vp_hub.specs.Closing.{entry_indexes}
 use Rattle.vp_hub.proofs.Lists.{all_more, map_more}
-use Rattle.vp_hub.proofs.close.all_places.Goals as goal
+use Rattle.vp_hub.proofs.close.all_indexes.Goals as goal
 
 pub loop-pass-preserved : goal.loop-pass-preserved
 loop-pass-preserved g c =
@@ -11,13 +11,13 @@ loop-pass-preserved g c =
     let passes : List Passed = c.args.passes.now in
     let i = c.loop-pass.pass-index in
     let p : Passed = c.pass-item.result in
-    let found = c.in_ok-own_places.ensures {u = tt} in
+    let found = c.in_ok-own_indexes.ensures {u = tt} in
     record {
-      places =
+      indexes =
           (c.in_ok-push.ensures {u = tt}).items
-          ∙ ap (λ (ls : List (List ℕ)). ls ++ c.in_ok-own_places.field-0 ∷ []) c.loop-pass.invariant.places
-          ∙ ap (λ (ns : List ℕ). map (λ (q : Passed). entry_indexes log q.session) (take i passes) ++ ns ∷ []) found.places
+          ∙ ap (λ (ls : List (List ℕ)). ls ++ c.in_ok-own_indexes.field-0 ∷ []) c.loop-pass.invariant.indexes
+          ∙ ap (λ (ns : List ℕ). map (λ (q : Passed). entry_indexes log q.session) (take i passes) ++ ns ∷ []) found.indexes
           ∙ sym (map_more (λ (q : Passed). entry_indexes log q.session) passes i p c.loop-pass-test.true c.pass-item.is);
       own =
-          all_more (λ (q : Passed). map (λ (r : Receipt). r.place) q.receipts ≡ entry_indexes log q.session) passes i p c.loop-pass-test.true c.pass-item.is c.loop-pass.invariant.own found.own;
+          all_more (λ (q : Passed). map (λ (r : Receipt). r.index) q.receipts ≡ entry_indexes log q.session) passes i p c.loop-pass-test.true c.pass-item.is c.loop-pass.invariant.own found.own;
     }
