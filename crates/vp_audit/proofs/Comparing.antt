@@ -21,7 +21,7 @@ get_joined xs ys zero h = refl
 get_joined [] ys (suc n) h = absurd (let no : suc n ≤ 0 = h in omega (arith, no))
 get_joined (x ∷ xs) ys (suc n) h = get_joined xs ys n (let more : suc n ≤ suc (length xs) = h in omega (arith, more))
 
--- a list has something in a place within it
+-- a list has something at an index within it
 pub one_there : {X : Type 0} (xs : List X) (n : ℕ) → n < length xs → slice_get xs n ≡ None → ⊥
 one_there [] n h none = absurd (let no : n < 0 = h in omega (arith, no))
 one_there (x ∷ xs) zero h none = absurd (cc)

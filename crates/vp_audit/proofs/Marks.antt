@@ -47,7 +47,7 @@ over_same f marks n done l set =
     ap (λ ms. done ++ over_marked n ms f) (mark_first marks n l)
     ∙ ap (λ b. done ++ (if b then f n ∷ over_marked (n + 1) (drop (n + 1) marks) f else over_marked (n + 1) (drop (n + 1) marks) f)) set
 
--- ---- by the places of numbers
+-- ---- by the indexes of numbers
 
 -- what is alike of all is alike of a list
 map_like : {X Y : Type 0} (f g : X → Y) (xs : List X) → ((x : X) → f x ≡ g x) → map f xs ≡ map g xs
@@ -62,7 +62,7 @@ map_below f (suc n) =
     ∙ ap (λ xs. xs ++ f (suc n) ∷ []) (map_below f n)
     ∙ ap (λ xs. f 0 ∷ xs) (sym (map-append (λ k. f (suc k)) (below n) (n ∷ [])))
 
--- something of the place of each number
+-- something of the index of each number
 pub over_is : {X : Type 0} (f : ℕ → X) (n : ℕ) (known : List Bool) → map (λ k. f (n + index_of known k)) (below (length (marked known known))) ≡ over_marked n known f
 over_is f n [] = refl
 over_is f n (true ∷ known) =
@@ -170,7 +170,7 @@ either_length [] second e = refl
 either_length (a ∷ first) [] e = absurd (cc)
 either_length (a ∷ first) (b ∷ second) e = ap suc (either_length first second (omega (arith, e)))
 
--- the marks from a place on
+-- the marks from an index on
 either_by : (first second : List Bool) (n : ℕ) (a b : Bool) → slice_get first n ≡ Some a → slice_get second n ≡ Some b
     → either_marked (drop n first) (drop n second) ≡ (a || b) ∷ either_marked (drop (suc n) first) (drop (suc n) second)
 either_by [] second n a b f s = absurd (cc)

@@ -16,7 +16,7 @@ use Rattle.vp_view.specs.Seen.{observer_seen}
 use Rattle.vp_audit.specs.Parts.{Asks, Item, Part, observer_of_part, part_after_entry, races_after, reply_of, response_in, session_notified, values_after, with_answer, with_own}
 use Rattle.vp_audit.specs.laws.Events.{map_same}
 
--- what stands in a place
+-- what stands at an index
 pub at_index : {X : Type 0} (xs : List X) (i : ℕ) (x : X) → i < length xs → x ≡ slice_index_or xs i x → slice_get xs i ≡ Some x
 at_index [] i x within is = absurd (omega arith)
 at_index (y ∷ xs) zero x within is = ap Some (sym is)

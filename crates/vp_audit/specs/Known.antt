@@ -10,7 +10,7 @@ known_also tree u [] nodes = []
 known_also tree u (k ∷ known) [] = []
 known_also tree u (k ∷ known) (node ∷ nodes) = (k || is_listed tree u node) ∷ known_also tree u known nodes
 
--- the place of the marked of a number; after the last of them it goes on past all places
+-- the index of the marked of a number; after the last of them it goes on past all indexes
 abbrev pub index_of : (marks : List Bool) → ℕ → ℕ
 index_of [] k = k
 index_of (true ∷ marks) zero = zero

@@ -55,7 +55,7 @@ moved_to moved count k = if nat_lt k (length moved) then slice_index_or moved k 
 
 -- ---- what comes of an item
 
--- what comes of a request of the session in a place of a part; none where no session is
+-- what comes of a request of the session at an index of a part; none where no session is
 abbrev pub response_in : Part → Option OpenSessionState → Request → Option Response
 response_in p session r = option_map (λ (t : OpenSessionState). respond (observer_of_part p) t.session_state r) session
 
@@ -69,7 +69,7 @@ reply_of p (Opens id) = reply.Opened (record { user = id.user; opens = p.opens +
 reply_of p (Asks id r) = option_map_or (λ g. g.reply) (response_in p (session_in p id) r) (reply.Error refusal.NotOpen)
 reply_of p (Closes id) = reply.Done
 
--- sessions of which the one in a place is as a response leaves it
+-- sessions of which the one at an index is as a response leaves it
 abbrev pub with_answer : List OpenSessionState → (index : ℕ) → Option OpenSessionState → Option Response → List OpenSessionState
 with_answer sessions index None given = sessions
 with_answer sessions index (Some session) None = sessions

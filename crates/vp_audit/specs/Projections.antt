@@ -30,7 +30,7 @@ use Rattle.vp_audit.specs.Parts.{Asks, Closes, GrantItem, Item, Opens, OwnEvent,
 
 -- ---- numbers
 
--- the number of the object in a place among those that are known; none where it is not
+-- the number of the object at an index among those that are known; none where it is not
 abbrev pub number_in : (known : List Bool) → (object : ℕ) → Option ℕ
 number_in [] o = None
 number_in (true ∷ known) zero = Some zero

@@ -4,7 +4,7 @@ use Rattle.std.proofs.lemmas.List.{map-append, take_more}
 use Rattle.std.proofs.lemmas.List.Elements.{All-push, All-tail}
 use Rattle.std.specs.Prelude.{slice_get}
 
--- what stood in a place stands there
+-- what stood at an index stands there
 pub get_before : {X : Type 0} (xs : List X) (y : X) (k : ℕ) (x : X) → slice_get xs k ≡ Some x → slice_get (xs ++ y ∷ []) k ≡ Some x
 get_before [] y k x e = absurd (cc)
 get_before (z ∷ xs) y zero x e = e
@@ -15,7 +15,7 @@ pub get_last : {X : Type 0} (xs : List X) (y : X) → slice_get (xs ++ y ∷ [])
 get_last [] y = refl
 get_last (x ∷ xs) y = get_last xs y
 
--- what stands in a place is within
+-- what stands at an index is within
 pub get_within : {X : Type 0} (xs : List X) (k : ℕ) (x : X) → slice_get xs k ≡ Some x → k < length xs
 get_within [] k x e = absurd (cc)
 get_within (y ∷ xs) zero x e = omega arith

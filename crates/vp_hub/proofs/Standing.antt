@@ -9,7 +9,7 @@ use Rattle.vp_hub.specs.declared.receipt.Receipt.{Receipt}
 use Rattle.vp_hub.specs.Calls.{Stands, call_at, event_of}
 use Rattle.vp_hub.proofs.Lists.{get_before, get_last, get_within}
 
--- a call keeps its place
+-- a call keeps its index
 call_before : (log : List Entry) (e : Entry) (index : ℕ) (c : Event × Reply) → call_at log index ≡ Some c → call_at (log ++ e ∷ []) index ≡ Some c
 call_before log e index c at = by_get (slice_get log index) refl
   where

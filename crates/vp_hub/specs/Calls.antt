@@ -40,11 +40,11 @@ session_in (event.Ask id r) answer = Some id
 session_in (event.Close id) answer = Some id
 session_in e answer = None
 
--- the event and the reply in a place of a log, if there is an entry
+-- the event and the reply at an index of a log, if there is an entry
 abbrev pub call_at : List Entry → ℕ → Option (Event × Reply)
 call_at log index = option_map (λ e. (e.event, e.reply)) (slice_get log index)
 
--- a receipt of a session stands in a log: at its place are its event and its reply
+-- a receipt of a session stands in a log: at its index are its event and its reply
 abbrev pub Stands : List Entry → SessionId → Receipt → Type 0
 Stands log id r = call_at log r.index ≡ Some (event_of id r.request, r.reply)
 

@@ -13,21 +13,21 @@ use Rattle.vp_hub.specs.Calls.{Passed, Stands, session_entries, session_in}
 abbrev pub is_own : SessionId → Entry → Bool
 is_own id e = option_map_or (λ own. same_session own id) (session_in e.event e.reply) false
 
--- an entry of a session stands at a place of a log
+-- an entry of a session stands at an index of a log
 abbrev pub is_own_at : List Entry → SessionId → ℕ → Bool
 is_own_at log id index = option_map_or (is_own id) (slice_get log index) false
 
--- the places at which the entries of a session stand in a log, rising
+-- the indexes at which the entries of a session stand in a log, rising
 abbrev pub entry_indexes : List Entry → SessionId → List ℕ
 entry_indexes log id = filter (is_own_at log id) (below (length log))
 
--- a pass has just the calls of its session in a log: its receipts are of the places of the session's entries, in order, and stand there
+-- a pass has just the calls of its session in a log: its receipts are of the indexes of the session's entries, in order, and stand there
 pub record HasAll (log : List Entry) (p : Passed) : Type 0 where
   pub indexes : map (λ r. r.index) p.receipts ≡ entry_indexes log p.session
   pub stand : All (Stands log p.session) p.receipts
 
 -- what is left of a hub of an opening to which these passes were handed back: its log is legal, the passes are of different sessions and
--- each has just its calls, these are all that the log has of sessions, and for each pass there are the places of its calls
+-- each has just its calls, these are all that the log has of sessions, and for each pass there are the indexes of its calls
 pub record IsClosed (opening : Opening) (passes : List Passed) (closed : Closed) : Type 0 where
   pub opened : closed.world.opening ≡ opening
   pub legal : IsLegal opening [] closed.world.log

@@ -16,7 +16,7 @@ use vp_answer::SessionId;
 use vp_list::Sequence;
 use vp_world::{Entry, LoggedEvent, World};
 
-/// What is left of a hub: its world, with the log, and for each pass that was handed back the places of its calls, in order.
+/// What is left of a hub: its world, with the log, and for each pass that was handed back the indexes of its calls, in order.
 #[derive(Drop)]
 pub struct Closed {
     pub world: World,
@@ -102,7 +102,7 @@ fn all_stand(log: &[Entry], session: SessionId, receipts: &[Receipt]) -> bool
     true
 }
 
-/// Receipts are of these places, in order.
+/// Receipts are of these indexes, in order.
 fn are_of(receipts: &[Receipt], indexes: &[usize]) -> bool
     ensures { result ≡ true → map (λ r. r.index) receipts.now ≡ indexes.now }
 {
@@ -198,7 +198,7 @@ fn check_receipts<L: NamesOpening>(log: &[Entry], passes: &[Pass<L>]) -> Result<
 }
 
 impl<L: NamesOpening> Desk<L> {
-    /// Ends with the passes that were handed back. Refused where a receipt does not stand in the log, or two name one place (1401); where
+    /// Ends with the passes that were handed back. Refused where a receipt does not stand in the log, or two name one index (1401); where
     /// the receipts are not as many as the log's entries of sessions (1402); or out of memory.
     pub(crate) fn close(self, passes: &[Pass<L>]) -> Result<Closed, HubError>
         ensures { IfOk result (λ closed. IsClosed L.opening passes.now closed) }
@@ -216,7 +216,7 @@ impl<L: NamesOpening> Desk<L> {
         }
     }
 
-    /// For each of these passes the places of its calls, which are all that the log has of sessions.
+    /// For each of these passes the indexes of its calls, which are all that the log has of sessions.
     fn handed_back(&self, passes: &[Pass<L>]) -> Result<Sequence<Sequence<usize>>, HubError>
         ensures passes { OnOk result (All (HasAll self.now.world.log) passes.now) }
         ensures apart { OnOk result (AllPairs (λ p q. p.session ≢ q.session) passes.now) }

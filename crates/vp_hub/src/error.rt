@@ -10,7 +10,7 @@ use vp_world::WorldError;
 /// Why a call of a hub is refused.
 #[derive(Clone, Copy, Debug, PartialEq, Eq, Error)]
 pub enum HubError {
-    /// A receipt is not at its place in the log; or two name one place (1401).
+    /// A receipt is not at its index in the log; or two name one index (1401).
     #[error("receipt")]
     Receipt,
     /// There are not as many receipts as the log has entries of sessions (1402).

@@ -170,8 +170,8 @@ impl<L: NamesOpening> Hub<L> {
         Ok(booked)
     }
 
-    /// Ends with the passes that were handed back: the log, and for each pass the places of its calls, in order. Refused where a receipt
-    /// does not stand in the log, or two name one place (1401); where the receipts are not as many as the log's entries of sessions
+    /// Ends with the passes that were handed back: the log, and for each pass the indexes of its calls, in order. Refused where a receipt
+    /// does not stand in the log, or two name one index (1401); where the receipts are not as many as the log's entries of sessions
     /// (1402); or out of memory (1403: 1307).
     pub fn close(self, passes: Vec<Pass<L>>) -> Result<Closed, HubError>
         ensures { IfOk result (λ closed. IsClosed L.opening passes.items closed) }

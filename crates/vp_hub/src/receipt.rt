@@ -1,6 +1,6 @@
 use vp_answer::{Reply, Request};
 
-/// A call of a session: the place of its entry in the log, what was asked, and what was answered.
+/// A call of a session: the index of its entry in the log, what was asked, and what was answered.
 #[derive(Drop)]
 pub struct Receipt {
     pub index: usize,

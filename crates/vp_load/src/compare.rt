@@ -20,7 +20,7 @@ use vp_list::Same;
 use vp_wire::{reply_line, request};
 use vp_world::{Entry, Event, Limits, LoggedEvent, World};
 
-/// What a world answers to the event of the entry at a place of a log; or by which number it refuses it.
+/// What a world answers to the event of the entry at an index of a log; or by which number it refuses it.
 fn answer(world: &mut World, index: usize, event: Event) -> Result<Reply, Difference>
     requires { IsWellFormed world.old.opening.design event }
     ensures { world.new.opening ≡ world.old.opening }
@@ -34,7 +34,7 @@ fn answer(world: &mut World, index: usize, event: Event) -> Result<Reply, Differ
     }
 }
 
-/// The line of a reply is that of the entry at a place of a log, byte by byte.
+/// The line of a reply is that of the entry at an index of a log, byte by byte.
 fn check_reply(
     alloc: Global,
     reply: &Reply,
@@ -49,7 +49,7 @@ fn check_reply(
     Ok(())
 }
 
-/// The last that has happened to a world has left it at the time, and as finished, as the entry at a place of a log has it.
+/// The last that has happened to a world has left it at the time, and as finished, as the entry at an index of a log has it.
 fn check_time(world: &World, index: usize, entry: &Entry) -> Result<(), Difference> {
     match world.log().last() {
         Some(own) if own.time == entry.time && own.finished == entry.finished => Ok(()),
@@ -57,7 +57,7 @@ fn check_time(world: &World, index: usize, entry: &Entry) -> Result<(), Differen
     }
 }
 
-/// Lets the event of the entry at a place of a log happen to a world, which is to answer it as the entry has it, and to come to the same time.
+/// Lets the event of the entry at an index of a log happen to a world, which is to answer it as the entry has it, and to come to the same time.
 fn repeat(alloc: Global, world: &mut World, index: usize, entry: &Entry) -> Result<(), Difference>
     requires { IsWellFormed world.old.opening.design entry.now.event }
     ensures { world.new.opening ≡ world.old.opening }
@@ -91,7 +91,7 @@ fn is_next(own: &mut &[u8], line: &[u8]) -> bool {
     }
 }
 
-/// The line of the entry at a place of a log, which is of a session, is the next that its user was shown; it is taken from what is left of what
+/// The line of the entry at an index of a log, which is of a session, is the next that its user was shown; it is taken from what is left of what
 /// the users were shown.
 fn take_line(
     alloc: Global,

@@ -1,4 +1,4 @@
--- Callbacks by object, and what a place parts them into.
+-- Callbacks by object, and what an index parts them into.
 use Rattle.std.proofs.Common.{◌≡◌, ◌∙◌, ℕ, zero, suc, ◌==◌, ◌≤◌, nat_le, nat_lt, Bool, true, false, cond, not, ◌&&◌, ◌||◌, List, [], ◌∷◌, ◌++◌, ap, sym, arith, filter, length, take, drop, insert, refl, inl, inr}
 use Rattle.std.specs.List.{list_any}
 use Rattle.std.specs.List.Sorted.{IsPartitionPoint}
@@ -8,9 +8,9 @@ use Rattle.std.proofs.lemmas.List.Sorted.{IsNonDecreasingBy-insert}
 use Rattle.vp_notify.specs.declared.registry.Callback.{Callback}
 use Rattle.vp_notify.specs.Registry.{AreOrdered, is_below, is_past_goal, is_by, is_on, with_callback}
 
--- ---- what a place parts
+-- ---- what an index parts
 
--- those before a place pass, and those from it on don't: these are all that pass, and all that don't
+-- those before an index pass, and those from it on don't: these are all that pass, and all that don't
 parts : {X : Type 0} (p : X → Bool) (xs : List X) (i : ℕ) → IsPartitionPoint (λ y. p y ≡ true) (λ y. p y ≡ false) xs i → i ≤ length xs → (take i xs ≡ filter p xs) × (drop i xs ≡ filter (λ y. not (p y)) xs)
 parts p [] zero parted within = (refl, refl)
 parts p [] (suc i) parted within = absurd (omega arith)
@@ -69,7 +69,7 @@ on_of callbacks object =
 
 -- ---- callbacks by object
 
--- the callbacks from one place on up to another are those on an object, where these part those on lower objects and those on higher ones
+-- the callbacks from one index on up to another are those on an object, where these part those on lower objects and those on higher ones
 pub between_is : (callbacks : List Callback) (object by below : ℕ) → IsPartitionPoint (λ c. is_by object c ≡ true) (λ c. is_by object c ≡ false) callbacks by → by ≤ length callbacks → IsPartitionPoint (λ c. is_below object c ≡ true) (λ c. is_below object c ≡ false) (take by callbacks) below → below ≤ length (take by callbacks) → drop below (take by callbacks) ≡ filter (is_on object) callbacks
 between_is callbacks object by below upper within lower inside =
     (parts (is_below object) (take by callbacks) below lower inside).1

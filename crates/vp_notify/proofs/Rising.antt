@@ -38,7 +38,7 @@ rising_at least (n ∷ numbers) h (suc a) zero below l = absurd (omega arith)
 rising_at least (n ∷ numbers) h (suc a) (suc b) below l =
     rising_at (n + 1) numbers (second_of (nat_le least n) (rises_from (n + 1) numbers) h) a b (omega arith) (omega arith)
 
--- the object of a callback in a place is one of so many
+-- the object of a callback at an index is one of so many
 within_at : (count : ℕ) (cs : List Callback) → list_all (is_callback_within count) cs ≡ true → (j : ℕ) (d : Callback) → j < length cs → (get_or cs j d).object.0 < count
 within_at count cs h j d l = elim (cases_lt (get_or cs j d).object.0 count) [
   | inl below ↦ below
@@ -59,7 +59,7 @@ ordered numbers cs rising within h i j d below l =
     let numbered = rising_at 0 numbers rising (get_or cs i d).object.0 (get_or cs j d).object.0 objects inside in
     omega (arith, first, second, numbered)
 
--- a loop that has written the items before a place leaves as many
+-- a loop that has written the items before an index leaves as many
 pub as_many : {X : Type 0} (f : X → X) (xs ys : List X) (i : ℕ) → ys ≡ map f (take i xs) ++ drop i xs → length ys ≡ length xs
 as_many f xs ys i is =
     let all = ap length is in

@@ -12,7 +12,7 @@ held : (r : RegistryState) (notice : Notice) (has_room : Bool) → record r { wa
 held r notice true = refl
 held r notice false = refl
 
--- where the callbacks before a place are notified, the one at it is notified next
+-- where the callbacks before an index are notified, the one at it is notified next
 pub told_more : (r s : RegistryState) (tell : Callback → Notice) (callbacks : List Callback) (i capacity : ℕ) (d : Callback) (notice : Notice) (waiting : List Notice) (lost : ℕ)
     → i < length callbacks
     → notice ≡ tell (get_or callbacks i d)

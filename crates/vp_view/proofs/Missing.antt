@@ -94,7 +94,7 @@ denied_error v r n first o (Err e) is there = ap is_some (denied_is v r n first 
 
 -- ---- envelopes
 
--- what is got of a list at a place, as it is seen
+-- what is got of a list at an index, as it is seen
 pub item_got : {X Y : Type 0} (f : X → Y) (xs : List X) (n : ℕ) (got : Option (Bor X)) → IsItemAt xs n got → option_map (λ x. f x.now) got ≡ slice_get (map f xs) n
 item_got f xs n None h = sym (slice_get-map f xs n ∙ ap (option_map f) (slice_get_past xs n h.3))
 item_got f xs n (Some x) h = sym (slice_get-map f xs n ∙ ap (option_map f) (slice_get_read xs (length xs) n x.now refl h.3.0 h.1))

@@ -53,14 +53,14 @@ impl Model for Session {
     ghost invariant = { λ s. s.open_handles ≡ count_by is_some s.handles.items };
 }
 
-/// The object at a place of a list of handles; none where it was freed, and past the end.
+/// The object at an index of a list of handles; none where it was freed, and past the end.
 fn object_at(handles: &[Option<ObjectId>], index: usize) -> Option<ObjectId>
     ensures { result ≡ option_flatten (slice_get handles.now index) }
 {
     handles.get(index).copied().flatten()
 }
 
-/// Frees the handle at a place of a list; reports whether it was one.
+/// Frees the handle at an index of a list; reports whether it was one.
 fn take_at(handles: &mut Vec<Option<ObjectId>>, index: usize) -> bool
     ensures taken { handles.new.items ≡ slice_set handles.old.items index None }
     ensures there { result ≡ is_some (option_flatten (slice_get handles.old.items index)) }

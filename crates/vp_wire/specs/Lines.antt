@@ -338,7 +338,7 @@ value_request d =
     of_keys_or (codes "h" ∷ []) (codes "format") d
     (option_and_then (λ handle. option_map (request.Value handle) (format_at d)) (number_at (codes "h") d))
 
--- the number of 32 bits at a place of an array
+-- the number of 32 bits at an index of an array
 abbrev pub number_in : ℕ → Data → Option ℕ
 number_in index d = option_and_then word_of (option_and_then as_u64 (option_and_then as_number (at index d)))
 

@@ -238,7 +238,7 @@ fn value_request(value: &Value) -> Option<Request>
     Some(Request::Value { handle, format })
 }
 
-/// The number of 32 bits at a place of an array.
+/// The number of 32 bits at an index of an array.
 fn number_in(array: &Value, index: usize) -> Option<u32>
     ensures { result ≡ number_in index (view array.now) }
 {

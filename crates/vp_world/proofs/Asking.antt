@@ -1,4 +1,4 @@
--- A world after a request of the session in a place.
+-- A world after a request of the session at an index.
 use Rattle.std.proofs.Common.{◌≡◌, ℕ, ◌<◌, Bool, true, false, List, length, map, Option, Some, None, refl, sym, ap, subst, ◌∙◌}
 use Rattle.std.specs.Prelude.{slice_get, slice_index_or, slice_set, if◌then◌else◌, option_map, IfSome, IsSome}
 use Rattle.std.proofs.lemmas.List.{length-map, map-set, set-get_or}
@@ -31,14 +31,14 @@ use Rattle.vp_world.specs.Shown.{session_shown, shown}
 use Rattle.vp_answer.specs.laws.Puts.{put_only}
 use Rattle.vp_world.specs.Worlds.{OpenSessionState, WorldState, State}
 
--- the session of a place, as it is shown
+-- the session of an index, as it is shown
 session_found : (sessions : List OpenSession) (index : ℕ) (session : OpenSession) → index < length sessions → session ≡ slice_index_or sessions index session → slice_get (map session_shown sessions) index ≡ Some (session_shown session)
 session_found sessions index session within is =
     slice_get-map session_shown sessions index
     ∙ ap (λ there. option_map session_shown there) (slice_get-get_or sessions index session within)
     ∙ ap (λ x. Some (session_shown x)) (sym is)
 
--- the place of a session that is shown is one of the list
+-- the index of a session that is shown is one of the list
 pub within_shown :
     (run : Recorded) (book : List FindingState) (first policy : PolicyState) (limits : Limits) (sessions : List OpenSession) (opens : List ℕ) (goal : Option ℕ) (index : ℕ) (w : WorldState)
     → shown run book first policy limits sessions opens goal ≡ w → index < length w.state.sessions → index < length sessions
@@ -127,7 +127,7 @@ with_run w design run segments sessions = record {
   state = record w.state { run = run; segments = segments; sessions = sessions };
 }
 
--- what is known of the fields of a world in which a session of a place is asked
+-- what is known of the fields of a world in which a session of an index is asked
 module _
     (run : Recorded) (book : BookState) (first policy : PolicyState) (limits : Limits) (sessions : List OpenSession) (opens : List ℕ) (goal : Option ℕ)
     (index : ℕ) (session : OpenSession) (r : Request) (w : WorldState)

@@ -116,7 +116,7 @@ marked_without watched (x ∷ sessions) (suc index) marked =
     let parts = both_parts (are_marked watched x.session.registry.callbacks) (all_marked watched sessions) marked in
     both (are_marked watched x.session.registry.callbacks) (all_marked watched (remove sessions index)) parts.0 (marked_without watched sessions index parts.1)
 
--- another in a place
+-- another at an index
 pub marked_set : (watched : List Bool) (sessions : List OpenSession) (index : ℕ) (s : OpenSession) → all_marked watched sessions ≡ true → are_marked watched s.session.registry.callbacks ≡ true → all_marked watched (slice_set sessions index s) ≡ true
 marked_set watched [] index s marked own = refl
 marked_set watched (x ∷ sessions) zero s marked own =
@@ -177,7 +177,7 @@ quiet_told watched change time (s ∷ sessions) quiet marked =
     ap (λ cs. state (fold with_notice own (map (notice_of change time) cs)) ∷ map (notified_session (Some change) time) sessions) none
     ∙ ap (λ more. s ∷ more) (quiet_told watched change time sessions quiet parts.1)
 
--- the callbacks of the session in a place
+-- the callbacks of the session at an index
 pub marked_at : (watched : List Bool) (sessions : List OpenSession) (index : ℕ) (s : OpenSession) → index < length sessions → s ≡ slice_index_or sessions index s → all_marked watched sessions ≡ true → are_marked watched s.session.registry.callbacks ≡ true
 marked_at watched [] index s within at marked = absurd (omega (arith, within))
 marked_at watched (x ∷ sessions) zero s within at marked =

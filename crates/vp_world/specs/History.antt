@@ -218,24 +218,24 @@ stepped s segments (sim.Goes run change) = record s {
 }
 stepped s segments (sim.Refuses e) = s
 
--- the state after what comes of a request of the session in a place: the session is as the request leaves it, and then the put is made
+-- the state after what comes of a request of the session at an index: the session is as the request leaves it, and then the put is made
 abbrev pub with_response : State → ℕ → OpenSessionState → Response → State
 with_response s index session given =
     stepped
     (record s { sessions = slice_set s.sessions index (record session { session_state = given.session_state }); goal = raised s.goal given.goal })
     (segments_of_put s.segments given.put) (outcome_of_put s.run given.put)
 
--- the state after a request of the session in a place
+-- the state after a request of the session at an index
 abbrev pub state_asked : State → ℕ → Option OpenSessionState → Request → State
 state_asked s index None r = s
 state_asked s index (Some session) r = with_response s index session (response_of s session.session_state r)
 
--- the state after a request of a session, which is open in a place
+-- the state after a request of a session, which is open at an index
 abbrev pub asked_at : State → Option ℕ → Request → State
 asked_at s None r = s
 asked_at s (Some index) r = state_asked s index (slice_get s.sessions index) r
 
--- the state without the session in a place
+-- the state without the session at an index
 abbrev pub closed_at : State → Option ℕ → State
 closed_at s None = s
 closed_at s (Some index) = record s { sessions = remove s.sessions index }
@@ -348,11 +348,11 @@ with_state w s = record w { state = s }
 abbrev pub refusal_in : WorldState → Bool → Event → Option WorldError
 refusal_in w full e = refusal_of w.opening full w.state e
 
--- the reply to a request of the session in a place
+-- the reply to a request of the session at an index
 abbrev pub asked_in : WorldState → ℕ → Request → Reply
 asked_in w index r = asked w.state (slice_get w.state.sessions index) r
 
--- what a request of the session in a place changes
+-- what a request of the session at an index changes
 abbrev pub changed_in : WorldState → ℕ → Request → Option Change
 changed_in w index r = changed_by w.state (slice_get w.state.sessions index) r
 

@@ -375,7 +375,7 @@ impl LiveWorld {
         Ok(())
     }
 
-    /// Closes the session in a place.
+    /// Closes the session at an index.
     pub fn close(&mut self, index: usize)
         requires { index < length self.old.state.sessions }
         ensures { self.new ≡ with_state self.old (closed_at self.old.state (Some index)) }
@@ -506,7 +506,7 @@ impl LiveWorld {
         Ok(())
     }
 
-    /// Answers a request of the session in a place, whose change is due to the callbacks on it; or out of memory (1307), which leaves
+    /// Answers a request of the session at an index, whose change is due to the callbacks on it; or out of memory (1307), which leaves
     /// the world as it was.
     pub fn ask(&mut self, index: usize, request: &Request) -> Result<AnswerWithChange, WorldError>
         requires asked { IsAsked request.now }

@@ -49,13 +49,13 @@ index_number (true ∷ known) zero l = refl
 index_number (true ∷ known) (suc k) l = ap (option_map suc) (index_number known k (omega arith))
 index_number (false ∷ known) k l = index_number known k (omega arith)
 
--- the place of the next
+-- the index of the next
 next_index : (known : List Bool) (o k : ℕ) (n : Option ℕ) → number_in known o ≡ n → option_map suc n ≡ Some k → ((j : ℕ) → number_in known o ≡ Some j → index_of known j ≡ o)
     → index_of (true ∷ known) k ≡ suc o
 next_index known o k None is f rest = absurd (cc)
 next_index known o k (Some n) is f rest = let same : suc n ≡ k = cc in ap (index_of (true ∷ known)) (sym same) ∙ ap suc (rest n is)
 
--- and its place
+-- and its index
 pub number_index : (known : List Bool) (o k : ℕ) → number_in known o ≡ Some k → index_of known k ≡ o
 number_index [] o k e = absurd (cc)
 number_index (true ∷ known) zero k e = let same : 0 ≡ k = cc in ap (index_of (true ∷ known)) (sym same)
@@ -65,7 +65,7 @@ number_index (false ∷ known) (suc o) k e = ap suc (number_index known o k e)
 
 -- ---- lists
 
--- the item at a place that is set
+-- the item at an index that is set
 get_same : {X : Type 0} (xs : List X) (k : ℕ) (x : X) → k < length xs → slice_get (slice_set xs k x) k ≡ Some x
 get_same [] k x h = absurd (omega arith)
 get_same (y ∷ xs) zero x h = refl
@@ -79,7 +79,7 @@ get_other (y ∷ ys) zero (suc k) x h = refl
 get_other (y ∷ ys) (suc p) zero x h = refl
 get_other (y ∷ ys) (suc p) (suc k) x h = get_other ys p k x (λ e. h (ap suc e))
 
--- the same by a place within
+-- the same by an index within
 index_same : {X : Type 0} (xs : List X) (k : ℕ) (x d : X) → k < length xs → slice_index_or (slice_set xs k x) k d ≡ x
 index_same [] k x d h = absurd (omega arith)
 index_same (y ∷ xs) zero x d h = refl
@@ -93,7 +93,7 @@ index_other (y ∷ ys) zero (suc k) x d h = refl
 index_other (y ∷ ys) (suc p) zero x d h = refl
 index_other (y ∷ ys) (suc p) (suc k) x d h = index_other ys p k x d (λ e. h (ap suc e))
 
--- a place with an item is within
+-- an index with an item is within
 within_some : {X : Type 0} (xs : List X) (k : ℕ) (x : X) → slice_get xs k ≡ Some x → k < length xs
 within_some [] k x e = absurd (cc)
 within_some (y ∷ xs) zero x e = omega arith

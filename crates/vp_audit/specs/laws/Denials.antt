@@ -88,7 +88,7 @@ grant_is design u known (suc n) l =
     ap (λ b. if (suc n == 0) || b then barrier.Grant else barrier.Envelope) (entry_same u 1 design.tree.authors n (omega arith) ∙ ap (has_entry u) e)
     ∙ barrier_test ((suc n == 0) || has_entry u (suc n))
 
--- the first that passes a test, by its place among others: none passes, or it stands there and is the first of those that pass
+-- the first that passes a test, by its index among others: none passes, or it stands there and is the first of those that pass
 abbrev IsFirst : {X : Type 0} → (at : ℕ → Option X) → (index : Option ℕ) → (passing : List X) → Type 0
 IsFirst at None passing = passing ≡ []
 IsFirst {X} at (Some n) passing = (x : X) × (rest : List X) × (at n ≡ Some x) × (passing ≡ x ∷ rest)

@@ -130,7 +130,7 @@ marked_count (k ∷ known) (x ∷ xs) [] e f = absurd (cc)
 marked_count (true ∷ known) (x ∷ xs) (y ∷ ys) e f = ap suc (marked_count known xs ys (omega (arith, e)) (omega (arith, f)))
 marked_count (false ∷ known) (x ∷ xs) (y ∷ ys) e f = marked_count known xs ys (omega (arith, e)) (omega (arith, f))
 
--- the place of a number is marked
+-- the index of a number is marked
 pub index_marked : (known : List Bool) (k : ℕ) → k < length (marked known known) → slice_get known (index_of known k) ≡ Some true
 index_marked known k l = go known known refl k l where
   go : (ks : List Bool) (xs : List Bool) → length ks ≡ length xs → (k : ℕ) → k < length (marked ks xs) → slice_get ks (index_of ks k) ≡ Some true
@@ -140,7 +140,7 @@ index_marked known k l = go known known refl k l where
   go (true ∷ ks) (x ∷ xs) e (suc k) l = go ks xs (omega (arith, e)) k (omega arith)
   go (false ∷ ks) (x ∷ xs) e k l = go ks xs (omega (arith, e)) k l
 
--- after the last number it is after all places
+-- after the last number it is after all indexes
 pub index_past : (known : List Bool) (k : ℕ) → length (marked known known) ≤ k → index_of known k ≡ length known + (k - length (marked known known))
 index_past known k l = go known known refl k l where
   go : (ks : List Bool) (xs : List Bool) → length ks ≡ length xs → (k : ℕ) → length (marked ks xs) ≤ k → index_of ks k ≡ length ks + (k - length (marked ks xs))
@@ -158,7 +158,7 @@ marked_number (false ∷ known) zero e = absurd (cc)
 marked_number (true ∷ known) (suc o) e = let rest = marked_number known o e in (suc rest.0, ap (option_map suc) rest.1)
 marked_number (false ∷ known) (suc o) e = marked_number known o e
 
--- a number of before, and that of now, are of one place
+-- a number of before, and that of now, are of one index
 pub moved_is : (tree : Tree) (m : Member) (known : List Bool) (nodes : List Node) → length known ≡ length nodes → (count : ℕ) → count ≡ length (marked (known_also tree m known nodes) nodes) → (k : ℕ)
     → index_of known k ≡ index_of (known_also tree m known nodes) (moved_to (moved_numbers known (known_also tree m known nodes)) count k)
 moved_is tree m known nodes e count counted k =

@@ -26,11 +26,11 @@ index_in_order (true ∷ marks) (suc a) zero = not_below (index_of marks a) a
 index_in_order (true ∷ marks) (suc a) (suc b) = one_more (index_of marks a) (index_of marks b) ∙ index_in_order marks a b ∙ sym (one_more a b)
 index_in_order (false ∷ marks) a b = one_more (index_of marks a) (index_of marks b) ∙ index_in_order marks a b
 
--- so their places are numbers for them
+-- so their indexes are numbers for them
 abbrev pub by_index : List Bool → Renumbering
 by_index marks = record { number = index_of marks; in_order = index_in_order marks }
 
--- the marked of a number stands at its place
+-- the marked of a number stands at its index
 pub get_marked : {X : Type 0} (marks : List Bool) (xs : List X) (k : ℕ) → length marks ≡ length xs → slice_get (marked marks xs) k ≡ slice_get xs (index_of marks k)
 get_marked [] [] k e = refl
 get_marked [] (x ∷ xs) k e = absurd (cc)

@@ -122,7 +122,7 @@ filter_twice p q (x ∷ xs) = by_test (q x) (filter_twice p q xs) where
   by_test true e = ap (λ ys. if p x then x ∷ ys else ys) e
   by_test false e = e
 
--- the places that pass a test which the marked alone pass are those of the marked that pass it
+-- the indexes that pass a test which the marked alone pass are those of the marked that pass it
 indexes_marked : {X : Type 0} (marks : List Bool) (xs : List X) (q : ℕ → Bool) → length marks ≡ length xs → ((o : ℕ) → q o ≡ true → slice_get marks o ≡ Some true)
     → filter q (range (length xs)) ≡ map (index_of marks) (filter (λ k. q (index_of marks k)) (range (length (marked marks xs))))
 indexes_marked [] [] q long h = refl
@@ -149,7 +149,7 @@ indexes_marked (false ∷ marks) (x ∷ xs) q long h =
     none true is = let no : slice_get (false ∷ marks) 0 ≡ Some true = h 0 is in absurd (cc)
     none false is = ap (λ (b : Bool). if b then 0 ∷ filter q (map suc (range (length xs))) else filter q (map suc (range (length xs)))) is
 
--- a place that is marked is that of some number
+-- an index that is marked is that of some number
 number_at : (marks : List Bool) (o : ℕ) → slice_get marks o ≡ Some true → (k : ℕ) × (index_of marks k ≡ o)
 number_at [] o is = absurd (cc)
 number_at (true ∷ marks) zero is = (0, refl)

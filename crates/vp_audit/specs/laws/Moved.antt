@@ -56,7 +56,7 @@ module _ (tree : Tree) (m : Member) (known : List Bool) (nodes : List Node) (lon
   has_number : (k : ℕ) → k < count → (j : ℕ) × (number_in now (index_of known k) ≡ Some j)
   has_number k l = marked_number now (index_of known k) (now_more tree m known nodes long (index_of known k) (index_marked known k l))
 
-  -- of its place
+  -- of its index
   form_index : (k : ℕ) → k < count → index_of now (form k) ≡ index_of known k
   form_index k l =
       let (j, number) = has_number k l in

@@ -348,7 +348,7 @@ none_before (x ∷ nodes) zero node d at j l same = absurd (omega arith)
 none_before (x ∷ nodes) (suc k) node (first, rest) at zero l same = of_node (λ n. n ≡ names_of x.path → ⊥) nodes k node first at same
 none_before (x ∷ nodes) (suc k) node (first, rest) at (suc j) l same = none_before nodes k node rest at j (omega arith) same
 
--- the node of a place
+-- the node of an index
 node_at : (nodes : List Node) (k : ℕ) (node d : Node) → slice_get nodes k ≡ Some node → (k < length nodes) × (slice_index_or nodes k d ≡ node)
 node_at [] k node d at = absurd (cc)
 node_at (x ∷ nodes) zero node d at = (omega arith, cc)
@@ -359,7 +359,7 @@ not_named : (b : Bool) → (b ≡ true → ⊥) → b ≡ false
 not_named true h = absurd (h refl)
 not_named false h = refl
 
--- a place within
+-- an index within
 within : (k n : ℕ) → k < n → cond (nat_lt k n) (Some k) None ≡ Some k
 within k n l = let is : nat_lt k n ≡ true = grind arith in ap (λ b. cond b (Some k) None) is
 

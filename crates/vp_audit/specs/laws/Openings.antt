@@ -30,11 +30,11 @@ use Rattle.vp_audit.specs.laws.Names.{Differ, keys, names_differ}
 -- ---- envelopes
 
 -- an envelope that holds a place is one of these
-holding_few : (n : ℕ) (envelopes : List Envelope) (index : ℕ) → last_holding (suc n) envelopes index ≤ n + length envelopes
-holding_few n [] index = omega arith
-holding_few n (e ∷ envelopes) index =
-    let rest = holding_few (suc n) envelopes index in
-    later (if holds index e then suc n else 0) (last_holding (suc (suc n)) envelopes index) (n + suc (length envelopes)) (first (holds index e)) (omega (arith, rest))
+holding_few : (n : ℕ) (envelopes : List Envelope) (place : ℕ) → last_holding (suc n) envelopes place ≤ n + length envelopes
+holding_few n [] place = omega arith
+holding_few n (e ∷ envelopes) place =
+    let rest = holding_few (suc n) envelopes place in
+    later (if holds place e then suc n else 0) (last_holding (suc (suc n)) envelopes place) (n + suc (length envelopes)) (first (holds place e)) (omega (arith, rest))
   where
     first : (b : Bool) → (if b then suc n else 0) ≤ n + suc (length envelopes)
     first true = omega arith
@@ -45,8 +45,8 @@ holding_few n (e ∷ envelopes) index =
     later a (suc b) m h k = k
 
 -- so the envelope of a place is one of them, or the open text
-envelope_few : (envelopes : List Envelope) (index : ℕ) → envelope_at envelopes index ≤ length envelopes
-envelope_few envelopes index = let few = holding_few 0 envelopes index in omega (arith, few)
+envelope_few : (envelopes : List Envelope) (place : ℕ) → envelope_at envelopes place ≤ length envelopes
+envelope_few envelopes place = let few = holding_few 0 envelopes place in omega (arith, few)
 
 -- each step of a path stands in one of these, or in the open text
 abbrev Few : List Envelope → List Step → Type 0

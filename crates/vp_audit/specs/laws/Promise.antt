@@ -71,7 +71,7 @@ open_case design u s known p is (Some v) within = by_test (v == u) refl where
       subst (λ own_event. ComesTo design u s (opened_by s v) known p own_event None (reply.Opened (next_session s v)) p.races) (sym (own_not u (next_session s v) (Opens (next_session s v)) e))
       (opened_other design u s known p is v e (reply.Opened (next_session s v)))
 
--- a request, by the place of its session
+-- a request, by the index of its session
 ask_case : (design : Elaborated) (u : ℕ) (s : State) (known : List Bool) (p : Part) → IsPartOf design u s known p → (id : SessionId) (r : Request) (index : Option ℕ) → index_of s.sessions id ≡ index
     → (b : Bool) → (id.user.0 == u) ≡ b
     → ComesTo design u s (asked_at s index r) known p (own_if u id (Asks id r)) (changed_by s (option_and_then (slice_get s.sessions) index) r) (asked s (option_and_then (slice_get s.sessions) index) r) p.races
@@ -93,7 +93,7 @@ ask_case design u s known p is id r (Some index) at false own_event =
     subst (λ o. ComesTo design u s (asked_at s (Some index) r) known p o (changed_by s (slice_get s.sessions index) r) (asked s (slice_get s.sessions index) r) p.races) (sym (own_not u id (Asks id r) own_event))
     (asked_other design u s known p is id r own_event index at (slice_get s.sessions index) refl (asked s (slice_get s.sessions index) r))
 
--- a closing, by the place of its session
+-- a closing, by the index of its session
 close_case : (design : Elaborated) (u : ℕ) (s : State) (known : List Bool) (p : Part) → IsPartOf design u s known p → (id : SessionId) (index : Option ℕ) → index_of s.sessions id ≡ index
     → (b : Bool) → (id.user.0 == u) ≡ b → ComesTo design u s (closed_at s index) known p (own_if u id (Closes id)) None reply.Done p.races
 close_case design u s known p is id None at true own_event =

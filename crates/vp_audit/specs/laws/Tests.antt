@@ -59,7 +59,7 @@ module _ {X : Type 0} (p : X → Bool) where
   all_removed (y ∷ xs) zero e = all_rest y xs e
   all_removed (y ∷ xs) (suc i) e = both (p y) (list_all p (remove xs i)) (all_first y xs e) (all_removed xs i (all_rest y xs e))
 
-  -- the item in a place
+  -- the item at an index
   pub all_at : (xs : List X) (i : ℕ) (x : X) → list_all p xs ≡ true → slice_get xs i ≡ Some x → p x ≡ true
   all_at [] i x e at = absurd (cc)
   all_at (y ∷ xs) zero x e at = let same : y ≡ x = cc in ap p (cc) ∙ all_first y xs e

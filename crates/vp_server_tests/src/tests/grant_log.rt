@@ -7,7 +7,7 @@ use vp_policy::ShownBarrier;
 use vp_pragma::Right;
 use vp_world::{Entry, LoggedEvent};
 
-/// What Bob, who has watched `k` and given it a value, may see at a place of the log.
+/// What Bob, who has watched `k` and given it a value, may see at an index of the log.
 #[derive(Clone, Copy)]
 struct Watch {
     /// He may read `k`.
@@ -75,7 +75,7 @@ fn after_reply(watch: Watch, request: &Request) -> Watch {
     }
 }
 
-/// The reply at a place of a list is this one.
+/// The reply at an index of a list is this one.
 fn is_at(replies: &[Reply], index: usize, reply: &Reply) -> bool {
     match replies.get(index) {
         Some(own) => own.is_same(reply),
@@ -107,7 +107,7 @@ pub fn are_right(log: &[Entry], replies: &[Reply]) -> bool {
     count == replies.len()
 }
 
-/// The grant at a place of a list is this one.
+/// The grant at an index of a list is this one.
 fn is_grant_at(grants: &[GrantChange], index: usize, change: &GrantChange) -> bool {
     match grants.get(index) {
         Some(grant) => grant.is_same(change),

@@ -233,7 +233,7 @@ fn is_own(entry: &Entry, session: SessionId) -> bool {
     }
 }
 
-/// These are the places of a session's entries in a log, in order, and no others.
+/// These are the indexes of a session's entries in a log, in order, and no others.
 fn are_own_indexes(log: &[Entry], session: SessionId, indexes: &[usize]) -> bool {
     let mut count = 0;
     for index in 0..log.len() {

@@ -71,7 +71,7 @@ fn orders_that_are_no_race(rt: HostRuntime) {
     assert_eq!(rt; refusals(rt.alloc()), Some([1202, 1201, 1203]));
 }
 
-/// The finding of a place is of this object: 1 after the run and 0 after the first order that is tried, which takes the last event each time.
+/// The finding of an index is of this object: 1 after the run and 0 after the first order that is tried, which takes the last event each time.
 fn is_found(findings: &[Finding], index: usize, object: u32) -> bool {
     let Some(finding) = findings.get(index) else {
         return false;

@@ -60,7 +60,7 @@ fn three_of(copy: &SharedList<u32>) -> Option<(u32, u32, u32)> {
     Some((copy.get(64)?, copy.get(320)?, copy.get(832)?))
 }
 
-/// Writes one place of each chunk of a list, and keeps a copy after each.
+/// Writes one index of each chunk of a list, and keeps a copy after each.
 fn write_each(list: &mut TrackedList<u32>) -> Option<()> {
     for number in 0..15 {
         list.set(64 * number, 7);

@@ -4,7 +4,7 @@ use Rattle.vp_hub.specs.Calls.{Passed}
 use Rattle.vp_hub.specs.Closing.{entry_indexes}
 use Rattle.vp_hub.proofs.close.all_indexes.Given as goal
 
--- the places of those so far
+-- the indexes of those so far
 abbrev pub invariant-loop-pass : goal.invariant-loop-pass
 invariant-loop-pass g l = record {
   indexes : l.lists.items ≡ map (λ (p : Passed). entry_indexes l.log p.session) (take l.pass-index l.passes);
