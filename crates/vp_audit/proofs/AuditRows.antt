@@ -60,8 +60,8 @@ numbers_now = refl
 abbrev reg : List ℕ → ℕ → ℕ → Node
 reg name index envelope = record {
   path =
-      record { name = codes "top"; index = 1; envelope = 0; in_module = None }
-      ∷ record { name = name; index = index; envelope = envelope; in_module = Some (codes "top") } ∷ [];
+      record { name = codes "top"; place = 1; envelope = 0; in_module = None }
+      ∷ record { name = name; place = index; envelope = envelope; in_module = Some (codes "top") } ∷ [];
   kind = Reg;
   width = 1;
   lowest = None;
@@ -88,7 +88,7 @@ design = record {
   tree = record {
     nodes =
         record {
-          path = record { name = codes "top"; index = 1; envelope = 0; in_module = None } ∷ [];
+          path = record { name = codes "top"; place = 1; envelope = 0; in_module = None } ∷ [];
           kind = Module;
           width = 1;
           lowest = None;

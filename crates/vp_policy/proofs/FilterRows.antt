@@ -63,7 +63,7 @@ hidden_by_grant n = look.Denied (record { by = by.Grant; envelope = n; right = r
 -- ---- nodes
 
 abbrev step : List ℕ → ℕ → ℕ → Option (List ℕ) → Step
-step name index envelope in_module = record { name = name; index = index; envelope = envelope; in_module = in_module }
+step name place envelope in_module = record { name = name; place = place; envelope = envelope; in_module = in_module }
 
 abbrev item : List Step → Kind → ℕ → Node
 item path kind line = record { path = path; kind = kind; width = 1; lowest = None; line = line; definition = None }
@@ -80,10 +80,10 @@ abbrev a_u : Step
 a_u = step (codes "u") 80 0 (Some (codes "top"))
 
 abbrev in_top : List ℕ → ℕ → List Step
-in_top name index = a_top ∷ step name index 0 (Some (codes "top")) ∷ []
+in_top name place = a_top ∷ step name place 0 (Some (codes "top")) ∷ []
 
 abbrev in_u : List ℕ → ℕ → ℕ → List Step
-in_u name index envelope = a_top ∷ a_u ∷ step name index envelope (Some (codes "ip")) ∷ []
+in_u name place envelope = a_top ∷ a_u ∷ step name place envelope (Some (codes "ip")) ∷ []
 
 abbrev pub instance_design : Tree
 instance_design = record {
@@ -215,7 +215,7 @@ listed_to_bob = refl
 -- ---- a design with one module, one envelope and a viewport for the item alone
 
 abbrev in_flat : List ℕ → ℕ → ℕ → List Step
-in_flat name index envelope = step (codes "top") 1 0 None ∷ step name index envelope (Some (codes "top")) ∷ []
+in_flat name place envelope = step (codes "top") 1 0 None ∷ step name place envelope (Some (codes "top")) ∷ []
 
 abbrev flat_design : Tree
 flat_design = record {
@@ -267,8 +267,8 @@ flat_fay_s = refl
 -- ---- a design with an instance in the open and one in an envelope
 
 abbrev in_leaf : Step → List ℕ → ℕ → ℕ → List Step
-in_leaf instance_step name index envelope =
-    step (codes "top") 21 0 None ∷ instance_step ∷ step name index envelope (Some (codes "leaf")) ∷ []
+in_leaf instance_step name place envelope =
+    step (codes "top") 21 0 None ∷ instance_step ∷ step name place envelope (Some (codes "leaf")) ∷ []
 
 abbrev shut_leaf : Step
 shut_leaf = step (codes "u") 31 2 (Some (codes "top"))

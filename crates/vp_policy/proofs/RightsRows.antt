@@ -114,9 +114,9 @@ pub tables_there :
     → AreTablesOf tree tables.scopes.lists (member_at members user) his
 tables_there tree members tables user his are there =
     let count = are.count in
-    let index : min user (length tables.users.items - 1) ≡ min user (length members) = omega arith in
+    let place : min user (length tables.users.items - 1) ≡ min user (length members) = omega arith in
     subst (λ (u : Member). AreTablesOf tree tables.scopes.lists u his) (member_placed members user)
-    (are.each (min user (length members)) his (ap (slice_get tables.users.items) (sym index) ∙ there))
+    (are.each (min user (length members)) his (ap (slice_get tables.users.items) (sym place) ∙ there))
 
 -- the tables of a changed user in the place of his tables
 pub tables_set :

@@ -94,11 +94,11 @@ parent_path :
 parent_path design u marks id p m l there set =
     let before : List Node = take id design.tree.nodes in
     let done : List SeenNode = known_nodes design u marks before in
-    let index = placed 0 marks before p m (among_first design.tree.nodes id p m l there) set in
-    let kept : slice_get done index.0 ≡ Some (seen_node design u m) =
-    slice_get-map (seen_node design u) (marked marks before) index.0 ∙ ap (option_map (seen_node design u)) index.2 in
-    let number : 0 + index.0 ≡ index.0 = omega arith in
-    ap (λ (x : Option (Option ℕ)). path_to done (option_and_then (λ n. n) x)) index.1 ∙ ap (λ (q : ℕ). path_to done (Some q)) number
+    let place = placed 0 marks before p m (among_first design.tree.nodes id p m l there) set in
+    let kept : slice_get done place.0 ≡ Some (seen_node design u m) =
+    slice_get-map (seen_node design u) (marked marks before) place.0 ∙ ap (option_map (seen_node design u)) place.2 in
+    let number : 0 + place.0 ≡ place.0 = omega arith in
+    ap (λ (x : Option (Option ℕ)). path_to done (option_and_then (λ n. n) x)) place.1 ∙ ap (λ (q : ℕ). path_to done (Some q)) number
     ∙ ap (λ (x : Option SeenNode). option_map_or (λ (n : SeenNode). n.path) x []) kept
 
 same_steps :

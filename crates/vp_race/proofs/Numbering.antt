@@ -17,7 +17,7 @@ told_other m n h (inr other) = other.0
 pub not_equal : (m n : ℕ) → m ≢ n → (m == n) ≡ false
 not_equal m n h = told_other m n h (eqb_tells m n)
 
--- the segment of a number is found by its index
+-- the segment of a number is found by its place
 pub numbered_find : (from i : ℕ) (runs : List Run) → AreNumbered from runs → find (λ (run : Run). run.number == from + i) runs ≡ slice_get runs i
 numbered_find from i [] h = sym (slice_get_past [] i (omega arith))
 numbered_find from zero (run ∷ runs) h =
@@ -46,7 +46,7 @@ next_by false before number run runs first h rest is =
     let more : number - before ≡ suc (number - suc before) = omega (arith, large, first) in
     rest ∙ ap (λ k. slice_get (run ∷ runs) k) (sym more)
 
--- the first segment after a number is found by its index
+-- the first segment after a number is found by its place
 pub numbered_next : (before number : ℕ) (runs : List Run) → AreNumbered (suc before) runs → find (λ (run : Run). nat_lt number run.number) runs ≡ slice_get runs (number - before)
 numbered_next before number [] h = sym (slice_get_past [] (number - before) (omega arith))
 numbered_next before number (run ∷ runs) h = next_by (nat_lt number run.number) before number run runs h.0 h.1 (numbered_next (suc before) number runs h.1) refl

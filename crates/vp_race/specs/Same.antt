@@ -21,10 +21,10 @@ same_bool false true = false
 same_bool false false = true
 
 -- two numbers that may be missing are the same
-abbrev pub same_index : Option ℕ → Option ℕ → Bool
-same_index None None = true
-same_index (Some a) (Some b) = a == b
-same_index _ _ = false
+abbrev pub same_place : Option ℕ → Option ℕ → Bool
+same_place None None = true
+same_place (Some a) (Some b) = a == b
+same_place _ _ = false
 
 -- two processes wait for the same
 abbrev pub same_wait : Waiting → Waiting → Bool
@@ -36,7 +36,7 @@ same_wait _ _ = false
 -- two updates of nonblocking assignments are the same
 abbrev pub same_update : NonblockingUpdate → NonblockingUpdate → Bool
 same_update a b =
-    (a.process == b.process) && (a.object == b.object) && same_index a.index b.index && same_bits a.value b.value
+    (a.process == b.process) && (a.object == b.object) && same_place a.place b.place && same_bits a.value b.value
 
 -- two active events are the same
 abbrev pub same_event : Event → Event → Bool
@@ -65,7 +65,7 @@ same_queue a b =
 abbrev pub same_state : State → State → Bool
 same_state a b =
     (a.time == b.time) && same_bool a.finished b.finished && pointwise same_bits a.values b.values
-    && pointwise same_index a.remaining b.remaining && pointwise same_wait a.waiting b.waiting && same_queue a.queue b.queue
+    && pointwise same_place a.remaining b.remaining && pointwise same_wait a.waiting b.waiting && same_queue a.queue b.queue
 
 -- two segments of one design are the same
 abbrev pub same_run : Run → Run → Bool

@@ -85,7 +85,7 @@ impl KeptSegments {
         ensures { option_copied result
             ≡ find (λ (run : Run). nat_lt number run.number) self.now.kept }
     {
-        let index = number.saturating_sub(self.before());
-        self.ring.get(index as usize)
+        let place = number.saturating_sub(self.before());
+        self.ring.get(place as usize)
     }
 }

@@ -44,8 +44,8 @@ use Rattle.vp_world.specs.History.{IsLegal, after, answer, refusal_of}
 abbrev object : List ℕ → ℕ → ℕ → Kind → Node
 object name index envelope kind = record {
   path =
-      record { name = codes "top"; index = 1; envelope = 0; in_module = None }
-      ∷ record { name = name; index = index; envelope = envelope; in_module = Some (codes "top") }
+      record { name = codes "top"; place = 1; envelope = 0; in_module = None }
+      ∷ record { name = name; place = index; envelope = envelope; in_module = Some (codes "top") }
       ∷ [];
   kind = kind;
   width = 1;
@@ -58,7 +58,7 @@ abbrev tree : Tree
 tree = record {
   nodes =
       record {
-        path = record { name = codes "top"; index = 1; envelope = 0; in_module = None } ∷ [];
+        path = record { name = codes "top"; place = 1; envelope = 0; in_module = None } ∷ [];
         kind = Module;
         width = 1;
         lowest = None;

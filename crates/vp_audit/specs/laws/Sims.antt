@@ -106,7 +106,7 @@ happened_changes : (tables : Tables) (s : State) (k : ℕ) (e : Option Event) �
 happened_changes tables s k None = tt
 happened_changes tables s k (Some (Evaluation process)) = evaluated_changes tables s k process _
 happened_changes tables s k (Some (NetUpdate process value)) = (refl, updated_within s.values (net_at tables.processes process) value)
-happened_changes tables s k (Some (Nonblocking u)) = (refl, set_within s.values u.object (slice_get s.values u.object) refl u.index u.value)
+happened_changes tables s k (Some (Nonblocking u)) = (refl, set_within s.values u.object (slice_get s.values u.object) refl u.place u.value)
 
 -- a step
 pub step_changes : (s : State) (k : ℕ) → Changes s.values (step s k)

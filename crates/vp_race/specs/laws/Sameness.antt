@@ -16,7 +16,7 @@ use Rattle.vp_strata.specs.Queues.{Queue}
 use Rattle.vp_sim.specs.Waiting.{Waiting}
 use Rattle.vp_sim.specs.Waiting.TheVariants as wait
 use Rattle.vp_sim.specs.States.{State}
-use Rattle.vp_race.specs.Same.{same_bool, same_delayed, same_event, same_index, same_queue, same_run, same_state, same_timed, same_update, same_wait}
+use Rattle.vp_race.specs.Same.{same_bool, same_delayed, same_event, same_place, same_queue, same_run, same_state, same_timed, same_update, same_wait}
 use Rattle.vp_race.specs.Segments.{Run}
 
 decides_as : {P Q : Type 0} (b : Bool) → (P → Q) → (Q → P) → Decides b P → Decides b Q
@@ -31,11 +31,11 @@ same_bool_decides true false = (λ e. cc, λ e. cc)
 same_bool_decides false true = (λ e. cc, λ e. cc)
 same_bool_decides false false = (λ e. refl, λ e. refl)
 
-pub same_index_decides : (a b : Option ℕ) → Decides (same_index a b) (a ≡ b)
-same_index_decides None None = (λ e. refl, λ e. refl)
-same_index_decides None (Some b) = never (λ e. cc)
-same_index_decides (Some a) None = never (λ e. cc)
-same_index_decides (Some a) (Some b) = decides_as (a == b) (λ h. ap Some h) (λ e. cc) (Decides-eqb a b)
+pub same_place_decides : (a b : Option ℕ) → Decides (same_place a b) (a ≡ b)
+same_place_decides None None = (λ e. refl, λ e. refl)
+same_place_decides None (Some b) = never (λ e. cc)
+same_place_decides (Some a) None = never (λ e. cc)
+same_place_decides (Some a) (Some b) = decides_as (a == b) (λ h. ap Some h) (λ e. cc) (Decides-eqb a b)
 
 pub same_wait_decides : (a b : Waiting) → Decides (same_wait a b) (a ≡ b)
 same_wait_decides wait.Nothing wait.Nothing = (λ e. refl, λ e. refl)
@@ -48,19 +48,19 @@ same_wait_decides wait.Operands wait.Nothing = never (λ e. cc)
 same_wait_decides wait.Operands (wait.Statement b) = never (λ e. cc)
 same_wait_decides wait.Operands wait.Operands = (λ e. refl, λ e. refl)
 
-update_of : (a b : NonblockingUpdate) → (((a.process ≡ b.process) × (a.object ≡ b.object)) × (a.index ≡ b.index)) × (a.value ≡ b.value) → a ≡ b
+update_of : (a b : NonblockingUpdate) → (((a.process ≡ b.process) × (a.object ≡ b.object)) × (a.place ≡ b.place)) × (a.value ≡ b.value) → a ≡ b
 update_of a b h =
     ap (λ x. record a { process = x }) h.0.0.0 ∙ ap (λ x. record a { process = b.process; object = x }) h.0.0.1
-    ∙ ap (λ x. record a { process = b.process; object = b.object; index = x }) h.0.1 ∙ ap (λ x. record b { value = x }) h.1
+    ∙ ap (λ x. record a { process = b.process; object = b.object; place = x }) h.0.1 ∙ ap (λ x. record b { value = x }) h.1
 
 pub same_update_decides : (a b : NonblockingUpdate) → Decides (same_update a b) (a ≡ b)
 same_update_decides a b =
     let first = (a.process == b.process) && (a.object == b.object) in
-    decides_as (same_update a b) (update_of a b) (λ e. (((ap (λ (u : NonblockingUpdate). u.process) e, ap (λ (u : NonblockingUpdate). u.object) e), ap (λ (u : NonblockingUpdate). u.index) e), ap (λ (u : NonblockingUpdate). u.value) e))
-    (Decides-and (first && same_index a.index b.index) (same_bits a.value b.value)
-    (Decides-and first (same_index a.index b.index)
+    decides_as (same_update a b) (update_of a b) (λ e. (((ap (λ (u : NonblockingUpdate). u.process) e, ap (λ (u : NonblockingUpdate). u.object) e), ap (λ (u : NonblockingUpdate). u.place) e), ap (λ (u : NonblockingUpdate). u.value) e))
+    (Decides-and (first && same_place a.place b.place) (same_bits a.value b.value)
+    (Decides-and first (same_place a.place b.place)
     (Decides-and (a.process == b.process) (a.object == b.object) (Decides-eqb a.process b.process) (Decides-eqb a.object b.object))
-    (same_index_decides a.index b.index)) (same_bits-Decides a.value b.value))
+    (same_place_decides a.place b.place)) (same_bits-Decides a.value b.value))
 
 pub same_event_decides : (a b : Event) → Decides (same_event a b) (a ≡ b)
 same_event_decides (Evaluation a) (Evaluation b) = decides_as (a == b) (λ h. ap Evaluation h) (λ e. cc) (Decides-eqb a b)
@@ -130,7 +130,7 @@ same_state_decides a b d =
     let time = a.time == b.time in
     let finished = same_bool a.finished b.finished in
     let values = pointwise same_bits a.values b.values in
-    let remaining = pointwise same_index a.remaining b.remaining in
+    let remaining = pointwise same_place a.remaining b.remaining in
     let waiting = pointwise same_wait a.waiting b.waiting in
     decides_as (same_state a b) (state_of a b d) (parts_of a b)
     (Decides-and (time && finished && values && remaining && waiting) (same_queue a.queue b.queue)
@@ -138,7 +138,7 @@ same_state_decides a b d =
     (Decides-and (time && finished && values) remaining
     (Decides-and (time && finished) values
     (Decides-and time finished (Decides-eqb a.time b.time) (same_bool_decides a.finished b.finished))
-    (pointwise_decides same_bits-Decides a.values b.values)) (pointwise_decides same_index_decides a.remaining b.remaining))
+    (pointwise_decides same_bits-Decides a.values b.values)) (pointwise_decides same_place_decides a.remaining b.remaining))
     (pointwise_decides same_wait_decides a.waiting b.waiting)) (same_queue_decides a.queue b.queue))
 
 run_of : (a b : Run) → ((a.number ≡ b.number) × (a.order ≡ b.order)) × (a.start ≡ b.start) → a ≡ b

@@ -14,8 +14,8 @@ pub returns : goal.returns
 returns c =
     let before = c.before-before.result in
     let kept = c.args.self.now.kept in
-    let index = c.args.number - before - 1 in
-    let number : c.args.number ≡ suc before + index = omega (arith, c.if-number-before.false) in
-    c.get.ensures ∙ ap (λ (r : Ring). slice_get r.kept index) c.self.view_is
-    ∙ sym (numbered_find (suc before) index kept c.before-before.ensures.numbered)
+    let place = c.args.number - before - 1 in
+    let number : c.args.number ≡ suc before + place = omega (arith, c.if-number-before.false) in
+    c.get.ensures ∙ ap (λ (r : Ring). slice_get r.kept place) c.self.view_is
+    ∙ sym (numbered_find (suc before) place kept c.before-before.ensures.numbered)
     ∙ ap (λ n. find (λ (run : Run). run.number == n) kept) (sym number)
