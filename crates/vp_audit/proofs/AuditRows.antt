@@ -29,7 +29,7 @@ use Rattle.vp_world.specs.declared.event.Event.{Event}
 use Rattle.vp_world.specs.declared.event.Event.TheVariants as event
 use Rattle.vp_world.specs.Entries.{Entry}
 use Rattle.vp_world.specs.Worlds.{Opening}
-use Rattle.vp_audit.specs.Known.{index_of}
+use Rattle.vp_audit.specs.Known.{known_index}
 use Rattle.vp_audit.specs.Parts.{Asks, Opens, replies_from}
 use Rattle.vp_audit.specs.Projections.{first_part, moved_numbers, number_in, projection, replies_of}
 
@@ -42,8 +42,8 @@ known = false ∷ true ∷ false ∷ true ∷ []
 those_known : marked {X = ℕ} known (1 ∷ 2 ∷ 3 ∷ 4 ∷ []) ≡ 2 ∷ 4 ∷ []
 those_known = refl
 
-index_of_the_last : index_of known 1 ≡ 3
-index_of_the_last = refl
+index_of_the_last_known : known_index known 1 ≡ 3
+index_of_the_last_known = refl
 
 number_of_the_last : number_in known 3 ≡ Some 1
 number_of_the_last = refl
@@ -58,10 +58,10 @@ numbers_now = refl
 -- ---- a module with a reg in the open text and one in an envelope
 
 abbrev reg : List ℕ → ℕ → ℕ → Node
-reg name index envelope = record {
+reg name place envelope = record {
   path =
       record { name = codes "top"; place = 1; envelope = 0; in_module = None }
-      ∷ record { name = name; place = index; envelope = envelope; in_module = Some (codes "top") } ∷ [];
+      ∷ record { name = name; place = place; envelope = envelope; in_module = Some (codes "top") } ∷ [];
   kind = Reg;
   width = 1;
   lowest = None;

@@ -11,7 +11,7 @@ use Rattle.vp_policy.specs.View.{HoldScopes, listed_marks, marked}
 use Rattle.vp_policy.proofs.Views.{listed_scopes}
 use Rattle.vp_sim.specs.States as sim
 use Rattle.vp_waking.specs.declared.change.Change.{Change}
-use Rattle.vp_audit.specs.Known.{known_also, index_of}
+use Rattle.vp_audit.specs.Known.{known_also, known_index}
 use Rattle.vp_audit.specs.Projections.{change_seen, is_followed, moved_numbers, number_in, values_seen}
 use Rattle.vp_audit.specs.Readings.{either_marked, value_of}
 
@@ -63,13 +63,13 @@ map_below f (suc n) =
     ∙ ap (λ xs. f 0 ∷ xs) (sym (map-append (λ k. f (suc k)) (below n) (n ∷ [])))
 
 -- something of the index of each number
-pub over_is : {X : Type 0} (f : ℕ → X) (n : ℕ) (known : List Bool) → map (λ k. f (n + index_of known k)) (below (length (marked known known))) ≡ over_marked n known f
+pub over_is : {X : Type 0} (f : ℕ → X) (n : ℕ) (known : List Bool) → map (λ k. f (n + known_index known k)) (below (length (marked known known))) ≡ over_marked n known f
 over_is f n [] = refl
 over_is f n (true ∷ known) =
-    map_below (λ k. f (n + index_of (true ∷ known) k)) (length (marked known known))
-    ∙ ap (λ o. f o ∷ map (λ k. f (n + suc (index_of known k))) (below (length (marked known known)))) (the_first n)
+    map_below (λ k. f (n + known_index (true ∷ known) k)) (length (marked known known))
+    ∙ ap (λ o. f o ∷ map (λ k. f (n + suc (known_index known k))) (below (length (marked known known)))) (the_first n)
     ∙ ap (λ xs. f n ∷ xs)
-    (map_like (λ k. f (n + suc (index_of known k))) (λ k. f ((n + 1) + index_of known k)) (below (length (marked known known))) (λ k. ap f (next n (index_of known k)))
+    (map_like (λ k. f (n + suc (known_index known k))) (λ k. f ((n + 1) + known_index known k)) (below (length (marked known known))) (λ k. ap f (next n (known_index known k)))
     ∙ over_is f (n + 1) known)
   where
     the_first : (n : ℕ) → n + 0 ≡ n
@@ -78,7 +78,7 @@ over_is f n (true ∷ known) =
     next : (n k : ℕ) → n + suc k ≡ (n + 1) + k
     next n k = omega arith
 over_is f n (false ∷ known) =
-    map_like (λ k. f (n + suc (index_of known k))) (λ k. f ((n + 1) + index_of known k)) (below (length (marked known known))) (λ k. ap f (next n (index_of known k)))
+    map_like (λ k. f (n + suc (known_index known k))) (λ k. f ((n + 1) + known_index known k)) (below (length (marked known known))) (λ k. ap f (next n (known_index known k)))
     ∙ over_is f (n + 1) known
   where
     next : (n k : ℕ) → n + suc k ≡ (n + 1) + k
@@ -87,8 +87,8 @@ over_is f n (false ∷ known) =
 -- the values of the known objects that a user may read
 pub values_are : (run : sim.State) (u : Member) (known : List Bool) → values_seen run u known ≡ over_marked 0 known (value_of run.design.tree run.values u)
 values_are run u known =
-    map_like (λ k. value_of run.design.tree run.values u (index_of known k)) (λ k. value_of run.design.tree run.values u (0 + index_of known k)) (below (length (marked known known)))
-    (λ k. ap (value_of run.design.tree run.values u) (at_first (index_of known k)))
+    map_like (λ k. value_of run.design.tree run.values u (known_index known k)) (λ k. value_of run.design.tree run.values u (0 + known_index known k)) (below (length (marked known known)))
+    (λ k. ap (value_of run.design.tree run.values u) (at_first (known_index known k)))
     ∙ over_is (value_of run.design.tree run.values u) 0 known
   where
     at_first : (k : ℕ) → k ≡ 0 + k
@@ -145,16 +145,16 @@ change_by tree u known numbers are c change is followed found at =
 -- the numbers now of what was known before
 pub moved_are : (before now : List Bool) → moved_numbers before now ≡ over_marked 0 before (λ o. unwrap_or (option_flatten (slice_get (numbers_from 0 now) o)) 0)
 moved_are before now =
-    map_like (λ k. option_map_or (λ n. n) (number_in now (index_of before k)) 0) (λ k. unwrap_or (option_flatten (slice_get (numbers_from 0 now) (0 + index_of before k))) 0) (below (length (marked before before)))
-    (λ k. or_zero (number_in now (index_of before k)) ∙ ap (λ n. unwrap_or n 0) (sym (at_first k)))
+    map_like (λ k. option_map_or (λ n. n) (number_in now (known_index before k)) 0) (λ k. unwrap_or (option_flatten (slice_get (numbers_from 0 now) (0 + known_index before k))) 0) (below (length (marked before before)))
+    (λ k. or_zero (number_in now (known_index before k)) ∙ ap (λ n. unwrap_or n 0) (sym (at_first k)))
     ∙ over_is (λ o. unwrap_or (option_flatten (slice_get (numbers_from 0 now) o)) 0) 0 before
   where
     or_zero : (n : Option ℕ) → option_map_or (λ (m : ℕ). m) n 0 ≡ unwrap_or n 0
     or_zero None = refl
     or_zero (Some n) = refl
 
-    at_first : (k : ℕ) → option_flatten (slice_get (numbers_from 0 now) (0 + index_of before k)) ≡ number_in now (index_of before k)
-    at_first k = let e : 0 + index_of before k ≡ index_of before k = omega arith in ap (λ o. option_flatten (slice_get (numbers_from 0 now) o)) e ∙ number_is now (index_of before k)
+    at_first : (k : ℕ) → option_flatten (slice_get (numbers_from 0 now) (0 + known_index before k)) ≡ number_in now (known_index before k)
+    at_first k = let e : 0 + known_index before k ≡ known_index before k = omega arith in ap (λ o. option_flatten (slice_get (numbers_from 0 now) o)) e ∙ number_is now (known_index before k)
 
 -- ---- marks of two lists
 

@@ -11,8 +11,8 @@ known_also tree u (k ∷ known) [] = []
 known_also tree u (k ∷ known) (node ∷ nodes) = (k || is_listed tree u node) ∷ known_also tree u known nodes
 
 -- the index of the marked of a number; after the last of them it goes on past all indexes
-abbrev pub index_of : (marks : List Bool) → ℕ → ℕ
-index_of [] k = k
-index_of (true ∷ marks) zero = zero
-index_of (true ∷ marks) (suc k) = suc (index_of marks k)
-index_of (false ∷ marks) k = suc (index_of marks k)
+abbrev pub known_index : (marks : List Bool) → ℕ → ℕ
+known_index [] k = k
+known_index (true ∷ marks) zero = zero
+known_index (true ∷ marks) (suc k) = suc (known_index marks k)
+known_index (false ∷ marks) k = suc (known_index marks k)

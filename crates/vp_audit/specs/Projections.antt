@@ -24,7 +24,7 @@ use Rattle.vp_world.specs.declared.event.Event.{Event}
 use Rattle.vp_world.specs.declared.event.Event.TheVariants as event
 use Rattle.vp_world.specs.History.{after}
 use Rattle.vp_world.specs.Worlds.{Opening, State, start}
-use Rattle.vp_audit.specs.Known.{known_also, index_of}
+use Rattle.vp_audit.specs.Known.{known_also, known_index}
 pub use Rattle.vp_audit.specs.declared.item.Projection.{Projection}
 use Rattle.vp_audit.specs.Parts.{Asks, Closes, GrantItem, Item, Opens, OwnEvent, Part}
 
@@ -40,15 +40,15 @@ number_in (false ∷ known) (suc o) = number_in known o
 
 -- the numbers, among what is known now, of what was known before
 abbrev pub moved_numbers : (known now : List Bool) → List ℕ
-moved_numbers known now = map (λ k. option_map_or (λ n. n) (number_in now (index_of known k)) 0) (below (length (marked known known)))
+moved_numbers known now = map (λ k. option_map_or (λ n. n) (number_in now (known_index known k)) 0) (below (length (marked known known)))
 
 -- ---- what a user may know of it
 
 -- the values of the known objects that a user may read
 abbrev pub values_seen : sim.State → Member → (known : List Bool) → List (Option (List Bit))
 values_seen run u known =
-    map (λ k. if is_readable (kind_at run.design.tree (index_of known k)) && is_none (denial_at run.design.tree u right.Read (index_of known k))
-    then Some (slice_index_or run.values (index_of known k) (Unknown ∷ [])) else None)
+    map (λ k. if is_readable (kind_at run.design.tree (known_index known k)) && is_none (denial_at run.design.tree u right.Read (known_index known k))
+    then Some (slice_index_or run.values (known_index known k) (Unknown ∷ [])) else None)
     (below (length (marked known known)))
 
 -- a user may read or watch an object

@@ -42,10 +42,10 @@ use Rattle.vp_world.specs.History.{IsLegal, after, answer, refusal_of}
 -- ---- one module with an envelope, one user, at most one session
 
 abbrev object : List ℕ → ℕ → ℕ → Kind → Node
-object name index envelope kind = record {
+object name place envelope kind = record {
   path =
       record { name = codes "top"; place = 1; envelope = 0; in_module = None }
-      ∷ record { name = name; place = index; envelope = envelope; in_module = Some (codes "top") }
+      ∷ record { name = name; place = place; envelope = envelope; in_module = Some (codes "top") }
       ∷ [];
   kind = kind;
   width = 1;

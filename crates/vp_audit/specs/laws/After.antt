@@ -30,7 +30,7 @@ use Rattle.vp_answer.specs.declared.reply.Reply.TheVariants as reply
 use Rattle.vp_answer.specs.Answers.{Response, freed, made, only_told, putting, refused, respond, response_by, scanned, value_in, watching}
 use Rattle.vp_answer.specs.Renumbering as under
 use Rattle.vp_answer.specs.laws.Renumbering.{due_under}
-use Rattle.vp_audit.specs.Known.{index_of}
+use Rattle.vp_audit.specs.Known.{known_index}
 use Rattle.vp_audit.specs.Parts.{values_after}
 use Rattle.vp_audit.specs.Projections.{change_seen, is_followed, number_in}
 use Rattle.vp_view.specs.Seen.{denied_seen, kind_seen, observer_seen}
@@ -43,22 +43,22 @@ use Rattle.vp_audit.specs.laws.Sims.{IsWithin}
 -- ---- numbers
 
 -- the number of what stands in the place of a number
-pub index_number : (known : List Bool) (k : ℕ) → index_of known k < length known → number_in known (index_of known k) ≡ Some k
+pub index_number : (known : List Bool) (k : ℕ) → known_index known k < length known → number_in known (known_index known k) ≡ Some k
 index_number [] k l = absurd (omega arith)
 index_number (true ∷ known) zero l = refl
 index_number (true ∷ known) (suc k) l = ap (option_map suc) (index_number known k (omega arith))
 index_number (false ∷ known) k l = index_number known k (omega arith)
 
 -- the index of the next
-next_index : (known : List Bool) (o k : ℕ) (n : Option ℕ) → number_in known o ≡ n → option_map suc n ≡ Some k → ((j : ℕ) → number_in known o ≡ Some j → index_of known j ≡ o)
-    → index_of (true ∷ known) k ≡ suc o
+next_index : (known : List Bool) (o k : ℕ) (n : Option ℕ) → number_in known o ≡ n → option_map suc n ≡ Some k → ((j : ℕ) → number_in known o ≡ Some j → known_index known j ≡ o)
+    → known_index (true ∷ known) k ≡ suc o
 next_index known o k None is f rest = absurd (cc)
-next_index known o k (Some n) is f rest = let same : suc n ≡ k = cc in ap (index_of (true ∷ known)) (sym same) ∙ ap suc (rest n is)
+next_index known o k (Some n) is f rest = let same : suc n ≡ k = cc in ap (known_index (true ∷ known)) (sym same) ∙ ap suc (rest n is)
 
 -- and its index
-pub number_index : (known : List Bool) (o k : ℕ) → number_in known o ≡ Some k → index_of known k ≡ o
+pub number_index : (known : List Bool) (o k : ℕ) → number_in known o ≡ Some k → known_index known k ≡ o
 number_index [] o k e = absurd (cc)
-number_index (true ∷ known) zero k e = let same : 0 ≡ k = cc in ap (index_of (true ∷ known)) (sym same)
+number_index (true ∷ known) zero k e = let same : 0 ≡ k = cc in ap (known_index (true ∷ known)) (sym same)
 number_index (false ∷ known) zero k e = absurd (cc)
 number_index (true ∷ known) (suc o) k e = next_index known o k (number_in known o) refl e (number_index known o)
 number_index (false ∷ known) (suc o) k e = ap suc (number_index known o k e)
@@ -105,7 +105,7 @@ none_of f None e = refl
 none_of f (Some x) e = absurd (cc)
 
 -- a change of the object in the place of another's number
-same_change : (known : List Bool) (d c : Change) → index_of known d.object.0 ≡ c.object.0 → d.value ≡ c.value → under.change (by_index known) d ≡ c
+same_change : (known : List Bool) (d c : Change) → known_index known d.object.0 ≡ c.object.0 → d.value ≡ c.value → under.change (by_index known) d ≡ c
 same_change known d c at value =
     ap (λ (o : ℕ). record { object = record { 0 = o }; value = d.value }) at ∙ ap (λ (v : List Bit). record { object = c.object; value = v }) value
 
@@ -126,13 +126,13 @@ or_second false b e = e
 -- ---- changes that a user may follow
 
 module _ (design : Elaborated) (u : Member) (known : List Bool) (long : length known ≡ length design.tree.nodes)
-    (denied_is : (r : Right) (k : ℕ) → denied_seen (known_view design u known) r k ≡ option_map (words_of design.tree) (denial_at design.tree u r (index_of known k))) where
+    (denied_is : (r : Right) (k : ℕ) → denied_seen (known_view design u known) r k ≡ option_map (words_of design.tree) (denial_at design.tree u r (known_index known k))) where
   -- a right that is not denied in the view is not denied
-  none_denied : (r : Right) (k : ℕ) → denied_seen (known_view design u known) r k ≡ None → is_none (denial_at design.tree u r (index_of known k)) ≡ true
-  none_denied r k e = none_of (words_of design.tree) (denial_at design.tree u r (index_of known k)) (sym (denied_is r k) ∙ e)
+  none_denied : (r : Right) (k : ℕ) → denied_seen (known_view design u known) r k ≡ None → is_none (denial_at design.tree u r (known_index known k)) ≡ true
+  none_denied r k e = none_of (words_of design.tree) (denial_at design.tree u r (known_index known k)) (sym (denied_is r k) ∙ e)
 
   -- the change of an object that may be read or watched goes to its user
-  pub followed : (c : Change) (k : ℕ) → index_of known k ≡ c.object.0 → c.object.0 < length known → is_followed design.tree u c.object.0 ≡ true
+  pub followed : (c : Change) (k : ℕ) → known_index known k ≡ c.object.0 → c.object.0 < length known → is_followed design.tree u c.object.0 ≡ true
       → change_seen design.tree u known (Some c) ≡ Some (record { object = record { 0 = k }; value = c.value })
   followed c k at l is =
       let number = ap (number_in known) (sym at) ∙ index_number known k (omega (arith, at, l)) in
@@ -140,17 +140,17 @@ module _ (design : Elaborated) (u : Member) (known : List Bool) (long : length k
       (ap (λ (b : Bool). if b then number_in known c.object.0 else None) is ∙ number)
 
   -- what goes to him is the change of that object
-  pub change_is : (c : Change) (d : Change) → change_seen design.tree u known (Some c) ≡ Some d → (index_of known d.object.0 ≡ c.object.0) × (d.value ≡ c.value)
+  pub change_is : (c : Change) (d : Change) → change_seen design.tree u known (Some c) ≡ Some d → (known_index known d.object.0 ≡ c.object.0) × (d.value ≡ c.value)
   change_is c d e = by_test (is_followed design.tree u c.object.0) (number_in known c.object.0) refl e where
     by_number : (n : Option ℕ) → number_in known c.object.0 ≡ n → option_map (λ (k : ℕ). record { object = record { 0 = k }; value = c.value }) n ≡ Some d
-        → (index_of known d.object.0 ≡ c.object.0) × (d.value ≡ c.value)
+        → (known_index known d.object.0 ≡ c.object.0) × (d.value ≡ c.value)
     by_number None is f = absurd (cc)
     by_number (Some k) is f =
         let same : record { object = record { 0 = k }; value = c.value } ≡ d = cc in
-        (ap (λ (x : Change). index_of known x.object.0) (sym same) ∙ number_index known c.object.0 k is, ap (λ (x : Change). x.value) (sym same))
+        (ap (λ (x : Change). known_index known x.object.0) (sym same) ∙ number_index known c.object.0 k is, ap (λ (x : Change). x.value) (sym same))
 
     by_test : (b : Bool) (n : Option ℕ) → number_in known c.object.0 ≡ n → option_map (λ (k : ℕ). record { object = record { 0 = k }; value = c.value }) (if b then n else None) ≡ Some d
-        → (index_of known d.object.0 ≡ c.object.0) × (d.value ≡ c.value)
+        → (known_index known d.object.0 ≡ c.object.0) × (d.value ≡ c.value)
     by_test true n is f = by_number n is f
     by_test false n is f = absurd (cc)
 
@@ -161,7 +161,7 @@ module _ (design : Elaborated) (u : Member) (known : List Bool) (long : length k
       → (c : Option Change) → IsWithin all c → AreValues design (values_with all c) u known (values_after values (change_seen design.tree u known c))
   values_kept all values many are None within = are
   values_kept all values many are (Some c) within = λ k open_to readable.
-      elim (cases_eq (index_of known k) c.object.0) [
+      elim (cases_eq (known_index known k) c.object.0) [
         | inl at ↦
             let before = are k open_to readable in
             let l : c.object.0 < length known = omega (arith, within, many, long) in
@@ -175,18 +175,18 @@ module _ (design : Elaborated) (u : Member) (known : List Bool) (long : length k
             by_goes k open_to readable other (change_seen design.tree u known (Some c)) refl
       ]
     where
-      by_goes : (k : ℕ) → denied_seen (known_view design u known) right.Read k ≡ None → is_readable (kind_seen (known_view design u known) k) ≡ true → (index_of known k ≡ c.object.0 → ⊥)
+      by_goes : (k : ℕ) → denied_seen (known_view design u known) right.Read k ≡ None → is_readable (kind_seen (known_view design u known) k) ≡ true → (known_index known k ≡ c.object.0 → ⊥)
           → (d : Option Change) → change_seen design.tree u known (Some c) ≡ d
-          → slice_get (values_after values (change_seen design.tree u known (Some c))) k ≡ Some (Some (slice_index_or (slice_set all c.object.0 c.value) (index_of known k) (Unknown ∷ [])))
+          → slice_get (values_after values (change_seen design.tree u known (Some c))) k ≡ Some (Some (slice_index_or (slice_set all c.object.0 c.value) (known_index known k) (Unknown ∷ [])))
       by_goes k open_to readable other None is =
           ap (λ d. slice_get (values_after values d) k) is ∙ are k open_to readable
-          ∙ ap (λ (v : List Bit). Some (Some v)) (sym (index_other all c.object.0 (index_of known k) c.value (Unknown ∷ []) other))
+          ∙ ap (λ (v : List Bit). Some (Some v)) (sym (index_other all c.object.0 (known_index known k) c.value (Unknown ∷ []) other))
       by_goes k open_to readable other (Some d) is =
           let (at, value) = change_is c d is in
           ap (λ x. slice_get (values_after values x) k) is
-          ∙ get_other values d.object.0 k (Some d.value) (λ same. other (ap (index_of known) same ∙ at))
+          ∙ get_other values d.object.0 k (Some d.value) (λ same. other (ap (known_index known) same ∙ at))
           ∙ are k open_to readable
-          ∙ ap (λ (v : List Bit). Some (Some v)) (sym (index_other all c.object.0 (index_of known k) c.value (Unknown ∷ []) other))
+          ∙ ap (λ (v : List Bit). Some (Some v)) (sym (index_other all c.object.0 (known_index known k) c.value (Unknown ∷ []) other))
 
   -- ---- notices
 
@@ -209,14 +209,14 @@ module _ (design : Elaborated) (u : Member) (known : List Bool) (long : length k
     not_on : change_seen design.tree u known (Some c) ≡ None → (b : Callback) → denied_seen (known_view design u known) right.Watch b.object.0 ≡ None
         → registry.is_on c.object.0 (under.callback (by_index known) b) ≡ false
     not_on gone b open_to =
-        elim (cases_eq (index_of known b.object.0) c.object.0) [
+        elim (cases_eq (known_index known b.object.0) c.object.0) [
           | inl at ↦
               let l : c.object.0 < length known = omega (arith, within, many, long) in
               let goes = followed c b.object.0 at l
               (or_second (is_none (denial_at design.tree u right.Read c.object.0)) (is_none (denial_at design.tree u right.Watch c.object.0))
               (subst (λ (o : ℕ). is_none (denial_at design.tree u right.Watch o) ≡ true) at (none_denied right.Watch b.object.0 open_to))) in
               absurd (cc)
-          | inr other ↦ not_same (index_of known b.object.0) c.object.0 other
+          | inr other ↦ not_same (known_index known b.object.0) c.object.0 other
         ]
 
     by_goes : (d : Option Change) → change_seen design.tree u known (Some c) ≡ d

@@ -18,7 +18,7 @@ use Rattle.vp_vpi.specs.Calls.{is_module}
 use Rattle.vp_vpi.specs.Observers.{value_read, is_readable, kind_at, line_at, width_at}
 use Rattle.vp_vpi.specs.Races.{observer_with, races_seen}
 use Rattle.vp_answer.specs.Renumbering.{IsOpen, IsSeenAs}
-use Rattle.vp_audit.specs.Known.{index_of}
+use Rattle.vp_audit.specs.Known.{known_index}
 use Rattle.vp_view.specs.Seen.{denied_seen, kind_seen, last_name, names_seen, observer_seen, value_seen}
 use Rattle.vp_audit.specs.laws.Denials.{AllInEnvelopes, denied_seen_at, node_seen}
 use Rattle.vp_audit.specs.laws.Known.{by_index}
@@ -29,7 +29,7 @@ use Rattle.vp_audit.specs.laws.Names.{Differ, keys}
 abbrev pub AreValues : Elaborated → (all : List (List Bit)) → Member → List Bool → List (Option (List Bit)) → Type 0
 AreValues design all u known values =
     (k : ℕ) → denied_seen (known_view design u known) right.Read k ≡ None → is_readable (kind_seen (known_view design u known) k) ≡ true
-    → slice_get values k ≡ Some (Some (slice_index_or all (index_of known k) (Unknown ∷ [])))
+    → slice_get values k ≡ Some (Some (slice_index_or all (known_index known k) (Unknown ∷ [])))
 
 -- what has to be so of a design, and of what is known of it and of its values
 pub record IsKnown (design : Elaborated) (all : List (List Bit)) (u : Member) (known : List Bool) (values : List (Option (List Bit))) : Type 0 where
@@ -49,10 +49,10 @@ open_stands : (run : State) (u : Member) (known : List Bool) (values : List (Opt
     → IsOpen (observer_seen (known_view run.design u known) values time finished (races_seen run.design.tree u book)) scope → Stands run.design known scope
 open_stands run u known values is time finished book None opened = tt
 open_stands run u known values is time finished book (Some k) (listed, modular) =
-    by_node (slice_get run.design.tree.nodes (index_of known k)) refl
+    by_node (slice_get run.design.tree.nodes (known_index known k)) refl
     (sym (ap (λ node. is_module (option_map (λ n. n.kind) node)) (node_seen run.design u known k is.long)) ∙ modular)
   where
-    by_node : (node : Option Node) → slice_get run.design.tree.nodes (index_of known k) ≡ node → is_module (option_map (λ n. n.kind) (option_map (seen_node run.design u) node)) ≡ true
+    by_node : (node : Option Node) → slice_get run.design.tree.nodes (known_index known k) ≡ node → is_module (option_map (λ n. n.kind) (option_map (seen_node run.design u) node)) ≡ true
         → Stands run.design known (Some k)
     by_node None at never = absurd (cc)
     by_node (Some node) at so = (node, at)
@@ -71,66 +71,66 @@ no_value false b bits e = refl
 -- ---- objects
 
 module _ (run : State) (u : Member) (known : List Bool) (values : List (Option (List Bit))) (is : IsKnown run.design run.values u known values) where
-  kind_is : (k : ℕ) → kind_at run.design.tree (index_of known k) ≡ kind_seen (known_view run.design u known) k
-  kind_is k = sym (ap (option_map (λ n. n.kind)) (node_seen run.design u known k is.long) ∙ by_node (slice_get run.design.tree.nodes (index_of known k))) where
+  kind_is : (k : ℕ) → kind_at run.design.tree (known_index known k) ≡ kind_seen (known_view run.design u known) k
+  kind_is k = sym (ap (option_map (λ n. n.kind)) (node_seen run.design u known k is.long) ∙ by_node (slice_get run.design.tree.nodes (known_index known k))) where
     by_node : (node : Option Node) → option_map (λ n. n.kind) (option_map (seen_node run.design u) node) ≡ option_map (λ (n : Node). n.kind) node
     by_node None = refl
     by_node (Some node) = refl
 
-  width_is : (k : ℕ) → width_at run.design.tree (index_of known k) ≡ option_map_or (λ n. n.width) (slice_get (known_view run.design u known).nodes k) 0
-  width_is k = sym (ap (λ node. option_map_or (λ n. n.width) node 0) (node_seen run.design u known k is.long) ∙ by_node (slice_get run.design.tree.nodes (index_of known k))) where
+  width_is : (k : ℕ) → width_at run.design.tree (known_index known k) ≡ option_map_or (λ n. n.width) (slice_get (known_view run.design u known).nodes k) 0
+  width_is k = sym (ap (λ node. option_map_or (λ n. n.width) node 0) (node_seen run.design u known k is.long) ∙ by_node (slice_get run.design.tree.nodes (known_index known k))) where
     by_node : (node : Option Node) → option_map_or (λ n. n.width) (option_map (seen_node run.design u) node) 0 ≡ option_map_or (λ (n : Node). n.width) node 0
     by_node None = refl
     by_node (Some node) = refl
 
-  line_is : (k : ℕ) → line_at run.design.tree (index_of known k) ≡ option_map_or (λ n. n.line) (slice_get (known_view run.design u known).nodes k) 0
-  line_is k = sym (ap (λ node. option_map_or (λ n. n.line) node 0) (node_seen run.design u known k is.long) ∙ by_node (slice_get run.design.tree.nodes (index_of known k))) where
+  line_is : (k : ℕ) → line_at run.design.tree (known_index known k) ≡ option_map_or (λ n. n.line) (slice_get (known_view run.design u known).nodes k) 0
+  line_is k = sym (ap (λ node. option_map_or (λ n. n.line) node 0) (node_seen run.design u known k is.long) ∙ by_node (slice_get run.design.tree.nodes (known_index known k))) where
     by_node : (node : Option Node) → option_map_or (λ n. n.line) (option_map (seen_node run.design u) node) 0 ≡ option_map_or (λ (n : Node). n.line) node 0
     by_node None = refl
     by_node (Some node) = refl
 
-  definition_is : (k : ℕ) → option_and_then (λ (n : Node). n.definition) (slice_get run.design.tree.nodes (index_of known k))
+  definition_is : (k : ℕ) → option_and_then (λ (n : Node). n.definition) (slice_get run.design.tree.nodes (known_index known k))
       ≡ option_and_then (λ n. n.definition) (slice_get (known_view run.design u known).nodes k)
-  definition_is k = sym (ap (option_and_then (λ n. n.definition)) (node_seen run.design u known k is.long) ∙ by_node (slice_get run.design.tree.nodes (index_of known k))) where
+  definition_is k = sym (ap (option_and_then (λ n. n.definition)) (node_seen run.design u known k is.long) ∙ by_node (slice_get run.design.tree.nodes (known_index known k))) where
     by_node : (node : Option Node) → option_and_then (λ n. n.definition) (option_map (seen_node run.design u) node) ≡ option_and_then (λ (n : Node). n.definition) node
     by_node None = refl
     by_node (Some node) = refl
 
-  name_is : (k : ℕ) → option_map_or node_name (slice_get run.design.tree.nodes (index_of known k)) [] ≡ last_name (names_seen (known_view run.design u known) k)
-  name_is k = sym (ap last_name (names_are run.design u known is.long is.envelopes k) ∙ by_node (slice_get run.design.tree.nodes (index_of known k))) where
+  name_is : (k : ℕ) → option_map_or node_name (slice_get run.design.tree.nodes (known_index known k)) [] ≡ last_name (names_seen (known_view run.design u known) k)
+  name_is k = sym (ap last_name (names_are run.design u known is.long is.envelopes k) ∙ by_node (slice_get run.design.tree.nodes (known_index known k))) where
     by_node : (node : Option Node) → last_name (names_of (option_map_or (λ (n : Node). n.path) node [])) ≡ option_map_or node_name node []
     by_node None = refl
     by_node (Some node) = last_same node.path
 
-  full_name_is : (k : ℕ) → dotted (names_of (path_of run.design.tree.nodes (Some (index_of known k)))) ≡ dotted (names_seen (known_view run.design u known) k)
+  full_name_is : (k : ℕ) → dotted (names_of (path_of run.design.tree.nodes (Some (known_index known k)))) ≡ dotted (names_seen (known_view run.design u known) k)
   full_name_is k = ap dotted (sym (names_are run.design u known is.long is.envelopes k))
 
-  denied_is : (r : Right) (k : ℕ) → option_map (words_of run.design.tree) (denial_at run.design.tree u r (index_of known k)) ≡ denied_seen (known_view run.design u known) r k
+  denied_is : (r : Right) (k : ℕ) → option_map (words_of run.design.tree) (denial_at run.design.tree u r (known_index known k)) ≡ denied_seen (known_view run.design u known) r k
   denied_is r k = sym (denied_seen_at run.design u known is.long is.envelopes r k)
 
   -- the value of an object that may be read
   value_is : (k : ℕ) → denied_seen (known_view run.design u known) right.Read k ≡ None
-      → value_read run u (index_of known k) ≡ value_seen (known_view run.design u known) values k
+      → value_read run u (known_index known k) ≡ value_seen (known_view run.design u known) values k
   value_is k open_to =
-      let undenied = none_of (words_of run.design.tree) (denial_at run.design.tree u right.Read (index_of known k)) (denied_is right.Read k ∙ open_to) in
+      let undenied = none_of (words_of run.design.tree) (denial_at run.design.tree u right.Read (known_index known k)) (denied_is right.Read k ∙ open_to) in
       let kinds = kind_is k in
       by_kind (is_readable (kind_seen (known_view run.design u known) k)) refl
       (ap is_readable kinds) undenied
     where
       by_kind : (b : Bool) → is_readable (kind_seen (known_view run.design u known) k) ≡ b
-          → is_readable (kind_at run.design.tree (index_of known k)) ≡ is_readable (kind_seen (known_view run.design u known) k)
-          → is_none (denial_at run.design.tree u right.Read (index_of known k)) ≡ true
-          → value_read run u (index_of known k) ≡ value_seen (known_view run.design u known) values k
+          → is_readable (kind_at run.design.tree (known_index known k)) ≡ is_readable (kind_seen (known_view run.design u known) k)
+          → is_none (denial_at run.design.tree u right.Read (known_index known k)) ≡ true
+          → value_read run u (known_index known k) ≡ value_seen (known_view run.design u known) values k
       by_kind true readable same undenied =
           let value = is.are_values k open_to readable in
-          value_test (is_readable (kind_at run.design.tree (index_of known k))) (is_none (denial_at run.design.tree u right.Read (index_of known k)))
-          (slice_index_or run.values (index_of known k) (Unknown ∷ [])) (same ∙ readable) undenied
+          value_test (is_readable (kind_at run.design.tree (known_index known k))) (is_none (denial_at run.design.tree u right.Read (known_index known k)))
+          (slice_index_or run.values (known_index known k) (Unknown ∷ [])) (same ∙ readable) undenied
           ∙ sym (value_test (is_readable (kind_seen (known_view run.design u known) k)) (is_none (denied_seen (known_view run.design u known) right.Read k))
           (option_map_or (λ x. option_map_or (λ bits. bits) x (Unknown ∷ [])) (slice_get values k) (Unknown ∷ [])) readable (ap is_none open_to)
           ∙ ap Some (ap (λ y. option_map_or (λ x. option_map_or (λ bits. bits) x (Unknown ∷ [])) y (Unknown ∷ [])) value))
       by_kind false readable same undenied =
-          no_value (is_readable (kind_at run.design.tree (index_of known k))) (is_none (denial_at run.design.tree u right.Read (index_of known k)))
-          (slice_index_or run.values (index_of known k) (Unknown ∷ [])) (same ∙ readable)
+          no_value (is_readable (kind_at run.design.tree (known_index known k))) (is_none (denial_at run.design.tree u right.Read (known_index known k)))
+          (slice_index_or run.values (known_index known k) (Unknown ∷ [])) (same ∙ readable)
           ∙ sym (no_value (is_readable (kind_seen (known_view run.design u known) k)) (is_none (denied_seen (known_view run.design u known) right.Read k))
           (option_map_or (λ x. option_map_or (λ bits. bits) x (Unknown ∷ [])) (slice_get values k) (Unknown ∷ [])) readable)
 

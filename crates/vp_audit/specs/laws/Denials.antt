@@ -16,7 +16,7 @@ use Rattle.vp_elab.specs.Tree.{Node, Step, Tree, author_in, first_viewport, matc
 use Rattle.vp_policy.specs.Filter.{barrier_of, by_first, by_grant, by_step, denial, denial_at, opened, rights, viewport_object, words_of}
 use Rattle.vp_policy.specs.Users.{Member, has_entry}
 use Rattle.vp_policy.specs.View.{seen_envelopes, seen_node, seen_path, seen_step, seen_viewport, known_view, marked}
-use Rattle.vp_audit.specs.Known.{index_of}
+use Rattle.vp_audit.specs.Known.{known_index}
 use Rattle.vp_audit.specs.laws.Known.{get_marked}
 use Rattle.vp_view.specs.Seen.{barrier_at, first_object, author_seen, barrier_by_grant, denial_seen, denied_seen, words_at}
 
@@ -176,18 +176,18 @@ AllInEnvelopes tree = (o : ℕ) (node : Node) → slice_get tree.nodes o ≡ Som
 
 -- the object of a number in the view of what is known
 pub node_seen : (design : Elaborated) (u : Member) (known : List Bool) (k : ℕ) → length known ≡ length design.tree.nodes
-    → slice_get (known_view design u known).nodes k ≡ option_map (seen_node design u) (slice_get design.tree.nodes (index_of known k))
+    → slice_get (known_view design u known).nodes k ≡ option_map (seen_node design u) (slice_get design.tree.nodes (known_index known k))
 node_seen design u known k e = slice_get-map (seen_node design u) (marked known design.tree.nodes) k ∙ ap (option_map (seen_node design u)) (get_marked known design.tree.nodes k e)
 
 -- why a right on it is denied
 pub denied_seen_at : (design : Elaborated) (u : Member) (known : List Bool) → length known ≡ length design.tree.nodes → AllInEnvelopes design.tree → (r : Right) (k : ℕ)
-    → denied_seen (known_view design u known) r k ≡ option_map (words_of design.tree) (denial_at design.tree u r (index_of known k))
+    → denied_seen (known_view design u known) r k ≡ option_map (words_of design.tree) (denial_at design.tree u r (known_index known k))
 denied_seen_at design u known e all r k =
     ap (λ node. denial_seen (known_view design u known) r (option_map_or (λ n. n.path) node [])) (node_seen design u known k e)
-    ∙ by_node (slice_get design.tree.nodes (index_of known k)) refl
+    ∙ by_node (slice_get design.tree.nodes (known_index known k)) refl
   where
-    by_node : (node : Option Node) → slice_get design.tree.nodes (index_of known k) ≡ node
+    by_node : (node : Option Node) → slice_get design.tree.nodes (known_index known k) ≡ node
         → denial_seen (known_view design u known) r (option_map_or (λ n. n.path) (option_map (seen_node design u) node) [])
         ≡ option_map (words_of design.tree) (denial design.tree u r (option_map_or (λ n. n.path) node []))
     by_node None is = refl
-    by_node (Some node) is = denial_after design u known r [] node.path (has_all r) (all (index_of known k) node is)
+    by_node (Some node) is = denial_after design u known r [] node.path (has_all r) (all (known_index known k) node is)

@@ -29,7 +29,7 @@ use Rattle.vp_answer.specs.Renumbering as under
 use Rattle.vp_answer.specs.laws.Renumbering.{retired_under}
 use Rattle.vp_world.specs.History.{granted_to, retired_for}
 use Rattle.vp_world.specs.Worlds.{OpenSessionState, State}
-use Rattle.vp_audit.specs.Known.{known_also, index_of}
+use Rattle.vp_audit.specs.Known.{known_also, known_index}
 use Rattle.vp_notify.specs.Renumbered.{moved_callback, moved_notice}
 use Rattle.vp_vpi.specs.Renumbered.{moved_handle, moved_session_state}
 use Rattle.vp_audit.specs.Parts.{Part, granted_session, moved_to, part_granted, session_notified}
@@ -131,9 +131,9 @@ marked_count (true ∷ known) (x ∷ xs) (y ∷ ys) e f = ap suc (marked_count k
 marked_count (false ∷ known) (x ∷ xs) (y ∷ ys) e f = marked_count known xs ys (omega (arith, e)) (omega (arith, f))
 
 -- the index of a number is marked
-pub index_marked : (known : List Bool) (k : ℕ) → k < length (marked known known) → slice_get known (index_of known k) ≡ Some true
+pub index_marked : (known : List Bool) (k : ℕ) → k < length (marked known known) → slice_get known (known_index known k) ≡ Some true
 index_marked known k l = go known known refl k l where
-  go : (ks : List Bool) (xs : List Bool) → length ks ≡ length xs → (k : ℕ) → k < length (marked ks xs) → slice_get ks (index_of ks k) ≡ Some true
+  go : (ks : List Bool) (xs : List Bool) → length ks ≡ length xs → (k : ℕ) → k < length (marked ks xs) → slice_get ks (known_index ks k) ≡ Some true
   go [] xs e k l = absurd (omega arith)
   go (b ∷ ks) [] e k l = absurd (cc)
   go (true ∷ ks) (x ∷ xs) e zero l = refl
@@ -141,9 +141,9 @@ index_marked known k l = go known known refl k l where
   go (false ∷ ks) (x ∷ xs) e k l = go ks xs (omega (arith, e)) k l
 
 -- after the last number it is after all indexes
-pub index_past : (known : List Bool) (k : ℕ) → length (marked known known) ≤ k → index_of known k ≡ length known + (k - length (marked known known))
+pub index_past : (known : List Bool) (k : ℕ) → length (marked known known) ≤ k → known_index known k ≡ length known + (k - length (marked known known))
 index_past known k l = go known known refl k l where
-  go : (ks : List Bool) (xs : List Bool) → length ks ≡ length xs → (k : ℕ) → length (marked ks xs) ≤ k → index_of ks k ≡ length ks + (k - length (marked ks xs))
+  go : (ks : List Bool) (xs : List Bool) → length ks ≡ length xs → (k : ℕ) → length (marked ks xs) ≤ k → known_index ks k ≡ length ks + (k - length (marked ks xs))
   go [] xs e k l = omega arith
   go (b ∷ ks) [] e k l = absurd (cc)
   go (true ∷ ks) (x ∷ xs) e zero l = absurd (omega arith)
@@ -160,22 +160,22 @@ marked_number (false ∷ known) (suc o) e = marked_number known o e
 
 -- a number of before, and that of now, are of one index
 pub moved_is : (tree : Tree) (m : Member) (known : List Bool) (nodes : List Node) → length known ≡ length nodes → (count : ℕ) → count ≡ length (marked (known_also tree m known nodes) nodes) → (k : ℕ)
-    → index_of known k ≡ index_of (known_also tree m known nodes) (moved_to (moved_numbers known (known_also tree m known nodes)) count k)
+    → known_index known k ≡ known_index (known_also tree m known nodes) (moved_to (moved_numbers known (known_also tree m known nodes)) count k)
 moved_is tree m known nodes e count counted k =
     let now = known_also tree m known nodes in
     let c = length (marked known known) in
-    let long : length (moved_numbers known now) ≡ c = length-map (below c) (λ j. option_map_or (λ n. n) (number_in now (index_of known j)) 0) ∙ below_length c in
+    let long : length (moved_numbers known now) ≡ c = length-map (below c) (λ j. option_map_or (λ n. n) (number_in now (known_index known j)) 0) ∙ below_length c in
     elim (cases_lt k c) [
       | inl less ↦
-          let marks = now_more tree m known nodes e (index_of known k) (index_marked known k less) in
-          let (j, number) = marked_number now (index_of known k) marks in
+          let marks = now_more tree m known nodes e (known_index known k) (index_marked known k less) in
+          let (j, number) = marked_number now (known_index known k) marks in
           let test : nat_lt k (length (moved_numbers known now)) ≡ true = grind (arith, long, less) in
           let item : slice_get (moved_numbers known now) k ≡ Some j =
-          slice_get-map (λ i. option_map_or (λ n. n) (number_in now (index_of known i)) 0) (below c) k
-          ∙ ap (option_map (λ i. option_map_or (λ n. n) (number_in now (index_of known i)) 0)) (below_at c k less)
+          slice_get-map (λ i. option_map_or (λ n. n) (number_in now (known_index known i)) 0) (below c) k
+          ∙ ap (option_map (λ i. option_map_or (λ n. n) (number_in now (known_index known i)) 0)) (below_at c k less)
           ∙ ap (λ n. Some (option_map_or (λ i. i) n 0)) number in
-          sym (ap (λ (b : Bool). index_of now (if b then slice_index_or (moved_numbers known now) k 0 else count + (k - length (moved_numbers known now)))) test
-          ∙ ap (index_of now) (index_at (moved_numbers known now) k j item) ∙ number_index now (index_of known k) j number)
+          sym (ap (λ (b : Bool). known_index now (if b then slice_index_or (moved_numbers known now) k 0 else count + (k - length (moved_numbers known now)))) test
+          ∙ ap (known_index now) (index_at (moved_numbers known now) k j item) ∙ number_index now (known_index known k) j number)
       | inr more ↦
           let test : nat_lt k (length (moved_numbers known now)) ≡ false = grind (arith, long, more) in
           let many = marked_count now now nodes refl (now_long tree m known nodes e) in
@@ -184,7 +184,7 @@ moved_is tree m known nodes e count counted k =
           let past_now = index_past now (count + (k - length (moved_numbers known now))) (omega (arith, counted, many)) in
           let there : length known + (k - c) ≡ length now + (count + (k - length (moved_numbers known now)) - length (marked now now)) = omega (arith, long, counted, many, same, e) in
           past ∙ there ∙ sym past_now
-          ∙ sym (ap (λ (b : Bool). index_of now (if b then slice_index_or (moved_numbers known now) k 0 else count + (k - length (moved_numbers known now)))) test)
+          ∙ sym (ap (λ (b : Bool). known_index now (if b then slice_index_or (moved_numbers known now) k 0 else count + (k - length (moved_numbers known now)))) test)
     ]
   where
     index_at : (xs : List ℕ) (i x : ℕ) → slice_get xs i ≡ Some x → slice_index_or xs i 0 ≡ x
@@ -195,7 +195,7 @@ moved_is tree m known nodes e count counted k =
 -- ---- sessions under other numbers
 
 -- a session under the numbers of before is the moved one under those of now
-session_state_moved : (known now : List Bool) (f : ℕ → ℕ) → ((k : ℕ) → index_of known k ≡ index_of now (f k)) → (s : SessionState) → under.session_state (by_index known) s ≡ under.session_state (by_index now) (moved_session_state f s)
+session_state_moved : (known now : List Bool) (f : ℕ → ℕ) → ((k : ℕ) → known_index known k ≡ known_index now (f k)) → (s : SessionState) → under.session_state (by_index known) s ≡ under.session_state (by_index now) (moved_session_state f s)
 session_state_moved known now f h s =
     ap (λ hs. record { user = s.user; handles = hs; registry = under.registry (by_index known) s.registry }) (handles s.handles)
     ∙ ap (λ cs. record {
@@ -213,19 +213,19 @@ session_state_moved known now f h s =
     handles : (hs : List (Option ObjectId)) → map (under.handle (by_index known)) hs ≡ map (under.handle (by_index now)) (map (moved_handle f) hs)
     handles [] = refl
     handles (None ∷ hs) = ap (λ xs. None ∷ xs) (handles hs)
-    handles (Some o ∷ hs) = ap (λ (n : ℕ). Some (record { 0 = n }) ∷ map (under.handle (by_index known)) hs) (h o.0) ∙ ap (λ xs. Some (record { 0 = index_of now (f o.0) }) ∷ xs) (handles hs)
+    handles (Some o ∷ hs) = ap (λ (n : ℕ). Some (record { 0 = n }) ∷ map (under.handle (by_index known)) hs) (h o.0) ∙ ap (λ xs. Some (record { 0 = known_index now (f o.0) }) ∷ xs) (handles hs)
 
     callbacks : (cs : List Callback) → map (under.callback (by_index known)) cs ≡ map (under.callback (by_index now)) (map (moved_callback f) cs)
     callbacks [] = refl
     callbacks (c ∷ cs) =
         ap (λ (n : ℕ). record { number = c.number; object = record { 0 = n } } ∷ map (under.callback (by_index known)) cs) (h c.object.0)
-        ∙ ap (λ xs. record { number = c.number; object = record { 0 = index_of now (f c.object.0) } } ∷ xs) (callbacks cs)
+        ∙ ap (λ xs. record { number = c.number; object = record { 0 = known_index now (f c.object.0) } } ∷ xs) (callbacks cs)
 
     notices : (ts : List Notice) → map (under.notice (by_index known)) ts ≡ map (under.notice (by_index now)) (map (moved_notice f) ts)
     notices [] = refl
     notices (t ∷ ts) =
         ap (λ (n : ℕ). record { callback = t.callback; object = record { 0 = n }; time = t.time; value = t.value } ∷ map (under.notice (by_index known)) ts) (h t.object.0)
-        ∙ ap (λ xs. record { callback = t.callback; object = record { 0 = index_of now (f t.object.0) }; time = t.time; value = t.value } ∷ xs) (notices ts)
+        ∙ ap (λ xs. record { callback = t.callback; object = record { 0 = known_index now (f t.object.0) }; time = t.time; value = t.value } ∷ xs) (notices ts)
 
 -- a denial in words is one
 some_words : {A B : Type 0} (f : A → B) (x : Option A) → is_some (option_map f x) ≡ is_some x
@@ -247,8 +247,8 @@ none_again f (Some x) e = absurd (cc)
 -- the value of a number, if it may be read
 abbrev value_at : sim.State → Member → List Bool → ℕ → Option (List Bit)
 value_at run m known j =
-    if is_readable (kind_at run.design.tree (index_of known j)) && is_none (denial_at run.design.tree m right.Read (index_of known j))
-    then Some (slice_index_or run.values (index_of known j) (Unknown ∷ [])) else None
+    if is_readable (kind_at run.design.tree (known_index known j)) && is_none (denial_at run.design.tree m right.Read (known_index known j))
+    then Some (slice_index_or run.values (known_index known j) (Unknown ∷ [])) else None
 
 -- an object with a kind is there
 readable_within : (nodes : List SeenNode) (k : ℕ) → is_readable (option_map (λ n. n.kind) (slice_get nodes k)) ≡ true → k < length nodes
@@ -258,30 +258,30 @@ readable_within (n ∷ nodes) (suc k) e = let rest = readable_within nodes k e i
 
 -- the values that go to a user are those of what he may read
 pub values_are : (run : sim.State) (design : Elaborated) → run.design ≡ design → (m : Member) (known : List Bool) → (long : length known ≡ length design.tree.nodes)
-    → ((r : _) (k : ℕ) → denied_seen (known_view design m known) r k ≡ option_map (words_of design.tree) (denial_at design.tree m r (index_of known k)))
+    → ((r : _) (k : ℕ) → denied_seen (known_view design m known) r k ≡ option_map (words_of design.tree) (denial_at design.tree m r (known_index known k)))
     → AreValues design run.values m known (values_seen run m known)
 values_are run design its m known long denied k open_to readable =
-    let kinds : kind_at design.tree (index_of known k) ≡ kind_seen (known_view design m known) k =
-    sym (ap (option_map (λ n. n.kind)) (node_seen design m known k long) ∙ by_node (slice_get design.tree.nodes (index_of known k))) in
+    let kinds : kind_at design.tree (known_index known k) ≡ kind_seen (known_view design m known) k =
+    sym (ap (option_map (λ n. n.kind)) (node_seen design m known k long) ∙ by_node (slice_get design.tree.nodes (known_index known k))) in
     let within : k < length (marked known known) =
     let l = readable_within (known_view design m known).nodes k readable in
     let many = length-map (marked known design.tree.nodes) (seen_node design m) in
     let same = marked_count known known design.tree.nodes refl long in
     omega (arith, l, many, same) in
-    let readable_is : is_readable (kind_at run.design.tree (index_of known k)) ≡ true =
-    ap (λ (d : Elaborated). is_readable (kind_at d.tree (index_of known k))) its ∙ ap is_readable kinds ∙ readable in
-    let undenied : is_none (denial_at run.design.tree m right.Read (index_of known k)) ≡ true =
-    ap (λ (d : Elaborated). is_none (denial_at d.tree m right.Read (index_of known k))) its
-    ∙ none_again (words_of design.tree) (denial_at design.tree m right.Read (index_of known k)) (sym (denied right.Read k) ∙ open_to) in
+    let readable_is : is_readable (kind_at run.design.tree (known_index known k)) ≡ true =
+    ap (λ (d : Elaborated). is_readable (kind_at d.tree (known_index known k))) its ∙ ap is_readable kinds ∙ readable in
+    let undenied : is_none (denial_at run.design.tree m right.Read (known_index known k)) ≡ true =
+    ap (λ (d : Elaborated). is_none (denial_at d.tree m right.Read (known_index known k))) its
+    ∙ none_again (words_of design.tree) (denial_at design.tree m right.Read (known_index known k)) (sym (denied right.Read k) ∙ open_to) in
     slice_get-map (value_at run m known) (below (length (marked known known))) k
     ∙ ap (option_map (value_at run m known)) (below_at (length (marked known known)) k within)
-    ∙ ap Some (value_of (is_readable (kind_at run.design.tree (index_of known k))) (is_none (denial_at run.design.tree m right.Read (index_of known k))) readable_is undenied)
+    ∙ ap Some (value_of (is_readable (kind_at run.design.tree (known_index known k))) (is_none (denial_at run.design.tree m right.Read (known_index known k))) readable_is undenied)
   where
     by_node : (node : Option Node) → option_map (λ n. n.kind) (option_map (seen_node design m) node) ≡ option_map (λ (n : Node). n.kind) node
     by_node None = refl
     by_node (Some node) = refl
 
-    value_of : (a b : Bool) → a ≡ true → b ≡ true → (if a && b then Some (slice_index_or run.values (index_of known k) (Unknown ∷ [])) else None) ≡ Some (slice_index_or run.values (index_of known k) (Unknown ∷ []))
+    value_of : (a b : Bool) → a ≡ true → b ≡ true → (if a && b then Some (slice_index_or run.values (known_index known k) (Unknown ∷ [])) else None) ≡ Some (slice_index_or run.values (known_index known k) (Unknown ∷ []))
     value_of true true e f = refl
     value_of true false e f = absurd (cc)
     value_of false b e f = absurd (cc)
@@ -395,9 +395,9 @@ granted_own design u s known p is change within =
         ap (λ (v : View). length v.nodes) view ∙ length-map (marked now design.tree.nodes) (seen_node design m) in
         let mv = moved_to g.moved (length g.view.nodes) in
         let moves = moved_is design.tree m known design.tree.nodes is.is_known.long (length g.view.nodes) count in
-        let gone : (o : ℕ) → is_watch_denied policy.tree m (index_of now o) ≡ is_some (denied_seen g.view right.Watch o) =
-        λ o. ap (λ (tr : Tree). is_some (denial_at tr m right.Watch (index_of now o))) is.its_tree
-        ∙ sym (ap (λ v. is_some (denied_seen v right.Watch o)) view ∙ ap is_some (denied right.Watch o) ∙ some_words (words_of design.tree) (denial_at design.tree m right.Watch (index_of now o))) in
+        let gone : (o : ℕ) → is_watch_denied policy.tree m (known_index now o) ≡ is_some (denied_seen g.view right.Watch o) =
+        λ o. ap (λ (tr : Tree). is_some (denial_at tr m right.Watch (known_index now o))) is.its_tree
+        ∙ sym (ap (λ v. is_some (denied_seen v right.Watch o)) view ∙ ap is_some (denied right.Watch o) ∙ some_words (words_of design.tree) (denial_at design.tree m right.Watch (known_index now o))) in
         record {
           its_design = is.its_design;
           its_tree = is.its_tree;

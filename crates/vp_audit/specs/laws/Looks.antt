@@ -21,7 +21,7 @@ use Rattle.vp_policy.specs.Users.{Member, has_entry}
 use Rattle.vp_policy.specs.View.{SeenStep, seen_node, seen_path, known_view, marked}
 use Rattle.vp_answer.specs.Renumbering as under
 use Rattle.vp_vpi.specs.Observers.{Absent, Denied, Found, Lookup, lookup_of}
-use Rattle.vp_audit.specs.Known.{index_of}
+use Rattle.vp_audit.specs.Known.{known_index}
 use Rattle.vp_view.specs.Seen.{from_seen, listed_in_seen, closed_seen, denial_seen, find_listed_seen, find_seen, is_in_seen, is_named_seen, last_name, listed_seen, names_seen, scope_seen, unlisted_seen, walk_seen}
 use Rattle.vp_audit.specs.laws.Denials.{AllInEnvelopes, author_is, denial_after, grant_is, has_all, has_both, node_seen}
 use Rattle.vp_audit.specs.laws.Known.{by_index, get_marked}
@@ -124,33 +124,33 @@ filter_twice p q (x ∷ xs) = by_test (q x) (filter_twice p q xs) where
 
 -- the indexes that pass a test which the marked alone pass are those of the marked that pass it
 indexes_marked : {X : Type 0} (marks : List Bool) (xs : List X) (q : ℕ → Bool) → length marks ≡ length xs → ((o : ℕ) → q o ≡ true → slice_get marks o ≡ Some true)
-    → filter q (range (length xs)) ≡ map (index_of marks) (filter (λ k. q (index_of marks k)) (range (length (marked marks xs))))
+    → filter q (range (length xs)) ≡ map (known_index marks) (filter (λ k. q (known_index marks k)) (range (length (marked marks xs))))
 indexes_marked [] [] q long h = refl
 indexes_marked [] (x ∷ xs) q long h = absurd (cc)
 indexes_marked (m ∷ marks) [] q long h = absurd (cc)
 indexes_marked (true ∷ marks) (x ∷ xs) q long h =
     let rest = indexes_marked marks xs (λ o. q (suc o)) (omega (arith, long)) (λ o is. h (suc o) is) in
     let left_side = filter_mapped suc q (range (length xs)) ∙ ap (map suc) rest in
-    let right_side = filter_mapped suc (λ k. q (index_of (true ∷ marks) k)) (range (length (marked marks xs))) in
-    one (q 0) (filter q (map suc (range (length xs)))) (filter (λ k. q (index_of (true ∷ marks) k)) (map suc (range (length (marked marks xs)))))
-    (left_side ∙ map_twice (index_of marks) suc (filter (λ k. q (suc (index_of marks k))) (range (length (marked marks xs))))
-    ∙ sym (map_twice suc (index_of (true ∷ marks)) (filter (λ k. q (suc (index_of marks k))) (range (length (marked marks xs)))))
-    ∙ sym (ap (map (index_of (true ∷ marks))) right_side))
+    let right_side = filter_mapped suc (λ k. q (known_index (true ∷ marks) k)) (range (length (marked marks xs))) in
+    one (q 0) (filter q (map suc (range (length xs)))) (filter (λ k. q (known_index (true ∷ marks) k)) (map suc (range (length (marked marks xs)))))
+    (left_side ∙ map_twice (known_index marks) suc (filter (λ k. q (suc (known_index marks k))) (range (length (marked marks xs))))
+    ∙ sym (map_twice suc (known_index (true ∷ marks)) (filter (λ k. q (suc (known_index marks k))) (range (length (marked marks xs)))))
+    ∙ sym (ap (map (known_index (true ∷ marks))) right_side))
   where
-    one : (b : Bool) (ys zs : List ℕ) → ys ≡ map (index_of (true ∷ marks)) zs → (if b then 0 ∷ ys else ys) ≡ map (index_of (true ∷ marks)) (if b then 0 ∷ zs else zs)
+    one : (b : Bool) (ys zs : List ℕ) → ys ≡ map (known_index (true ∷ marks)) zs → (if b then 0 ∷ ys else ys) ≡ map (known_index (true ∷ marks)) (if b then 0 ∷ zs else zs)
     one true ys zs e = ap (λ ws. 0 ∷ ws) e
     one false ys zs e = e
 indexes_marked (false ∷ marks) (x ∷ xs) q long h =
     let rest = indexes_marked marks xs (λ o. q (suc o)) (omega (arith, long)) (λ o is. h (suc o) is) in
     none (q 0) refl ∙ filter_mapped suc q (range (length xs)) ∙ ap (map suc) rest
-    ∙ map_twice (index_of marks) suc (filter (λ k. q (suc (index_of marks k))) (range (length (marked marks xs))))
+    ∙ map_twice (known_index marks) suc (filter (λ k. q (suc (known_index marks k))) (range (length (marked marks xs))))
   where
     none : (b : Bool) → q 0 ≡ b → (if q 0 then 0 ∷ filter q (map suc (range (length xs))) else filter q (map suc (range (length xs)))) ≡ filter q (map suc (range (length xs)))
     none true is = let no : slice_get (false ∷ marks) 0 ≡ Some true = h 0 is in absurd (cc)
     none false is = ap (λ (b : Bool). if b then 0 ∷ filter q (map suc (range (length xs))) else filter q (map suc (range (length xs)))) is
 
 -- an index that is marked is that of some number
-number_at : (marks : List Bool) (o : ℕ) → slice_get marks o ≡ Some true → (k : ℕ) × (index_of marks k ≡ o)
+number_at : (marks : List Bool) (o : ℕ) → slice_get marks o ≡ Some true → (k : ℕ) × (known_index marks k ≡ o)
 number_at [] o is = absurd (cc)
 number_at (true ∷ marks) zero is = (0, refl)
 number_at (false ∷ marks) zero is = absurd (cc)
@@ -226,42 +226,42 @@ AreKnown design u known = (o : ℕ) (node : Node) → slice_get design.tree.node
 -- a scope is there
 abbrev pub Stands : Elaborated → List Bool → (scope : Option ℕ) → Type 0
 Stands design known None = Unit {0}
-Stands design known (Some k) = (node : Node) × (slice_get design.tree.nodes (index_of known k) ≡ Some node)
+Stands design known (Some k) = (node : Node) × (slice_get design.tree.nodes (known_index known k) ≡ Some node)
 
 module _ (design : Elaborated) (u : Member) (known : List Bool) (long : length known ≡ length design.tree.nodes) (envelopes : AllInEnvelopes design.tree) where
   -- an object is listed
-  listed_is : (k : ℕ) → listed_seen (known_view design u known) k ≡ is_listed_at design.tree u (index_of known k)
+  listed_is : (k : ℕ) → listed_seen (known_view design u known) k ≡ is_listed_at design.tree u (known_index known k)
   listed_is k =
       ap (λ node. option_map_or (λ n. is_none (denial_seen (known_view design u known) right.List n.path)) node false) (node_seen design u known k long)
-      ∙ by_node (slice_get design.tree.nodes (index_of known k)) refl
+      ∙ by_node (slice_get design.tree.nodes (known_index known k)) refl
     where
-      by_node : (node : Option Node) → slice_get design.tree.nodes (index_of known k) ≡ node
+      by_node : (node : Option Node) → slice_get design.tree.nodes (known_index known k) ≡ node
           → option_map_or (λ n. is_none (denial_seen (known_view design u known) right.List n.path)) (option_map (seen_node design u) node) false
           ≡ option_map_or (is_listed design.tree u) node false
       by_node None is = refl
       by_node (Some node) is =
-          ap is_none (denial_after design u known right.List [] node.path refl (envelopes (index_of known k) node is))
+          ap is_none (denial_after design u known right.List [] node.path refl (envelopes (known_index known k) node is))
           ∙ none_mapped (words_of design.tree) (denial design.tree u right.List node.path)
           ∙ undenied_same design.tree u right.List node.path
 
   -- ---- names
 
   -- the names to an object
-  pub names_are : (k : ℕ) → names_seen (known_view design u known) k ≡ names_of (path_of design.tree.nodes (Some (index_of known k)))
+  pub names_are : (k : ℕ) → names_seen (known_view design u known) k ≡ names_of (path_of design.tree.nodes (Some (known_index known k)))
   names_are k =
       ap (λ node. map (λ (s : SeenStep). s.name) (option_map_or (λ n. n.path) node [])) (node_seen design u known k long)
-      ∙ by_node (slice_get design.tree.nodes (index_of known k))
+      ∙ by_node (slice_get design.tree.nodes (known_index known k))
     where
       by_node : (node : Option Node) → map (λ (s : SeenStep). s.name) (option_map_or (λ n. n.path) (option_map (seen_node design u) node) []) ≡ names_of (option_map_or (λ n. n.path) node [])
       by_node None = refl
       by_node (Some node) = names_same design.tree u [] node.path
 
   -- the closed list of a scope
-  pub closed_is : (scope : Option ℕ) → closed_seen (known_view design u known) scope ≡ closed_in design.tree u (option_map (index_of known) scope)
+  pub closed_is : (scope : Option ℕ) → closed_seen (known_view design u known) scope ≡ closed_in design.tree u (option_map (known_index known) scope)
   closed_is None = refl
   closed_is (Some k) =
       ap (λ node. option_map_or (λ n. n.closed_list) node []) (node_seen design u known k long)
-      ∙ by_node (slice_get design.tree.nodes (index_of known k))
+      ∙ by_node (slice_get design.tree.nodes (known_index known k))
     where
       by_node : (node : Option Node) → option_map_or (λ n. n.closed_list) (option_map (seen_node design u) node) []
           ≡ filter (is_closed u) (option_map_or (envelopes_in design.tree) (option_map (λ n. names_of n.path) node) [])
@@ -306,36 +306,36 @@ module _ (design : Elaborated) (u : Member) (known : List Bool) (long : length k
 
   -- a known object of some names, if it is listed
   known_is : Differ (keys design.tree.nodes) → (names : List (List ℕ)) (k : ℕ) → position (λ node. is_named names node.path) (marked known design.tree.nodes) ≡ Some k
-      → find_listed design.tree u names ≡ option_map (index_of known) (if listed_seen (known_view design u known) k then Some k else None)
+      → find_listed design.tree u names ≡ option_map (known_index known) (if listed_seen (known_view design u known) k then Some k else None)
   known_is differ names k found =
       let (node, there, passes) = first_passes (λ n. is_named names n.path) (marked known design.tree.nodes) k found in
-      let at : slice_get design.tree.nodes (index_of known k) ≡ Some node = sym (get_marked known design.tree.nodes k long) ∙ there in
-      let is = ap (find_named design.tree.nodes) (names_only names node.path passes) ∙ found_by_names design.tree.nodes (index_of known k) node differ at in
+      let at : slice_get design.tree.nodes (known_index known k) ≡ Some node = sym (get_marked known design.tree.nodes k long) ∙ there in
+      let is = ap (find_named design.tree.nodes) (names_only names node.path passes) ∙ found_by_names design.tree.nodes (known_index known k) node differ at in
       ap (listed_in design.tree u) is
-      ∙ ap (λ (b : Bool). if b then Some (index_of known k) else None) (sym (listed_is k))
+      ∙ ap (λ (b : Bool). if b then Some (known_index known k) else None) (sym (listed_is k))
       ∙ by_test (listed_seen (known_view design u known) k)
     where
-      by_test : (b : Bool) → (if b then Some (index_of known k) else None) ≡ option_map (index_of known) (if b then Some k else None)
+      by_test : (b : Bool) → (if b then Some (known_index known k) else None) ≡ option_map (known_index known) (if b then Some k else None)
       by_test true = refl
       by_test false = refl
 
   -- the object of some names that is listed
   find_listed_is : AreKnown design u known → Differ (keys design.tree.nodes) → (names : List (List ℕ))
-      → find_listed design.tree u names ≡ option_map (index_of known) (find_listed_seen (known_view design u known) names)
+      → find_listed design.tree u names ≡ option_map (known_index known) (find_listed_seen (known_view design u known) names)
   find_listed_is covers differ names =
       by_found (position (λ node. is_named names node.path) (marked known design.tree.nodes)) refl
-      ∙ ap (λ found. option_map (index_of known) (option_and_then (λ o. if listed_seen (known_view design u known) o then Some o else None) found)) (sym (find_is names))
+      ∙ ap (λ found. option_map (known_index known) (option_and_then (λ o. if listed_seen (known_view design u known) o then Some o else None) found)) (sym (find_is names))
     where
       by_found : (found : Option ℕ) → position (λ node. is_named names node.path) (marked known design.tree.nodes) ≡ found
           → find_listed design.tree u names
-          ≡ option_map (index_of known) (option_and_then (λ o. if listed_seen (known_view design u known) o then Some o else None)
+          ≡ option_map (known_index known) (option_and_then (λ o. if listed_seen (known_view design u known) o then Some o else None)
           (position (λ node. is_named names node.path) (marked known design.tree.nodes)))
       by_found None is =
           unknown_is covers names is
-          ∙ sym (ap (λ found. option_map (index_of known) (option_and_then (λ o. if listed_seen (known_view design u known) o then Some o else None) found)) is)
+          ∙ sym (ap (λ found. option_map (known_index known) (option_and_then (λ o. if listed_seen (known_view design u known) o then Some o else None) found)) is)
       by_found (Some k) is =
           known_is differ names k is
-          ∙ sym (ap (λ found. option_map (index_of known) (option_and_then (λ o. if listed_seen (known_view design u known) o then Some o else None) found)) is)
+          ∙ sym (ap (λ found. option_map (known_index known) (option_and_then (λ o. if listed_seen (known_view design u known) o then Some o else None) found)) is)
 
   -- an object that is listed under some names is there, and has these names
   found_stands : (names : List (List ℕ)) (k : ℕ) → find_listed_seen (known_view design u known) names ≡ Some k
@@ -347,7 +347,7 @@ module _ (design : Elaborated) (u : Member) (known : List Bool) (long : length k
     by_test true j is e =
         let same : j ≡ k = cc in
         let (node, there, passes) = first_passes (λ n. is_named names n.path) (marked known design.tree.nodes) j is in
-        let at : slice_get design.tree.nodes (index_of known k) ≡ Some node = ap (λ (i : ℕ). slice_get design.tree.nodes (index_of known i)) (sym same) ∙ sym (get_marked known design.tree.nodes j long) ∙ there in
+        let at : slice_get design.tree.nodes (known_index known k) ≡ Some node = ap (λ (i : ℕ). slice_get design.tree.nodes (known_index known i)) (sym same) ∙ sym (get_marked known design.tree.nodes j long) ∙ there in
         ((node, at), names_are k ∙ ap (λ n. names_of (option_map_or (λ (m : Node). m.path) n [])) at ∙ sym (names_only names node.path passes))
 
     by_found : (index : Option ℕ) → position (λ node. is_named names node.path) (marked known design.tree.nodes) ≡ index
@@ -390,7 +390,7 @@ module _ (design : Elaborated) (u : Member) (known : List Bool) (long : length k
   walk_step : AreKnown design u known → Differ (keys design.tree.nodes) → (n : List ℕ) (names : List (List ℕ)) (scope : Option ℕ) → Stands design known scope
       → (found : Option ℕ) → find_listed_seen (known_view design u known) (scope_seen (known_view design u known) scope ++ n ∷ []) ≡ found
       → ((k : ℕ) → Stands design known (Some k)
-      → lookup_of design.tree (walk design.tree u (look.Found (record { 0 = index_of known k })) (scope_seen (known_view design u known) (Some k)) names)
+      → lookup_of design.tree (walk design.tree u (look.Found (record { 0 = known_index known k })) (scope_seen (known_view design u known) (Some k)) names)
       ≡ under.lookup (by_index known) (walk_seen (known_view design u known) (Found k) (Some k) names))
       → lookup_of design.tree (from_found (find_listed design.tree u (scope_seen (known_view design u known) scope ++ n ∷ [])) (unlisted u (closed design.tree u (scope_seen (known_view design u known) scope)))
       (λ o. walk design.tree u (look.Found (record { 0 = o })) (scope_seen (known_view design u known) scope ++ n ∷ []) names))
@@ -401,7 +401,7 @@ module _ (design : Elaborated) (u : Member) (known : List Bool) (long : length k
       let otherwise = unlisted u (closed design.tree u (scope_seen (known_view design u known) scope)) in
       let few = subst (All (λ e. e ≤ length design.tree.authors)) (scope_closed scope stands) (closed_few (scope_seen (known_view design u known) scope)) in
       ap (λ f. lookup_of design.tree (from_found f otherwise (λ o. walk design.tree u (look.Found (record { 0 = o })) next names)))
-      (find_listed_is covers differ next ∙ ap (option_map (index_of known)) is)
+      (find_listed_is covers differ next ∙ ap (option_map (known_index known)) is)
       ∙ ap (λ es. lookup_of design.tree (unlisted u es)) (scope_closed scope stands)
       ∙ unlisted_is (closed_seen (known_view design u known) scope) few
       ∙ sym (ap (λ f. under.lookup (by_index known) (from_seen f (unlisted_seen (known_view design u known) (closed_seen (known_view design u known) scope))
@@ -411,8 +411,8 @@ module _ (design : Elaborated) (u : Member) (known : List Bool) (long : length k
       let otherwise = unlisted u (closed design.tree u (scope_seen (known_view design u known) scope)) in
       let (there, same) = found_stands next k is in
       ap (λ f. lookup_of design.tree (from_found f otherwise (λ o. walk design.tree u (look.Found (record { 0 = o })) next names)))
-      (find_listed_is covers differ next ∙ ap (option_map (index_of known)) is)
-      ∙ ap (λ (ns : List (List ℕ)). lookup_of design.tree (walk design.tree u (look.Found (record { 0 = index_of known k })) ns names)) (sym same)
+      (find_listed_is covers differ next ∙ ap (option_map (known_index known)) is)
+      ∙ ap (λ (ns : List (List ℕ)). lookup_of design.tree (walk design.tree u (look.Found (record { 0 = known_index known k })) ns names)) (sym same)
       ∙ rest k there
       ∙ sym (ap (λ f. under.lookup (by_index known) (from_seen f (unlisted_seen (known_view design u known) (closed_seen (known_view design u known) scope))
       (λ o. walk_seen (known_view design u known) (Found o) (Some o) names))) is)
@@ -425,11 +425,11 @@ module _ (design : Elaborated) (u : Member) (known : List Bool) (long : length k
   walk_is covers differ [] here found scope stands e = e
   walk_is covers differ (n ∷ names) here found scope stands e =
       walk_step covers differ n names scope stands (find_listed_seen (known_view design u known) (scope_seen (known_view design u known) scope ++ n ∷ [])) refl
-      (λ k there. walk_is covers differ names (look.Found (record { 0 = index_of known k })) (Found k) (Some k) there refl)
+      (λ k there. walk_is covers differ names (look.Found (record { 0 = known_index known k })) (Found k) (Some k) there refl)
 
   -- what is found under names in a scope
   pub named_is : AreKnown design u known → Differ (keys design.tree.nodes) → (scope : Option ℕ) → Stands design known scope → (names : List (List ℕ))
-      → lookup_of design.tree (look_in design.tree u (option_map (index_of known) scope) names)
+      → lookup_of design.tree (look_in design.tree u (option_map (known_index known) scope) names)
       ≡ under.lookup (by_index known) (walk_seen (known_view design u known) Absent scope names)
   named_is covers differ None stands names = walk_is covers differ names look.Absent Absent None stands refl
   named_is covers differ (Some k) (node, at) names =
@@ -443,10 +443,10 @@ module _ (design : Elaborated) (u : Member) (known : List Bool) (long : length k
   -- an object stands in a scope
   in_scope : (names : List (List ℕ)) (k : ℕ)
       → option_map_or (λ node. is_in_seen names node.path) (slice_get (known_view design u known).nodes k) false
-      ≡ option_map_or (is_in names) (slice_get design.tree.nodes (index_of known k)) false
+      ≡ option_map_or (is_in names) (slice_get design.tree.nodes (known_index known k)) false
   in_scope names k =
       ap (λ node. option_map_or (λ n. is_in_seen names n.path) node false) (node_seen design u known k long)
-      ∙ by_node (slice_get design.tree.nodes (index_of known k))
+      ∙ by_node (slice_get design.tree.nodes (known_index known k))
     where
       by_node : (node : Option Node) → option_map_or (λ n. is_in_seen names n.path) (option_map (seen_node design u) node) false ≡ option_map_or (is_in names) node false
       by_node None = refl
@@ -455,7 +455,7 @@ module _ (design : Elaborated) (u : Member) (known : List Bool) (long : length k
   -- what is listed there
   children_is : AreKnown design u known → (names : List (List ℕ))
       → filter (is_listed_at design.tree u) (children_named design.tree.nodes names)
-      ≡ map (index_of known) (filter (listed_seen (known_view design u known))
+      ≡ map (known_index known) (filter (listed_seen (known_view design u known))
       (filter (λ o. option_map_or (λ node. is_in_seen names node.path) (slice_get (known_view design u known).nodes o) false) (below (length (known_view design u known).nodes))))
   children_is covers names =
       let stands : ℕ → Bool = λ o. option_map_or (is_in names) (slice_get design.tree.nodes o) false in
@@ -465,15 +465,15 @@ module _ (design : Elaborated) (u : Member) (known : List Bool) (long : length k
       ∙ ap (filter (λ o. stands o && is_listed_at design.tree u o)) (below_is (length design.tree.nodes))
       ∙ indexes_marked known design.tree.nodes (λ o. stands o && is_listed_at design.tree u o) long
       (λ o is. listed_known covers o (both_of (stands o) (is_listed_at design.tree u o) is).1)
-      ∙ ap (map (index_of known)) (
-      filter_alike (λ k. stands (index_of known k) && is_listed_at design.tree u (index_of known k)) (λ k. seen k && listed_seen (known_view design u known) k)
+      ∙ ap (map (known_index known)) (
+      filter_alike (λ k. stands (known_index known k) && is_listed_at design.tree u (known_index known k)) (λ k. seen k && listed_seen (known_view design u known) k)
       (λ k. let a = in_scope names k in let b = listed_is k in cc) (range (length (marked known design.tree.nodes)))
       ∙ ap (λ (n : ℕ). filter (λ k. seen k && listed_seen (known_view design u known) k) (range n)) (sym many)
       ∙ ap (filter (λ k. seen k && listed_seen (known_view design u known) k)) (sym (below_is (length (known_view design u known).nodes)))
       ∙ sym (filter_twice (listed_seen (known_view design u known)) seen (below (length (known_view design u known).nodes))))
 
   pub listed_in_is : AreKnown design u known → (scope : Option ℕ) → Stands design known scope
-      → listed design.tree u (option_map (index_of known) scope) ≡ map (index_of known) (listed_in_seen (known_view design u known) scope)
+      → listed design.tree u (option_map (known_index known) scope) ≡ map (known_index known) (listed_in_seen (known_view design u known) scope)
   listed_in_is covers None stands = children_is covers []
   listed_in_is covers (Some k) (node, at) =
       ap (λ n. filter (is_listed_at design.tree u) (option_map_or (children_named design.tree.nodes) (option_map (λ (m : Node). names_of m.path) n) [])) at

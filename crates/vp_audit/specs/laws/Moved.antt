@@ -9,7 +9,7 @@ use Rattle.vp_elab.specs.Tree.{Node, Tree, below}
 use Rattle.vp_policy.specs.Users.{Member}
 use Rattle.vp_policy.specs.View.{marked}
 use Rattle.vp_notify.specs.Renumbered.{rises, rises_from}
-use Rattle.vp_audit.specs.Known.{known_also, index_of}
+use Rattle.vp_audit.specs.Known.{known_also, known_index}
 use Rattle.vp_audit.specs.Projections.{moved_numbers, number_in}
 use Rattle.vp_audit.specs.laws.After.{number_index}
 use Rattle.vp_audit.specs.laws.Grants.{below_length, marked_number, now_more, index_marked, index_past}
@@ -50,17 +50,17 @@ module _ (tree : Tree) (m : Member) (known : List Bool) (nodes : List Node) (lon
 
   -- the number now of a number before
   abbrev form : ℕ → ℕ
-  form k = option_map_or (λ n. n) (number_in now (index_of known k)) 0
+  form k = option_map_or (λ n. n) (number_in now (known_index known k)) 0
 
   -- each has one
-  has_number : (k : ℕ) → k < count → (j : ℕ) × (number_in now (index_of known k) ≡ Some j)
-  has_number k l = marked_number now (index_of known k) (now_more tree m known nodes long (index_of known k) (index_marked known k l))
+  has_number : (k : ℕ) → k < count → (j : ℕ) × (number_in now (known_index known k) ≡ Some j)
+  has_number k l = marked_number now (known_index known k) (now_more tree m known nodes long (known_index known k) (index_marked known k l))
 
   -- of its index
-  form_index : (k : ℕ) → k < count → index_of now (form k) ≡ index_of known k
+  form_index : (k : ℕ) → k < count → known_index now (form k) ≡ known_index known k
   form_index k l =
       let (j, number) = has_number k l in
-      ap (λ n. index_of now (option_map_or (λ (i : ℕ). i) n 0)) number ∙ number_index now (index_of known k) j number
+      ap (λ n. known_index now (option_map_or (λ (i : ℕ). i) n 0)) number ∙ number_index now (known_index known k) j number
 
   -- in their order
   form_rises : (j k : ℕ) → j < k → k < count → form j < form k
@@ -69,7 +69,7 @@ module _ (tree : Tree) (m : Member) (known : List Bool) (nodes : List Node) (lon
       let second = form_index k within in
       let before = index_in_order known k j in
       let after = index_in_order now (form k) (form j) in
-      let same : nat_le (form k) (form j) ≡ nat_le k j = sym after ∙ ap (λ (a : ℕ). nat_le a (index_of now (form j))) second ∙ ap (nat_le (index_of known k)) first ∙ before in
+      let same : nat_le (form k) (form j) ≡ nat_le k j = sym after ∙ ap (λ (a : ℕ). nat_le a (known_index now (form j))) second ∙ ap (nat_le (known_index known k)) first ∙ before in
       let not_le : nat_le k j ≡ false = grind (arith, l) in
       let none : nat_le (form k) (form j) ≡ false = same ∙ not_le in
       grind (arith, none)
@@ -82,7 +82,7 @@ module _ (tree : Tree) (m : Member) (known : List Bool) (nodes : List Node) (lon
         | inr more ↦
             let past = index_past now (form k) more in
             let there = form_index k l in
-            let inside = set_within now (index_of known k) (now_more tree m known nodes long (index_of known k) (index_marked known k l)) in
+            let inside = set_within now (known_index known k) (now_more tree m known nodes long (known_index known k) (index_marked known k l)) in
             absurd (omega (arith, past, there, inside))
       ]
     where

@@ -44,9 +44,9 @@ change_within values o (Some old) e v =
     change_test values o (same_bits old (resized (length old) v)) (record { object = record { 0 = o }; value = resized (length old) v }) refl (has_value_within values o old e)
 
 -- the same where bits of it are set
-set_within : (values : List (List Bit)) (o : ℕ) (old : Option (List Bit)) → slice_get values o ≡ old → (index : Option ℕ) (v : List Bit) → IsWithin values (set_change_of o old index v)
-set_within values o None e index v = tt
-set_within values o (Some old) e index v = change_within values o (Some old) e (set_in old index v)
+set_within : (values : List (List Bit)) (o : ℕ) (old : Option (List Bit)) → slice_get values o ≡ old → (place : Option ℕ) (v : List Bit) → IsWithin values (set_change_of o old place v)
+set_within values o None e place v = tt
+set_within values o (Some old) e place v = change_within values o (Some old) e (set_in old place v)
 
 -- and where a net is updated
 updated_within : (values : List (List Bit)) (net : Option ObjectId) (v : List Bit) → IsWithin values (updated_by values net v)
@@ -66,20 +66,20 @@ chosen false x y h = refl
 -- what the event of a procedure does
 effect_within : (values : List (List Bit)) (e : Effect) → IsWithin values (change_by values e)
 effect_within values effect.Nothing = tt
-effect_within values (effect.Assigns object index value) = set_within values object (slice_get values object) refl index value
-effect_within values (effect.Defers object index value delay) = tt
+effect_within values (effect.Assigns object place value) = set_within values object (slice_get values object) refl place value
+effect_within values (effect.Defers object place value delay) = tt
 effect_within values (effect.Pauses amount next) = tt
-effect_within values (effect.Awaits index next) = tt
+effect_within values (effect.Awaits place next) = tt
 effect_within values (effect.Proceeds next) = tt
 effect_within values effect.Finishes = tt
 
 -- and to the values
 effect_changes : (tables : Tables) (s : State) (process : ℕ) (e : Effect) → (with_effect tables s process e).values ≡ values_with s.values (change_by s.values e)
 effect_changes tables s process effect.Nothing = refl
-effect_changes tables s process (effect.Assigns object index value) = refl
-effect_changes tables s process (effect.Defers object index value delay) = chosen (delay == 0) _ _ refl
+effect_changes tables s process (effect.Assigns object place value) = refl
+effect_changes tables s process (effect.Defers object place value delay) = chosen (delay == 0) _ _ refl
 effect_changes tables s process (effect.Pauses amount next) = chosen (amount == 0) _ _ refl
-effect_changes tables s process (effect.Awaits index next) = refl
+effect_changes tables s process (effect.Awaits place next) = refl
 effect_changes tables s process (effect.Proceeds next) = refl
 effect_changes tables s process effect.Finishes = refl
 
@@ -91,8 +91,8 @@ performed_changes tables s k process rest e =
 -- what a procedure does
 turn_changes : (tables : Tables) (s : State) (k process : ℕ) (instance : ObjectId) (repeats : Bool) (body : ℕ) (remaining : Option ℕ) → Changes s.values (run_procedure tables s k process instance repeats body remaining)
 turn_changes tables s k process instance repeats body None = (refl, tt)
-turn_changes tables s k process instance repeats body (Some index) =
-    performed_changes tables s k process _ (next_effect tables s instance (next_event tables.actions index))
+turn_changes tables s k process instance repeats body (Some place) =
+    performed_changes tables s k process _ (next_effect tables s instance (next_event tables.actions place))
 
 -- what a process does
 evaluated_changes : (tables : Tables) (s : State) (k process : ℕ) (p : Option Process) → Changes s.values (evaluated tables s k process p)
