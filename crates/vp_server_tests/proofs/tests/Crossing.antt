@@ -2,7 +2,7 @@
 use denote.RattleType.{RattleType}
 use denote.Param.Send.{IsSync, sendable}
 use Rattle.std.proofs.Crossing.{crosses}
-use Rattle.std.proofs.sync.ShownBarrier.TheSendSync as barrier
+use Rattle.std.proofs.sync.Barrier.TheSendSync as barrier
 use Rattle.std.specs.declared.sync.ledger.Ledger as ledger
 use Rattle.vp_hub.proofs.Crossing.{hub_sync}
 use Rattle.vp_hub.specs.declared.opens.NamesOpening as opens

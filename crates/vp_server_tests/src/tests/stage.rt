@@ -1,6 +1,6 @@
 //! What two threads share.
 use std::alloc::Global;
-use std::sync::ShownBarrier;
+use std::sync::Barrier;
 use vp_hub::{Hub, NamesOpening};
 
 /// A hub, and where two threads wait for each other to begin.
@@ -8,7 +8,7 @@ use vp_hub::{Hub, NamesOpening};
 pub struct Stage<L: NamesOpening> {
     pub alloc: Global,
     pub hub: Hub<L>,
-    pub start: ShownBarrier,
+    pub start: Barrier,
 }
 
 impl<L: NamesOpening> Stage<L> {
@@ -17,7 +17,7 @@ impl<L: NamesOpening> Stage<L> {
         Stage {
             alloc,
             hub,
-            start: ShownBarrier::new(2),
+            start: Barrier::new(2),
         }
     }
 
