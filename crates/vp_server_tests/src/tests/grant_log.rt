@@ -3,7 +3,7 @@
 use vp_answer::{GrantChange, Reply, Request};
 use vp_bits::Bits;
 use vp_list::Same;
-use vp_policy::Barrier;
+use vp_policy::ShownBarrier;
 use vp_pragma::Right;
 use vp_world::{Entry, LoggedEvent};
 
@@ -33,7 +33,7 @@ fn is_right_value(watch: Watch, reply: &Reply) -> bool {
         Reply::Value(bits) => watch.is_open && *bits == Bits::of_number(1, 1),
         Reply::Denied(words) => {
             !watch.is_open
-                && words.by() == Barrier::Grant
+                && words.by() == ShownBarrier::Grant
                 && words.envelope() == 1
                 && words.right() == Right::Read
         }
