@@ -90,6 +90,56 @@ class Lines(unittest.TestCase):
         self.assertEqual(told(run), (1, "fault 1506 line 0\n", "fault 1506: standard input was read 16,777,216 times\n"))
 
 
+class Cuts(unittest.TestCase):
+    """The stored bundle cut after each of its bytes: the first fault of what is left, or the replies to its lines."""
+
+    bundle = (TOP / "crates" / "vp_served" / "stdin").read_bytes()
+    replies = (TOP / "crates" / "vp_served" / "stdout").read_text().splitlines()
+
+    def answered(self, end: int) -> "subprocess.CompletedProcess[bytes]":
+        """A run over the first bytes of the bundle, so many."""
+        return subprocess.run([PROGRAM], input=self.bundle[:end], capture_output=True, check=False, timeout=60)
+
+    def test_each_cut_before_the_script(self) -> None:
+        # (the last line may lack its newline)
+        script = self.bundle.rindex(b"%%\n") + len(b"%%")
+        for end in range(script):
+            run = self.answered(end)
+            self.assertEqual((run.returncode, run.stdout), (1, b"fault 1601 line 0\n"), end)
+
+    def test_each_cut_of_the_script(self) -> None:
+        begins = self.bundle.rindex(b"%%\n") + len(b"%%\n")
+        for end in range(begins - 1, len(self.bundle) + 1):
+            whole, _, begun = self.bundle[begins:end].rpartition(b"\n")
+            lines = self.answered(end).stdout.decode().splitlines()
+            count = whole.count(b"\n") + (1 if whole else 0)
+            self.assertEqual(lines[:count], self.replies[:count], end)
+            more = [self.replies[count], '{"error":"bad json"}', '{"error":"bad request"}'] if begun else []
+            self.assertEqual(len(lines) - count, 1 if begun else 0, end)
+            self.assertTrue(all(line in more for line in lines[count:]), end)
+
+
+class Nesting(unittest.TestCase):
+    """JSON is read up to 127 deep."""
+
+    def nested(self, depth: int) -> str:
+        """An array in an array, so deep."""
+        return "[" * depth + "]" * depth
+
+    def test_lines(self) -> None:
+        for depth, error in ((127, "bad request"), (128, "bad json")):
+            words = [PROGRAM, "run", "soc.v", "policy.json"]
+            run = subprocess.run(words, cwd=EXAMPLE, input=self.nested(depth), capture_output=True, encoding="utf-8", check=False)
+            self.assertEqual(run.stdout, f'{{"error":"{error}"}}\n')
+
+    def test_policies(self) -> None:
+        with tempfile.TemporaryDirectory() as folder:
+            Path(folder, "p.json").write_text('{"users":' + self.nested(127) + "}")
+            words = [PROGRAM, "check", str(EXAMPLE / "soc.v"), "p.json"]
+            run = subprocess.run(words, cwd=folder, capture_output=True, encoding="utf-8", check=False)
+        self.assertEqual((run.returncode, run.stdout), (1, "fault 901 line 0\n"))
+
+
 def wires(count: int) -> str:
     """A module with so many wires, and an expression for each."""
     items = [f"wire w{number} = a & (a | {number % 7}) ^ ~a;\n" for number in range(count)]
@@ -115,7 +165,7 @@ def policy(users: int, grants: int) -> str:
 
 
 class Memory(unittest.TestCase):
-    """Want of memory for a file, a design, a policy or a world, and for threads."""
+    """Out of memory for a file, a design, a policy or a world, and for threads."""
 
     def run_within(self, size: int, folder: Path, *words: str) -> "subprocess.CompletedProcess[str]":
         """A run of the program with so many bytes of memory."""

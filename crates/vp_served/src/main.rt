@@ -4,7 +4,12 @@
 mod serving;
 
 use crate::serving::serve_files;
+use std::net::{Net, TcpListener, TcpStream};
 use std::process::ExitCode;
+use std::rt::Files;
+use std::sync::Wait;
+use std::thread::Threads;
+use std::time::Clock;
 use std::{env, io};
 use vp_audit::Audit;
 use vp_cli::{Command, Misuse, command};
@@ -89,22 +94,31 @@ fn audit_status<R: Print + Eprint>(
     }
 }
 
-fn main(rt: HostRuntime) -> io::Result<ExitCode> {
+/// Does what the words of the command line ask, and prints the fault that ends it; the status is 1 then, and 2 where they ask nothing.
+fn obey<R>(rt: &R, words: &[String]) -> io::Result<ExitCode>
+where
+    R: AllocGlobal
+        + Files
+        + Input
+        + Print
+        + Eprint
+        + Net<Listener = TcpListener, Stream = TcpStream>
+        + Threads
+        + Wait
+        + Clock
+        + Sync,
+{
     let alloc = rt.alloc();
-    let words: Vec<String> = env::args(&rt)?.collect(alloc)?;
-    match command(alloc, &words) {
-        Ok(Command::Run { design, policy }) => run_status(&rt, run_files(&rt, design, policy)),
-        Ok(Command::Check { design, policy }) => fault_status(
-            &rt,
-            check_files(&rt, design, policy),
-        ),
+    match command(alloc, words) {
+        Ok(Command::Run { design, policy }) => run_status(rt, run_files(rt, design, policy)),
+        Ok(Command::Check { design, policy }) => fault_status(rt, check_files(rt, design, policy)),
         Ok(
             Command::View {
                 design,
                 policy,
                 user,
             },
-        ) => view_status(&rt, view_files(&rt, design, policy, user)),
+        ) => view_status(rt, view_files(rt, design, policy, user)),
         Ok(
             Command::Audit {
                 design,
@@ -112,7 +126,7 @@ fn main(rt: HostRuntime) -> io::Result<ExitCode> {
                 user,
                 explain,
             },
-        ) => audit_status(&rt, audit_files(&rt, design, policy, user, explain)),
+        ) => audit_status(rt, audit_files(rt, design, policy, user, explain)),
         Ok(
             Command::Serve {
                 design,
@@ -123,14 +137,26 @@ fn main(rt: HostRuntime) -> io::Result<ExitCode> {
             },
         ) => {
             let settings = Settings::new(workers, sessions);
-            fault_status(&rt, serve_files(&rt, design, policy, port, settings))
+            fault_status(rt, serve_files(rt, design, policy, port, settings))
         }
-        Ok(Command::Bundle) => run_status(&rt, run_input(&rt)),
-        Ok(Command::Show(text)) => print_text(&rt, &text),
+        Ok(Command::Bundle) => run_status(rt, run_input(rt)),
+        Ok(Command::Show(text)) => print_text(rt, &text),
         Err(Misuse::BadWords(text)) => {
             rt.eprint(text.as_str())?;
             Ok(ExitCode::from(2))
         }
-        Err(Misuse::NoMemory) => print_refused(&rt, &Failure::new(alloc, ServeFault::NoMemory)),
+        Err(Misuse::NoMemory) => print_refused(rt, &Failure::new(alloc, ServeFault::NoMemory)),
+    }
+}
+
+/// The words of the command line; none when out of memory.
+fn words_of(rt: &HostRuntime) -> Option<Vec<String>> {
+    env::args(rt).ok()?.collect(rt.alloc()).ok()
+}
+
+fn main(rt: HostRuntime) -> io::Result<ExitCode> {
+    match words_of(&rt) {
+        Some(words) => obey(&rt, &words),
+        None => print_refused(&rt, &Failure::new(rt.alloc(), ServeFault::NoMemory)),
     }
 }

@@ -84,7 +84,7 @@ fn opening(alloc: Global, token: &str) -> Option<Event>
     Some(Event::Open { user, token })
 }
 
-/// The event of a deed.
+/// The event of an act.
 fn event(alloc: Global, act: Act) -> Option<Event>
     ensures { (design : Elaborated) → IfSome result (IsWellFormed design) }
 {
@@ -129,7 +129,7 @@ fn outcome(world: &mut World, event: Event) -> u64
     number
 }
 
-/// What comes of deeds in turn.
+/// What comes of acts in turn.
 fn outcomes(alloc: Global, world: &mut World, acts: &[Act]) -> Option<Vec<u64>> {
     let mut outcomes = Vec::new(alloc);
     for act in acts {
@@ -139,15 +139,15 @@ fn outcomes(alloc: Global, world: &mut World, acts: &[Act]) -> Option<Vec<u64>> 
     Some(outcomes)
 }
 
-/// What comes of deeds in a world, and how long its log is then.
+/// What comes of acts in a world, and how long its log is then.
 fn history_of(alloc: Global, world: &mut World, acts: &[Act]) -> Option<(Vec<u64>, usize)> {
     let outcomes = outcomes(alloc, world, acts)?;
     Some((outcomes, world.log().len()))
 }
 
-/// The same in a new world.
-fn history(alloc: Global, limits: Limits, acts: &[Act]) -> Option<(Vec<u64>, usize)> {
-    let mut world = world_of(alloc, DESIGN, READER, limits)?;
+/// The same in a new world of a design.
+fn history(alloc: Global, design: &str, limits: Limits, acts: &[Act]) -> Option<(Vec<u64>, usize)> {
+    let mut world = world_of(alloc, design, READER, limits)?;
     let history = history_of(alloc, &mut world, acts);
     drop(world);
     history
@@ -180,7 +180,9 @@ fn run_of_a_world(rt: HostRuntime) {
     let want = [
         1303, 1306, 1302, 1, 2, 1305, 1305, 0, 802, 803, 0, 0, 801, 1, 1306, 801, 0, 0, 1303, 1303,
     ];
-    let (outcomes, entries) = history(rt.alloc(), Limits::GREATEST, &acts).expect(&rt, "a world");
+    let (outcomes, entries) = history(rt.alloc(), DESIGN, Limits::GREATEST, &acts).expect(
+        &rt, "a world",
+    );
     assert_eq!(rt; outcomes.as_slice(), want.as_slice());
     assert_eq!(rt; entries, 8);
 }
@@ -206,8 +208,46 @@ fn limits_of_a_world(rt: HostRuntime) {
         ),
     ];
     for (limits, acts, want, length) in rows {
-        let (outcomes, entries) = history(rt.alloc(), limits, &acts).expect(&rt, "a world");
+        let (outcomes, entries) = history(rt.alloc(), DESIGN, limits, &acts).expect(&rt, "a world");
         assert_eq!(rt; outcomes.as_slice(), want.as_slice());
         assert_eq!(rt; entries, length);
     }
+}
+
+/// An opening, a run, 99 steps, and a request.
+fn endless_acts(alloc: Global) -> Option<Vec<Act>> {
+    let mut acts = Vec::new(alloc);
+    acts.push(Act::Open).ok()?;
+    acts.push(Act::Run).ok()?;
+    for _ in 0..99 {
+        acts.push(Act::Step(0)).ok()?;
+    }
+    acts.push(Act::Time).ok()?;
+    Some(acts)
+}
+
+/// What comes of these where 100 entries are all: the last step and the request are refused by a full log.
+fn endless_outcomes(alloc: Global) -> Option<Vec<u64>> {
+    let mut outcomes = Vec::new(alloc);
+    outcomes.push(1).ok()?;
+    for _ in 0..99 {
+        outcomes.push(0).ok()?;
+    }
+    outcomes.push(1304).ok()?;
+    outcomes.push(1304).ok()?;
+    Some(outcomes)
+}
+
+#[test]
+fn time_slot_without_an_end(rt: HostRuntime) {
+    let limits = Limits {
+        log: 100,
+        ..Limits::GREATEST
+    };
+    let design = "module top; initial forever ; endmodule";
+    let acts = endless_acts(rt.alloc()).expect(&rt, "acts");
+    let want = endless_outcomes(rt.alloc()).expect(&rt, "outcomes");
+    let (outcomes, entries) = history(rt.alloc(), design, limits, &acts).expect(&rt, "a world");
+    assert_eq!(rt; outcomes.as_slice(), want.as_slice());
+    assert_eq!(rt; entries, 100);
 }
