@@ -1,0 +1,177 @@
+"""The front end as a whole: from files to the text, the map and the report."""
+
+from __future__ import annotations
+
+import json
+import os
+import tempfile
+from dataclasses import dataclass, field
+from pathlib import Path
+from typing import Any, Dict, List, Optional, Sequence, Tuple
+
+from .headers import Passed, passed_modules
+from .lowering import Lowered, Lowering, module_names
+from .modules import Layout, Module, Splitter
+from .netlist import ASSIGNING, PROCEDURAL, Bufferer
+from .pragmas import Envelope
+from .places import Places, source_name
+from .printing import in_envelope, printed
+from .refusal import Refusal
+from .report import Account, account_of
+from .sources import Reader, Sources
+from .yosys import Yosys
+
+MOST_BYTES = 1 << 20
+# The passes of `proc`, without proc_rom and opt_expr, which join what stands in different places.
+PROCEDURES = "proc_clean; proc_rmdead; proc_prune; proc_init; proc_arst; proc_mux; proc_dlatch; proc_dff; proc_memwr; proc_clean"
+
+
+@dataclass
+class Result:
+    """What the front end makes: the design's text, the map of names, and an account of each module."""
+
+    text: str
+    names: Dict[str, Any]
+    accounts: List[Account] = field(default_factory=list)
+
+
+def lower(top: str, files: Sequence[str], define: Sequence[str] = (), include: Sequence[str] = (), lower_all: bool = False) -> Result:
+    """Turns the files of a design into text that the server reads. Raises `Refusal`."""
+    with tempfile.TemporaryDirectory(prefix="loddrume-lower-") as folder:
+        yosys = Yosys(folder)
+        reader = Reader(yosys, include, define)
+        sources = reader.read(files)
+        layout = Splitter(sources.tokens, sources.pragmas).split()
+        if top not in layout.modules:
+            raise Refusal(files[0] if files else "", 0, f"no module {top}", "name a module of the files by --top")
+        netlist = elaborated(yosys, reader, layout, top, sources)
+    return Assembly(top, netlist, layout, sources, Places(layout), lower_all).result()
+
+
+def elaborated(yosys: Yosys, reader: Reader, layout: Layout, top: str, sources: Sources) -> Dict[str, Any]:
+    """The netlist of a design as Yosys's JSON, with sources that name the files of the origin."""
+    folder = Path(yosys.folder)
+    (folder / "flat.v").write_bytes(sources.flat.encode("utf-8", errors="surrogateescape"))
+    escaped = top if top.isidentifier() else f"\\{top}"
+    bufferer = Bufferer(Places(layout, reader.origin))
+    yosys.run(f"read_verilog -nopp flat.v; hierarchy -check -top {escaped}; write_rtlil read.il", origin=reader.origin)
+    _buffer(bufferer, folder, "read.il", ASSIGNING)
+    yosys.run(f"read_rtlil read.il; {PROCEDURES}; write_rtlil procedures.il", origin=reader.origin)
+    _buffer(bufferer, folder, "procedures.il", PROCEDURAL)
+    yosys.run("read_rtlil procedures.il; memory_collect; write_json netlist.json", origin=reader.origin)
+    netlist: Dict[str, Any] = json.loads((folder / "netlist.json").read_text(encoding="utf-8", errors="surrogateescape"))
+    _rename_sources(netlist, reader)
+    return netlist
+
+
+def _buffer(bufferer: Bufferer, folder: Path, name: str, kinds: Tuple[str, ...]) -> None:
+    """Rewrites a file of RTLIL. It is done before procedures are lowered and after, since Yosys reads through connections."""
+    text = (folder / name).read_text(encoding="utf-8", errors="surrogateescape")
+    (folder / name).write_text(bufferer.rewrite(text, kinds), encoding="utf-8", errors="surrogateescape")
+
+
+def _rename_sources(netlist: Dict[str, Any], reader: Reader) -> None:
+    """Lets every source name the file of the origin, in place of its copy."""
+    for module in netlist["modules"].values():
+        for what in [module, *module["cells"].values(), *module["netnames"].values()]:
+            source = what.get("attributes", {}).get("src")
+            if source:
+                parts = [part.rpartition(":") for part in source.split("|")]
+                what["attributes"]["src"] = "|".join(f"{reader.origin(file)}:{where}" for file, _, where in parts)
+
+
+class Assembly:
+    """Puts the text together from modules that are passed on and modules that are lowered."""
+
+    def __init__(self, top: str, netlist: Dict[str, Any], layout: Layout, sources: Sources, places: Places, lower_all: bool = False) -> None:
+        self._top = top
+        self._netlist = netlist
+        self._layout = layout
+        self._sources = sources
+        self._places = places
+        self._named = module_names(netlist, source_name)
+        self._passed: Dict[str, Passed] = {} if lower_all else passed_modules(layout, sources, netlist)
+
+    def result(self) -> Result:
+        """The text and its map."""
+        parts: List[str] = []
+        names: Dict[str, Any] = {"version": 1, "top": self._named[self._top], "modules": {}, "envelopes": []}
+        accounts: List[Account] = []
+        for name in self._order():
+            module = self._layout.modules[source_name(name)]
+            passed = self._passed.get(name)
+            lowered = None if passed and not passed.fault else Lowering(name, self._netlist, self._named, module, self._places).lower()
+            text = passed.text if passed and lowered is None else printed(lowered, module.place, self._layout.envelopes, self._inside(module))  # type: ignore[arg-type]
+            parts.append(self._wrapped(name, module, text, names))
+            names["modules"][self._named[name]] = _entry(module, lowered, passed)
+            accounts.append(account_of(self._named[name], module, lowered, passed))
+        text = "\n".join(parts)
+        if len(text.encode()) > MOST_BYTES:
+            module = self._layout.modules[self._top]
+            raise Refusal(module.file, module.line, f"a text of {len(text.encode())} bytes", f"make memories smaller: at most {MOST_BYTES} bytes")
+        return Result(text, names, accounts)
+
+    def _order(self) -> List[str]:
+        """The modules in the order of the text, and those derived from one after it."""
+        order = {name: at for at, name in enumerate(self._layout.modules)}
+        kept = [name for name in self._netlist["modules"] if source_name(name) in order]
+        return sorted(kept, key=lambda name: (order[source_name(name)], name.startswith("$"), name))
+
+    def _inside(self, module: Module) -> List[int]:
+        return sorted(number for number, home in self._layout.homes.items() if home == module.name and number)
+
+    def _wrapped(self, name: str, module: Module, text: str, names: Dict[str, Any]) -> str:
+        """The text of a module, between pragmas where the module stands in an envelope as a whole."""
+        place = self._outer(name, module)
+        listed = [place] if place else self._inside(module)
+        for number in listed:
+            envelope = self._layout.envelopes[number]
+            names["envelopes"].append(
+                {"number": len(names["envelopes"]) + 1, "author": json.loads(envelope.author), "file": envelope.file, "line": envelope.line, "module": self._named[name]}
+            )
+        if not place:
+            return text
+        return "\n".join(in_envelope(text.rstrip("\n").split("\n"), self._layout.envelopes[place], [])) + "\n"
+
+    def _outer(self, name: str, module: Module) -> int:
+        """The envelope of a module as a whole: its own, or that of the instances which alone set its parameters."""
+        if module.place or not name.startswith("$paramod"):
+            return module.place
+        places = {place for place, _ in instances_of(name, self._netlist, self._layout, self._places)}
+        if 0 in places or not places:
+            return 0
+        authors = {self._layout.envelopes[place].author for place in places}
+        if len(authors) > 1 or self._inside(module):
+            envelope: Envelope = self._layout.envelopes[min(places)]
+            raise Refusal(envelope.file, envelope.line, f"parameters of {module.name} are set in an envelope, and it has envelopes of its own, or more than one author sets them", "set them outside")
+        return min(places)
+
+
+def instances_of(name: str, netlist: Dict[str, Any], layout: Layout, places: Places) -> List[Any]:
+    """The place and the origin of each instance of a module."""
+    found = []
+    for parent, data in netlist["modules"].items():
+        module = layout.modules.get(source_name(parent))
+        for cell in data["cells"].values():
+            if module and cell["type"] == name:
+                source = cell.get("attributes", {}).get("src", "")
+                found.append((places.place(source, module, f"an instance of {source_name(name)}"), places.origin(source)))
+    return found
+
+
+def _entry(module: Module, lowered: Optional[Lowered], passed: Optional[Passed]) -> Dict[str, Any]:
+    entry: Dict[str, Any] = {"module": module.name, "file": module.file, "line": module.line}
+    if lowered is None:
+        return {**entry, "how": passed.how if passed else "", "names": {}, "instances": {}}
+    changed = {old: new for old, new in lowered.names.items()}
+    instances = {old: {"name": new, "module": child} for old, (new, child) in lowered.instances.items()}
+    return {**entry, "how": "lowered", "names": changed, "instances": instances}
+
+
+def write(result: Result, output: str, names: Optional[str]) -> None:
+    """Writes the text and the map, each whole or not at all."""
+    for path, text in ((output, result.text), (names, json.dumps(result.names, indent=1) + "\n")):
+        if path:
+            part = Path(path + ".part")
+            part.write_text(text, encoding="utf-8", errors="surrogateescape")
+            os.replace(part, path)

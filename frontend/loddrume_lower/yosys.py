@@ -1,0 +1,42 @@
+"""Runs Yosys in a folder, and tells its faults by the file and line of the origin."""
+
+from __future__ import annotations
+
+import re
+import shutil
+import subprocess
+from typing import Callable
+
+from .refusal import Refusal
+
+_FAULT = re.compile(r"^(?:(?P<file>[^\s:]+):(?P<line>\d+): )?ERROR: (?P<words>.*)", re.MULTILINE)
+
+
+class Yosys:
+    """Yosys, with a folder in which its files lie."""
+
+    def __init__(self, folder: str, program: str = "yosys") -> None:
+        self.folder = folder
+        self._program = program
+        if not shutil.which(program):
+            raise Refusal("", 0, f"{program} is not installed", "on Debian: apt-get install yosys")
+
+    def run(self, script: str, quiet: bool = True, check: bool = True, origin: Callable[[str], str] = str) -> str:
+        """Runs a script, and gives what was printed."""
+        words = [self._program, *(["-q"] if quiet else []), "-p", script]
+        ran = subprocess.run(
+            words, cwd=self.folder, stdout=subprocess.PIPE, stderr=subprocess.STDOUT, encoding="utf-8", errors="surrogateescape", check=False
+        )
+        if check and ran.returncode:
+            self.fail(ran.stdout, origin)
+        return ran.stdout
+
+    def fail(self, told: str, origin: Callable[[str], str]) -> None:
+        """Raises a refusal with what Yosys told of its fault."""
+        found = _FAULT.search(told)
+        if not found:
+            raise Refusal("", 0, f"yosys failed: {told.strip()[-300:]}")
+        words = re.sub(r"\bsource\d+\.v\b", lambda name: origin(name.group()), found["words"])
+        if found["file"]:
+            raise Refusal(origin(found["file"]), int(found["line"]), f"yosys refuses it: {words}", "write it otherwise")
+        raise Refusal("", 0, f"yosys refuses it: {words}", "write it otherwise")

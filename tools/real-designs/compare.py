@@ -1,0 +1,390 @@
+#!/usr/bin/env python3
+"""Tries the front end on the designs of a list, and compares each with Icarus Verilog on the original.
+
+    compare.py SOURCES PROGRAM FOLDER [NAME ..]
+
+SOURCES is a folder with the Debian source packages, one folder each (see fetch.sh); PROGRAM is vp_served; FOLDER takes what is made.
+Each design is lowered. Then 1,000 cycles of random inputs, with the reset first, run in both simulators, and all names that the map
+keeps are compared, bit by bit, at each cycle. `results.json` in FOLDER has a record for each design, and `table.md` the table.
+Where under 90 percent of the bits are known in both, a second run sets each reg to a random value before the first cycle.
+"""
+
+from __future__ import annotations
+
+import json
+import random
+import re
+import subprocess
+import sys
+import time
+from dataclasses import dataclass, field
+from pathlib import Path
+from typing import Any, Dict, Iterator, List, Optional, Tuple
+
+HERE = Path(__file__).resolve().parent
+sys.path.insert(0, str(HERE.parents[1] / "frontend"))
+
+from loddrume_lower.front import Result, lower, write  # noqa: E402
+from loddrume_lower.refusal import Refusal  # noqa: E402
+
+CYCLES = 1000
+RESET_CYCLES = 8
+SETTLED = 10
+POLICY = '{"users":[{"name":"ann","token":"t","open":"list+read+watch+put","run":true}]}'
+
+
+@dataclass
+class Design:
+    """A line of the list."""
+
+    name: str
+    package: str
+    top: str
+    clocks: List[str]
+    reset: Optional[Tuple[str, str]]
+    files: List[str]
+
+
+@dataclass
+class Port:
+    """A port of the top module: its name in the original, the names of its parts, lowest part first, and their widths."""
+
+    name: str
+    direction: str
+    parts: List[Tuple[str, int]] = field(default_factory=list)
+
+    @property
+    def width(self) -> int:
+        return sum(width for _, width in self.parts)
+
+
+def designs(path: Path) -> Iterator[Design]:
+    """The designs of the list."""
+    for line in path.read_text(encoding="utf-8").splitlines():
+        if line.startswith("#") or not line.strip():
+            continue
+        name, package, top, clocks, reset, files = (part.strip() for part in line.split("|"))
+        level = tuple(reset.split(":")) if reset != "-" else None
+        yield Design(name, package, top, clocks.split(",") if clocks != "-" else [], level, files.split())  # type: ignore[arg-type]
+
+
+def top_ports(text: str, names: Dict[str, Any]) -> List[Port]:
+    """The ports of the top module, by the header of the lowered text and the map."""
+    top = names["top"]
+    header = re.search(rf"^module {re.escape(top)}\s*\((.*?)\);", text, re.MULTILINE | re.DOTALL)
+    assert header, f"no header of {top}"
+    was = {new: (old, at) for old, parts in names["modules"][top]["names"].items() for at, new in enumerate(parts)}
+    ports: Dict[str, Port] = {}
+    direction, bounds = "", ""
+    for part in filter(str.strip, header[1].split(",")):
+        found = re.fullmatch(r"\s*(?:(input|output)\s*(?:wire|reg)?\s*(\[\d+:\d+\])?\s*)?([\w$]+)\s*", part)
+        assert found, part
+        direction, bounds = (found[1], found[2] or "") if found[1] else (direction, bounds)
+        width = 1
+        if bounds:
+            high, low = map(int, bounds.strip("[]").split(":"))
+            width = high - low + 1
+        old, _ = was.get(found[3], (found[3], 0))
+        ports.setdefault(old, Port(old, direction)).parts.append((found[3], width))
+    return list(ports.values())
+
+
+def names_of(names: Dict[str, Any], module: str, old: str, new: str) -> Iterator[Tuple[str, List[str]]]:
+    """Each kept name below an instance: its path in the original, and the paths of its parts."""
+    entry = names["modules"][module]
+    for name, parts in entry["names"].items():
+        yield f"{old}.{name}", [f"{new}.{part}" for part in parts]
+    for name, instance in entry["instances"].items():
+        yield from names_of(names, instance["module"], f"{old}.{name}", f"{new}.{instance['name']}")
+
+
+def stimulus(ports: List[Port], design: Design) -> List[Dict[str, str]]:
+    """For each cycle the digits of each input that is no clock."""
+    chance = random.Random(design.name)
+    inputs = [port for port in ports if port.direction == "input" and port.name not in design.clocks]
+    result = []
+    for cycle in range(CYCLES):
+        values = {port.name: format(chance.getrandbits(port.width), f"0{port.width}b") for port in inputs}
+        if design.reset:
+            name, level = design.reset
+            values[name] = level if cycle < RESET_CYCLES else "10"[int(level)]
+        result.append(values)
+    return result
+
+
+# ---- Icarus
+
+
+def icarus_bench(design: Design, ports: List[Port], kept: List[str], cycles: List[Dict[str, str]], regs: Dict[str, str], folder: Path) -> str:
+    """The testbench for the original."""
+    inputs = [port for port in ports if port.direction == "input" and port.name not in design.clocks]
+    width = sum(port.width for port in inputs) or 1
+    (folder / "stimulus.txt").write_text("".join("".join(values[port.name] for port in inputs) + "\n" if inputs else "0\n" for values in cycles), encoding="utf-8")
+    lines = ["`timescale 1ns/1ns", "module loddrume_bench;", "  integer cycle;", f"  reg [{width - 1}:0] rows [0:{CYCLES - 1}];", f"  reg [{width - 1}:0] row;"]
+    for port in ports:
+        lines.append(f"  {'reg' if port.direction == 'input' else 'wire'} [{port.width - 1}:0] {port.name};")
+    lines.append(f"  {design.top} dut({', '.join(f'.{port.name}({port.name})' for port in ports)});")
+    lines.append('  initial begin\n    $readmemb("stimulus.txt", rows);')
+    lines += [f"    {clock} = 0;" for clock in design.clocks]
+    lines.append("    #1;")
+    lines += [f"    loddrume_bench.{name} = {len(value)}'b{value};" for name, value in regs.items()]
+    lines.append(f"    for (cycle = 0; cycle < {CYCLES}; cycle = cycle + 1) begin\n      #1 row = rows[cycle];")
+    if inputs:
+        lines.append(f"      {{{', '.join(port.name for port in inputs)}}} = row;")
+    for clock in design.clocks:
+        lines.append(f"      #2 {clock} = 1;")
+    lines.append("      #3 sample;")
+    for clock in design.clocks:
+        lines.append(f"      #2 {clock} = 0;")
+    lines += ["    end\n    $finish(0);\n  end", "  task sample; begin"]
+    lines += [f'    $display("%b", loddrume_bench.{name});' for name in kept]
+    lines += ["  end endtask", "endmodule", ""]
+    return "\n".join(lines)
+
+
+def icarus(design: Design, sources: Path, ports: List[Port], kept: List[str], cycles: List[Dict[str, str]], regs: Dict[str, str], folder: Path) -> Tuple[List[str], List[List[str]]]:
+    """The values of the kept names at each cycle. Names that Icarus does not find are left out."""
+    files = [str(sources / design.package / file) for file in design.files]
+    kept = list(kept)
+    while True:
+        (folder / "bench.v").write_text(icarus_bench(design, ports, kept, cycles, regs, folder), encoding="utf-8")
+        made = subprocess.run(["iverilog", "-g2005-sv" if design.package == "verilator" else "-g2005", "-s", "loddrume_bench", "-o", "bench.vvp", *files, "bench.v"], cwd=folder, capture_output=True, text=True, check=False)
+        if not made.returncode:
+            break
+        missing = {word for line in made.stderr.splitlines() for word in re.findall(r"bench\.v:(\d+):", line)}
+        lines = (folder / "bench.v").read_text(encoding="utf-8").splitlines()
+        wrong = {found[1] for number in missing if (found := re.search(r"loddrume_bench\.(\S+?)(?:\)| =)", lines[int(number) - 1]))}
+        if not wrong:
+            raise RuntimeError(f"iverilog: {made.stderr.strip()[:300]}")
+        kept = [name for name in kept if name not in wrong]
+        regs = {name: value for name, value in regs.items() if name not in wrong}
+    ran = subprocess.run(["vvp", "-n", "bench.vvp"], cwd=folder, capture_output=True, text=True, check=False)
+    values = [line for line in ran.stdout.splitlines() if re.fullmatch("[01xz]+", line)]
+    if len(values) != len(kept) * CYCLES:
+        raise RuntimeError(f"vvp printed {len(values)} values, not {len(kept) * CYCLES}: {ran.stdout[:200]} {ran.stderr[:200]}")
+    return kept, [values[at * len(kept) : (at + 1) * len(kept)] for at in range(CYCLES)]
+
+
+# ---- the server's program
+
+
+def server_bench(names: Dict[str, Any], ports: List[Port]) -> str:
+    """A module that instantiates the lowered top, with a reg for each input."""
+    lines = ["module loddrume_bench;"]
+    words = []
+    for port in ports:
+        for part, width in port.parts:
+            bounds = f"[{width - 1}:0] " if width > 1 else ""
+            lines.append(f"  {'reg' if port.direction == 'input' else 'wire'} {bounds}{part};")
+            words.append(f".{part}({part})")
+    lines += [f"  {names['top']} dut({', '.join(words)});", "  initial forever #1 ;", "endmodule", ""]
+    return "\n".join(lines)
+
+
+class Script:
+    """Requests for `vp_served run`, and which replies are wanted."""
+
+    def __init__(self) -> None:
+        self.lines: List[str] = []
+        self.wanted: List[int] = []
+        self.handles: Dict[str, int] = {}
+        self.ask(op="open", user="ann", token="t")
+
+    def ask(self, **words: Any) -> None:
+        self.lines.append(json.dumps(words))
+
+    def handle(self, path: str) -> int:
+        if path not in self.handles:
+            self.handles[path] = len(self.handles) + 1
+            self.ask(op="handle", name=path)
+        return self.handles[path]
+
+    def put(self, path: str, value: str) -> None:
+        self.ask(op="put", h=self.handle(path), value=value)
+
+    def want(self, path: str) -> None:
+        number = self.handle(path)
+        self.wanted.append(len(self.lines))
+        self.ask(op="value", h=number)
+
+    def run(self, program: str, folder: Path) -> List[Dict[str, Any]]:
+        text = "\n".join(self.lines) + "\n"
+        ran = subprocess.run([program, "run", "served.v", "policy.json"], cwd=folder, input=text, capture_output=True, text=True, check=False)
+        replies = ran.stdout.splitlines()
+        if len(replies) != len(self.lines):
+            raise RuntimeError(f"vp_served: {ran.stdout[:200]} {ran.stderr[:300]}")
+        return [json.loads(reply) for reply in replies]
+
+
+def put_port(script: Script, port: Port, value: str) -> None:
+    low = 0
+    for part, width in port.parts:
+        script.put(f"loddrume_bench.{part}", value[len(value) - low - width : len(value) - low])
+        low += width
+
+
+def server(design: Design, program: str, ports: List[Port], kept: Dict[str, List[str]], cycles: List[Dict[str, str]], regs: Dict[str, str], folder: Path) -> List[List[str]]:
+    """The values of the kept names at each cycle."""
+    script = Script()
+    by_name = {port.name: port for port in ports}
+    script.ask(op="run", until=0)
+    for clock in design.clocks:
+        put_port(script, by_name[clock], "0")
+    for path, value in regs.items():
+        script.put(path, value)
+    now = 1
+    script.ask(op="run", until=now)
+    for values in cycles:
+        for name, value in values.items():
+            put_port(script, by_name[name], value)
+        for level in "10":
+            for clock in design.clocks:
+                now += 2
+                script.ask(op="run", until=now)
+                put_port(script, by_name[clock], level)
+            now += 2
+            script.ask(op="run", until=now)
+            if level == "1":
+                for parts in kept.values():
+                    for part in reversed(parts):
+                        script.want("loddrume_bench." + part)
+    replies = script.run(program, folder)
+    bad = [(line, reply) for line, reply in zip(script.lines, replies) if "error" in reply or "denied" in reply]
+    if bad:
+        raise RuntimeError(f"vp_served: {bad[0]}")
+    digits = iter([replies[at]["value"] for at in script.wanted])
+    return [["".join(next(digits) for _ in parts) for parts in kept.values()] for _ in cycles]
+
+
+def regs_of(program: str, kept: Dict[str, List[str]], folder: Path, seed: str) -> Tuple[Dict[str, str], Dict[str, str]]:
+    """A random value for each kept reg of one part: by its name in the original, and by its path on the server."""
+    script = Script()
+    paths = {name: parts[0] for name, parts in kept.items() if len(parts) == 1 and not name.count(".") == 0}
+    for part in paths.values():
+        script.handle("loddrume_bench." + part)
+    for at in range(len(paths)):
+        script.ask(op="get_str", h=at + 1, prop="type")
+        script.ask(op="get", h=at + 1, prop="size")
+    replies = script.run(program, folder)[1 + len(paths) :]
+    chance = random.Random(seed)
+    old: Dict[str, str] = {}
+    new: Dict[str, str] = {}
+    for at, (name, part) in enumerate(paths.items()):
+        if replies[2 * at].get("s") == "vpiReg":
+            size = replies[2 * at + 1]["n"]
+            old[name] = new["loddrume_bench." + part] = format(chance.getrandbits(size), f"0{size}b")
+    return old, new
+
+
+# ---- comparison
+
+
+def compared(ours: List[List[str]], theirs: List[List[str]], kept: List[str]) -> Dict[str, Any]:
+    """Counts of compared bits after the reset, and the names that differ."""
+    counts = {"equal": 0, "unequal": 0, "x in Icarus": 0, "x on the server": 0, "x in both": 0}
+    differing: Dict[str, int] = {}
+    unknown: Dict[str, int] = {}
+    for cycle in range(SETTLED, CYCLES):
+        for name, our, their in zip(kept, ours[cycle], theirs[cycle]):
+            if our == their and "x" not in our and "z" not in our:
+                counts["equal"] += len(our)
+                continue
+            if len(our) != len(their):
+                raise RuntimeError(f"{name} has {len(our)} bits on the server and {len(their)} in Icarus")
+            for one, other in zip(our, their):
+                kind = _kind(one in "01", other in "01", one == other)
+                counts[kind] += 1
+                if kind == "unequal":
+                    differing.setdefault(name, cycle)
+                elif kind != "equal":
+                    unknown[name] = unknown.get(name, 0) + 1
+    total = sum(counts.values()) or 1
+    known = counts["equal"] + counts["unequal"]
+    return {**counts, "known": round(100 * known / total, 2), "differing": differing, "unknown": dict(sorted(unknown.items(), key=lambda item: -item[1])[:8])}
+
+
+def _kind(ours: bool, theirs: bool, same: bool) -> str:
+    if ours and theirs:
+        return "equal" if same else "unequal"
+    return "x in Icarus" if ours else "x on the server" if theirs else "x in both"
+
+
+def simulate(design: Design, result: Result, sources: Path, program: str, folder: Path, setting: bool) -> Dict[str, Any]:
+    """Runs both simulators on a design, and compares."""
+    ports = top_ports(result.text, result.names)
+    (folder / "served.v").write_text(result.text + server_bench(result.names, ports), encoding="utf-8")
+    (folder / "policy.json").write_text(POLICY, encoding="utf-8")
+    cycles = stimulus(ports, design)
+    kept = dict(names_of(result.names, result.names["top"], "dut", "dut"))
+    old, new = regs_of(program, kept, folder, design.name) if setting else ({}, {})
+    found, theirs = icarus(design, sources, ports, list(kept), cycles, old, folder)
+    ours = server(design, program, ports, {name: kept[name] for name in found}, cycles, new, folder)
+    return {"names": len(found), "not in Icarus": len(kept) - len(found), "set": setting, **compared(ours, theirs, found)}
+
+
+def tried(design: Design, sources: Path, program: str, folder: Path) -> Dict[str, Any]:
+    """The record of one design."""
+    folder.mkdir(parents=True, exist_ok=True)
+    record: Dict[str, Any] = {"name": design.name, "package": design.package, "top": design.top}
+    began = time.monotonic()
+    try:
+        result = lower(design.top, [str(sources / design.package / file) for file in design.files])
+    except Refusal as refusal:
+        return {**record, "status": "refused", "why": str(refusal).replace(str(sources) + "/", "")}
+    write(result, str(folder / "design.v"), str(folder / "names.json"))
+    record["seconds"] = round(time.monotonic() - began, 2)
+    record["bytes"] = len(result.text)
+    record["how"] = {account.name: account.how for account in result.accounts}
+    checked = subprocess.run([program, "check", "design.v"], cwd=folder, capture_output=True, text=True, check=False)
+    if checked.returncode:
+        return {**record, "status": "not read", "why": checked.stderr[:400]}
+    try:
+        compare = simulate(design, result, sources, program, folder, False)
+        if compare["known"] < 90:
+            record["without setting"] = {key: compare[key] for key in ("known", "unequal")}
+            compare = simulate(design, result, sources, program, folder, True)
+    except RuntimeError as error:
+        return {**record, "status": "not compared", "why": str(error)}
+    return {**record, "status": "compared", **compare}
+
+
+def table(records: List[Dict[str, Any]]) -> str:
+    """The table of results, in Markdown."""
+    lines = [
+        "| Design | Package | In | Names | Bits compared | Known in both | Unequal | x in both | x in Icarus alone | x on the server alone | Regs set |",
+        "|---|---|---|---|---|---|---|---|---|---|---|",
+    ]
+    for record in records:
+        if record["status"] != "compared":
+            lines.append(f"| {record['name']} | {record['package']} | {record['status']}: {record.get('why', '').splitlines()[0][:160]} | | | | | | | | |")
+            continue
+        total = sum(record[key] for key in ("equal", "unequal", "x in Icarus", "x on the server", "x in both"))
+        hows = sorted(set(record["how"].values()))
+        lines.append(
+            f"| {record['name']} | {record['package']} | {', '.join(hows)} | {record['names']} | {total:,} | {record['known']} % | {record['unequal']} | "
+            f"{record['x in both']:,} | {record['x in Icarus']:,} | {record['x on the server']:,} | {'yes' if record['set'] else 'no'} |"
+        )
+    return "\n".join(lines) + "\n"
+
+
+def main(words: List[str]) -> int:
+    """Tries all designs, or those that are named."""
+    sources, program, folder = Path(words[0]).resolve(), str(Path(words[1]).resolve()), Path(words[2]).resolve()
+    folder.mkdir(parents=True, exist_ok=True)
+    kept = folder / "results.json"
+    records = {record["name"]: record for record in json.loads(kept.read_text(encoding="utf-8"))} if kept.exists() else {}
+    listed = list(designs(HERE / "designs.list"))
+    for design in listed:
+        if words[3:] and design.name not in words[3:]:
+            continue
+        records[design.name] = tried(design, sources, program, folder / design.name)
+        record = records[design.name]
+        print(design.name, record["status"], record.get("why", ""), {key: record[key] for key in ("known", "unequal", "set", "seconds") if key in record}, flush=True)
+        ordered = [records[one.name] for one in listed if one.name in records]
+        kept.write_text(json.dumps(ordered, indent=1), encoding="utf-8")
+        (folder / "table.md").write_text(table(ordered), encoding="utf-8")
+    return 0
+
+
+if __name__ == "__main__":
+    sys.exit(main(sys.argv[1:]))
