@@ -11,7 +11,7 @@ from typing import Any, Dict, List, Optional, Sequence, Tuple
 
 from .headers import Passed, passed_modules
 from .lowering import Lowered, Lowering, module_names
-from .modules import Layout, Module, Splitter
+from .modules import Layout, Module, Splitter, instantiated
 from .netlist import ASSIGNING, PROCEDURAL, Bufferer
 from .pragmas import Envelope
 from .places import Places, source_name
@@ -44,8 +44,25 @@ def lower(top: str, files: Sequence[str], define: Sequence[str] = (), include: S
         layout = Splitter(sources.tokens, sources.pragmas).split()
         if top not in layout.modules:
             raise Refusal(files[0] if files else "", 0, f"no module {top}", "name a module of the files by --top")
+        refuse_absent_modules(layout, top)
         netlist = elaborated(yosys, reader, layout, top, sources)
     return Assembly(top, netlist, layout, sources, Places(layout), lower_all).result()
+
+
+def refuse_absent_modules(layout: Layout, top: str) -> None:
+    """Refuses an instance of a module that there is not, such as a cell of a vendor."""
+    waiting, done = [top], set()
+    while waiting:
+        module = layout.modules[waiting.pop()]
+        if module.name in done:
+            continue
+        done.add(module.name)
+        for item in module.items:
+            for name, token in instantiated(item):
+                if name in layout.modules:
+                    waiting.append(name)
+                else:
+                    raise Refusal(token.file, token.line, f"an instance of {name}, which is no module of these files", "name its file; of a vendor's cell give a module that stands for it")
 
 
 def elaborated(yosys: Yosys, reader: Reader, layout: Layout, top: str, sources: Sources) -> Dict[str, Any]:
@@ -54,11 +71,11 @@ def elaborated(yosys: Yosys, reader: Reader, layout: Layout, top: str, sources: 
     (folder / "flat.v").write_bytes(sources.flat.encode("utf-8", errors="surrogateescape"))
     escaped = top if top.isidentifier() else f"\\{top}"
     bufferer = Bufferer(Places(layout, reader.origin))
-    yosys.run(f"read_verilog -nopp flat.v; hierarchy -check -top {escaped}; write_rtlil read.il", origin=reader.origin)
+    yosys.run(f"read_verilog -nopp {yosys.path('flat.v')}; hierarchy -check -top {escaped}; write_rtlil {yosys.path('read.il')}", origin=reader.origin)
     _buffer(bufferer, folder, "read.il", ASSIGNING)
-    yosys.run(f"read_rtlil read.il; {PROCEDURES}; write_rtlil procedures.il", origin=reader.origin)
+    yosys.run(f"read_rtlil {yosys.path('read.il')}; {PROCEDURES}; write_rtlil {yosys.path('procedures.il')}", origin=reader.origin)
     _buffer(bufferer, folder, "procedures.il", PROCEDURAL)
-    yosys.run("read_rtlil procedures.il; memory_collect; write_json netlist.json", origin=reader.origin)
+    yosys.run(f"read_rtlil {yosys.path('procedures.il')}; memory_collect; write_json {yosys.path('netlist.json')}", origin=reader.origin)
     netlist: Dict[str, Any] = json.loads((folder / "netlist.json").read_text(encoding="utf-8", errors="surrogateescape"))
     _rename_sources(netlist, reader)
     return netlist

@@ -71,6 +71,7 @@ class Lowering:
         self._joins: Dict[int, Dict[int, Tuple[Piece, int]]] = {}
         self._public: Dict[str, List[Piece]] = {}
         self._clocks: Dict[Tuple[int, Bit], str] = {}
+        self._choices: Dict[Tuple[Bit, Bit, Bit], Bit] = {}
         self._cell = Statement("", module.place, (module.file, module.line))
         self.lowered = Lowered(named[name], module.name)
 
@@ -189,6 +190,8 @@ class Lowering:
         """Finds which bits anything reads, from the nets of the original on."""
         self._live: Set[int] = set()
         waiting: List[Bit] = [bit for piece in self._nets.pieces for bit in piece.bits]
+        for memory in self._memories:
+            memory.join_enables(self._same_bit)
         for cell in self._data["cells"].values():
             if self._is_instance(cell) or cell["type"] in ("$mem", "$mem_v2"):
                 waiting += [bit for bits in cell["connections"].values() for bit in bits]
@@ -202,6 +205,19 @@ class Lowering:
             if driver and driver[0][0] not in done:
                 done.add(driver[0][0])
                 waiting += self._inputs(driver[0])
+
+    def _same_bit(self, bit: Bit) -> Bit:
+        """A bit that always has the value of this one: bits that the same choices give from the same bits are one."""
+        driver = self._drivers.get(bit) if isinstance(bit, int) else None
+        if not driver or self._outputs[driver[0]].kind != "$mux":
+            return bit
+        ports = self._data["cells"][driver[0][0]]["connections"]
+        no, yes, select = (self._same_bit(ports[port][at]) for port, at in (("A", driver[1]), ("B", driver[1]), ("S", 0)))
+        if no == yes:
+            return no
+        if (no, yes) == ("0", "1"):
+            return select
+        return self._choices.setdefault((no, yes, select), bit)
 
     # ---- where outputs go
 

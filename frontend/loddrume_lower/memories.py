@@ -4,7 +4,7 @@ from __future__ import annotations
 
 from typing import Any, Callable, Dict, List, Tuple
 
-from .nets import Bits, Nets, Piece, chunks
+from .nets import Bit, Bits, Nets, Piece, chunks
 from .operators import number
 from .refusal import Refusal
 from .registers import digits
@@ -98,6 +98,10 @@ class Memory:
         return self._nets.text(bits[low : low + width])
 
     # ---- writes
+
+    def join_enables(self, same: Callable[[Bit], Bit]) -> None:
+        """Lets bits that are enabled alike have one enable."""
+        self._ports["WR_EN"] = [same(bit) for bit in self._ports["WR_EN"]]
 
     def writes(self, net_of: Callable[[Bits], str]) -> List[str]:
         """A procedure for each edge of a clock at which the memory is written."""

@@ -84,7 +84,10 @@ class Splitter:
             if self._word() in ("module", "macromodule"):
                 self._module()
             elif self._here().kind == "directive" or self._word() in (";", "(*"):
+                takes_a_word = self._here().text == "`default_nettype"
                 self._take(skip=self._word() == "(*")
+                if takes_a_word:
+                    self._take()
             else:
                 token = self._here()
                 raise Refusal(token.file, token.line, f"{token.text} outside of modules", "put it into a module")
@@ -301,3 +304,35 @@ def _targets_before(tokens: List[Token], at: int) -> Set[str]:
             break
         at -= 1
     return names
+
+
+_WORDS = set(
+    "always always_comb always_ff always_latch and assign assert assume automatic begin buf bufif0 bufif1 case casex casez cell config cover deassign "
+    "default defparam disable edge else end endcase endfunction endgenerate endmodule endtask event final for force forever fork function generate "
+    "genvar if initial inout input integer join localparam logic macromodule module nand negedge nor not notif0 notif1 or output parameter posedge "
+    "property pulldown pullup real realtime reg release repeat signed specify specparam supply0 supply1 table task time tri tri0 tri1 triand trior "
+    "trireg typedef unsigned var wait wand while wire wor xnor xor".split()
+)
+
+
+def instantiated(item: Item) -> List[Tuple[str, Token]]:
+    """The modules that an item instantiates, also within generate constructs."""
+    if item.kind in _WORDS - {"if", "for", "case", "begin"}:
+        return []
+    tokens = _without_attributes(item.tokens)
+    found: List[Tuple[str, Token]] = []
+    starts = True
+    for at, token in enumerate(tokens):
+        if starts and token.kind in ("name", "escaped") and token.text not in _WORDS and _is_instance(tokens, at):
+            found.append((token.text.lstrip("\\"), token))
+        starts = token.text in (";", "begin", "else", ")", ":", "end")
+        starts = starts or (at > 0 and tokens[at - 1].text == ":" and token.kind == "name" and tokens[max(at - 2, 0)].text == "begin")
+    return found
+
+
+def _is_instance(tokens: List[Token], at: int) -> bool:
+    """Whether a name is followed by parameters or a range or not, then a name, and a parenthesis: an instance."""
+    following = [token.text for token in tokens[at + 1 : at + 3]]
+    if following[:1] == ["#"]:
+        return True
+    return len(following) == 2 and tokens[at + 1].kind in ("name", "escaped") and tokens[at + 1].text not in _WORDS and following[1] in ("(", "[")

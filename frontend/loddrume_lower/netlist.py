@@ -10,6 +10,7 @@ import re
 from dataclasses import dataclass, field
 from typing import Dict, List, Optional, Set, Tuple
 
+from .memories import MOST_WORDS
 from .modules import Module
 from .places import Places, source_name
 from .refusal import Refusal
@@ -114,6 +115,7 @@ class Bufferer:
         if module is None:
             return lines
         netlist = _known(lines)
+        _refuse_large_memories(lines, module, self._places)
         _refuse_divided_memories(lines, module, self._places)
         out: List[str] = []
         for line in lines:
@@ -169,3 +171,14 @@ def _refuse_divided_memories(lines: List[str], module: Module, places: Places) -
             if len(found[name]) > 1:
                 file, where = places.origin(source) or (module.file, module.line)
                 raise Refusal(file, where, f"the memory {name[1:]} is used across a border of an envelope", "read and write it on the side of its declaration")
+
+
+def _refuse_large_memories(lines: List[str], module: Module, places: Places) -> None:
+    source = ""
+    for line in lines:
+        if line.startswith("  attribute \\src "):
+            source = line.split('"')[1]
+        found = re.match(r"  memory .*size (\d+).* \\(\S+)$", line)
+        if found and int(found[1]) > MOST_WORDS:
+            file, where = places.origin(source) or (module.file, module.line)
+            raise Refusal(file, where, f"the memory {found[2]} of {found[1]} words", f"make it smaller: at most {MOST_WORDS} words")

@@ -14,15 +14,24 @@ from .pragmas import Envelope
 def printed(lowered: Lowered, home: int, envelopes: List[Envelope], inside: List[int]) -> str:
     """The text of a module. `home` is the place of the module itself, `inside` the envelopes that stand in it."""
     items: Dict[int, List[str]] = {place: [] for place in [home, *inside]}
+    helpers = {piece.name: piece for piece in lowered.pieces if piece.is_helper and piece.kind == "wire"}
+    driven = {statement.text.split(" ")[1] for statement in lowered.statements if statement.text.startswith("assign ")}
     for piece in lowered.pieces:
-        if not piece.direction:
+        if not piece.direction and not (piece.name in helpers and piece.name in driven):
             items[piece.place].append(_noted(f"{piece.kind} {piece.range()}{piece.name};", piece.origin))
     for statement in lowered.statements:
-        items[statement.place].append(_noted(statement.text, statement.origin))
+        items[statement.place].append(_noted(_declaring(statement.text, helpers), statement.origin))
     lines = [f"module {lowered.name}({', '.join(_port(piece) for piece in lowered.ports)});", *items[home]]
     for place in inside:
         lines += in_envelope(items[place], envelopes[place], viewports(lowered, envelopes[place], place))
     return "\n".join([*lines, "endmodule"]) + "\n"
+
+
+def _declaring(text: str, helpers: Dict[str, Piece]) -> str:
+    """A statement; one that assigns a helper declares it too."""
+    word, _, rest = text.partition(" ")
+    piece = helpers.get(rest.split(" ")[0]) if word == "assign" else None
+    return f"wire {piece.range()}{rest}" if piece else text
 
 
 def _noted(text: str, origin: Tuple[str, int]) -> str:

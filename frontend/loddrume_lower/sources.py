@@ -49,10 +49,10 @@ class Reader:
     def read(self, files: Sequence[str]) -> Sources:
         """Reads the files in order; macros of one hold in the next, as in Icarus Verilog."""
         copies = [self._copied(file, None) for file in files]
-        master = "".join(f'`include "{copy}"\n' for copy in copies)
-        Path(self._yosys.folder, "all.v").write_text(master, encoding="utf-8")
+        master = "".join(f'`include "{self._yosys.path(copy)}"\n' for copy in copies)
+        Path(self._yosys.path("all.v")).write_text(master, encoding="utf-8")
         self.sources.flat = self._preprocessed()
-        names = {copy: file for file, copy in self._copies.items()}
+        names = {self._yosys.path(copy): file for file, copy in self._copies.items()}
         self.sources.tokens = [token._replace(file=names.get(token.file, token.file)) for token in flat_tokens(self.sources.flat)]
         self._refuse_left_directives()
         return self.sources
@@ -74,7 +74,7 @@ class Reader:
         self._copies[file] = name
         self.sources.texts[file] = text
         copied = self._marked(text, file)
-        Path(self._yosys.folder, name).write_bytes(copied.encode("utf-8", errors="surrogateescape"))
+        Path(self._yosys.path(name)).write_bytes(copied.encode("utf-8", errors="surrogateescape"))
         return name
 
     def _marked(self, text: str, file: str) -> str:
@@ -94,7 +94,7 @@ class Reader:
                 wanted = found and self._found(found.group(1), file)
                 if found and wanted:
                     skip = found.end()
-                    out.append(f'`include "{self._copied(wanted, piece)}"')
+                    out.append(f'`include "{self._yosys.path(self._copied(wanted, piece))}"')
                 else:
                     out.append(piece.text)
             elif piece.kind == "comment":
@@ -115,7 +115,7 @@ class Reader:
     def _preprocessed(self) -> str:
         defines = "".join(f" -D{word}" for word in self._define)
         # A fault of the grammar is told later, of the text without marks; here only the preprocessor's part counts.
-        told = self._yosys.run(f"read_verilog -ppdump{defines} all.v", quiet=False, check=False)
+        told = self._yosys.run(f"read_verilog -ppdump{defines} {self._yosys.path('all.v')}", quiet=False, check=False)
         if _DUMP_BEGIN not in told or _DUMP_END not in told:
             self._yosys.fail(told, self.origin)
         return told.split(_DUMP_BEGIN, 1)[1].split(_DUMP_END, 1)[0].lstrip("\n")

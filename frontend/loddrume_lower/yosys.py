@@ -2,6 +2,7 @@
 
 from __future__ import annotations
 
+import os
 import re
 import shutil
 import subprocess
@@ -9,7 +10,8 @@ from typing import Callable
 
 from .refusal import Refusal
 
-_FAULT = re.compile(r"^(?:(?P<file>[^\s:]+):(?P<line>\d+): )?ERROR: (?P<words>.*)", re.MULTILINE)
+_FAULT = re.compile(r"(?:(?P<file>[^\s:]*source\d+\.v):(?P<line>\d+): )?ERROR: (?P<words>.*)")
+_COPY = re.compile(r"\S*\bsource\d+\.v\b")
 
 
 class Yosys:
@@ -21,11 +23,15 @@ class Yosys:
         if not shutil.which(program):
             raise Refusal("", 0, f"{program} is not installed", "on Debian: apt-get install yosys")
 
+    def path(self, name: str) -> str:
+        """The path of a file in the folder. Yosys itself runs where we are, since files of memories are named from there."""
+        return os.path.join(self.folder, name)
+
     def run(self, script: str, quiet: bool = True, check: bool = True, origin: Callable[[str], str] = str) -> str:
         """Runs a script, and gives what was printed."""
         words = [self._program, *(["-q"] if quiet else []), "-p", script]
         ran = subprocess.run(
-            words, cwd=self.folder, stdout=subprocess.PIPE, stderr=subprocess.STDOUT, encoding="utf-8", errors="surrogateescape", check=False
+            words, stdout=subprocess.PIPE, stderr=subprocess.STDOUT, encoding="utf-8", errors="surrogateescape", check=False
         )
         if check and ran.returncode:
             self.fail(ran.stdout, origin)
@@ -36,7 +42,7 @@ class Yosys:
         found = _FAULT.search(told)
         if not found:
             raise Refusal("", 0, f"yosys failed: {told.strip()[-300:]}")
-        words = re.sub(r"\bsource\d+\.v\b", lambda name: origin(name.group()), found["words"])
-        if found["file"]:
+        words = _COPY.sub(lambda name: origin(name.group()), found["words"])
+        if found["file"] and int(found["line"]):
             raise Refusal(origin(found["file"]), int(found["line"]), f"yosys refuses it: {words}", "write it otherwise")
         raise Refusal("", 0, f"yosys refuses it: {words}", "write it otherwise")

@@ -12,6 +12,7 @@ Where under 90 percent of the bits are known in both, a second run sets each reg
 from __future__ import annotations
 
 import json
+import os
 import random
 import re
 import subprocess
@@ -43,6 +44,11 @@ class Design:
     clocks: List[str]
     reset: Optional[Tuple[str, str]]
     files: List[str]
+
+    @property
+    def folder(self) -> str:
+        """The folder of its first file, from which files of memories are named."""
+        return os.path.dirname(self.files[0])
 
 
 @dataclass
@@ -124,7 +130,7 @@ def icarus_bench(design: Design, ports: List[Port], kept: List[str], cycles: Lis
     for port in ports:
         lines.append(f"  {'reg' if port.direction == 'input' else 'wire'} [{port.width - 1}:0] {port.name};")
     lines.append(f"  {design.top} dut({', '.join(f'.{port.name}({port.name})' for port in ports)});")
-    lines.append('  initial begin\n    $readmemb("stimulus.txt", rows);')
+    lines.append('  initial begin\n    $readmemb("' + str(folder / "stimulus.txt") + '", rows);')
     lines += [f"    {clock} = 0;" for clock in design.clocks]
     lines.append("    #1;")
     lines += [f"    loddrume_bench.{name} = {len(value)}'b{value};" for name, value in regs.items()]
@@ -148,7 +154,7 @@ def icarus(design: Design, sources: Path, ports: List[Port], kept: List[str], cy
     kept = list(kept)
     while True:
         (folder / "bench.v").write_text(icarus_bench(design, ports, kept, cycles, regs, folder), encoding="utf-8")
-        made = subprocess.run(["iverilog", "-g2005-sv" if design.package == "verilator" else "-g2005", "-s", "loddrume_bench", "-o", "bench.vvp", *files, "bench.v"], cwd=folder, capture_output=True, text=True, check=False)
+        made = subprocess.run(["iverilog", "-g2005", "-s", "loddrume_bench", "-o", str(folder / "bench.vvp"), *files, str(folder / "bench.v")], capture_output=True, text=True, check=False)
         if not made.returncode:
             break
         missing = {word for line in made.stderr.splitlines() for word in re.findall(r"bench\.v:(\d+):", line)}
@@ -158,7 +164,7 @@ def icarus(design: Design, sources: Path, ports: List[Port], kept: List[str], cy
             raise RuntimeError(f"iverilog: {made.stderr.strip()[:300]}")
         kept = [name for name in kept if name not in wrong]
         regs = {name: value for name, value in regs.items() if name not in wrong}
-    ran = subprocess.run(["vvp", "-n", "bench.vvp"], cwd=folder, capture_output=True, text=True, check=False)
+    ran = subprocess.run(["vvp", "-n", str(folder / "bench.vvp")], capture_output=True, text=True, check=False)
     values = [line for line in ran.stdout.splitlines() if re.fullmatch("[01xz]+", line)]
     if len(values) != len(kept) * CYCLES:
         raise RuntimeError(f"vvp printed {len(values)} values, not {len(kept) * CYCLES}: {ran.stdout[:200]} {ran.stderr[:200]}")
@@ -328,7 +334,8 @@ def tried(design: Design, sources: Path, program: str, folder: Path) -> Dict[str
     record: Dict[str, Any] = {"name": design.name, "package": design.package, "top": design.top}
     began = time.monotonic()
     try:
-        result = lower(design.top, [str(sources / design.package / file) for file in design.files])
+        os.chdir(sources / design.package / design.folder)
+        result = lower(design.top, [os.path.relpath(sources / design.package / file) for file in design.files])
     except Refusal as refusal:
         return {**record, "status": "refused", "why": str(refusal).replace(str(sources) + "/", "")}
     write(result, str(folder / "design.v"), str(folder / "names.json"))
