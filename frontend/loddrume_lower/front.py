@@ -10,6 +10,7 @@ from pathlib import Path
 from typing import Any, Dict, List, Optional, Sequence, Tuple
 
 from .headers import Passed, passed_modules
+from .inlining import inlined
 from .lowering import Lowered, Lowering, module_names
 from .modules import Layout, Module, Splitter, instantiated
 from .netlist import ASSIGNING, PROCEDURAL, Bufferer
@@ -117,7 +118,7 @@ class Assembly:
         for name in self._order():
             module = self._layout.modules[source_name(name)]
             passed = self._passed.get(name)
-            lowered = None if passed and not passed.fault else Lowering(name, self._netlist, self._named, module, self._places).lower()
+            lowered = None if passed and not passed.fault else self._lowered(name, module)
             text = passed.text if passed and lowered is None else printed(lowered, module.place, self._layout.envelopes, self._inside(module))  # type: ignore[arg-type]
             parts.append(self._wrapped(name, module, text, names))
             names["modules"][self._named[name]] = _entry(module, lowered, passed)
@@ -127,6 +128,11 @@ class Assembly:
             module = self._layout.modules[self._top]
             raise Refusal(module.file, module.line, f"a text of {len(text.encode())} bytes", f"make memories smaller: at most {MOST_BYTES} bytes")
         return Result(text, names, accounts)
+
+    def _lowered(self, name: str, module: Module) -> Lowered:
+        lowered = Lowering(name, self._netlist, self._named, module, self._places).lower()
+        inlined(lowered)
+        return lowered
 
     def _order(self) -> List[str]:
         """The modules in the order of the text, and those derived from one after it."""
@@ -179,7 +185,9 @@ def instances_of(name: str, netlist: Dict[str, Any], layout: Layout, places: Pla
 def _entry(module: Module, lowered: Optional[Lowered], passed: Optional[Passed]) -> Dict[str, Any]:
     entry: Dict[str, Any] = {"module": module.name, "file": module.file, "line": module.line}
     if lowered is None:
-        return {**entry, "how": passed.how if passed else "", "names": {}, "instances": {}}
+        same = passed or Passed()
+        instances = {name: {"name": name, "module": child} for name, child in same.instances.items()}
+        return {**entry, "how": same.how, "names": {name: [name] for name in same.names}, "instances": instances}
     changed = {old: new for old, new in lowered.names.items()}
     instances = {old: {"name": new, "module": child} for old, (new, child) in lowered.instances.items()}
     return {**entry, "how": "lowered", "names": changed, "instances": instances}

@@ -26,6 +26,7 @@ class Statement:
     text: str
     place: int
     origin: Origin
+    width: int = 0
 
 
 @dataclass
@@ -71,6 +72,7 @@ class Lowering:
         self._joins: Dict[int, Dict[int, Tuple[Piece, int]]] = {}
         self._public: Dict[str, List[Piece]] = {}
         self._clocks: Dict[Tuple[int, Bit], str] = {}
+        self._procedures: Dict[Tuple[str, int, Origin], List[str]] = {}
         self._choices: Dict[Tuple[Bit, Bit, Bit], Bit] = {}
         self._cell = Statement("", module.place, (module.file, module.line))
         self.lowered = Lowered(named[name], module.name)
@@ -85,6 +87,8 @@ class Lowering:
             self._aim(key, output)
         for name, cell in self._data["cells"].items():
             self._write(name, cell)
+        for (event, place, origin), texts in self._procedures.items():
+            self._say(f"{event} {texts[0]}" if len(texts) == 1 else f"{event} begin {' '.join(texts)} end", place, origin)
         for memory in self._memories:
             self._write_memory(memory)
         self._join_parts()
@@ -286,8 +290,8 @@ class Lowering:
 
     # ---- statements
 
-    def _say(self, text: str, place: int, origin: Origin) -> None:
-        self.lowered.statements.append(Statement(text, place, origin))
+    def _say(self, text: str, place: int, origin: Origin, width: int = 0) -> None:
+        self.lowered.statements.append(Statement(text, place, origin, width))
 
     def _check_helpers(self, bits: Bits, place: int, origin: Origin) -> None:
         """Refuses a helper that is read in another envelope than it stands in."""
@@ -326,12 +330,12 @@ class Lowering:
             return
         self._check_helpers(self._inputs((name, "")), place, origin)
         if kind in REGISTERS:
-            for text in self._registers.procedures(kind, cell["parameters"], dict(cell["connections"]), output.targets, origin):
-                self._say(text, place, origin)
+            for event, text in self._registers.procedures(kind, cell["parameters"], dict(cell["connections"]), output.targets, origin):
+                self._procedures.setdefault((event, place, origin), []).append(text)
             return
         written = self._operators.assignments(Cell(kind, cell.get("parameters", {}), cell["connections"], place, origin, output.targets))
-        for target, expression in written:
-            self._say(f"assign {target} = {expression};", place, origin)
+        for target, expression, width in written:
+            self._say(f"assign {target} = {expression};", place, origin, width)
 
     def _instance(self, name: str, cell: Dict[str, Any], place: int, origin: Origin) -> None:
         child = self._design[cell["type"]]

@@ -3,7 +3,7 @@
 from __future__ import annotations
 
 from dataclasses import dataclass
-from typing import Any, Dict, List, Tuple
+from typing import Any, Dict, List, Optional, Tuple
 
 from .nets import WIDEST, Bit, Bits, Nets, Target, chunks, extended
 from .refusal import Refusal
@@ -47,11 +47,11 @@ class Operators:
 
     def __init__(self, nets: Nets) -> None:
         self._nets = nets
-        self._made: List[Tuple[str, str]] = []
+        self._made: List[Tuple[str, str, int]] = []
         self._cell: Cell = Cell("", {}, {}, 0, ("", 0), [])
 
-    def assignments(self, cell: Cell) -> List[Tuple[str, str]]:
-        """The assignments of a cell: target and expression, helpers first."""
+    def assignments(self, cell: Cell) -> List[Tuple[str, str, int]]:
+        """The assignments of a cell: target, expression and its own size, helpers first."""
         self._made = []
         self._cell = cell
         kind = cell.kind
@@ -67,7 +67,7 @@ class Operators:
         elif kind in ARITHMETIC or kind == "$neg":
             self._arithmetic(cell, a, b)
         else:
-            self._whole(cell, self._one_bit(cell, a, b))
+            self._whole(cell, self._one_bit(cell, a, b), 1)
         return self._made
 
     # ---- parts
@@ -75,26 +75,26 @@ class Operators:
     def _text(self, bits: Bits) -> str:
         return self._nets.text(bits)
 
-    def _assign(self, target: str, expression: str) -> None:
-        self._made.append((target, expression))
+    def _assign(self, target: str, expression: str, width: int) -> None:
+        self._made.append((target, expression, width))
 
     def _net(self, expression: str, width: int) -> Bits:
         """A helper net with the value of an expression."""
         piece = self._nets.helper(width, self._cell.place, self._cell.origin)
-        self._assign(piece.name, expression)
+        self._assign(piece.name, expression, width)
         return list(piece.bits)
 
     def _give(self, cell: Cell, bits: Bits) -> None:
         """Assigns bits to the targets."""
         for target in cell.targets:
-            self._assign(target.piece.name, self._text(extended(bits, cell.live, False)[target.low : target.low + target.width]))
+            self._assign(target.piece.name, self._text(extended(bits, cell.live, False)[target.low : target.low + target.width]), target.width)
 
-    def _whole(self, cell: Cell, expression: str) -> None:
+    def _whole(self, cell: Cell, expression: str, width: Optional[int] = None) -> None:
         """Assigns an expression of the output's width, or of one bit that is extended."""
         if len(cell.targets) == 1 and not cell.targets[0].low:
-            self._assign(cell.targets[0].piece.name, expression)
+            self._assign(cell.targets[0].piece.name, expression, cell.targets[0].width if width is None else width)
         elif cell.targets:
-            self._give(cell, self._net(expression, min(cell.live, WIDEST)))
+            self._give(cell, self._net(expression, width or min(cell.live, WIDEST)))
 
     def _refuse(self, construct: str, advice: str) -> None:
         raise Refusal(*self._cell.origin, construct, advice)
@@ -119,7 +119,7 @@ class Operators:
                 expression = f"{enable} ? {left} : {target.width}'b{'z' * target.width}"
             else:
                 expression = f"{left} {BITWISE[cell.kind]} {right}"
-            self._assign(target.piece.name, expression)
+            self._assign(target.piece.name, expression, target.width)
 
     def _pmux(self, cell: Cell, a: Bits, b: Bits) -> None:
         """Choices of a case, of which one holds at most: a ladder of `?:`, in steps that do not nest too deep."""
@@ -132,7 +132,7 @@ class Operators:
                     rest = f"{self._text([select])} ? {self._text(bits[target.low : target.low + target.width])} : {rest}"
                 if start:
                     rest = self._text(self._net(rest, target.width))
-            self._assign(target.piece.name, rest)
+            self._assign(target.piece.name, rest, target.width)
 
     # ---- one bit
 
@@ -281,7 +281,7 @@ class Operators:
     def _plain_shift(self, cell: Cell, a: Bits, b: Bits, left: bool) -> None:
         piece = self._nets.whole(a)
         if cell.kind == "$shiftx" and cell.live == 1 and piece and piece.width > 1 and not piece.offset:
-            self._whole(cell, f"{piece.name}[{self._text(b)}]")
+            self._whole(cell, f"{piece.name}[{self._text(b)}]", 1)
         elif cell.live < len(a):
             self._give(cell, self._net(f"{self._text(a)} {'<<' if left else '>>'} {self._text(b)}", len(a)))
         else:
@@ -296,7 +296,7 @@ class Operators:
             backward = self._steps(a, self._net(f"-{self._text(b)}", len(b)), True, "0")
         for target in cell.targets:
             ends = slice(target.low, target.low + target.width)
-            self._assign(target.piece.name, f"{self._text([b[-1]])} ? {self._text(backward[ends])} : {self._text(forward[ends])}")
+            self._assign(target.piece.name, f"{self._text([b[-1]])} ? {self._text(backward[ends])} : {self._text(forward[ends])}", target.width)
 
     def _steps(self, bits: Bits, amount: Bits, left: bool, filling: Bit) -> Bits:
         """A shift by powers of two, one bit of the amount after the other."""

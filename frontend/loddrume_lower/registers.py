@@ -26,11 +26,11 @@ class Registers:
         self._nets = nets
         self._net_of = net_of
 
-    def procedures(self, kind: str, parameters: Dict[str, Any], ports: Dict[str, Bits], targets: List[Target], origin: Tuple[str, int]) -> List[str]:
-        """A procedure for each target."""
+    def procedures(self, kind: str, parameters: Dict[str, Any], ports: Dict[str, Bits], targets: List[Target], origin: Tuple[str, int]) -> List[Tuple[str, str]]:
+        """The event and the statement for each target."""
         return [self._one(kind, parameters, ports, target, origin) for target in targets]
 
-    def _one(self, kind: str, parameters: Dict[str, Any], ports: Dict[str, Bits], target: Target, origin: Tuple[str, int]) -> str:
+    def _one(self, kind: str, parameters: Dict[str, Any], ports: Dict[str, Bits], target: Target, origin: Tuple[str, int]) -> Tuple[str, str]:
         ends = slice(target.low, target.low + target.width)
         name = target.piece.select(target.index, target.width)
         blocking = kind in LATCHES
@@ -44,7 +44,7 @@ class Registers:
             statement = f"if ({self._level(parameters, ports, port)}) {name} {'=' if blocking else '<='} {value}; else {statement}"
             if not blocking and port != "SRST":
                 events.append(self._edge(parameters, ports, port))
-        return f"always @{'*' if blocking else '(' + ' or '.join(events) + ')'} {statement}"
+        return ("always @* " + statement, "") if blocking else (f"always @({' or '.join(events)})", statement)
 
     def _overrides(
         self, kind: str, parameters: Dict[str, Any], ports: Dict[str, Bits], ends: slice, origin: Tuple[str, int]

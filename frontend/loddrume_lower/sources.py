@@ -13,6 +13,7 @@ from .tokens import Token, flat_tokens, pieces
 from .yosys import Yosys
 
 _INCLUDE = re.compile(r'`include[ \t]*"([^"\n]+)"')
+_ESCAPE = re.compile(r'\\([nt0-7\\"])|\\(.)')
 _DUMP_BEGIN = "-- Verilog code after preprocessor --"
 _DUMP_END = "-- END OF DUMP --"
 
@@ -100,6 +101,9 @@ class Reader:
             elif piece.kind == "comment":
                 # Nothing of a comment is needed, but its newlines; one that looks like a mark must not become one.
                 out.append("\n" * piece.text.count("\n") or " ")
+            elif piece.kind == "string":
+                # A backslash before another character stands for nothing (clause 3.6.3); Yosys knows more escapes.
+                out.append(_ESCAPE.sub(lambda found: found[2] or found.group(), piece.text))
             else:
                 out.append(piece.text)
         return "".join(out)

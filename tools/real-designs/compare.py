@@ -15,6 +15,7 @@ import json
 import os
 import random
 import re
+import socket
 import subprocess
 import sys
 import time
@@ -151,12 +152,15 @@ def icarus_bench(design: Design, ports: List[Port], kept: List[str], cycles: Lis
 def icarus(design: Design, sources: Path, ports: List[Port], kept: List[str], cycles: List[Dict[str, str]], regs: Dict[str, str], folder: Path) -> Tuple[List[str], List[List[str]]]:
     """The values of the kept names at each cycle. Names that Icarus does not find are left out."""
     files = [str(sources / design.package / file) for file in design.files]
-    kept = list(kept)
+    kept, grammar = list(kept), "-g2005"
     while True:
         (folder / "bench.v").write_text(icarus_bench(design, ports, kept, cycles, regs, folder), encoding="utf-8")
-        made = subprocess.run(["iverilog", "-g2005", "-s", "loddrume_bench", "-o", str(folder / "bench.vvp"), *files, str(folder / "bench.v")], capture_output=True, text=True, check=False)
+        made = subprocess.run(["iverilog", grammar, "-s", "loddrume_bench", "-o", str(folder / "bench.vvp"), *files, str(folder / "bench.v")], capture_output=True, text=True, check=False)
         if not made.returncode:
             break
+        if grammar == "-g2005" and "bench.v:" not in made.stderr:
+            grammar = "-g2012"
+            continue
         missing = {word for line in made.stderr.splitlines() for word in re.findall(r"bench\.v:(\d+):", line)}
         lines = (folder / "bench.v").read_text(encoding="utf-8").splitlines()
         wrong = {found[1] for number in missing if (found := re.search(r"loddrume_bench\.(\S+?)(?:\)| =)", lines[int(number) - 1]))}
@@ -187,98 +191,114 @@ def server_bench(names: Dict[str, Any], ports: List[Port]) -> str:
     return "\n".join(lines)
 
 
-class Script:
-    """Requests for `vp_served run`, and which replies are wanted."""
+class Served:
+    """A session on `vp_served serve`, which searches for no races here, so that long runs are quick."""
 
-    def __init__(self) -> None:
-        self.lines: List[str] = []
-        self.wanted: List[int] = []
-        self.handles: Dict[str, int] = {}
-        self.ask(op="open", user="ann", token="t")
+    def __init__(self, program: str, folder: Path) -> None:
+        with socket.socket() as free:
+            free.bind(("127.0.0.1", 0))
+            port = free.getsockname()[1]
+        words = [program, "serve", "served.v", "policy.json", "--port", str(port), "--workers", "0", "--sessions", "1"]
+        self._process = subprocess.Popen(words, cwd=folder, stdout=subprocess.PIPE, stderr=subprocess.STDOUT, text=True)
+        assert self._process.stdout
+        first = self._process.stdout.readline()
+        if not first.startswith("listening"):
+            raise RuntimeError(f"vp_served: {first}")
+        self._socket = socket.create_connection(("127.0.0.1", port), 600)
+        self._lines = self._socket.makefile("r", encoding="utf-8", newline="\n")
+        self._handles: Dict[str, int] = {}
+        self.ask([{"op": "open", "user": "ann", "token": "t"}])
 
-    def ask(self, **words: Any) -> None:
-        self.lines.append(json.dumps(words))
+    def ask(self, requests: List[Dict[str, Any]]) -> List[Dict[str, Any]]:
+        """The replies to requests, which are sent at once."""
+        self._socket.sendall("".join(json.dumps(request) + "\n" for request in requests).encode())
+        replies = [json.loads(self._lines.readline() or '{"error":"the server has ended"}') for _ in requests]
+        for request, reply in zip(requests, replies):
+            if "error" in reply or "denied" in reply:
+                raise RuntimeError(f"vp_served: {request} {reply}")
+        return replies
 
-    def handle(self, path: str) -> int:
-        if path not in self.handles:
-            self.handles[path] = len(self.handles) + 1
-            self.ask(op="handle", name=path)
-        return self.handles[path]
+    def handles(self, paths: List[str]) -> List[int]:
+        """The handles of objects, made where there are none yet."""
+        new = [path for path in paths if path not in self._handles]
+        for at in range(0, len(new), 500):
+            part = new[at : at + 500]
+            for path, reply in zip(part, self.ask([{"op": "handle", "name": path} for path in part])):
+                self._handles[path] = reply["h"]
+        return [self._handles[path] for path in paths]
 
-    def put(self, path: str, value: str) -> None:
-        self.ask(op="put", h=self.handle(path), value=value)
+    def run(self, until: int) -> None:
+        """Lets the design run until a time is reached, so that nothing of the times before is left to do."""
+        self.ask([{"op": "run", "until": until}])
+        while self.ask([{"op": "time"}])[0]["time"] < until:
+            pass
 
-    def want(self, path: str) -> None:
-        number = self.handle(path)
-        self.wanted.append(len(self.lines))
-        self.ask(op="value", h=number)
+    def put(self, values: Dict[str, str]) -> None:
+        handles = self.handles(list(values))
+        self.ask([{"op": "put", "h": handle, "value": value} for handle, value in zip(handles, values.values())])
 
-    def run(self, program: str, folder: Path) -> List[Dict[str, Any]]:
-        text = "\n".join(self.lines) + "\n"
-        ran = subprocess.run([program, "run", "served.v", "policy.json"], cwd=folder, input=text, capture_output=True, text=True, check=False)
-        replies = ran.stdout.splitlines()
-        if len(replies) != len(self.lines):
-            raise RuntimeError(f"vp_served: {ran.stdout[:200]} {ran.stderr[:300]}")
-        return [json.loads(reply) for reply in replies]
+    def values(self, handles: List[int]) -> List[str]:
+        replies: List[str] = []
+        for at in range(0, len(handles), 500):
+            replies += [reply["value"] for reply in self.ask([{"op": "value", "h": handle} for handle in handles[at : at + 500]])]
+        return replies
+
+    def end(self) -> None:
+        self._socket.close()
+        self._lines.close()
+        self._process.terminate()
+        self._process.wait()
 
 
-def put_port(script: Script, port: Port, value: str) -> None:
-    low = 0
+def port_values(port: Port, value: str) -> Dict[str, str]:
+    """What is put on each part of a port."""
+    result, low = {}, 0
     for part, width in port.parts:
-        script.put(f"loddrume_bench.{part}", value[len(value) - low - width : len(value) - low])
+        result[f"loddrume_bench.{part}"] = value[len(value) - low - width : len(value) - low]
         low += width
+    return result
 
 
-def server(design: Design, program: str, ports: List[Port], kept: Dict[str, List[str]], cycles: List[Dict[str, str]], regs: Dict[str, str], folder: Path) -> List[List[str]]:
+def served(design: Design, session: Served, ports: List[Port], kept: Dict[str, List[str]], cycles: List[Dict[str, str]], regs: Dict[str, str]) -> List[List[str]]:
     """The values of the kept names at each cycle."""
-    script = Script()
     by_name = {port.name: port for port in ports}
-    script.ask(op="run", until=0)
+    session.run(1)
     for clock in design.clocks:
-        put_port(script, by_name[clock], "0")
-    for path, value in regs.items():
-        script.put(path, value)
-    now = 1
-    script.ask(op="run", until=now)
+        session.put(port_values(by_name[clock], "0"))
+    session.put(regs)
+    session.run(3)
+    now = 3
+    handles = session.handles(["loddrume_bench." + part for parts in kept.values() for part in reversed(parts)])
+    result = []
     for values in cycles:
+        inputs: Dict[str, str] = {}
         for name, value in values.items():
-            put_port(script, by_name[name], value)
+            inputs.update(port_values(by_name[name], value))
+        session.put(inputs)
+        now += 2
+        session.run(now)
         for level in "10":
             for clock in design.clocks:
+                session.put(port_values(by_name[clock], level))
                 now += 2
-                script.ask(op="run", until=now)
-                put_port(script, by_name[clock], level)
-            now += 2
-            script.ask(op="run", until=now)
+                session.run(now)
             if level == "1":
-                for parts in kept.values():
-                    for part in reversed(parts):
-                        script.want("loddrume_bench." + part)
-    replies = script.run(program, folder)
-    bad = [(line, reply) for line, reply in zip(script.lines, replies) if "error" in reply or "denied" in reply]
-    if bad:
-        raise RuntimeError(f"vp_served: {bad[0]}")
-    digits = iter([replies[at]["value"] for at in script.wanted])
-    return [["".join(next(digits) for _ in parts) for parts in kept.values()] for _ in cycles]
+                digits = iter(session.values(handles))
+                result.append(["".join(next(digits) for _ in parts) for parts in kept.values()])
+    return result
 
 
-def regs_of(program: str, kept: Dict[str, List[str]], folder: Path, seed: str) -> Tuple[Dict[str, str], Dict[str, str]]:
+def regs_of(session: Served, kept: Dict[str, List[str]], seed: str) -> Tuple[Dict[str, str], Dict[str, str]]:
     """A random value for each kept reg of one part: by its name in the original, and by its path on the server."""
-    script = Script()
-    paths = {name: parts[0] for name, parts in kept.items() if len(parts) == 1 and not name.count(".") == 0}
-    for part in paths.values():
-        script.handle("loddrume_bench." + part)
-    for at in range(len(paths)):
-        script.ask(op="get_str", h=at + 1, prop="type")
-        script.ask(op="get", h=at + 1, prop="size")
-    replies = script.run(program, folder)[1 + len(paths) :]
+    paths = {name: "loddrume_bench." + parts[0] for name, parts in kept.items() if len(parts) == 1}
+    handles = session.handles(list(paths.values()))
     chance = random.Random(seed)
     old: Dict[str, str] = {}
     new: Dict[str, str] = {}
-    for at, (name, part) in enumerate(paths.items()):
-        if replies[2 * at].get("s") == "vpiReg":
-            size = replies[2 * at + 1]["n"]
-            old[name] = new["loddrume_bench." + part] = format(chance.getrandbits(size), f"0{size}b")
+    for (name, path), handle in zip(paths.items(), handles):
+        kind, size = session.ask([{"op": "get_str", "h": handle, "prop": "type"}, {"op": "get", "h": handle, "prop": "size"}])
+        if kind["s"] == "vpiReg":
+            old[name] = new[path] = format(chance.getrandbits(size["n"]), f"0{size['n']}b")
     return old, new
 
 
@@ -322,9 +342,13 @@ def simulate(design: Design, result: Result, sources: Path, program: str, folder
     (folder / "policy.json").write_text(POLICY, encoding="utf-8")
     cycles = stimulus(ports, design)
     kept = dict(names_of(result.names, result.names["top"], "dut", "dut"))
-    old, new = regs_of(program, kept, folder, design.name) if setting else ({}, {})
-    found, theirs = icarus(design, sources, ports, list(kept), cycles, old, folder)
-    ours = server(design, program, ports, {name: kept[name] for name in found}, cycles, new, folder)
+    session = Served(program, folder)
+    try:
+        old, new = regs_of(session, kept, design.name) if setting else ({}, {})
+        found, theirs = icarus(design, sources, ports, list(kept), cycles, old, folder)
+        ours = served(design, session, ports, {name: kept[name] for name in found}, cycles, {path: value for path, value in new.items()})
+    finally:
+        session.end()
     return {"names": len(found), "not in Icarus": len(kept) - len(found), "set": setting, **compared(ours, theirs, found)}
 
 
