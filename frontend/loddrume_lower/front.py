@@ -7,19 +7,19 @@ import os
 import tempfile
 from dataclasses import dataclass, field
 from pathlib import Path
-from typing import Any, Dict, List, Optional, Sequence, Tuple
+from typing import Any, Dict, List, Optional, Sequence, Set, Tuple
 
 from .headers import Passed, passed_modules
 from .inlining import inlined
 from .lowering import Lowered, Lowering, module_names
 from .modules import Layout, Module, Splitter, instantiated
 from .netlist import ASSIGNING, PROCEDURAL, Bufferer
-from .pragmas import Envelope
 from .places import Places, source_name
 from .printing import in_envelope, printed
 from .refusal import Refusal
 from .report import Account, account_of
 from .sources import Reader, Sources
+from .verify import Leak, verify
 from .yosys import Yosys
 
 MOST_BYTES = 1 << 20
@@ -47,7 +47,12 @@ def lower(top: str, files: Sequence[str], define: Sequence[str] = (), include: S
             raise Refusal(files[0] if files else "", 0, f"no module {top}", "name a module of the files by --top")
         refuse_absent_modules(layout, top)
         netlist = elaborated(yosys, reader, layout, top, sources)
-    return Assembly(top, netlist, layout, sources, Places(layout), lower_all).result()
+        result = Assembly(top, netlist, layout, sources, Places(layout), lower_all).result()
+        try:
+            verify(yosys, sources, top, result.text, result.names["top"])
+        except Leak as leak:
+            raise Refusal(layout.modules[top].file, layout.modules[top].line, f"the text does not hold: {leak}", "report this with the design") from leak
+    return result
 
 
 def refuse_absent_modules(layout: Layout, top: str) -> None:
@@ -107,67 +112,91 @@ class Assembly:
         self._layout = layout
         self._sources = sources
         self._places = places
-        self._named = module_names(netlist, source_name)
+        self._derived: Dict[str, Set[int]] = {}
+        self._named = module_names(netlist, source_name, self._derived_in)
         self._passed: Dict[str, Passed] = {} if lower_all else passed_modules(layout, sources, netlist)
 
     def result(self) -> Result:
         """The text and its map."""
-        parts: List[str] = []
         names: Dict[str, Any] = {"version": 1, "top": self._named[self._top], "modules": {}, "envelopes": []}
         accounts: List[Account] = []
-        for name in self._order():
-            module = self._layout.modules[source_name(name)]
-            passed = self._passed.get(name)
-            lowered = None if passed and not passed.fault else self._lowered(name, module)
-            text = passed.text if passed and lowered is None else printed(lowered, module.place, self._layout.envelopes, self._inside(module))  # type: ignore[arg-type]
-            parts.append(self._wrapped(name, module, text, names))
-            names["modules"][self._named[name]] = _entry(module, lowered, passed)
-            accounts.append(account_of(self._named[name], module, lowered, passed))
+        parts: List[str] = []
+        for original, module in self._layout.modules.items():
+            for name in self._order(original):
+                if not self._derived_in(name):
+                    parts.append(self._printed(name, module, names, accounts))
+            for place in self._inside(module) or [module.place]:
+                parts += self._derived_group(place, module, names, accounts)
         text = "\n".join(parts)
         if len(text.encode()) > MOST_BYTES:
             module = self._layout.modules[self._top]
             raise Refusal(module.file, module.line, f"a text of {len(text.encode())} bytes", f"make memories smaller: at most {MOST_BYTES} bytes")
         return Result(text, names, accounts)
 
+    def _printed(self, name: str, module: Module, names: Dict[str, Any], accounts: List[Account]) -> str:
+        """The text of one module, which is noted in the map and the report."""
+        passed = self._passed.get(name)
+        lowered = None if passed and not passed.fault else self._lowered(name, module)
+        text = passed.text if passed and lowered is None else ""
+        if lowered:
+            text = printed(lowered, module.place, self._layout.envelopes, self._inside(module))
+        names["modules"][self._named[name]] = _entry(module, lowered, passed)
+        accounts.append(account_of(self._named[name], module, lowered, passed))
+        if self._derived_in(name):
+            return text
+        for number in [module.place] if module.place else self._inside(module):
+            self._note_envelope(number, self._named[name], names)
+        if not module.place:
+            return text
+        return "\n".join(in_envelope(text.rstrip("\n").split("\n"), self._layout.envelopes[module.place], [], lowered is None)) + "\n"
+
+    def _note_envelope(self, number: int, module: str, names: Dict[str, Any]) -> None:
+        envelope = self._layout.envelopes[number]
+        author = json.loads(envelope.author)
+        names["envelopes"].append({"number": len(names["envelopes"]) + 1, "author": author, "file": envelope.file, "line": envelope.line, "module": module})
+
+    def _derived_group(self, place: int, module: Module, names: Dict[str, Any], accounts: List[Account]) -> List[str]:
+        """The modules whose parameters instances in an envelope set: all in one envelope more, so that their count is not seen."""
+        inside = [name for name in self._netlist["modules"] if place and place in self._derived_in(name)]
+        if not inside:
+            return []
+        self._note_envelope(place, module.name, names)
+        texts = [
+            self._printed(name, self._layout.modules[source_name(name)], names, accounts).rstrip("\n") for name in inside if min(self._derived_in(name)) == place
+        ]
+        return ["\n".join(in_envelope("\n".join(texts).split("\n"), self._layout.envelopes[place], [])) + "\n"]
+
     def _lowered(self, name: str, module: Module) -> Lowered:
         lowered = Lowering(name, self._netlist, self._named, module, self._places).lower()
         inlined(lowered)
         return lowered
 
-    def _order(self) -> List[str]:
-        """The modules in the order of the text, and those derived from one after it."""
-        order = {name: at for at, name in enumerate(self._layout.modules)}
-        kept = [name for name in self._netlist["modules"] if source_name(name) in order]
-        return sorted(kept, key=lambda name: (order[source_name(name)], name.startswith("$"), name))
+    def _order(self, original: str) -> List[str]:
+        """A module of the text and those that are derived from it by parameters."""
+        kept = [name for name in self._netlist["modules"] if source_name(name) == original]
+        return sorted(kept, key=lambda name: (name.startswith("$"), name))
 
     def _inside(self, module: Module) -> List[int]:
         return sorted(number for number, home in self._layout.homes.items() if home == module.name and number)
 
-    def _wrapped(self, name: str, module: Module, text: str, names: Dict[str, Any]) -> str:
-        """The text of a module, between pragmas where the module stands in an envelope as a whole."""
-        place = self._outer(name, module)
-        listed = [place] if place else self._inside(module)
-        for number in listed:
-            envelope = self._layout.envelopes[number]
-            names["envelopes"].append(
-                {"number": len(names["envelopes"]) + 1, "author": json.loads(envelope.author), "file": envelope.file, "line": envelope.line, "module": self._named[name]}
-            )
-        if not place:
-            return text
-        return "\n".join(in_envelope(text.rstrip("\n").split("\n"), self._layout.envelopes[place], [])) + "\n"
+    def _derived_in(self, name: str) -> Set[int]:
+        """The envelopes in which instances alone set the parameters of a module, or none."""
+        return self._derived.setdefault(name, derived_in(name, self._netlist, self._layout, self._places))
 
-    def _outer(self, name: str, module: Module) -> int:
-        """The envelope of a module as a whole: its own, or that of the instances which alone set its parameters."""
-        if module.place or not name.startswith("$paramod"):
-            return module.place
-        places = {place for place, _ in instances_of(name, self._netlist, self._layout, self._places)}
-        if 0 in places or not places:
-            return 0
-        authors = {self._layout.envelopes[place].author for place in places}
-        if len(authors) > 1 or self._inside(module):
-            envelope: Envelope = self._layout.envelopes[min(places)]
-            raise Refusal(envelope.file, envelope.line, f"parameters of {module.name} are set in an envelope, and it has envelopes of its own, or more than one author sets them", "set them outside")
-        return min(places)
+
+def derived_in(name: str, netlist: Dict[str, Any], layout: Layout, places: Places) -> Set[int]:
+    """The envelopes of all instances of a derived module, where none stands in the open text. Refuses what would be an envelope in another."""
+    module = layout.modules[source_name(name)]
+    if module.place or not name.startswith("$paramod"):
+        return set()
+    found = instances_of(name, netlist, layout, places)
+    if any(not place for place, _ in found):
+        return set()
+    numbers = {place for place, _ in found}
+    if numbers and (len({layout.envelopes[place].author for place in numbers}) > 1 or module.places()):
+        file, line = found[0][1] or (module.file, module.line)
+        raise Refusal(file, line, f"an envelope sets parameters of {module.name}, which has envelopes of its own or instances of another author", "set them outside")
+    return numbers
 
 
 def instances_of(name: str, netlist: Dict[str, Any], layout: Layout, places: Places) -> List[Any]:

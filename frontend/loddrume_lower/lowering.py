@@ -2,12 +2,13 @@
 
 from __future__ import annotations
 
+import re
 from dataclasses import dataclass, field
-from typing import Any, Dict, List, Optional, Set, Tuple
+from typing import Any, Callable, Dict, List, Set, Tuple
 
 from .memories import Memory
 from .modules import Module
-from .names import Names
+from .names import Names, plain
 from .nets import WIDEST, Bit, Bits, Nets, Piece, Target, chunks
 from .netlist import is_helper
 from .operators import Cell, Operators
@@ -59,7 +60,8 @@ class Lowering:
 
     def __init__(self, name: str, netlist: Dict[str, Any], named: Dict[str, str], module: Module, places: Places) -> None:
         self._design = netlist["modules"]
-        self._data = self._design[name]
+        self._data = dict(self._design[name])
+        self._data["cells"] = dict(sorted(self._data["cells"].items(), key=lambda item: natural(item[0])))
         self._named = named
         self._module = module
         self._places = places
@@ -416,32 +418,19 @@ def port_names(module: Dict[str, Any], port: str) -> List[str]:
     return []
 
 
-def module_names(netlist: Dict[str, Any], source: Any) -> Dict[str, str]:
-    """A name for each module of the netlist: that of the original, with its parameters where it is derived with others."""
+def module_names(netlist: Dict[str, Any], source: Callable[[str], str], derived_in: Callable[[str], Set[int]]) -> Dict[str, str]:
+    """A name for each module of the netlist. Those derived by parameters are counted, and by themselves where an envelope sets them."""
     names = Names()
-    result: Dict[str, str] = {}
-    for name in netlist["modules"]:
-        if not name.startswith("$paramod"):
-            result[name] = names.of(name)
-    counts: Dict[str, int] = {}
+    result = {name: names.of(name) for name in netlist["modules"] if not name.startswith("$paramod")}
+    counts: Dict[Tuple[str, int], int] = {}
     for name in netlist["modules"]:
         if name.startswith("$paramod"):
-            original = source(name)
-            counts[original] = counts.get(original, 0) + 1
-            result[name] = names.fresh(names_plain(f"{original}__{counts[original]}"))
+            key = source(name), min(derived_in(name), default=0)
+            counts[key] = counts.get(key, 0) + 1
+            result[name] = names.fresh(plain(f"{key[0]}__{'e' + str(key[1]) + '_' if key[1] else ''}{counts[key]}"))
     return result
 
 
-def names_plain(name: str) -> str:
-    """A name without what the server does not read."""
-    from .names import plain
-
-    return plain(name)
-
-
-def lowered_module(name: str, netlist: Dict[str, Any], named: Dict[str, str], module: Module, places: Places) -> Lowered:
-    """Lowers a module of the netlist."""
-    return Lowering(name, netlist, named, module, places).lower()
-
-
-__all__: Optional[List[str]] = ["Lowered", "Lowering", "Statement", "lowered_module", "module_names", "port_names"]
+def natural(name: str) -> List[Tuple[int, str]]:
+    """A key that sorts by numbers in a name, so that the order of cells stays when Yosys counts from another number."""
+    return [(int(part), "") if part.isdigit() else (-1, part) for part in re.split(r"(\d+)", name)]

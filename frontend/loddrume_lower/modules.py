@@ -260,6 +260,8 @@ def _name_targets(item: Item) -> None:
             item.declared |= _declared_by(tokens[at + 1 :], token.text)
     depth, assigned = 0, False
     for at, token in enumerate(tokens):
+        if token.text == "for" and at + 2 < len(tokens):
+            item.targets.add(tokens[at + 2].text.lstrip("\\"))
         if token.kind != "op":
             continue
         depth += {"(": 1, "{": 1, ")": -1, "}": -1}.get(token.text, 0)

@@ -118,7 +118,7 @@ class Bufferer:
         _refuse_large_memories(lines, module, self._places)
         _refuse_divided_memories(lines, module, self._places)
         out: List[str] = []
-        for line in lines:
+        for line in _with_constants(lines):
             buffered = self._buffer(line[10:], netlist, module) if line.startswith("  connect ") else None
             out += buffered or [line]
         return out
@@ -182,3 +182,22 @@ def _refuse_large_memories(lines: List[str], module: Module, places: Places) -> 
         if found and int(found[1]) > MOST_WORDS:
             file, where = places.origin(source) or (module.file, module.line)
             raise Refusal(file, where, f"the memory {found[2]} of {found[1]} words", f"make it smaller: at most {MOST_WORDS} words")
+
+
+def _with_constants(lines: List[str]) -> List[str]:
+    """Gives initial values of memories their constants, which memory_collect wants to see as such."""
+    constants: Dict[str, str] = {}
+    for line in lines:
+        if line.startswith("  connect $"):
+            left, right = _split(line[10:])
+            if re.fullmatch(r"\d+'[01xz]*|-?\d+", right):
+                constants[left] = right
+    kind, out = "", []
+    for line in lines:
+        if line.startswith("  cell "):
+            kind = line.split()[1]
+        found = re.match(r"    connect \\(\w+) (\$\S+)$", line)
+        if found and kind.startswith("$meminit") and found[2] in constants:
+            line = f"    connect \\{found[1]} {constants[found[2]]}"
+        out.append(line)
+    return out

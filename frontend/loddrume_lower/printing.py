@@ -43,8 +43,10 @@ def _port(piece: Piece) -> str:
     return f"{piece.direction} {piece.kind if piece.direction == 'output' else 'wire'} {piece.range()}{piece.name}"
 
 
-def in_envelope(lines: List[str], envelope: Envelope, opened: List[Tuple[str, str]]) -> List[str]:
-    """Lines between the pragmas of an envelope."""
+def in_envelope(lines: List[str], envelope: Envelope, opened: List[Tuple[str, str]], keep_lines: bool = False) -> List[str]:
+    """Lines between the pragmas of an envelope, as one: an inside must not move the lines of what stands after it, which all may see."""
+    if not keep_lines:
+        lines = [" ".join(re.sub(r"// (.*)$", r"/* \1 */", line.replace("*/", "")).strip() for line in lines)]
     first = f"`pragma protect author={envelope.author}, begin"
     return [first, *(f'`pragma protect viewport=(object={json.dumps(name)}, access="{access}")' for name, access in opened), *lines, "`pragma protect end"]
 
