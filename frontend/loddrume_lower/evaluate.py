@@ -2,9 +2,11 @@
 
 from __future__ import annotations
 
+import re
 from random import Random
 from typing import Any, Dict, List, Optional, Sequence, Set, Tuple
 
+_HELPER = re.compile(r"_(e\d+)?n\d+(_\d+)?")
 Bit = Any
 Source = Tuple[str, int]
 STORING = ("$dff", "$dffe", "$adff", "$adffe", "$aldff", "$aldffe", "$dffsr", "$sdff", "$sdffe", "$sdffce", "$dlatch", "$adlatch", "$dlatchsr", "$ff")
@@ -29,10 +31,16 @@ class Evaluator:
                     for at, bit in enumerate(bits):
                         if isinstance(bit, int):
                             self._drivers[bit] = (name, port, at)
+        inputs = {name for name, port in module["ports"].items() if port["direction"] == "input"}
+        best: Dict[int, Tuple[Any, ...]] = {}
         for name, net in module["netnames"].items():
             for at, bit in enumerate(net["bits"]):
                 if isinstance(bit, int) and not net.get("hide_name"):
-                    self._names.setdefault(bit, self._source(name, at, len(net["bits"])))
+                    source = self._source(name, at, len(net["bits"]))
+                    rank = (bool(_HELPER.fullmatch(name)), name not in inputs, source)
+                    if bit not in best or rank < best[bit]:
+                        best[bit] = rank
+                        self._names[bit] = source
         self._values: Dict[int, int] = {}
         self._given: Dict[Source, int] = {}
         self._chance = Random(0)

@@ -12,7 +12,7 @@ from typing import Any, Dict, List, Optional, Sequence, Set, Tuple
 from .headers import Passed, passed_modules
 from .inlining import inlined
 from .lowering import Lowered, Lowering, module_names
-from .modules import Layout, Module, Splitter, instantiated
+from .modules import Layout, Module, Splitter, instantiated, refuse_values_across
 from .netlist import ASSIGNING, PROCEDURAL, Bufferer
 from .places import Places, source_name
 from .printing import in_envelope, printed
@@ -46,6 +46,7 @@ def lower(top: str, files: Sequence[str], define: Sequence[str] = (), include: S
         if top not in layout.modules:
             raise Refusal(files[0] if files else "", 0, f"no module {top}", "name a module of the files by --top")
         refuse_absent_modules(layout, top)
+        refuse_values_across(layout)
         netlist = elaborated(yosys, reader, layout, top, sources)
         result = Assembly(top, netlist, layout, sources, Places(layout), lower_all).result()
         try:
@@ -84,7 +85,40 @@ def elaborated(yosys: Yosys, reader: Reader, layout: Layout, top: str, sources: 
     yosys.run(f"read_rtlil {yosys.path('procedures.il')}; memory_collect; write_json {yosys.path('netlist.json')}", origin=reader.origin)
     netlist: Dict[str, Any] = json.loads((folder / "netlist.json").read_text(encoding="utf-8", errors="surrogateescape"))
     _rename_sources(netlist, reader)
+    for module in netlist["modules"].values():
+        place_by_readers(module)
     return netlist
+
+
+def place_by_readers(module: Dict[str, Any]) -> None:
+    """Gives a cell without a source that of the cells which read it, as the enable of a latch that Yosys makes.
+
+    One that nothing reads is left out."""
+    cells = module["cells"]
+    shown = {bit for net in module["netnames"].values() if not net.get("hide_name") for bit in net["bits"]}
+    readers: Dict[Any, Set[str]] = {}
+    for name, cell in cells.items():
+        for port, bits in cell["connections"].items():
+            for bit in bits if port not in ("Y", "Q") else ():
+                readers.setdefault(bit, set()).add(name)
+    waiting = [name for name, cell in cells.items() if not cell["attributes"].get("src")]
+    while waiting:
+        found = {}
+        for name in waiting:
+            outer = {cells[reader]["attributes"].get("src", "") for bit in cells[name]["connections"].get("Y", []) for reader in readers.get(bit, ())}
+            if not outer and not shown & set(cells[name]["connections"].get("Y", [0])) and cells[name]["type"].startswith("$"):
+                outer = {"unread:0.0-0.0"}
+            if outer and "" not in outer:
+                found[name] = "|".join(sorted(outer))
+        if not found:
+            return
+        for name, source in found.items():
+            cells[name]["attributes"]["src"] = source.replace("unread:0.0-0.0|", "")
+            if source == "unread:0.0-0.0":
+                del cells[name]
+        waiting = [name for name in waiting if name not in found]
+
+
 
 
 def _buffer(bufferer: Bufferer, folder: Path, name: str, kinds: Tuple[str, ...]) -> None:

@@ -24,6 +24,7 @@ class Item:
     tokens: List[Token]
     place: int
     targets: Set[str] = field(default_factory=set)
+    # Parameters, genvars, functions and tasks; nets are not among them.
     declared: Set[str] = field(default_factory=set)
 
     @property
@@ -76,6 +77,7 @@ class Splitter:
         self._at = 0
         self._borders = Borders()
         self._home = ""
+        self._region = 0
         self.layout = Layout(envelopes=self._borders.envelopes)
 
     def split(self) -> Layout:
@@ -136,8 +138,6 @@ class Splitter:
                 closing.append(pairs[token.text])
             elif closing and token.text == closing[-1]:
                 closing.pop()
-            elif closing[-1:] == [")"] and token.text == "*)":
-                closing.pop()
             if not closing or not skip:
                 return taken
 
@@ -177,6 +177,10 @@ class Splitter:
     def _items(self, module: Module) -> None:
         """Takes an item, or a word that only opens or closes a region of items."""
         if self._word() in ("generate", "endgenerate"):
+            if self._word() == "endgenerate" and self._borders.place != self._region:
+                token = self._here()
+                raise Refusal(token.file, token.line, "an envelope across the end of a generate region", "begin and end it within, or outside")
+            self._region = self._borders.place
             module.tokens += self._take()
             return
         place = self._borders.place
@@ -240,6 +244,27 @@ class Splitter:
         if taken[0].text == "begin" and self._at < len(self._all) and self._word() == ":":
             taken += self._take() + self._take()
         return taken
+
+
+def refuse_values_across(layout: Layout) -> None:
+    """Refuses a parameter of an envelope that is used outside of it, and a function or task that is called from another side.
+
+    Yosys puts the value of a parameter, and the body of a function, where they are used, and no place tells them from what stands there.
+    """
+    for module in layout.modules.values():
+        if not module.places():
+            continue
+        for home in module.items:
+            for name in home.declared:
+                is_called = home.kind in ("function", "task")
+                for item in module.items:
+                    if item.place == home.place or not (home.place != module.place or is_called):
+                        continue
+                    token = next((token for token in item.tokens if token.text.lstrip("\\") == name and token.kind in ("name", "escaped")), None)
+                    if token:
+                        what = f"the {home.kind} {name}"
+                        advice = f"move it, or declare it on that side too; it is declared at {home.file}:{home.line}"
+                        raise Refusal(token.file, token.line, f"{what} is used across a border of an envelope", advice)
 
 
 def _without_attributes(tokens: List[Token]) -> List[Token]:

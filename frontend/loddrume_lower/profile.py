@@ -347,20 +347,13 @@ class Profile:
             self._whole()
 
     def _event(self) -> None:
-        if self._is("*"):
+        if self._is("*") or re.sub(r"\s", "", self._here().text) == "(*)":
             self._take()
             return
         if not self._is("("):
             self._known(self._name(), ("net", "reg"))
             return
         self._take()
-        if self._is("*)"):
-            self._take()
-            return
-        if self._is("*"):
-            self._take()
-            self._expect(")")
-            return
         while True:
             if self._is("posedge", "negedge"):
                 self._take()

@@ -26,7 +26,7 @@ _WORD = re.compile(r"[A-Za-z_][\w$]*")
 _HELPER = re.compile(r"_n\d+(_\d+)?$")
 _DECLARING = ("wire", "reg", "integer", "input", "output", "inout", "tri", "wand", "wor", "logic", "supply0", "supply1", "time")
 _VALUES = ("parameter", "localparam", "genvar", "function", "task")
-_PASSES = "proc; memory_collect; memory_map"
+_PASSES = {"original": "proc; memory_collect; memory_map", "design": "proc -noopt"}
 
 
 class Leak(Exception):
@@ -174,9 +174,8 @@ def _remade(name: str, tokens: List[Token], result: Cut) -> str:
                     token = envelope.tokens[0]
                     raise Leak(f"{token.file}:{token.line}: {word} is declared in an envelope, and its value or width is used outside of it")
                 free[word] = inside[word]
-    end = next(at for at, token in enumerate(tokens) if token.text == ";" and _level(tokens[:at]) == 0)
     added = " ".join(f"{declaration} {_escaped(word)} ;" for word, declaration in sorted(free.items()))
-    return " ".join([*(_spelled(token) for token in tokens[: end + 1]), added, *(_spelled(token) for token in tokens[end + 1 :])])
+    return " ".join([*(_spelled(token) for token in tokens[:-1]), added, "endmodule"])
 
 
 def _instances(tokens: List[Token], word: str) -> bool:
@@ -395,9 +394,9 @@ class Comparison:
 def _netlist(yosys: Yosys, text: str, top: str, name: str) -> Dict[str, Any]:
     path = Path(yosys.path(f"{name}.v"))
     path.write_text(text, encoding="utf-8", errors="surrogateescape")
-    yosys.run(f"read_verilog -nopp {path}; hierarchy -top {_escaped(top)}; {_PASSES}; write_json {yosys.path(name)}.json")
+    yosys.run(f"read_verilog -nopp {path}; hierarchy -top {_escaped(top)}; {_PASSES[name]}; write_json {yosys.path(name)}.json")
     top_netlist: Dict[str, Any] = json.loads(Path(f"{yosys.path(name)}.json").read_text(encoding="utf-8", errors="surrogateescape"))
-    yosys.run(f"read_verilog -nopp {path}; hierarchy; {_PASSES}; write_json {yosys.path(name)}.json")
+    yosys.run(f"read_verilog -nopp {path}; hierarchy; {_PASSES[name]}; write_json {yosys.path(name)}.json")
     every: Dict[str, Any] = json.loads(Path(f"{yosys.path(name)}.json").read_text(encoding="utf-8", errors="surrogateescape"))
     for module, data in every["modules"].items():
         top_netlist["modules"].setdefault(module, data)
@@ -437,8 +436,8 @@ def verify(yosys: Yosys, sources: Sources, top: str, text: str, design_top: str)
         if design_top not in design.closed:
             raise Leak(f"the top module {top} stands in an envelope, and in none in the text")
         return
-    old = _netlist(yosys, original.text, top, "verify_original")
-    new = _netlist(yosys, design.text, design_top, "verify_design")
+    old = _netlist(yosys, original.text, top, "original")
+    new = _netlist(yosys, design.text, design_top, "design")
     comparison = Comparison(old, new, original.closed)
     found = comparison.compare(top, design_top)
     for name in sorted(design.open_modules - found):

@@ -127,7 +127,7 @@ def icarus_bench(design: Design, ports: List[Port], kept: List[str], cycles: Lis
     inputs = [port for port in ports if port.direction == "input" and port.name not in design.clocks]
     width = sum(port.width for port in inputs) or 1
     (folder / "stimulus.txt").write_text("".join("".join(values[port.name] for port in inputs) + "\n" if inputs else "0\n" for values in cycles), encoding="utf-8")
-    lines = ["`timescale 1ns/1ns", "module loddrume_bench;", "  integer cycle;", f"  reg [{width - 1}:0] rows [0:{CYCLES - 1}];", f"  reg [{width - 1}:0] row;"]
+    lines = ["module loddrume_bench;", "  integer cycle;", f"  reg [{width - 1}:0] rows [0:{CYCLES - 1}];", f"  reg [{width - 1}:0] row;"]
     for port in ports:
         lines.append(f"  {'reg' if port.direction == 'input' else 'wire'} [{port.width - 1}:0] {port.name};")
     lines.append(f"  {design.top} dut({', '.join(f'.{port.name}({port.name})' for port in ports)});")
