@@ -19,7 +19,7 @@ from .printing import in_envelope, printed
 from .refusal import Refusal
 from .report import Account, account_of
 from .sources import Reader, Sources
-from .verify import Leak, verify
+from .verify import Leak, netlist_by, verify
 from .yosys import Yosys
 
 MOST_BYTES = 1 << 20
@@ -50,7 +50,7 @@ def lower(top: str, files: Sequence[str], define: Sequence[str] = (), include: S
         netlist = elaborated(yosys, reader, layout, top, sources)
         result = Assembly(top, netlist, layout, sources, Places(layout), lower_all).result()
         try:
-            verify(yosys, sources, top, result.text, result.names["top"])
+            verify(netlist_by(yosys), sources, top, result.text, result.names["top"])
         except Leak as leak:
             raise Refusal(layout.modules[top].file, layout.modules[top].line, f"the text does not hold: {leak}", "report this with the design") from leak
     return result

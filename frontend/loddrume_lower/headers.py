@@ -117,7 +117,7 @@ class _Passing:
             raise Left(tokens[3], "a port without a direction")
         words = ", ".join(f"{ports[name][0]} {ports[name][1]} {ports[name][2]}{name}" for name in names)
         newlines = "\n" * (tokens[end].line - tokens[2].line)
-        return [(tokens[2].start, tokens[end].end, f"({words}){newlines}"), *edits]
+        return [(tokens[2].start, tokens[end].end, f"{newlines}({words})"), *edits]
 
     def _direction(self, item: List[Token], ports: Dict[str, Tuple[str, str, str]], names: List[str]) -> None:
         at, kind, bounds = 1, "wire", ""

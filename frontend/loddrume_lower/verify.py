@@ -14,9 +14,9 @@ import re
 from collections import Counter
 from dataclasses import dataclass, field
 from pathlib import Path
-from typing import Any, Dict, Iterable, List, Optional, Sequence, Set, Tuple
+from typing import Any, Callable, Dict, Iterable, List, Optional, Sequence, Set, Tuple
 
-from .evaluate import STORING, Evaluator, Source
+from .evaluate import Evaluator, Source
 from .sources import Pragma, Sources
 from .tokens import Token, flat_tokens, pieces
 from .yosys import Yosys
@@ -52,6 +52,7 @@ class Cut:
     envelopes: List[Envelope] = field(default_factory=list)
     closed: Set[str] = field(default_factory=set)
     open_modules: Set[str] = field(default_factory=set)
+    free: Dict[str, Set[str]] = field(default_factory=dict)
 
 
 # ---- cutting
@@ -174,6 +175,7 @@ def _remade(name: str, tokens: List[Token], result: Cut) -> str:
                     token = envelope.tokens[0]
                     raise Leak(f"{token.file}:{token.line}: {word} is declared in an envelope, and its value or width is used outside of it")
                 free[word] = inside[word]
+    result.free[name] = set(free)
     added = " ".join(f"{declaration} {_escaped(word)} ;" for word, declaration in sorted(free.items()))
     return " ".join([*(_spelled(token) for token in tokens[:-1]), added, "endmodule"])
 
@@ -246,6 +248,31 @@ def check_envelopes(original: Cut, design: Cut) -> None:
                 raise Leak(f"a viewport of {item} with {access}, which the original has not")
 
 
+def _constants(netlist: Dict[str, Any], words: Iterable[str]) -> Set[str]:
+    """The constants of a netlist and of numbers in a text, as binary digits."""
+    found: Set[str] = set()
+    for module in netlist["modules"].values():
+        for cell in module["cells"].values():
+            found |= {str(value) for key, value in cell["parameters"].items() if key.endswith("VALUE") or key == "INIT"}
+            for bits in cell["connections"].values():
+                text = "".join(bit if isinstance(bit, str) else " " for bit in reversed(bits))
+                found |= set(text.split())
+        for net in module["netnames"].values():
+            found.add(str(net.get("attributes", {}).get("init", "")))
+    return found | {format(int(word.replace("_", "")), "b") for word in words if re.fullmatch(r"\d[\d_]*", word)}
+
+
+def check_constants(known: Set[str], open_text: str) -> None:
+    """Each constant of the open text is one of the original's, or a part of one; small ones, which extend and compare, are not looked at."""
+    for digits in re.findall(r"'b([01]+)", re.sub(r"//[^\n]*", "", open_text)):
+        value = digits.lstrip("0")
+        if len(value) < 5 or set(value) == {"1"} or set(value[1:]) == {"0"}:
+            continue
+        turned = ("0" if len(digits) == len(value) else "1") + digits[1:]
+        if not any(value in constant or turned.lstrip("0") in constant for constant in known):
+            raise Leak(f"the open text has the constant {digits}, which that of the original has not")
+
+
 # ---- functions
 
 
@@ -261,10 +288,11 @@ class Pair:
 class Comparison:
     """Compares the modules of two netlists, from their tops down."""
 
-    def __init__(self, original: Dict[str, Any], design: Dict[str, Any], closed: Set[str]) -> None:
+    def __init__(self, original: Dict[str, Any], design: Dict[str, Any], free: Dict[str, Set[str]], design_free: Dict[str, Set[str]]) -> None:
         self._original = original["modules"]
         self._design = design["modules"]
-        self._closed = closed
+        self._free = free
+        self._design_free = design_free
         self._done: Dict[str, str] = {}
 
     def compare(self, top: str, design_top: str) -> Set[str]:
@@ -277,8 +305,19 @@ class Comparison:
                     raise Leak(f"the module {made} stands for two of the original")
                 continue
             self._done[made] = name
+            self._check_declared(name, made)
             waiting += self._module(Pair(self._original[name], self._design[made], made))
         return set(self._done)
+
+    def _check_declared(self, name: str, made: str) -> None:
+        """A net that an inside declares is not declared in the open text."""
+        source = re.sub(r"^\$paramod(\$[0-9a-f]+)?\\([^\\]+).*", r"\2", name)
+        nets = self._design[made]["netnames"]
+        for free in self._free.get(source, set()):
+            widths = [part for part in nets if part == plain(free) or re.fullmatch(re.escape(plain(free)) + r"__\d+", part)]
+            declared_here = [part for part in widths if part not in self._design_free.get(made, set())]
+            if declared_here:
+                raise Leak(f"{made}: {free} is declared in the open text, and in an envelope of the original")
 
     def _module(self, pair: Pair) -> List[Tuple[str, str]]:
         self._check_names(pair)
@@ -391,16 +430,27 @@ class Comparison:
 # ---- the whole
 
 
-def _netlist(yosys: Yosys, text: str, top: str, name: str) -> Dict[str, Any]:
-    path = Path(yosys.path(f"{name}.v"))
-    path.write_text(text, encoding="utf-8", errors="surrogateescape")
-    yosys.run(f"read_verilog -nopp {path}; hierarchy -top {_escaped(top)}; {_PASSES[name]}; write_json {yosys.path(name)}.json")
-    top_netlist: Dict[str, Any] = json.loads(Path(f"{yosys.path(name)}.json").read_text(encoding="utf-8", errors="surrogateescape"))
-    yosys.run(f"read_verilog -nopp {path}; hierarchy; {_PASSES[name]}; write_json {yosys.path(name)}.json")
-    every: Dict[str, Any] = json.loads(Path(f"{yosys.path(name)}.json").read_text(encoding="utf-8", errors="surrogateescape"))
-    for module, data in every["modules"].items():
-        top_netlist["modules"].setdefault(module, data)
-    return top_netlist
+Netlist = Callable[[str, str, str], Dict[str, Any]]
+
+
+def netlist_by(yosys: Yosys) -> Netlist:
+    """Makes the netlist of a text by Yosys: of what a top module reaches, and of each module by itself."""
+
+    def netlist(text: str, top: str, which: str) -> Dict[str, Any]:
+        path = Path(yosys.path(f"verify_{which}.v"))
+        path.write_text(text, encoding="utf-8", errors="surrogateescape")
+        made = [_made(yosys, path, f"hierarchy {option}; {_PASSES[which]}") for option in (f"-top {_escaped(top)}", "")]
+        for module, data in made[1]["modules"].items():
+            made[0]["modules"].setdefault(module, data)
+        return made[0]
+
+    return netlist
+
+
+def _made(yosys: Yosys, path: Path, passes: str) -> Dict[str, Any]:
+    yosys.run(f"read_verilog -nopp {path}; {passes}; write_json {path}.json")
+    made: Dict[str, Any] = json.loads(Path(f"{path}.json").read_text(encoding="utf-8", errors="surrogateescape"))
+    return made
 
 
 def _marked(text: str) -> Tuple[List[Token], List[Pragma], str]:
@@ -422,13 +472,15 @@ def _marked(text: str) -> Tuple[List[Token], List[Pragma], str]:
     return [token for token in pieces("\n".join(lines), "design.v") if token.kind not in ("blank", "comment")], pragmas, "\n".join(kept)
 
 
-def verify(yosys: Yosys, sources: Sources, top: str, text: str, design_top: str) -> None:
+def verify(netlist: Netlist, sources: Sources, top: str, text: str, design_top: str) -> None:
     """Raises `Leak` where the lowered text shows more of envelopes than the original, or says something else in the open text."""
     original = cut(flat_tokens(sources.flat), sources.pragmas)
     if not original.envelopes:
         return
     tokens, pragmas, open_text = _marked(text)
     design = cut(tokens, pragmas)
+    files = "|".join(re.escape(re.sub(r"[^\x20-\x7e]", "?", file)) for file in sources.texts)
+    open_text = re.sub(rf"// (?:\w+(?: \w+)?: )?(?:{files}):\d+$", "", open_text, flags=re.MULTILINE)
     words = {word for name, raw in sources.texts.items() for word in _WORD.findall(_open_of(raw))} | original.words
     check_words(original, design, open_text, words)
     check_envelopes(original, design)
@@ -436,9 +488,10 @@ def verify(yosys: Yosys, sources: Sources, top: str, text: str, design_top: str)
         if design_top not in design.closed:
             raise Leak(f"the top module {top} stands in an envelope, and in none in the text")
         return
-    old = _netlist(yosys, original.text, top, "original")
-    new = _netlist(yosys, design.text, design_top, "design")
-    comparison = Comparison(old, new, original.closed)
+    old = netlist(original.text, top, "original")
+    new = netlist(design.text, design_top, "design")
+    check_constants(_constants(netlist(original.text, top, "design"), original.words), open_text)
+    comparison = Comparison(old, new, original.free, design.free)
     found = comparison.compare(top, design_top)
     for name in sorted(design.open_modules - found):
         same = next((module for module in old["modules"] if plain(module) == name), None)
