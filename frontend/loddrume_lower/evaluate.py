@@ -1,4 +1,7 @@
-"""Evaluates a netlist of Yosys on two-valued vectors, for `verify`. An x or a z counts as 0."""
+"""Evaluates a netlist of Yosys on two-valued vectors, for `verify`. An x or a z counts as 0.
+
+All vectors are reckoned at once: the values of a bit are the bits of one number, a lane for each vector.
+"""
 
 from __future__ import annotations
 
@@ -8,6 +11,7 @@ from typing import Any, Dict, List, Optional, Sequence, Set, Tuple
 
 _HELPER = re.compile(r"_(e\d+)?n\d+(_\d+)?")
 Bit = Any
+Word = List[int]
 Source = Tuple[str, int]
 STORING = ("$dff", "$dffe", "$adff", "$adffe", "$aldff", "$aldffe", "$dffsr", "$sdff", "$sdffe", "$sdffce", "$dlatch", "$adlatch", "$dlatchsr", "$ff")
 _SINGLE = ("CLK", "EN", "ARST", "SRST", "ALOAD")
@@ -15,6 +19,12 @@ _SINGLE = ("CLK", "EN", "ARST", "SRST", "ALOAD")
 
 def _number(value: Any) -> int:
     return int(value.replace("x", "0").replace("z", "0"), 2) if isinstance(value, str) else int(value)
+
+
+def plain(name: str) -> str:
+    """What a name of the original becomes: `mem[3]` is `mem__3`."""
+    name = re.sub(r"[^\w$]", "_", re.sub(r"\[(\d+)\]", r"__\1", name).replace(".", "__"), flags=re.ASCII)
+    return name if re.match(r"[A-Za-z_]", name) else "_" + name
 
 
 class Evaluator:
@@ -44,7 +54,7 @@ class Evaluator:
         self._values: Dict[int, int] = {}
         self._given: Dict[Source, int] = {}
         self._chance = Random(0)
-        self._round = 0
+        self._lanes, self._all = 1, 1
 
     def _drives(self, cell: Dict[str, Any], port: str) -> bool:
         if cell["type"] in self._design:
@@ -54,8 +64,6 @@ class Evaluator:
     @staticmethod
     def _source(name: str, at: int, width: int) -> Source:
         """A name and an index for a bit, the same in both texts: parts of a wide net are counted through."""
-        from .verify import plain
-
         if width > 64:
             return f"{plain(name)}__{at // 64}", at % 64
         return plain(name), at
@@ -103,20 +111,27 @@ class Evaluator:
 
     # ---- values
 
-    def start(self, given: Dict[Source, int], chance: Random, round_: int) -> None:
-        """Begins a vector. Sources that have the same name in both texts have the same value."""
+    def start(self, given: Dict[Source, int], chance: Random, lanes: int) -> None:
+        """Begins with new vectors, one in each lane of a number. Sources that have the same name in both texts have the same values."""
         self._values = {}
         self._given = given
         self._chance = chance
-        self._round = round_
+        self._lanes = lanes
+        self._all = (1 << lanes) - 1
 
     def value(self, bit: Bit) -> int:
-        """The value of a bit."""
+        """The values of a bit, one in each lane."""
         if isinstance(bit, str):
-            return int(bit == "1")
+            return self._all if bit == "1" else 0
         if bit not in self._values:
             self._settle(bit)
         return self._values[bit]
+
+    def _is_source(self, driver: Optional[Tuple[str, str, int]]) -> bool:
+        if driver is None:
+            return True
+        kind = self._cells[driver[0]]["type"]
+        return kind in STORING or kind in self._design or not kind.startswith("$")
 
     def _settle(self, bit: int) -> None:
         """Evaluates the cells that a bit comes of, without recursion."""
@@ -124,122 +139,175 @@ class Evaluator:
         pending: Set[int] = set()
         while stack:
             top = stack[-1]
-            if top in self._values:
+            driver = self._drivers.get(top)
+            if top in self._values or driver is None or self._is_source(driver):
+                self._values.setdefault(top, self._values[top] if top in self._values else self._free(top, driver))
                 stack.pop()
                 continue
-            driver = self._drivers.get(top)
-            if driver is None or self._cells[driver[0]]["type"] in STORING or not self._cells[driver[0]]["type"].startswith("$") or self._cells[driver[0]]["type"] in self._design:
-                self._values[top] = self._free(top, driver)
-                continue
             cell = self._cells[driver[0]]
-            needed = [
-                other for port, bits in cell["connections"].items() if port != "Y" for other in bits if isinstance(other, int) and other not in self._values
-            ]
+            needed = [other for port, bits in cell["connections"].items() if port != "Y" for other in bits if isinstance(other, int) and other not in self._values]
             if needed and top not in pending:
                 pending.add(top)
                 stack += needed
                 continue
-            if needed:
+            for other in needed:
                 # A loop of operators has no value of its own.
-                for other in needed:
-                    self._values.setdefault(other, 0)
-            self._compute(cell)
+                self._values.setdefault(other, 0)
+            for other, value in zip(cell["connections"]["Y"], self._result(cell)):
+                if isinstance(other, int):
+                    self._values[other] = value
 
     def _free(self, bit: int, driver: Optional[Tuple[str, str, int]]) -> int:
         source = self._names.get(bit)
         if driver and self._cells[driver[0]]["type"] in self._design:
-            from .verify import plain
-
-            source = (f"{plain(driver[0])}.{plain(driver[1])}", driver[2])
             width = len(self._cells[driver[0]]["connections"][driver[1]])
-            if width > 64:
-                source = (f"{plain(driver[0])}.{plain(driver[1])}__{driver[2] // 64}", driver[2] % 64)
+            port, at = self._source(driver[1], driver[2], width)
+            source = (f"{plain(driver[0])}.{port}", at)
         if source is None:
             return 0
         if source not in self._given:
-            self._given[source] = {0: 0, 1: 1}.get(self._round, self._chance.getrandbits(1))
+            self._given[source] = self._chance.getrandbits(self._lanes)
         return self._given[source]
 
-    def _word(self, bits: Sequence[Bit]) -> int:
-        return sum(self.value(bit) << at for at, bit in enumerate(bits))
+    def _word(self, bits: Sequence[Bit]) -> Word:
+        return [self.value(bit) for bit in bits]
 
-    def _compute(self, cell: Dict[str, Any]) -> None:
-        ports = cell["connections"]
-        result = self._result(cell["type"], cell.get("parameters", {}), ports)
-        for at, bit in enumerate(ports["Y"]):
-            if isinstance(bit, int):
-                self._values[bit] = (result >> at) & 1
-
-    def _operand(self, ports: Dict[str, List[Bit]], parameters: Dict[str, Any], port: str, signed: bool) -> int:
-        word = self._word(ports[port])
-        width = len(ports[port])
-        return word - (1 << width) if signed and width and word >> (width - 1) else word
-
-    def _result(self, kind: str, parameters: Dict[str, Any], ports: Dict[str, List[Bit]]) -> int:
+    def _result(self, cell: Dict[str, Any]) -> Word:
+        """The output of an operator."""
+        kind, ports, parameters = cell["type"], cell["connections"], cell.get("parameters", {})
+        width = len(ports["Y"])
         if kind in ("$mux", "$pmux"):
             return self._choice(ports)
-        a_signed = bool(_number(parameters.get("A_SIGNED", 0)))
-        both = a_signed and bool(_number(parameters.get("B_SIGNED", 0))) if "B" in ports else a_signed
-        shifts = kind in ("$shl", "$sshl", "$shr", "$sshr", "$shift", "$shiftx")
-        a = self._operand(ports, parameters, "A", a_signed if shifts else both) if "A" in ports else 0
-        b = self._operand(ports, parameters, "B", bool(_number(parameters.get("B_SIGNED", 0))) if shifts else both) if "B" in ports else 0
-        width = len(ports["Y"])
-        if shifts:
-            return self._shifted(kind, a, b, len(ports["A"]), width)
-        if kind in _OPERATIONS:
-            return int(_OPERATIONS[kind](a, b)) & ((1 << width) - 1)
-        if kind in ("$reduce_and", "$reduce_xor", "$reduce_xnor"):
-            word, size = self._word(ports["A"]), len(ports["A"])
-            return {"$reduce_and": int(word == (1 << size) - 1), "$reduce_xor": bin(word).count("1") & 1, "$reduce_xnor": 1 - (bin(word).count("1") & 1)}[kind]
-        if kind == "$tribuf":
-            return a if self.value(ports["EN"][0]) else 0
-        raise ValueError(f"a cell {kind}")
+        a, b = self._word(ports.get("A", [])), self._word(ports.get("B", []))
+        a_signed, b_signed = (bool(_number(parameters.get(f"{port}_SIGNED", 0))) for port in "AB")
+        if kind in ("$shl", "$sshl", "$shr", "$sshr", "$shift", "$shiftx"):
+            return self._shifted(kind, a, b, width, a_signed, b_signed)
+        if kind.startswith("$reduce") or kind.startswith("$logic"):
+            return self._extended(self._reduced(kind, a, b), width, False)
+        both = a_signed and (b_signed or "B" not in ports)
+        if kind in ("$lt", "$le", "$gt", "$ge", "$eq", "$ne", "$eqx", "$nex"):
+            size = max(len(a), len(b))
+            return self._extended([self._related(kind, self._extended(a, size, both), self._extended(b, size, both), both)], width, False)
+        if kind in ("$div", "$mod"):
+            return self._divided(kind, a, b, width, both)
+        return self._reckoned(kind, self._extended(a, width, both), self._extended(b, width, both), ports)
 
-    def _choice(self, ports: Dict[str, List[Bit]]) -> int:
-        width = len(ports["A"])
-        for at, select in enumerate(ports["S"]):
-            if self.value(select):
-                return self._word(ports["B"][at * width : (at + 1) * width])
-        return self._word(ports["A"])
+    def _extended(self, word: Word, width: int, signed: bool) -> Word:
+        return word[:width] + [word[-1] if signed and word else 0] * (width - len(word))
+
+    def _choice(self, ports: Dict[str, List[Bit]]) -> Word:
+        result = self._word(ports["A"])
+        width = len(result)
+        choices = self._word(ports["B"])
+        for at, select in reversed(list(enumerate(ports["S"]))):
+            result = self._either(self.value(select), choices[at * width : (at + 1) * width], result)
+        return result
+
+    def _either(self, select: int, yes: Word, no: Word) -> Word:
+        return [(select & one) | (~select & self._all & other) for one, other in zip(yes, no)]
+
+    def _sum(self, a: Word, b: Word, carry: int) -> Word:
+        result: Word = []
+        for one, other in zip(a, b):
+            result.append(one ^ other ^ carry)
+            carry = (one & other) | (carry & (one ^ other))
+        return result
+
+    def _inverted(self, word: Word) -> Word:
+        return [bit ^ self._all for bit in word]
+
+    def _reckoned(self, kind: str, a: Word, b: Word, ports: Dict[str, List[Bit]]) -> Word:
+        if kind == "$add":
+            return self._sum(a, b, 0)
+        if kind == "$sub":
+            return self._sum(a, self._inverted(b), self._all)
+        if kind == "$neg":
+            return self._sum([0] * len(a), self._inverted(a), self._all)
+        if kind == "$mul":
+            return self._product(a, b)
+        if kind == "$not":
+            return self._inverted(a)
+        if kind in ("$pos", "$tribuf"):
+            return a if kind == "$pos" else [bit & self.value(ports["EN"][0]) for bit in a]
+        operation = {"$and": int.__and__, "$or": int.__or__, "$xor": int.__xor__, "$xnor": lambda one, other: one ^ other ^ self._all}.get(kind)
+        if operation is None:
+            raise ValueError(f"a cell {kind}")
+        return [operation(one, other) for one, other in zip(a, b)]
+
+    def _product(self, a: Word, b: Word) -> Word:
+        width = len(a)
+        result = [0] * width
+        for at, select in enumerate(b):
+            if select:
+                result = self._sum(result, [0] * at + [bit & select for bit in a[: width - at]], 0)
+        return result
+
+    def _any(self, word: Word) -> int:
+        result = 0
+        for bit in word:
+            result |= bit
+        return result
+
+    def _reduced(self, kind: str, a: Word, b: Word) -> Word:
+        if kind == "$reduce_and":
+            return [self._any(self._inverted(a)) ^ self._all]
+        if kind in ("$reduce_xor", "$reduce_xnor"):
+            result = 0
+            for bit in a:
+                result ^= bit
+            return [result ^ self._all if kind == "$reduce_xnor" else result]
+        if kind == "$logic_not":
+            return [self._any(a) ^ self._all]
+        if kind == "$logic_and":
+            return [self._any(a) & self._any(b)]
+        return [self._any(a) | self._any(b)]
+
+    def _related(self, kind: str, a: Word, b: Word, signed: bool) -> int:
+        if kind in ("$eq", "$eqx", "$ne", "$nex"):
+            differs = self._any([one ^ other for one, other in zip(a, b)])
+            return differs if kind in ("$ne", "$nex") else differs ^ self._all
+        if kind in ("$gt", "$le"):
+            a, b = b, a
+        if signed and a:
+            a, b = [*a[:-1], a[-1] ^ self._all], [*b[:-1], b[-1] ^ self._all]
+        below = 0
+        for one, other in zip(a, b):
+            below = (~one & other & self._all) | (~(one ^ other) & below & self._all)
+        return below if kind in ("$lt", "$gt") else below ^ self._all
+
+    def _shifted(self, kind: str, a: Word, b: Word, width: int, a_signed: bool, b_signed: bool) -> Word:
+        size = max(len(a), width)
+        fill = a[-1] if kind == "$sshr" and a_signed else 0
+        word = self._extended(a, size, a_signed and kind != "$shiftx")
+        if kind in ("$shl", "$sshl"):
+            return self._moved(word, b, True, 0)[:width]
+        if kind in ("$shift", "$shiftx") and b_signed:
+            forward = self._moved(word, b[:-1], False, 0)
+            back = self._moved(word, self._sum([0] * len(b), self._inverted(b), self._all), True, 0) if kind == "$shift" else [0] * size
+            return self._either(b[-1], back, forward)[:width]
+        return self._moved(word, b, False, fill)[:width]
+
+    def _moved(self, word: Word, amount: Word, left: bool, fill: int) -> Word:
+        size = len(word)
+        for at, select in enumerate(amount):
+            by = min(1 << min(at, 30), size)
+            moved = [fill] * by + word[: size - by] if left else word[by:] + [fill] * by
+            word = self._either(select, moved, word)
+        return word
+
+    def _divided(self, kind: str, a: Word, b: Word, width: int, signed: bool) -> Word:
+        """A division, lane by lane."""
+        result = [0] * width
+        for lane in range(self._lanes):
+            one, other = (self._number_in(word, lane, signed) for word in (a, b))
+            if other:
+                quotient = abs(one) // abs(other) * (1 if (one < 0) == (other < 0) else -1)
+                value = quotient if kind == "$div" else one - quotient * other
+                for at in range(width):
+                    result[at] |= ((value >> at) & 1) << lane
+        return result
 
     @staticmethod
-    def _shifted(kind: str, a: int, b: int, size: int, width: int) -> int:
-        mask = (1 << width) - 1
-        if kind in ("$shl", "$sshl"):
-            return (a << b) & mask if b < 4096 else 0
-        if kind in ("$shift", "$shiftx"):
-            a &= (1 << max(size, width if kind == "$shift" else size)) - 1
-            if b < 0:
-                return 0 if kind == "$shiftx" else (a << min(-b, 4096)) & mask
-        elif kind == "$shr":
-            a &= (1 << max(size, width)) - 1
-        return (a >> b) & mask
-
-
-_OPERATIONS = {
-    "$and": lambda a, b: a & b,
-    "$or": lambda a, b: a | b,
-    "$xor": lambda a, b: a ^ b,
-    "$xnor": lambda a, b: ~(a ^ b),
-    "$not": lambda a, b: ~a,
-    "$pos": lambda a, b: a,
-    "$neg": lambda a, b: -a,
-    "$add": lambda a, b: a + b,
-    "$sub": lambda a, b: a - b,
-    "$mul": lambda a, b: a * b,
-    "$div": lambda a, b: a // b if b else 0,
-    "$mod": lambda a, b: a % b if b else 0,
-    "$lt": lambda a, b: a < b,
-    "$le": lambda a, b: a <= b,
-    "$gt": lambda a, b: a > b,
-    "$ge": lambda a, b: a >= b,
-    "$eq": lambda a, b: a == b,
-    "$ne": lambda a, b: a != b,
-    "$eqx": lambda a, b: a == b,
-    "$nex": lambda a, b: a != b,
-    "$reduce_or": lambda a, b: a != 0,
-    "$reduce_bool": lambda a, b: a != 0,
-    "$logic_not": lambda a, b: a == 0,
-    "$logic_and": lambda a, b: bool(a) and bool(b),
-    "$logic_or": lambda a, b: bool(a) or bool(b),
-}
+    def _number_in(word: Word, lane: int, signed: bool) -> int:
+        value = sum(((bit >> lane) & 1) << at for at, bit in enumerate(word))
+        return value - (1 << len(word)) if signed and word and (word[-1] >> lane) & 1 else value

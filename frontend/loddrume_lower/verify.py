@@ -16,17 +16,18 @@ from dataclasses import dataclass, field
 from pathlib import Path
 from typing import Any, Callable, Dict, Iterable, List, Optional, Sequence, Set, Tuple
 
-from .evaluate import Evaluator, Source
+from .evaluate import Evaluator, Source, plain
 from .sources import Pragma, Sources
 from .tokens import Token, flat_tokens, pieces
 from .yosys import Yosys
 
-VECTORS = 48
+VECTORS = 1024
 _WORD = re.compile(r"[A-Za-z_][\w$]*")
 _HELPER = re.compile(r"_n\d+(_\d+)?$")
 _DECLARING = ("wire", "reg", "integer", "input", "output", "inout", "tri", "wand", "wor", "logic", "supply0", "supply1", "time")
 _VALUES = ("parameter", "localparam", "genvar", "function", "task")
-_PASSES = {"original": "proc; memory_collect; memory_map", "design": "proc -noopt"}
+# No pass runs that leaves out what nothing reads: it is compared too.
+_MEMORIES = "memory_collect; memory_map; "
 
 
 class Leak(Exception):
@@ -199,12 +200,6 @@ def _escaped(word: str) -> str:
 # ---- names
 
 
-def plain(name: str) -> str:
-    """What a name of the original becomes: `mem[3]` is `mem__3`."""
-    name = re.sub(r"[^\w$]", "_", re.sub(r"\[(\d+)\]", r"__\1", name).replace(".", "__"), flags=re.ASCII)
-    return name if re.match(r"[A-Za-z_]", name) else "_" + name
-
-
 def _parts(name: str, width: int) -> List[Tuple[str, int, int]]:
     """The nets that a net becomes: the name, the lowest bit and the width of each."""
     if width <= 64:
@@ -324,13 +319,12 @@ class Comparison:
         old, new = Evaluator(pair.original, self._original), Evaluator(pair.design, self._design)
         sinks = self._sinks(pair, old, new)
         chance = random.Random(pair.name)
-        for round_ in range(VECTORS):
-            values: Dict[Source, int] = {}
-            old.start(values, chance, round_)
-            new.start(values, chance, round_)
-            for what, left, right in sinks:
-                if old.value(left) != new.value(right):
-                    raise Leak(f"{pair.name}: {what} has another function than in the original")
+        values: Dict[Source, int] = {}
+        old.start(values, chance, VECTORS)
+        new.start(values, chance, VECTORS)
+        for what, left, right in sinks:
+            if old.value(left) != new.value(right):
+                raise Leak(f"{pair.name}: {what} has another function than in the original")
         self._check_used(pair, new, sinks)
         return self._children(pair)
 
@@ -439,7 +433,8 @@ def netlist_by(yosys: Yosys) -> Netlist:
     def netlist(text: str, top: str, which: str) -> Dict[str, Any]:
         path = Path(yosys.path(f"verify_{which}.v"))
         path.write_text(text, encoding="utf-8", errors="surrogateescape")
-        made = [_made(yosys, path, f"hierarchy {option}; {_PASSES[which]}") for option in (f"-top {_escaped(top)}", "")]
+        memories = _MEMORIES if which == "original" else ""
+        made = [_made(yosys, path, f"hierarchy {option}", memories) for option in (f"-top {_escaped(top)}", "")]
         for module, data in made[1]["modules"].items():
             made[0]["modules"].setdefault(module, data)
         return made[0]
@@ -447,10 +442,23 @@ def netlist_by(yosys: Yosys) -> Netlist:
     return netlist
 
 
-def _made(yosys: Yosys, path: Path, passes: str) -> Dict[str, Any]:
-    yosys.run(f"read_verilog -nopp {path}; {passes}; write_json {path}.json")
+def _made(yosys: Yosys, path: Path, hierarchy: str, memories: str) -> Dict[str, Any]:
+    rtlil = Path(f"{path}.il")
+    yosys.run(f"read_verilog -nopp {path}; {hierarchy}; proc -noopt; write_rtlil {rtlil}")
+    rtlil.write_text(_settled(rtlil.read_text(encoding="utf-8", errors="surrogateescape")), encoding="utf-8", errors="surrogateescape")
+    yosys.run(f"read_rtlil {rtlil}; {memories}write_json {path}.json")
     made: Dict[str, Any] = json.loads(Path(f"{path}.json").read_text(encoding="utf-8", errors="surrogateescape"))
     return made
+
+
+def _settled(rtlil: str) -> str:
+    """RTLIL in which cells that give memories their initial values have constants, where they name wires that are constant."""
+    constant = dict(re.findall(r"^  connect (\$\S+) (\d+'[01xz]+|\d+)$", rtlil, flags=re.MULTILINE))
+
+    def cell(found: "re.Match[str]") -> str:
+        return re.sub(r"(    connect \\\w+ )(\$\S+)$", lambda one: one[1] + constant.get(one[2], one[2]), found.group(), flags=re.MULTILINE)
+
+    return re.sub(r"^  cell \$meminit.*?^  end$", cell, rtlil, flags=re.MULTILINE | re.DOTALL)
 
 
 def _marked(text: str) -> Tuple[List[Token], List[Pragma], str]:
