@@ -37,6 +37,10 @@ def main(words: Optional[List[str]] = None) -> int:
     except OSError as error:
         print(f"loddrume_lower: {error}", file=sys.stderr)
         return 1
+    except Exception as error:  # pylint: disable=broad-except
+        # A design is told a fault in words, also one of this program.
+        print(f"loddrume_lower: a fault of the front end itself ({type(error).__name__}: {error}); report it with the design", file=sys.stderr)
+        return 1
     if not asked.quiet:
         for account in result.accounts:
             print("\n".join(account.lines()))

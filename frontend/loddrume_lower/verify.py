@@ -243,20 +243,6 @@ def check_envelopes(original: Cut, design: Cut) -> None:
                 raise Leak(f"a viewport of {item} with {access}, which the original has not")
 
 
-def _constants(netlist: Dict[str, Any], words: Iterable[str]) -> Set[str]:
-    """The constants of a netlist and of numbers in a text, as binary digits."""
-    found: Set[str] = set()
-    for module in netlist["modules"].values():
-        for cell in module["cells"].values():
-            found |= {str(value) for key, value in cell["parameters"].items() if key.endswith("VALUE") or key == "INIT"}
-            for bits in cell["connections"].values():
-                text = "".join(bit if isinstance(bit, str) else " " for bit in reversed(bits))
-                found |= set(text.split())
-        for net in module["netnames"].values():
-            found.add(str(net.get("attributes", {}).get("init", "")))
-    return found | {format(int(word.replace("_", "")), "b") for word in words if re.fullmatch(r"\d[\d_]*", word)}
-
-
 def check_constants(known: Set[str], open_text: str) -> None:
     """Each constant of the open text is one of the original's, or a part of one; small ones, which extend and compare, are not looked at."""
     for digits in re.findall(r"'b([01]+)", re.sub(r"//[^\n]*", "", open_text)):
@@ -323,7 +309,11 @@ class Comparison:
         old.start(values, chance, VECTORS)
         new.start(values, chance, VECTORS)
         for what, left, right in sinks:
-            if old.value(left) != new.value(right):
+            try:
+                same = old.value(left) == new.value(right)
+            except ValueError as error:
+                raise Leak(f"{pair.name}: {what} can't be checked, since it comes of {error}") from error
+            if not same:
                 raise Leak(f"{pair.name}: {what} has another function than in the original")
         self._check_used(pair, new, sinks)
         return self._children(pair)
@@ -428,27 +418,22 @@ Netlist = Callable[[str, str, str], Dict[str, Any]]
 
 
 def netlist_by(yosys: Yosys) -> Netlist:
-    """Makes the netlist of a text by Yosys: of what a top module reaches, and of each module by itself."""
+    """Makes the netlist of a text by Yosys: of what a top module reaches, or, without one, of each module by itself."""
 
     def netlist(text: str, top: str, which: str) -> Dict[str, Any]:
-        path = Path(yosys.path(f"verify_{which}.v"))
+        path, rtlil = Path(yosys.path(f"verify_{which}.v")), Path(yosys.path(f"verify_{which}.il"))
         path.write_text(text, encoding="utf-8", errors="surrogateescape")
-        memories = _MEMORIES if which == "original" else ""
-        made = [_made(yosys, path, f"hierarchy {option}", memories) for option in (f"-top {_escaped(top)}", "")]
-        for module, data in made[1]["modules"].items():
-            made[0]["modules"].setdefault(module, data)
-        return made[0]
+        hierarchy = f"hierarchy -top {_escaped(top)}" if top else "hierarchy"
+        yosys.run(f"read_verilog -nopp {path}; {hierarchy}; proc -noopt; write_rtlil {rtlil}")
+        told = _settled(rtlil.read_text(encoding="utf-8", errors="surrogateescape"))
+        rtlil.write_text(told, encoding="utf-8", errors="surrogateescape")
+        yosys.run(f"read_rtlil {rtlil}; {_MEMORIES if which == 'original' else ''}write_json {path}.json")
+        made: Dict[str, Any] = json.loads(Path(f"{path}.json").read_text(encoding="utf-8", errors="surrogateescape"))
+        numbers = {format(int(digits), "b") for digits in re.findall(r"^ +(?:connect|assign|update) \S+ (\d+)$", told, flags=re.MULTILINE)}
+        made["constants"] = sorted(set(re.findall(r"\d+'([01xz]+)", told)) | numbers)
+        return made
 
     return netlist
-
-
-def _made(yosys: Yosys, path: Path, hierarchy: str, memories: str) -> Dict[str, Any]:
-    rtlil = Path(f"{path}.il")
-    yosys.run(f"read_verilog -nopp {path}; {hierarchy}; proc -noopt; write_rtlil {rtlil}")
-    rtlil.write_text(_settled(rtlil.read_text(encoding="utf-8", errors="surrogateescape")), encoding="utf-8", errors="surrogateescape")
-    yosys.run(f"read_rtlil {rtlil}; {memories}write_json {path}.json")
-    made: Dict[str, Any] = json.loads(Path(f"{path}.json").read_text(encoding="utf-8", errors="surrogateescape"))
-    return made
 
 
 def _settled(rtlil: str) -> str:
@@ -498,10 +483,16 @@ def verify(netlist: Netlist, sources: Sources, top: str, text: str, design_top: 
         return
     old = netlist(original.text, top, "original")
     new = netlist(design.text, design_top, "design")
-    check_constants(_constants(netlist(original.text, top, "design"), original.words), open_text)
+    numbers = [format(int(word.replace("_", "")), "b") for word in original.words if re.fullmatch(r"\d[\d_]*", word)]
+    check_constants({*old["constants"], *numbers}, open_text)
     comparison = Comparison(old, new, original.free, design.free)
     found = comparison.compare(top, design_top)
-    for name in sorted(design.open_modules - found):
+    left = sorted(design.open_modules - found)
+    if left:
+        for netlist_of, modules, text_of in (("original", old["modules"], original.text), ("design", new["modules"], design.text)):
+            for name, data in netlist(text_of, "", netlist_of)["modules"].items():
+                modules.setdefault(name, data)
+    for name in left:
         same = next((module for module in old["modules"] if plain(module) == name), None)
         if same is None or same in original.closed:
             raise Leak(f"the module {name} stands in the open text, and no open instance makes it")

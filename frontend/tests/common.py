@@ -54,9 +54,9 @@ def stored_design(name: str) -> Tuple[str, Dict[str, Any], str]:
     return (folder / f"{name}.v").read_text(encoding="utf-8"), netlist, (folder / f"{name}.expected").read_text(encoding="utf-8")
 
 
-def key_of(text: str, which: str) -> str:
+def key_of(text: str, top: str, which: str) -> str:
     """The name under which the netlist of a text is stored."""
-    return hashlib.sha256(f"{which} {text}".encode()).hexdigest()[:16]
+    return hashlib.sha256(f"{which} {top} {text}".encode()).hexdigest()[:16]
 
 
 def stored_netlist(netlist: Dict[str, Any]) -> Dict[str, Any]:
@@ -73,7 +73,7 @@ def stored_netlist(netlist: Dict[str, Any]) -> Dict[str, Any]:
         }
         attributes = {key: module["attributes"][key] for key in ("blackbox",) if key in module["attributes"]}
         modules[name] = {"attributes": attributes, "ports": module["ports"], "cells": cells, "netnames": nets}
-    return {"modules": modules}
+    return {"modules": modules, "constants": netlist["constants"]}
 
 
 # ---- planted leaks

@@ -102,7 +102,7 @@ def store_verify() -> None:
 
         def netlist(text: str, top: str, which: str) -> Dict[str, Any]:
             made = verify.netlist_by(yosys)(text, top, which)
-            kept[key_of(text, which)] = stored_netlist(made)
+            kept[key_of(text, top, which)] = stored_netlist(made)
             return made
 
         for label, sources, text in planted():

@@ -19,8 +19,8 @@ class PlantedLeaks(unittest.TestCase):
     def setUp(self) -> None:
         self.stored = json.loads((HERE / "verify.json").read_text(encoding="utf-8"))
 
-    def netlist(self, text: str, _: str, which: str) -> Dict[str, Any]:
-        stored: Dict[str, Any] = self.stored[key_of(text, which)]
+    def netlist(self, text: str, top: str, which: str) -> Dict[str, Any]:
+        stored: Dict[str, Any] = self.stored[key_of(text, top, which)]
         return stored
 
     def test_each(self) -> None:

@@ -84,7 +84,7 @@ def top_ports(text: str, names: Dict[str, Any]) -> List[Port]:
     ports: Dict[str, Port] = {}
     direction, bounds = "", ""
     for part in filter(str.strip, header[1].split(",")):
-        found = re.fullmatch(r"\s*(?:(input|output)\s*(?:wire|reg)?\s*(\[\d+:\d+\])?\s*)?([\w$]+)\s*", part)
+        found = re.fullmatch(r"\s*(?:(input|output)\s*(?:(?:wire|reg)\b)?\s*(\[\d+:\d+\])?\s*)?([\w$]+)\s*", part)
         assert found, part
         direction, bounds = (found[1], found[2] or "") if found[1] else (direction, bounds)
         width = 1
@@ -259,8 +259,8 @@ def port_values(port: Port, value: str) -> Dict[str, str]:
     return result
 
 
-def served(design: Design, session: Served, ports: List[Port], kept: Dict[str, List[str]], cycles: List[Dict[str, str]], regs: Dict[str, str]) -> List[List[str]]:
-    """The values of the kept names at each cycle."""
+def served(design: Design, session: Served, ports: List[Port], kept: Dict[str, List[str]], cycles: List[Dict[str, str]], regs: Dict[str, str], step: int) -> List[List[str]]:
+    """The values of the kept names at each cycle. `step` is how long what is put may take to settle."""
     by_name = {port.name: port for port in ports}
     session.run(1)
     for clock in design.clocks:
@@ -275,12 +275,12 @@ def served(design: Design, session: Served, ports: List[Port], kept: Dict[str, L
         for name, value in values.items():
             inputs.update(port_values(by_name[name], value))
         session.put(inputs)
-        now += 2
+        now += step
         session.run(now)
         for level in "10":
             for clock in design.clocks:
                 session.put(port_values(by_name[clock], level))
-                now += 2
+                now += step
                 session.run(now)
             if level == "1":
                 digits = iter(session.values(handles))
@@ -346,7 +346,7 @@ def simulate(design: Design, result: Result, sources: Path, program: str, folder
     try:
         old, new = regs_of(session, kept, design.name) if setting else ({}, {})
         found, theirs = icarus(design, sources, ports, list(kept), cycles, old, folder)
-        ours = served(design, session, ports, {name: kept[name] for name in found}, cycles, {path: value for path, value in new.items()})
+        ours = served(design, session, ports, {name: kept[name] for name in found}, cycles, new, 3 if re.search(r"#\s*\d", result.text) else 1)
     finally:
         session.end()
     return {"names": len(found), "not in Icarus": len(kept) - len(found), "set": setting, **compared(ours, theirs, found)}
