@@ -30,7 +30,7 @@ def account_of(name: str, module: Module, lowered: Optional[Lowered], passed: Op
     """The account of one module."""
     if lowered is None and passed:
         return Account(name, passed.how, module.file, module.line)
-    reason = passed.fault if passed and passed.fault else ""
+    reason = passed.fault if passed and passed.fault else "an instance sets its parameters"
     return Account(name, "lowered", module.file, module.line, reason, _lost(module, lowered))
 
 

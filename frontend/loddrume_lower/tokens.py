@@ -24,7 +24,7 @@ _PIECES = re.compile(
       | (?P<border>/\*loddrume-pragma\ \d+\*/)
       | (?P<comment>//[^\n]*|/\*.*?\*/)
       | (?P<push>`file_push\s+"[^"\n]*")
-      | (?P<pop>`file_pop)
+      | (?P<pop>`file_pop[^\n]*\n?)
       | (?P<directive>`[A-Za-z_][\w$]*)
       | (?P<string>"(?:\\.|[^"\\\n])*")
       | (?P<escaped>\\[^\s]+)
@@ -68,6 +68,8 @@ def flat_tokens(text: str) -> List[Token]:
             # The mark is followed by a newline, after which the first line of the file begins.
             stack.append([piece.text.split('"')[1], 0])
         elif piece.kind == "pop":
+            # The newline after the mark belongs to it, and counts nowhere.
+            before += piece.text.count("\n")
             if len(stack) > 1:
                 stack.pop()
         elif piece.kind not in ("blank", "comment"):

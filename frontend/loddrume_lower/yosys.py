@@ -41,7 +41,7 @@ class Yosys:
         """Raises a refusal with what Yosys told of its fault."""
         found = _FAULT.search(told)
         if not found:
-            raise Refusal("", 0, f"yosys failed: {told.strip()[-300:]}")
+            raise Refusal("", 0, f"yosys failed: {told.strip()[-300:] or 'it told nothing'}", "look for modules that instantiate themselves")
         words = _COPY.sub(lambda name: origin(name.group()), found["words"])
         if found["file"] and int(found["line"]):
             raise Refusal(origin(found["file"]), int(found["line"]), f"yosys refuses it: {words}", "write it otherwise")
