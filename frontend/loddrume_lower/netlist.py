@@ -118,7 +118,7 @@ class Bufferer:
         _refuse_large_memories(lines, module, self._places)
         _refuse_divided_memories(lines, module, self._places)
         out: List[str] = []
-        for line in _with_constants(lines):
+        for line in _with_constants(_with_initial_values(lines)):
             buffered = self._buffer(line[10:], netlist, module) if line.startswith("  connect ") else None
             out += buffered or [line]
         return out
@@ -201,3 +201,30 @@ def _with_constants(lines: List[str]) -> List[str]:
             line = f"    connect \\{found[1]} {constants[found[2]]}"
         out.append(line)
     return out
+
+
+def _with_initial_values(lines: List[str]) -> List[str]:
+    """Lets an `initial` that sets a constant give an initial value; Yosys lets it drive the net for ever where nothing else does."""
+    out: List[str] = []
+    at = 0
+    while at < len(lines):
+        end = at + 1
+        if re.match(r"  process \$proc\$\S*:0\$\d+$", lines[at]):
+            end = lines.index("  end", at) + 1
+        out += _initial(lines[at:end]) if end > at + 1 else lines[at:end]
+        at = end
+    return out
+
+
+def _initial(process: List[str]) -> List[str]:
+    """A process of an `initial`: what it sets to a constant at all times it sets at the start alone."""
+    constant = {found[1] for line in process if (found := re.match(r"    assign (\$\S+) (?:\d+'[01xz]*|-?\d+)$", line))}
+    moved = [line for line in process if (found := re.match(r"      update (\S+) (\S+)$", line)) and not is_helper(found[1]) and found[2] in constant]
+    start = next((at for at, line in enumerate(process) if line == "    sync init"), None)
+    always = next((at for at, line in enumerate(process) if line == "    sync always"), len(process))
+    moved = [line for line in moved if start is None or process.index(line) < start]
+    if start is None or not moved or always > start:
+        return process
+    kept = [line for line in process if line not in moved]
+    at = kept.index("    sync init") + 1
+    return [*kept[:at], *moved, *kept[at:]]
