@@ -20,7 +20,9 @@ def _parser() -> argparse.ArgumentParser:
     parser.add_argument("-o", dest="output", required=True, metavar="DESIGN", help="the file that is written")
     parser.add_argument("--map", metavar="NAMES", help="a JSON file that says what each name of the original became")
     parser.add_argument("-D", dest="define", action="append", default=[], metavar="NAME[=TEXT]", help="defines a macro")
-    parser.add_argument("-I", dest="include", action="append", default=[], metavar="FOLDER", help="a folder of files that are included")
+    parser.add_argument(
+        "-I", dest="include", action="append", default=[], metavar="FOLDER", help="a folder of files that are included"
+    )
     parser.add_argument("--quiet", action="store_true", help="prints no report")
     return parser
 
@@ -39,7 +41,10 @@ def main(words: Optional[List[str]] = None) -> int:
         return 1
     except Exception as error:  # pylint: disable=broad-except
         # A design is told a fault in words, also one of this program.
-        print(f"loddrume_lower: a fault of the front end itself ({type(error).__name__}: {error}); report it with the design", file=sys.stderr)
+        print(
+            f"loddrume_lower: a fault of the front end itself ({type(error).__name__}: {error}); report it with the design",
+            file=sys.stderr,
+        )
         return 1
     if not asked.quiet:
         for account in result.accounts:

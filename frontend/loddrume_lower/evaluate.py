@@ -13,7 +13,22 @@ _HELPER = re.compile(r"_(e\d+)?n\d+(_\d+)?")
 Bit = Any
 Word = List[int]
 Source = Tuple[str, int]
-STORING = ("$dff", "$dffe", "$adff", "$adffe", "$aldff", "$aldffe", "$dffsr", "$sdff", "$sdffe", "$sdffce", "$dlatch", "$adlatch", "$dlatchsr", "$ff")
+STORING = (
+    "$dff",
+    "$dffe",
+    "$adff",
+    "$adffe",
+    "$aldff",
+    "$aldffe",
+    "$dffsr",
+    "$sdff",
+    "$sdffe",
+    "$sdffce",
+    "$dlatch",
+    "$adlatch",
+    "$dlatchsr",
+    "$ff",
+)
 _SINGLE = ("CLK", "EN", "ARST", "SRST", "ALOAD")
 
 
@@ -83,13 +98,25 @@ class Evaluator:
         """The kind of a register, its polarities, and the values that it takes by itself."""
         cell, at = self._cells[stored[0]], stored[1]
         parameters = cell["parameters"]
-        values = [str(parameters[key]).rjust(at + 1, "0")[-1 - at] for key in ("ARST_VALUE", "SRST_VALUE") if key in parameters]
-        return (cell["type"], *sorted((key, _number(value)) for key, value in parameters.items() if key.endswith("POLARITY")), *values)
+        values = [
+            str(parameters[key]).rjust(at + 1, "0")[-1 - at]
+            for key in ("ARST_VALUE", "SRST_VALUE")
+            if key in parameters
+        ]
+        return (
+            cell["type"],
+            *sorted((key, _number(value)) for key, value in parameters.items() if key.endswith("POLARITY")),
+            *values,
+        )
 
     def inputs(self, stored: Tuple[str, int]) -> List[Tuple[str, Bit]]:
         """The inputs of one bit of a register."""
         cell = self._cells[stored[0]]
-        return [(port, bits[0 if port in _SINGLE else stored[1]]) for port, bits in cell["connections"].items() if port != "Q"]
+        return [
+            (port, bits[0 if port in _SINGLE else stored[1]])
+            for port, bits in cell["connections"].items()
+            if port != "Q"
+        ]
 
     def input(self, stored: Tuple[str, int], port: str) -> Bit:
         return dict(self.inputs(stored))[port]
@@ -106,7 +133,13 @@ class Evaluator:
             driver = self._drivers.get(bit)
             if driver and self._cells[driver[0]]["type"].startswith("$") and not self.storing(bit):
                 cell = self._cells[driver[0]]
-                waiting += [other for port, other_bits in cell["connections"].items() if port not in ("Y", "Q") for other in other_bits if isinstance(other, int)]
+                waiting += [
+                    other
+                    for port, other_bits in cell["connections"].items()
+                    if port not in ("Y", "Q")
+                    for other in other_bits
+                    if isinstance(other, int)
+                ]
         return reached
 
     # ---- values
@@ -145,7 +178,13 @@ class Evaluator:
                 stack.pop()
                 continue
             cell = self._cells[driver[0]]
-            needed = [other for port, bits in cell["connections"].items() if port != "Y" for other in bits if isinstance(other, int) and other not in self._values]
+            needed = [
+                other
+                for port, bits in cell["connections"].items()
+                if port != "Y"
+                for other in bits
+                if isinstance(other, int) and other not in self._values
+            ]
             if needed and top not in pending:
                 pending.add(top)
                 stack += needed
@@ -187,7 +226,9 @@ class Evaluator:
         both = a_signed and (b_signed or "B" not in ports)
         if kind in ("$lt", "$le", "$gt", "$ge", "$eq", "$ne", "$eqx", "$nex"):
             size = max(len(a), len(b))
-            return self._extended([self._related(kind, self._extended(a, size, both), self._extended(b, size, both), both)], width, False)
+            return self._extended(
+                [self._related(kind, self._extended(a, size, both), self._extended(b, size, both), both)], width, False
+            )
         if kind in ("$div", "$mod"):
             return self._divided(kind, a, b, width, both)
         return self._reckoned(kind, self._extended(a, width, both), self._extended(b, width, both), ports)
@@ -229,7 +270,12 @@ class Evaluator:
             return self._inverted(a)
         if kind in ("$pos", "$tribuf"):
             return a if kind == "$pos" else [bit & self.value(ports["EN"][0]) for bit in a]
-        operation = {"$and": int.__and__, "$or": int.__or__, "$xor": int.__xor__, "$xnor": lambda one, other: one ^ other ^ self._all}.get(kind)
+        operation = {
+            "$and": int.__and__,
+            "$or": int.__or__,
+            "$xor": int.__xor__,
+            "$xnor": lambda one, other: one ^ other ^ self._all,
+        }.get(kind)
         if operation is None:
             raise ValueError(f"a cell {kind}")
         return [operation(one, other) for one, other in zip(a, b)]
@@ -283,7 +329,11 @@ class Evaluator:
             return self._moved(word, b, True, 0)[:width]
         if kind in ("$shift", "$shiftx") and b_signed:
             forward = self._moved(word, b[:-1], False, 0)
-            back = self._moved(word, self._sum([0] * len(b), self._inverted(b), self._all), True, 0) if kind == "$shift" else [0] * size
+            back = (
+                self._moved(word, self._sum([0] * len(b), self._inverted(b), self._all), True, 0)
+                if kind == "$shift"
+                else [0] * size
+            )
             return self._either(b[-1], back, forward)[:width]
         return self._moved(word, b, False, fill)[:width]
 

@@ -24,7 +24,9 @@ from .yosys import Yosys
 
 MOST_BYTES = 1 << 20
 # The passes of `proc`, without proc_rom and opt_expr, which join what stands in different places.
-PROCEDURES = "proc_clean; proc_rmdead; proc_prune; proc_init; proc_arst; proc_mux; proc_dlatch; proc_dff; proc_memwr; proc_clean"
+PROCEDURES = (
+    "proc_clean; proc_rmdead; proc_prune; proc_init; proc_arst; proc_mux; proc_dlatch; proc_dff; proc_memwr; proc_clean"
+)
 
 
 @dataclass
@@ -36,7 +38,9 @@ class Result:
     accounts: List[Account] = field(default_factory=list)
 
 
-def lower(top: str, files: Sequence[str], define: Sequence[str] = (), include: Sequence[str] = (), lower_all: bool = False) -> Result:
+def lower(
+    top: str, files: Sequence[str], define: Sequence[str] = (), include: Sequence[str] = (), lower_all: bool = False
+) -> Result:
     """Turns the files of a design into text that the server reads. Raises `Refusal`."""
     with tempfile.TemporaryDirectory(prefix="loddrume-lower-") as folder:
         yosys = Yosys(folder)
@@ -52,7 +56,12 @@ def lower(top: str, files: Sequence[str], define: Sequence[str] = (), include: S
         try:
             verify(netlist_by(yosys), sources, top, result.text, result.names["top"])
         except Leak as leak:
-            raise Refusal(layout.modules[top].file, layout.modules[top].line, f"the text does not hold: {leak}", "report this with the design") from leak
+            raise Refusal(
+                layout.modules[top].file,
+                layout.modules[top].line,
+                f"the text does not hold: {leak}",
+                "report this with the design",
+            ) from leak
     return result
 
 
@@ -69,7 +78,12 @@ def refuse_absent_modules(layout: Layout, top: str) -> None:
                 if name in layout.modules:
                     waiting.append(name)
                 else:
-                    raise Refusal(token.file, token.line, f"an instance of {name}, which is no module of these files", "name its file; of a vendor's cell give a module that stands for it")
+                    raise Refusal(
+                        token.file,
+                        token.line,
+                        f"an instance of {name}, which is no module of these files",
+                        "name its file; of a vendor's cell give a module that stands for it",
+                    )
 
 
 def elaborated(yosys: Yosys, reader: Reader, layout: Layout, top: str, sources: Sources) -> Dict[str, Any]:
@@ -78,12 +92,23 @@ def elaborated(yosys: Yosys, reader: Reader, layout: Layout, top: str, sources: 
     (folder / "flat.v").write_bytes(sources.flat.encode("utf-8", errors="surrogateescape"))
     escaped = top if top.isidentifier() else f"\\{top}"
     bufferer = Bufferer(Places(layout, reader.origin))
-    yosys.run(f"read_verilog -nopp {yosys.path('flat.v')}; hierarchy -check -top {escaped}; write_rtlil {yosys.path('read.il')}", origin=reader.origin)
+    yosys.run(
+        f"read_verilog -nopp {yosys.path('flat.v')}; hierarchy -check -top {escaped}; write_rtlil {yosys.path('read.il')}",
+        origin=reader.origin,
+    )
     _buffer(bufferer, folder, "read.il", ASSIGNING)
-    yosys.run(f"read_rtlil {yosys.path('read.il')}; {PROCEDURES}; write_rtlil {yosys.path('procedures.il')}", origin=reader.origin)
+    yosys.run(
+        f"read_rtlil {yosys.path('read.il')}; {PROCEDURES}; write_rtlil {yosys.path('procedures.il')}",
+        origin=reader.origin,
+    )
     _buffer(bufferer, folder, "procedures.il", PROCEDURAL)
-    yosys.run(f"read_rtlil {yosys.path('procedures.il')}; memory_collect; write_json {yosys.path('netlist.json')}", origin=reader.origin)
-    netlist: Dict[str, Any] = json.loads((folder / "netlist.json").read_text(encoding="utf-8", errors="surrogateescape"))
+    yosys.run(
+        f"read_rtlil {yosys.path('procedures.il')}; memory_collect; write_json {yosys.path('netlist.json')}",
+        origin=reader.origin,
+    )
+    netlist: Dict[str, Any] = json.loads(
+        (folder / "netlist.json").read_text(encoding="utf-8", errors="surrogateescape")
+    )
     _rename_sources(netlist, reader)
     for module in netlist["modules"].values():
         place_by_readers(module)
@@ -105,8 +130,16 @@ def place_by_readers(module: Dict[str, Any]) -> None:
     while waiting:
         found = {}
         for name in waiting:
-            outer = {cells[reader]["attributes"].get("src", "") for bit in cells[name]["connections"].get("Y", []) for reader in readers.get(bit, ())}
-            if not outer and not shown & set(cells[name]["connections"].get("Y", [0])) and cells[name]["type"].startswith("$"):
+            outer = {
+                cells[reader]["attributes"].get("src", "")
+                for bit in cells[name]["connections"].get("Y", [])
+                for reader in readers.get(bit, ())
+            }
+            if (
+                not outer
+                and not shown & set(cells[name]["connections"].get("Y", [0]))
+                and cells[name]["type"].startswith("$")
+            ):
                 outer = {"unread:0.0-0.0"}
             if outer and "" not in outer:
                 found[name] = "|".join(sorted(outer))
@@ -117,8 +150,6 @@ def place_by_readers(module: Dict[str, Any]) -> None:
             if source == "unread:0.0-0.0":
                 del cells[name]
         waiting = [name for name in waiting if name not in found]
-
-
 
 
 def _buffer(bufferer: Bufferer, folder: Path, name: str, kinds: Tuple[str, ...]) -> None:
@@ -140,7 +171,15 @@ def _rename_sources(netlist: Dict[str, Any], reader: Reader) -> None:
 class Assembly:
     """Puts the text together from modules that are passed on and modules that are lowered."""
 
-    def __init__(self, top: str, netlist: Dict[str, Any], layout: Layout, sources: Sources, places: Places, lower_all: bool = False) -> None:
+    def __init__(
+        self,
+        top: str,
+        netlist: Dict[str, Any],
+        layout: Layout,
+        sources: Sources,
+        places: Places,
+        lower_all: bool = False,
+    ) -> None:
         self._top = top
         self._netlist = netlist
         self._layout = layout
@@ -164,7 +203,12 @@ class Assembly:
         text = "\n".join(parts)
         if len(text.encode()) > MOST_BYTES:
             module = self._layout.modules[self._top]
-            raise Refusal(module.file, module.line, f"a text of {len(text.encode())} bytes", f"make memories smaller: at most {MOST_BYTES} bytes")
+            raise Refusal(
+                module.file,
+                module.line,
+                f"a text of {len(text.encode())} bytes",
+                f"make memories smaller: at most {MOST_BYTES} bytes",
+            )
         return Result(text, names, accounts)
 
     def _printed(self, name: str, module: Module, names: Dict[str, Any], accounts: List[Account]) -> str:
@@ -182,12 +226,25 @@ class Assembly:
             self._note_envelope(number, self._named[name], names)
         if not module.place:
             return text
-        return "\n".join(in_envelope(text.rstrip("\n").split("\n"), self._layout.envelopes[module.place], [], lowered is None)) + "\n"
+        return (
+            "\n".join(
+                in_envelope(text.rstrip("\n").split("\n"), self._layout.envelopes[module.place], [], lowered is None)
+            )
+            + "\n"
+        )
 
     def _note_envelope(self, number: int, module: str, names: Dict[str, Any]) -> None:
         envelope = self._layout.envelopes[number]
         author = json.loads(envelope.author)
-        names["envelopes"].append({"number": len(names["envelopes"]) + 1, "author": author, "file": envelope.file, "line": envelope.line, "module": module})
+        names["envelopes"].append(
+            {
+                "number": len(names["envelopes"]) + 1,
+                "author": author,
+                "file": envelope.file,
+                "line": envelope.line,
+                "module": module,
+            }
+        )
 
     def _derived_group(self, place: int, module: Module, names: Dict[str, Any], accounts: List[Account]) -> List[str]:
         """The modules whose parameters instances in an envelope set: all in one envelope more, so that their count is not seen."""
@@ -196,7 +253,9 @@ class Assembly:
             return []
         self._note_envelope(place, module.name, names)
         texts = [
-            self._printed(name, self._layout.modules[source_name(name)], names, accounts).rstrip("\n") for name in inside if min(self._derived_in(name)) == place
+            self._printed(name, self._layout.modules[source_name(name)], names, accounts).rstrip("\n")
+            for name in inside
+            if min(self._derived_in(name)) == place
         ]
         return ["\n".join(in_envelope("\n".join(texts).split("\n"), self._layout.envelopes[place], [])) + "\n"]
 
@@ -229,7 +288,12 @@ def derived_in(name: str, netlist: Dict[str, Any], layout: Layout, places: Place
     numbers = {place for place, _ in found}
     if numbers and (len({layout.envelopes[place].author for place in numbers}) > 1 or module.places()):
         file, line = found[0][1] or (module.file, module.line)
-        raise Refusal(file, line, f"an envelope sets parameters of {module.name}, which has envelopes of its own or instances of another author", "set them outside")
+        raise Refusal(
+            file,
+            line,
+            f"an envelope sets parameters of {module.name}, which has envelopes of its own or instances of another author",
+            "set them outside",
+        )
     return numbers
 
 
@@ -241,7 +305,9 @@ def instances_of(name: str, netlist: Dict[str, Any], layout: Layout, places: Pla
         for cell in data["cells"].values():
             if module and cell["type"] == name:
                 source = cell.get("attributes", {}).get("src", "")
-                found.append((places.place(source, module, f"an instance of {source_name(name)}"), places.origin(source)))
+                found.append(
+                    (places.place(source, module, f"an instance of {source_name(name)}"), places.origin(source))
+                )
     return found
 
 

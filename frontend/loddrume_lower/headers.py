@@ -44,7 +44,9 @@ def _children_of(netlist: Dict[str, Any]) -> Callable[[str], Optional[Dict[str, 
         if data is None or plain(name) != name:
             return None
         ports = data["ports"]
-        if any(len(port["bits"]) > WIDEST or port["direction"] == "inout" or plain(at) != at for at, port in ports.items()):
+        if any(
+            len(port["bits"]) > WIDEST or port["direction"] == "inout" or plain(at) != at for at, port in ports.items()
+        ):
             return None
         return {at: port["direction"] for at, port in ports.items()}
 
@@ -54,7 +56,9 @@ def _children_of(netlist: Dict[str, Any]) -> Callable[[str], Optional[Dict[str, 
 class _Passing:
     """Looks at one module."""
 
-    def __init__(self, module: Module, layout: Layout, sources: Sources, children: Callable[[str], Optional[Dict[str, str]]]) -> None:
+    def __init__(
+        self, module: Module, layout: Layout, sources: Sources, children: Callable[[str], Optional[Dict[str, str]]]
+    ) -> None:
         self._module = module
         self._layout = layout
         self._sources = sources
@@ -74,7 +78,9 @@ class _Passing:
             reading = Profile(tokens_of(_blanked(text), self._module.file), self._children).read()
             return self._done(text, "header rewritten", reading)
         except Left as left:
-            return Passed(fault=f"{left.construct} at {self._module.file}:{left.token.line if left.token.file else self._module.line}")
+            return Passed(
+                fault=f"{left.construct} at {self._module.file}:{left.token.line if left.token.file else self._module.line}"
+            )
 
     def _done(self, text: str, how: str, reading: Reading) -> Passed:
         names = [name for name, kind in reading.kinds.items() if kind.what in ("net", "reg")]
@@ -85,7 +91,10 @@ class _Passing:
         """The tokens of the module as they stand in its file; they must be those that preprocessing leaves."""
         tokens = tokens_of(_blanked(self._text), self._module.file)
         wanted = self._module.tokens
-        start = next((at for at, token in enumerate(tokens) if token.line == wanted[0].line and token.text == wanted[0].text), None)
+        start = next(
+            (at for at, token in enumerate(tokens) if token.line == wanted[0].line and token.text == wanted[0].text),
+            None,
+        )
         if start is None or any(token.file != self._module.file for token in wanted):
             raise Left(wanted[0], "text of another file or of a macro")
         found = tokens[start:]
@@ -98,7 +107,12 @@ class _Passing:
 
     def _bare_header(self, tokens: List[Token]) -> Optional[List[Edit]]:
         """What is to be changed where the header is a list of names, or nothing where it is none."""
-        if len(tokens) < 4 or tokens[2].text != "(" or tokens[3].kind != "name" or tokens[3].text in ("input", "output", "inout"):
+        if (
+            len(tokens) < 4
+            or tokens[2].text != "("
+            or tokens[3].kind != "name"
+            or tokens[3].text in ("input", "output", "inout")
+        ):
             return None
         end = next(at for at, token in enumerate(tokens) if token.text == ")")
         names = [token.text for token in tokens[3:end] if token.text != ","]
@@ -135,9 +149,15 @@ class _Passing:
                 raise Left(token, f"`{token.text}` in the declaration of a port")
             ports[token.text] = (item[0].text, kind, bounds)
 
-    def _without_ports(self, item: List[Token], raw: List[Token], names: List[str], ports: Dict[str, Tuple[str, str, str]]) -> Edit:
+    def _without_ports(
+        self, item: List[Token], raw: List[Token], names: List[str], ports: Dict[str, Tuple[str, str, str]]
+    ) -> Edit:
         """An item without the ports that it declares; the names that are no ports stay."""
-        first = next(token for token in raw if token.line == item[0].line and token.text == item[0].text and self._begins(raw, token, item))
+        first = next(
+            token
+            for token in raw
+            if token.line == item[0].line and token.text == item[0].text and self._begins(raw, token, item)
+        )
         at = raw.index(first)
         last = raw[at + len(item) - 1]
         newlines = "\n" * (last.line - first.line)

@@ -23,7 +23,9 @@ def inlined(lowered: Lowered) -> None:
         found = _ASSIGN.match(statement.text)
         words = _NAMES.findall(found[2] if found else statement.text)
         uses.update(words)
-        barred |= {name for name in words if re.search(rf"\b{re.escape(name)}\[|edge {re.escape(name)}\b", statement.text)} & set(widths)
+        barred |= {
+            name for name in words if re.search(rf"\b{re.escape(name)}\[|edge {re.escape(name)}\b", statement.text)
+        } & set(widths)
         if not found and not statement.text.startswith("always @("):
             barred |= set(words) & set(widths)
     values: Dict[str, Tuple[str, int, Statement]] = {}
@@ -45,7 +47,9 @@ def inlined(lowered: Lowered) -> None:
     lowered.pieces = [piece for piece in lowered.pieces if piece.name not in gone]
 
 
-def _value(name: str, values: Dict[str, Tuple[str, int, Statement]], done: Dict[str, Tuple[str, int]]) -> Tuple[str, int]:
+def _value(
+    name: str, values: Dict[str, Tuple[str, int, Statement]], done: Dict[str, Tuple[str, int]]
+) -> Tuple[str, int]:
     """The expression of a helper with the helpers in it that go, and how deep it nests."""
     if name in done:
         return done[name]

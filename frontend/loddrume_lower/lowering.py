@@ -58,7 +58,9 @@ class _Output:
 class Lowering:
     """Lowers one module. `netlist` is all of the JSON, `named` gives each module of it the name that it gets."""
 
-    def __init__(self, name: str, netlist: Dict[str, Any], named: Dict[str, str], module: Module, places: Places) -> None:
+    def __init__(
+        self, name: str, netlist: Dict[str, Any], named: Dict[str, str], module: Module, places: Places
+    ) -> None:
         self._design = netlist["modules"]
         self._data = dict(self._design[name])
         self._data["cells"] = dict(sorted(self._data["cells"].items(), key=lambda item: natural(item[0])))
@@ -90,7 +92,9 @@ class Lowering:
         for name, cell in self._data["cells"].items():
             self._write(name, cell)
         for (event, place, origin), texts in self._procedures.items():
-            self._say(f"{event} {texts[0]}" if len(texts) == 1 else f"{event} begin {' '.join(texts)} end", place, origin)
+            self._say(
+                f"{event} {texts[0]}" if len(texts) == 1 else f"{event} begin {' '.join(texts)} end", place, origin
+            )
         for memory in self._memories:
             self._write_memory(memory)
         self._join_parts()
@@ -105,11 +109,16 @@ class Lowering:
     def _declare(self) -> None:
         for name, port in self._data["ports"].items():
             net = self._data["netnames"].get(name, {})
-            origin = self._places.origin(net.get("attributes", {}).get("src", "")) or (self._module.file, self._module.line)
+            origin = self._places.origin(net.get("attributes", {}).get("src", "")) or (
+                self._module.file,
+                self._module.line,
+            )
             if port["direction"] == "inout":
                 raise Refusal(*origin, f"the inout port {name}", "make an input, an output and an enable of it")
             if self._place(net, f"the port {name}") != self._module.place:
-                raise Refusal(*origin, f"the port {name} is declared in an envelope", "declare it outside, or in the header")
+                raise Refusal(
+                    *origin, f"the port {name} is declared in an envelope", "declare it outside, or in the header"
+                )
             self._declare_net(name, net or port, port["direction"])
         for name, net in self._data["netnames"].items():
             if name not in self._public and not net.get("hide_name") and not is_helper(name):
@@ -125,7 +134,9 @@ class Lowering:
         bits: Bits = net["bits"]
         parts = chunks(len(bits))
         base = self._nets.names.of(name)
-        names = [base] if len(parts) == 1 else [self._nets.names.fresh(f"{base}__{number}") for number in range(len(parts))]
+        names = (
+            [base] if len(parts) == 1 else [self._nets.names.fresh(f"{base}__{number}") for number in range(len(parts))]
+        )
         offset = int(net.get("offset", 0)) if len(parts) == 1 and not net.get("upto") else 0
         offset = offset if 0 <= offset <= 65535 - len(bits) else 0
         initial = net.get("attributes", {}).get("init", "")
@@ -153,7 +164,11 @@ class Lowering:
 
     def _refuse_foreign(self, name: str, cell: Dict[str, Any]) -> None:
         if not cell["type"].startswith("$"):
-            raise Refusal(*self._origin(cell), f"{name} is of {cell['type']}, a cell of a vendor", "give its module, or one that stands for it")
+            raise Refusal(
+                *self._origin(cell),
+                f"{name} is of {cell['type']}, a cell of a vendor",
+                "give its module, or one that stands for it",
+            )
         if self._is_instance(cell) and self._design[cell["type"]].get("attributes", {}).get("blackbox"):
             raise Refusal(*self._origin(cell), f"{name} is of a module without a body", "give its body")
 
@@ -182,7 +197,9 @@ class Lowering:
             if not isinstance(bit, int):
                 continue
             if bit in self._drivers:
-                raise Refusal(*output.origin, f"a second driver of {self._nets.text([bit])}", "drive each bit of a net once")
+                raise Refusal(
+                    *output.origin, f"a second driver of {self._nets.text([bit])}", "drive each bit of a net once"
+                )
             self._drivers[bit] = (key, at)
 
     def _inputs(self, key: Tuple[str, str]) -> List[Bit]:
@@ -218,7 +235,9 @@ class Lowering:
         if not driver or self._outputs[driver[0]].kind != "$mux":
             return bit
         ports = self._data["cells"][driver[0][0]]["connections"]
-        no, yes, select = (self._same_bit(ports[port][at]) for port, at in (("A", driver[1]), ("B", driver[1]), ("S", 0)))
+        no, yes, select = (
+            self._same_bit(ports[port][at]) for port, at in (("A", driver[1]), ("B", driver[1]), ("S", 0))
+        )
         if no == yes:
             return no
         if (no, yes) == ("0", "1"):
@@ -234,7 +253,9 @@ class Lowering:
                 continue
             keys = [self._drivers[bit][0] for bit in piece.bits if isinstance(bit, int) and bit in self._drivers]
             kinds = {self._outputs[key].kind for key in keys}
-            is_own = all(self._nets.owner.get(bit) == (piece, at) for at, bit in enumerate(piece.bits) if isinstance(bit, int))
+            is_own = all(
+                self._nets.owner.get(bit) == (piece, at) for at, bit in enumerate(piece.bits) if isinstance(bit, int)
+            )
             if is_own and ((kinds and kinds <= set(REGISTERS)) or (not kinds and set(piece.initial) - {"x"})):
                 piece.kind = "reg"
 
@@ -300,7 +321,11 @@ class Lowering:
         for bit in bits:
             owner = self._nets.owner.get(bit) if isinstance(bit, int) else None
             if owner and owner[0].is_helper and owner[0].place != place:
-                raise Refusal(*origin, "an expression that comes of both sides of a border of an envelope", "give its value a net of its own")
+                raise Refusal(
+                    *origin,
+                    "an expression that comes of both sides of a border of an envelope",
+                    "give its value a net of its own",
+                )
 
     def _named_net(self, bits: Bits) -> str:
         """The name of a net with this one bit, for an event."""
@@ -332,10 +357,14 @@ class Lowering:
             return
         self._check_helpers(self._inputs((name, "")), place, origin)
         if kind in REGISTERS:
-            for event, text in self._registers.procedures(kind, cell["parameters"], dict(cell["connections"]), output.targets, origin):
+            for event, text in self._registers.procedures(
+                kind, cell["parameters"], dict(cell["connections"]), output.targets, origin
+            ):
                 self._procedures.setdefault((event, place, origin), []).append(text)
             return
-        written = self._operators.assignments(Cell(kind, cell.get("parameters", {}), cell["connections"], place, origin, output.targets))
+        written = self._operators.assignments(
+            Cell(kind, cell.get("parameters", {}), cell["connections"], place, origin, output.targets)
+        )
         for target, expression, width in written:
             self._say(f"assign {target} = {expression};", place, origin, width)
 
@@ -352,7 +381,11 @@ class Lowering:
                     text = self._nets.text(bits[low : low + width])
                 else:
                     output = self._outputs.get((name, port))
-                    text = next((target.piece.name for target in output.targets if target.low == low), "") if output else ""
+                    text = (
+                        next((target.piece.name for target in output.targets if target.low == low), "")
+                        if output
+                        else ""
+                    )
                 if bits:
                     words.append(f".{inner[at]}({text})")
         called = self._nets.names.of(name)
@@ -365,7 +398,11 @@ class Lowering:
             output = self._outputs[(memory.name, f"read {at}")]
             self._check_helpers(address, memory.place, memory.origin)
             for target in output.targets:
-                self._say(f"assign {target.piece.name} = {memory.choice(address, target.low, target.width)};", memory.place, memory.origin)
+                self._say(
+                    f"assign {target.piece.name} = {memory.choice(address, target.low, target.width)};",
+                    memory.place,
+                    memory.origin,
+                )
         for text in memory.writes(self._named_net):
             self._say(text, memory.place, memory.origin)
         initial = memory.initial()
@@ -376,7 +413,11 @@ class Lowering:
         """Assigns nets of the original that are driven in parts, or that have constant bits or another net's."""
         for piece in [piece for pieces in self._public.values() for piece in pieces]:
             joined = self._joins.get(id(piece), {})
-            foreign = [at for at, bit in enumerate(piece.bits) if isinstance(bit, str) or self._nets.owner.get(bit) != (piece, at)]
+            foreign = [
+                at
+                for at, bit in enumerate(piece.bits)
+                if isinstance(bit, str) or self._nets.owner.get(bit) != (piece, at)
+            ]
             if piece.direction == "input" or piece.kind == "reg" or not (joined or foreign):
                 continue
             bits: Bits = []
@@ -418,7 +459,9 @@ def port_names(module: Dict[str, Any], port: str) -> List[str]:
     return []
 
 
-def module_names(netlist: Dict[str, Any], source: Callable[[str], str], derived_in: Callable[[str], Set[int]]) -> Dict[str, str]:
+def module_names(
+    netlist: Dict[str, Any], source: Callable[[str], str], derived_in: Callable[[str], Set[int]]
+) -> Dict[str, str]:
     """A name for each module of the netlist. Those derived by parameters are counted, and by themselves where an envelope sets them."""
     names = Names()
     result = {name: names.of(name) for name in netlist["modules"] if not name.startswith("$paramod")}

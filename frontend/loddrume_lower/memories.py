@@ -28,7 +28,9 @@ class Memory:
         self._address_bits = number(self._parameters["ABITS"])
         self.words: List[List[Piece]] = []
         if self.size > MOST_WORDS:
-            raise Refusal(*origin, f"the memory {self.name} of {self.size} words", f"make it smaller: at most {MOST_WORDS} words")
+            raise Refusal(
+                *origin, f"the memory {self.name} of {self.size} words", f"make it smaller: at most {MOST_WORDS} words"
+            )
 
     def declare(self) -> Dict[str, List[Piece]]:
         """Makes a piece for each word, or several for one of over 64 bits, by the names of the original."""
@@ -37,9 +39,15 @@ class Memory:
             original = f"{self.name}[{at + self._offset}]"
             parts = chunks(self.width)
             name = self._nets.names.of(original)
-            names = [name] if len(parts) == 1 else [self._nets.names.fresh(f"{name}__{number}") for number in range(len(parts))]
+            names = (
+                [name]
+                if len(parts) == 1
+                else [self._nets.names.fresh(f"{name}__{number}") for number in range(len(parts))]
+            )
             word = [
-                self._nets.add(Piece(names[part], width, self.place, self.origin, "reg", bits=self._nets.new_bits(width)))
+                self._nets.add(
+                    Piece(names[part], width, self.place, self.origin, "reg", bits=self._nets.new_bits(width))
+                )
                 for part, (_, width) in enumerate(parts)
             ]
             self.words.append(word)
@@ -48,7 +56,11 @@ class Memory:
 
     def initial(self) -> str:
         """The initial values as one statement, or nothing where there are none."""
-        values = digits(self._parameters["INIT"], self.size * self.width) if self._parameters.get("INIT") not in (None, "x") else ""
+        values = (
+            digits(self._parameters["INIT"], self.size * self.width)
+            if self._parameters.get("INIT") not in (None, "x")
+            else ""
+        )
         statements: List[str] = []
         for at, word in enumerate(self.words):
             end = len(values) - at * self.width
@@ -66,7 +78,9 @@ class Memory:
         count = number(self._parameters["RD_PORTS"])
         enabled = digits(self._parameters["RD_CLK_ENABLE"], max(count, 1))
         if "1" in enabled and count:
-            raise Refusal(*self.origin, f"a read of the memory {self.name} with a clock of its own", "read it into a reg")
+            raise Refusal(
+                *self.origin, f"a read of the memory {self.name} with a clock of its own", "read it into a reg"
+            )
         return [
             (
                 self._ports["RD_DATA"][at * self.width : (at + 1) * self.width],
@@ -111,7 +125,9 @@ class Memory:
         procedures: Dict[str, List[str]] = {}
         for port in range(count):
             if enabled[port] == "0":
-                raise Refusal(*self.origin, f"a write of the memory {self.name} without a clock", "write it at an edge of a clock")
+                raise Refusal(
+                    *self.origin, f"a write of the memory {self.name} without a clock", "write it at an edge of a clock"
+                )
             event = f"{'posedge' if rising[port] == '1' else 'negedge'} {net_of([self._ports['WR_CLK'][port]])}"
             procedures.setdefault(event, []).extend(self._port(port))
         return [f"always @({event}) begin {' '.join(statements)} end" for event, statements in procedures.items()]
@@ -120,7 +136,11 @@ class Memory:
         ends = slice(port * self.width, (port + 1) * self.width)
         enables, data = self._ports["WR_EN"][ends], self._ports["WR_DATA"][ends]
         address = self._ports["WR_ADDR"][port * self._address_bits : (port + 1) * self._address_bits]
-        return [statement for low, width in _runs(enables) if (statement := self._part_write(address, enables[low], data[low : low + width], low))]
+        return [
+            statement
+            for low, width in _runs(enables)
+            if (statement := self._part_write(address, enables[low], data[low : low + width], low))
+        ]
 
     def _part_write(self, address: Bits, enable: Any, data: Bits, low: int) -> str:
         if enable == "0":
@@ -144,7 +164,9 @@ class Memory:
         for (start, size), piece in zip(chunks(self.width), self.words[at]):
             first, last = max(low, start), min(low + len(data), start + size)
             if first < last:
-                result.append(f"{piece.select(first - start, last - first)} <= {self._nets.text(data[first - low : last - low])};")
+                result.append(
+                    f"{piece.select(first - start, last - first)} <= {self._nets.text(data[first - low : last - low])};"
+                )
         return result[0] if len(result) == 1 else f"begin {' '.join(result)} end"
 
 

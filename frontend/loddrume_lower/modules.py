@@ -11,7 +11,13 @@ from .sources import Pragma
 from .tokens import Token
 
 _BLOCKS = {"begin": "end", "fork": "join", "case": "endcase", "casex": "endcase", "casez": "endcase"}
-_REGIONS = {"function": "endfunction", "task": "endtask", "specify": "endspecify", "table": "endtable", "covergroup": "endgroup"}
+_REGIONS = {
+    "function": "endfunction",
+    "task": "endtask",
+    "specify": "endspecify",
+    "table": "endtable",
+    "covergroup": "endgroup",
+}
 _PROCEDURES = ("always", "initial", "always_comb", "always_ff", "always_latch", "final")
 _NETS = ("wire", "tri", "wand", "wor", "tri0", "tri1", "triand", "trior", "supply0", "supply1", "logic")
 
@@ -119,7 +125,12 @@ class Splitter:
             if border == "begin":
                 self.layout.homes[self._borders.place] = self._home
             elif border == "end" and self.layout.homes[len(self.layout.envelopes) - 1] != self._home:
-                raise Refusal(pragma.file, pragma.line, "an envelope that ends in another module than it begins", "pair begin and end in one module")
+                raise Refusal(
+                    pragma.file,
+                    pragma.line,
+                    "an envelope that ends in another module than it begins",
+                    "pair begin and end in one module",
+                )
             self._at += 1
         return self._at < len(self._all)
 
@@ -170,7 +181,9 @@ class Splitter:
             self._items(module)
         if self._borders.place and self.layout.homes[self._borders.place] == module.name:
             envelope = self._borders.envelopes[self._borders.place]
-            raise Refusal(envelope.file, envelope.line, "an envelope that does not end in its module", "write `pragma protect end")
+            raise Refusal(
+                envelope.file, envelope.line, "an envelope that does not end in its module", "write `pragma protect end"
+            )
         self._home = ""
         self.layout.modules[module.name] = module
 
@@ -179,7 +192,12 @@ class Splitter:
         if self._word() in ("generate", "endgenerate"):
             if self._word() == "endgenerate" and self._borders.place != self._region:
                 token = self._here()
-                raise Refusal(token.file, token.line, "an envelope across the end of a generate region", "begin and end it within, or outside")
+                raise Refusal(
+                    token.file,
+                    token.line,
+                    "an envelope across the end of a generate region",
+                    "begin and end it within, or outside",
+                )
             self._region = self._borders.place
             module.tokens += self._take()
             return
@@ -260,7 +278,14 @@ def refuse_values_across(layout: Layout) -> None:
                 for item in module.items:
                     if item.place == home.place or not (home.place != module.place or is_called):
                         continue
-                    token = next((token for token in item.tokens if token.text.lstrip("\\") == name and token.kind in ("name", "escaped")), None)
+                    token = next(
+                        (
+                            token
+                            for token in item.tokens
+                            if token.text.lstrip("\\") == name and token.kind in ("name", "escaped")
+                        ),
+                        None,
+                    )
                     if token:
                         what = f"the {home.kind} {name}"
                         advice = f"move it, or declare it on that side too; it is declared at {home.file}:{home.line}"
@@ -353,7 +378,9 @@ def instantiated(item: Item) -> List[Tuple[str, Token]]:
         if starts and token.kind in ("name", "escaped") and token.text not in _WORDS and _is_instance(tokens, at):
             found.append((token.text.lstrip("\\"), token))
         starts = token.text in (";", "begin", "else", ")", ":", "end")
-        starts = starts or (at > 0 and tokens[at - 1].text == ":" and token.kind == "name" and tokens[max(at - 2, 0)].text == "begin")
+        starts = starts or (
+            at > 0 and tokens[at - 1].text == ":" and token.kind == "name" and tokens[max(at - 2, 0)].text == "begin"
+        )
     return found
 
 
@@ -362,4 +389,9 @@ def _is_instance(tokens: List[Token], at: int) -> bool:
     following = [token.text for token in tokens[at + 1 : at + 3]]
     if following[:1] == ["#"]:
         return True
-    return len(following) == 2 and tokens[at + 1].kind in ("name", "escaped") and tokens[at + 1].text not in _WORDS and following[1] in ("(", "[")
+    return (
+        len(following) == 2
+        and tokens[at + 1].kind in ("name", "escaped")
+        and tokens[at + 1].text not in _WORDS
+        and following[1] in ("(", "[")
+    )

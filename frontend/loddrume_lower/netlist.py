@@ -129,7 +129,9 @@ class Bufferer:
         targets, values = _parts(left), _parts(right)
         if all(is_helper(target.split(" ")[0]) for target in targets):
             return None
-        whole = len(values) == 1 and values[0] in netlist.driven and netlist.uses[values[0]] == 1 and is_helper(values[0])
+        whole = (
+            len(values) == 1 and values[0] in netlist.driven and netlist.uses[values[0]] == 1 and is_helper(values[0])
+        )
         if whole and len(targets) == 1:
             return None
         source = self._source(targets, values, netlist, module)
@@ -170,7 +172,12 @@ def _refuse_divided_memories(lines: List[str], module: Module, places: Places) -
             found.setdefault(name, set()).update(places.envelopes(source))
             if len(found[name]) > 1:
                 file, where = places.origin(source) or (module.file, module.line)
-                raise Refusal(file, where, f"the memory {name[1:]} is used across a border of an envelope", "read and write it on the side of its declaration")
+                raise Refusal(
+                    file,
+                    where,
+                    f"the memory {name[1:]} is used across a border of an envelope",
+                    "read and write it on the side of its declaration",
+                )
 
 
 def _refuse_large_memories(lines: List[str], module: Module, places: Places) -> None:
@@ -181,7 +188,12 @@ def _refuse_large_memories(lines: List[str], module: Module, places: Places) -> 
         found = re.match(r"  memory .*size (\d+).* \\(\S+)$", line)
         if found and int(found[1]) > MOST_WORDS:
             file, where = places.origin(source) or (module.file, module.line)
-            raise Refusal(file, where, f"the memory {found[2]} of {found[1]} words", f"make it smaller: at most {MOST_WORDS} words")
+            raise Refusal(
+                file,
+                where,
+                f"the memory {found[2]} of {found[1]} words",
+                f"make it smaller: at most {MOST_WORDS} words",
+            )
 
 
 def _with_constants(lines: List[str]) -> List[str]:
@@ -219,7 +231,11 @@ def _with_initial_values(lines: List[str]) -> List[str]:
 def _initial(process: List[str]) -> List[str]:
     """A process of an `initial`: what it sets to a constant at all times it sets at the start alone."""
     constant = {found[1] for line in process if (found := re.match(r"    assign (\$\S+) (?:\d+'[01xz]*|-?\d+)$", line))}
-    moved = [line for line in process if (found := re.match(r"      update (\S+) (\S+)$", line)) and not is_helper(found[1]) and found[2] in constant]
+    moved = [
+        line
+        for line in process
+        if (found := re.match(r"      update (\S+) (\S+)$", line)) and not is_helper(found[1]) and found[2] in constant
+    ]
     start = next((at for at, line in enumerate(process) if line == "    sync init"), None)
     always = next((at for at, line in enumerate(process) if line == "    sync always"), len(process))
     moved = [line for line in moved if start is None or process.index(line) < start]

@@ -71,11 +71,15 @@ class Nets:
                 self.owner.setdefault(bit, (piece, index))
         return piece
 
-    def helper(self, width: int, place: int, origin: Tuple[str, int], kind: str = "wire", bits: Optional[Bits] = None) -> Piece:
+    def helper(
+        self, width: int, place: int, origin: Tuple[str, int], kind: str = "wire", bits: Optional[Bits] = None
+    ) -> Piece:
         """A net that is not of the original. Helpers are counted by place, so that none betrays how many another place has."""
         self._counts[place] = self._counts.get(place, 0) + 1
         name = self.names.fresh(f"_e{place}n{self._counts[place]}" if place else f"_n{self._counts[place]}")
-        piece = Piece(name, width, place, origin, kind, bits=bits if bits is not None else self.new_bits(width), is_helper=True)
+        piece = Piece(
+            name, width, place, origin, kind, bits=bits if bits is not None else self.new_bits(width), is_helper=True
+        )
         return self.add(piece)
 
     def new_bits(self, width: int) -> Bits:

@@ -12,7 +12,13 @@ BITWISE = {"$and": "&", "$or": "|", "$xor": "^", "$xnor": "~^"}
 ARITHMETIC = {"$add": "+", "$sub": "-", "$mul": "*"}
 RELATIONAL = {"$lt": "<", "$le": "<=", "$gt": ">", "$ge": ">="}
 EQUALITY = {"$eq": "==", "$ne": "!=", "$eqx": "===", "$nex": "!=="}
-REDUCING = {"$reduce_and": ("&", "&"), "$reduce_or": ("|", "|"), "$reduce_bool": ("|", "|"), "$reduce_xor": ("^", "^"), "$reduce_xnor": ("~^", "^")}
+REDUCING = {
+    "$reduce_and": ("&", "&"),
+    "$reduce_or": ("|", "|"),
+    "$reduce_bool": ("|", "|"),
+    "$reduce_xor": ("^", "^"),
+    "$reduce_xnor": ("~^", "^"),
+}
 SHIFTS = ("$shl", "$sshl", "$shr", "$sshr", "$shift", "$shiftx")
 LADDER = 16
 
@@ -87,7 +93,11 @@ class Operators:
     def _give(self, cell: Cell, bits: Bits) -> None:
         """Assigns bits to the targets."""
         for target in cell.targets:
-            self._assign(target.piece.name, self._text(extended(bits, cell.live, False)[target.low : target.low + target.width]), target.width)
+            self._assign(
+                target.piece.name,
+                self._text(extended(bits, cell.live, False)[target.low : target.low + target.width]),
+                target.width,
+            )
 
     def _whole(self, cell: Cell, expression: str, width: Optional[int] = None) -> None:
         """Assigns an expression of the output's width, or of one bit that is extended."""
@@ -129,7 +139,9 @@ class Operators:
             rest = self._text(a[target.low : target.low + target.width])
             for start in reversed(range(0, len(choices), LADDER)):
                 for select, bits in reversed(choices[start : start + LADDER]):
-                    rest = f"{self._text([select])} ? {self._text(bits[target.low : target.low + target.width])} : {rest}"
+                    rest = (
+                        f"{self._text([select])} ? {self._text(bits[target.low : target.low + target.width])} : {rest}"
+                    )
                 if start:
                     rest = self._text(self._net(rest, target.width))
             self._assign(target.piece.name, rest, target.width)
@@ -142,7 +154,9 @@ class Operators:
             return self._relation(kind, a, b, cell.signed("A", "B"))
         if kind in EQUALITY:
             width = max(len(a), len(b))
-            return self._equality(kind, extended(a, width, cell.signed("A", "B")), extended(b, width, cell.signed("A", "B")))
+            return self._equality(
+                kind, extended(a, width, cell.signed("A", "B")), extended(b, width, cell.signed("A", "B"))
+            )
         if kind in REDUCING:
             outer, inner = REDUCING[kind]
             parts = [f"{inner}{self._text(a[low : low + width])}" for low, width in chunks(len(a))]
@@ -166,7 +180,9 @@ class Operators:
         ends = chunks(len(a))
         if len(ends) == 1:
             return f"{self._text(a)} {EQUALITY[kind]} {self._text(b)}"
-        joined = " & ".join(f"({self._text(a[low : low + width])} {same} {self._text(b[low : low + width])})" for low, width in ends)
+        joined = " & ".join(
+            f"({self._text(a[low : low + width])} {same} {self._text(b[low : low + width])})" for low, width in ends
+        )
         return f"!({joined})" if kind in ("$ne", "$nex") else joined
 
     def _relation(self, kind: str, a: Bits, b: Bits, signed: bool) -> str:
@@ -296,7 +312,11 @@ class Operators:
             backward = self._steps(a, self._net(f"-{self._text(b)}", len(b)), True, "0")
         for target in cell.targets:
             ends = slice(target.low, target.low + target.width)
-            self._assign(target.piece.name, f"{self._text([b[-1]])} ? {self._text(backward[ends])} : {self._text(forward[ends])}", target.width)
+            self._assign(
+                target.piece.name,
+                f"{self._text([b[-1]])} ? {self._text(backward[ends])} : {self._text(forward[ends])}",
+                target.width,
+            )
 
     def _steps(self, bits: Bits, amount: Bits, left: bool, filling: Bit) -> Bits:
         """A shift by powers of two, one bit of the amount after the other."""

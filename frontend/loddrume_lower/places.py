@@ -48,14 +48,26 @@ class Places:
         found = self.envelopes(source)
         file, line = self.origin(source) or (module.file, module.line)
         if len(found) > 1:
-            raise Refusal(file, line, f"{construct} comes of both sides of a border of an envelope", "draw the border so that it stands on one side")
+            raise Refusal(
+                file,
+                line,
+                f"{construct} comes of both sides of a border of an envelope",
+                "draw the border so that it stands on one side",
+            )
         if found:
             return found.pop()
         if module.places():
-            raise Refusal(file, line, f"no place is known of {construct}, in a module with envelopes", "write it as a continuous assignment or a procedure")
+            raise Refusal(
+                file,
+                line,
+                f"no place is known of {construct}, in a module with envelopes",
+                "write it as a continuous assignment or a procedure",
+            )
         return module.place
 
-    def place_of_target(self, name: str, module: Module, kinds: Tuple[str, ...], construct: str) -> Tuple[int, Tuple[str, int]]:
+    def place_of_target(
+        self, name: str, module: Module, kinds: Tuple[str, ...], construct: str
+    ) -> Tuple[int, Tuple[str, int]]:
         """The one place at which items of some kinds assign a name, with the file and line of the first."""
         last = re.sub(r"\[-?\d+\]", "", name).split(".")[-1]
         items = [item for item in module.items if last in item.targets and _is_kind(item.kind, kinds)]
@@ -64,11 +76,18 @@ class Places:
             found.setdefault(item.place, (item.file, item.line))
         if len(found) > 1:
             (file, line) = found[max(found)]
-            raise Refusal(file, line, f"{construct} {last} stands on both sides of a border of an envelope", "assign it on one side alone")
+            raise Refusal(
+                file,
+                line,
+                f"{construct} {last} stands on both sides of a border of an envelope",
+                "assign it on one side alone",
+            )
         if found:
             return next(iter(found.items()))
         if module.places():
-            raise Refusal(module.file, module.line, f"no place is known of {construct} {last}", "write it as an item of its own")
+            raise Refusal(
+                module.file, module.line, f"no place is known of {construct} {last}", "write it as an item of its own"
+            )
         return module.place, (module.file, module.line)
 
 

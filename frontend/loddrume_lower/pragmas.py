@@ -13,7 +13,9 @@ ENCRYPTED = {
     "begin_protected", "end_protected", "data_block", "key_block", "digest_block", "data_public_key", "data_decrypt_key",
     "digest_public_key", "digest_decrypt_key", "key_public_key",
 }  # fmt: skip
-_WORDS = re.compile(r'\s*(?P<string>"(?:\\.|[^"\\])*")|\s*(?P<word>[A-Za-z_][\w$]*|\d[\w\']*)|\s*(?P<mark>[(),=])|\s*(?P<comment>//.*)')
+_WORDS = re.compile(
+    r'\s*(?P<string>"(?:\\.|[^"\\])*")|\s*(?P<word>[A-Za-z_][\w$]*|\d[\w\']*)|\s*(?P<mark>[(),=])|\s*(?P<comment>//.*)'
+)
 _VIEWPORT = re.compile(r'\(\s*object\s*=\s*"([^"]*)"\s*,\s*access\s*=\s*"([^"]*)"\s*\)$')
 
 
@@ -94,7 +96,10 @@ class Borders:
             self._viewport(pragma, value)
         elif keyword in ("begin", "end"):
             if not free:
-                refuse(f"a {keyword} of an envelope within an item", "put it between two items of a module, or outside of modules")
+                refuse(
+                    f"a {keyword} of an envelope within an item",
+                    "put it between two items of a module, or outside of modules",
+                )
             self._border(pragma, keyword)
             return keyword
         return None
@@ -102,12 +107,22 @@ class Borders:
     def _viewport(self, pragma: Pragma, value: str) -> None:
         found = _VIEWPORT.match(value)
         if not found or not self.place:
-            raise Refusal(pragma.file, pragma.line, "a viewport that can't be read, or outside of an envelope", "see docs/FORMATS.md")
+            raise Refusal(
+                pragma.file,
+                pragma.line,
+                "a viewport that can't be read, or outside of an envelope",
+                "see docs/FORMATS.md",
+            )
         self.envelopes[self.place].viewports.append((found[1], found[2]))
 
     def _border(self, pragma: Pragma, keyword: str) -> None:
         if (keyword == "begin") == bool(self.place):
-            raise Refusal(pragma.file, pragma.line, f"a {keyword} {'within' if self.place else 'outside of'} an envelope", "pair begin and end")
+            raise Refusal(
+                pragma.file,
+                pragma.line,
+                f"a {keyword} {'within' if self.place else 'outside of'} an envelope",
+                "pair begin and end",
+            )
         if keyword == "end":
             self.place = 0
             return

@@ -43,12 +43,19 @@ def _port(piece: Piece) -> str:
     return f"{piece.direction} {piece.kind if piece.direction == 'output' else 'wire'} {piece.range()}{piece.name}"
 
 
-def in_envelope(lines: List[str], envelope: Envelope, opened: List[Tuple[str, str]], keep_lines: bool = False) -> List[str]:
+def in_envelope(
+    lines: List[str], envelope: Envelope, opened: List[Tuple[str, str]], keep_lines: bool = False
+) -> List[str]:
     """Lines between the pragmas of an envelope, as one: an inside must not move the lines of what stands after it, which all may see."""
     if not keep_lines:
         lines = [" ".join(re.sub(r"// (.*)$", r"/* \1 */", line.replace("*/", "")).strip() for line in lines)]
     first = f"`pragma protect author={envelope.author}, begin"
-    return [first, *(f'`pragma protect viewport=(object={json.dumps(name)}, access="{access}")' for name, access in opened), *lines, "`pragma protect end"]
+    return [
+        first,
+        *(f'`pragma protect viewport=(object={json.dumps(name)}, access="{access}")' for name, access in opened),
+        *lines,
+        "`pragma protect end",
+    ]
 
 
 def viewports(lowered: Lowered, envelope: Envelope, place: int) -> List[Tuple[str, str]]:
@@ -59,8 +66,14 @@ def viewports(lowered: Lowered, envelope: Envelope, place: int) -> List[Tuple[st
         module, _, name = item.rpartition(".")
         if module and module != lowered.original:
             continue
-        now = [new for old, new in lowered.names.items() if old == name or re.fullmatch(re.escape(name) + r"\[\d+\]", old)]
+        now = [
+            new for old, new in lowered.names.items() if old == name or re.fullmatch(re.escape(name) + r"\[\d+\]", old)
+        ]
         now += [[called] for old, (called, _) in lowered.instances.items() if old == name]
         for names in now:
-            result += [(f"{lowered.name}.{new}" if module else new, access) for new in names if new in here or not lowered.names.get(name)]
+            result += [
+                (f"{lowered.name}.{new}" if module else new, access)
+                for new in names
+                if new in here or not lowered.names.get(name)
+            ]
     return result

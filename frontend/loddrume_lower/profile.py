@@ -13,7 +13,18 @@ USED = frozenset(
     "module endmodule input output wire reg localparam assign initial always begin end if else case casez endcase default while for forever "
     "wait posedge negedge or".split()
 )
-_BINARY = [["||"], ["&&"], ["|"], ["^", "~^", "^~"], ["&"], ["==", "!=", "===", "!=="], ["<", "<=", ">", ">="], ["<<", ">>"], ["+", "-"], ["*"]]
+_BINARY = [
+    ["||"],
+    ["&&"],
+    ["|"],
+    ["^", "~^", "^~"],
+    ["&"],
+    ["==", "!=", "===", "!=="],
+    ["<", "<=", ">", ">="],
+    ["<<", ">>"],
+    ["+", "-"],
+    ["*"],
+]
 _UNARY = ("+", "-", "!", "~", "&", "~&", "|", "~|", "^", "~^", "^~")
 _ARITHMETIC = ("*", "+", "-", "&", "|", "^", "~^", "^~")
 DEEPEST = 64
@@ -61,7 +72,12 @@ class Reading:
 class Profile:
     """A reader of one module. `children` gives the ports of a module by name: the direction of each, in order, and whether it is too wide."""
 
-    def __init__(self, tokens: List[Token], children: Callable[[str], Optional[Dict[str, str]]], known: Optional[Dict[str, Kind]] = None) -> None:
+    def __init__(
+        self,
+        tokens: List[Token],
+        children: Callable[[str], Optional[Dict[str, str]]],
+        known: Optional[Dict[str, Kind]] = None,
+    ) -> None:
         self._tokens = tokens
         # Names may be used before they are declared, so a text is read twice: the second time all names are known.
         self._known_names = known
@@ -255,7 +271,9 @@ class Profile:
         name = self._name()
         ports = self._children(module.text)
         if ports is None:
-            raise Left(module, f"an instance of {module.text}, whose ports are wider than 64 bits or can't be connected so")
+            raise Left(
+                module, f"an instance of {module.text}, whose ports are wider than 64 bits or can't be connected so"
+            )
         self._declare(name, Kind("instance", "", None))
         self.reading.instances[name.text] = module.text
         if self._is("["):

@@ -26,16 +26,32 @@ class Registers:
         self._nets = nets
         self._net_of = net_of
 
-    def procedures(self, kind: str, parameters: Dict[str, Any], ports: Dict[str, Bits], targets: List[Target], origin: Tuple[str, int]) -> List[Tuple[str, str]]:
+    def procedures(
+        self,
+        kind: str,
+        parameters: Dict[str, Any],
+        ports: Dict[str, Bits],
+        targets: List[Target],
+        origin: Tuple[str, int],
+    ) -> List[Tuple[str, str]]:
         """The event and the statement for each target."""
         return [self._one(kind, parameters, ports, target, origin) for target in targets]
 
-    def _one(self, kind: str, parameters: Dict[str, Any], ports: Dict[str, Bits], target: Target, origin: Tuple[str, int]) -> Tuple[str, str]:
+    def _one(
+        self, kind: str, parameters: Dict[str, Any], ports: Dict[str, Bits], target: Target, origin: Tuple[str, int]
+    ) -> Tuple[str, str]:
         ends = slice(target.low, target.low + target.width)
         name = target.piece.select(target.index, target.width)
         blocking = kind in LATCHES
         statement = f"{name} {'=' if blocking else '<='} {self._nets.text(ports['D'][ends])};"
-        enable = {"$dffe": "EN", "$adffe": "EN", "$sdffe": "EN", "$dlatch": "EN", "$adlatch": "EN", "$dlatchsr": "EN"}.get(kind)
+        enable = {
+            "$dffe": "EN",
+            "$adffe": "EN",
+            "$sdffe": "EN",
+            "$dlatch": "EN",
+            "$adlatch": "EN",
+            "$dlatchsr": "EN",
+        }.get(kind)
         if enable:
             statement = f"if ({self._level(parameters, ports, enable)}) {statement}"
         events = [] if blocking else [self._edge(parameters, ports, "CLK")]
@@ -60,7 +76,9 @@ class Registers:
             return [("ALOAD", self._nets.text(ports["AD"][ends]))]
         if kind in ("$dffsr", "$dlatchsr"):
             if len(set(ports["SET"][ends])) > 1 or len(set(ports["CLR"][ends])) > 1:
-                raise Refusal(*origin, "a register whose bits are set and cleared one by one", "set all bits of it at once")
+                raise Refusal(
+                    *origin, "a register whose bits are set and cleared one by one", "set all bits of it at once"
+                )
             ports["SET"], ports["CLR"] = ports["SET"][ends][:1], ports["CLR"][ends][:1]
             return [("SET", f"{width}'b{'1' * width}"), ("CLR", f"{width}'b{'0' * width}")]
         return []

@@ -35,14 +35,28 @@ def account_of(name: str, module: Module, lowered: Optional[Lowered], passed: Op
 
 
 def _lost(module: Module, lowered: Optional[Lowered]) -> List[str]:
-    procedures = [item for item in module.items if item.kind in ("always", "initial", "always_comb", "always_ff", "always_latch")]
+    procedures = [
+        item for item in module.items if item.kind in ("always", "initial", "always_comb", "always_ff", "always_latch")
+    ]
     lost = []
     if procedures:
-        lost.append(f"{len(procedures)} processes of the original, and so races inside them; those of the text are others")
-    delays = [token for item in module.items for token in item.tokens if token.text == "#" and item.kind in ("always", "initial", "assign", "wire")]
+        lost.append(
+            f"{len(procedures)} processes of the original, and so races inside them; those of the text are others"
+        )
+    delays = [
+        token
+        for item in module.items
+        for token in item.tokens
+        if token.text == "#" and item.kind in ("always", "initial", "assign", "wire")
+    ]
     if delays:
         lost.append(f"{len(delays)} delays, the first at {delays[0].file}:{delays[0].line}")
-    tasks = [token for item in procedures for token in item.tokens if token.kind == "system" and token.text not in ("$signed", "$unsigned", "$clog2")]
+    tasks = [
+        token
+        for item in procedures
+        for token in item.tokens
+        if token.kind == "system" and token.text not in ("$signed", "$unsigned", "$clog2")
+    ]
     if tasks:
         lost.append(f"{len(tasks)} system tasks, the first {tasks[0].text} at {tasks[0].file}:{tasks[0].line}")
     if any(token.text in ("if", "case", "casez", "casex") for item in procedures for token in item.tokens):

@@ -54,7 +54,9 @@ class Reader:
         Path(self._yosys.path("all.v")).write_text(master, encoding="utf-8")
         self.sources.flat = self._preprocessed()
         names = {self._yosys.path(copy): file for file, copy in self._copies.items()}
-        self.sources.tokens = [token._replace(file=names.get(token.file, token.file)) for token in flat_tokens(self.sources.flat)]
+        self.sources.tokens = [
+            token._replace(file=names.get(token.file, token.file)) for token in flat_tokens(self.sources.flat)
+        ]
         self._refuse_left_directives()
         return self.sources
 
@@ -126,5 +128,12 @@ class Reader:
 
     def _refuse_left_directives(self) -> None:
         for token in self.sources.tokens:
-            if token.kind == "directive" and token.text not in ("`default_nettype", "`celldefine", "`endcelldefine", "`resetall"):
-                raise Refusal(token.file, token.line, f"{token.text}, which is no directive and no macro", "define it by -D")
+            if token.kind == "directive" and token.text not in (
+                "`default_nettype",
+                "`celldefine",
+                "`endcelldefine",
+                "`resetall",
+            ):
+                raise Refusal(
+                    token.file, token.line, f"{token.text}, which is no directive and no macro", "define it by -D"
+                )

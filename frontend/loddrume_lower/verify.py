@@ -24,7 +24,21 @@ from .yosys import Yosys
 VECTORS = 1024
 _WORD = re.compile(r"[A-Za-z_][\w$]*")
 _HELPER = re.compile(r"_n\d+(_\d+)?$")
-_DECLARING = ("wire", "reg", "integer", "input", "output", "inout", "tri", "wand", "wor", "logic", "supply0", "supply1", "time")
+_DECLARING = (
+    "wire",
+    "reg",
+    "integer",
+    "input",
+    "output",
+    "inout",
+    "tri",
+    "wand",
+    "wor",
+    "logic",
+    "supply0",
+    "supply1",
+    "time",
+)
 _VALUES = ("parameter", "localparam", "genvar", "function", "task")
 # No pass runs that leaves out what nothing reads: it is compared too.
 _MEMORIES = "memory_collect; memory_map; "
@@ -64,7 +78,10 @@ def _apply(text: str, author: str, envelope: Optional[Envelope]) -> Tuple[str, s
     said = ""
     if not re.match(r"\s*protect\b", text):
         return said, ("" if re.match(r"\s*(resetall|reset\s+protect)", text) else author)
-    for found in re.finditer(r'author\s*=\s*("(?:\\.|[^"\\])*")|viewport\s*=\s*\(\s*object\s*=\s*"([^"]*)"\s*,\s*access\s*=\s*"([^"]*)"\s*\)|\b(begin|end|reset)\b', text):
+    for found in re.finditer(
+        r'author\s*=\s*("(?:\\.|[^"\\])*")|viewport\s*=\s*\(\s*object\s*=\s*"([^"]*)"\s*,\s*access\s*=\s*"([^"]*)"\s*\)|\b(begin|end|reset)\b',
+        text,
+    ):
         if found[1]:
             author = json.loads(found[1])
         elif found[2] is not None and envelope:
@@ -128,10 +145,21 @@ def declared(tokens: Sequence[Token]) -> Dict[str, str]:
     """The names that items declare, each with its declaration, or an empty text for what is no net."""
     names: Dict[str, str] = {}
     for item in _items(tokens):
-        start = next((at for at, token in enumerate(item) if token.kind == "name" and token.text in (*_DECLARING, *_VALUES)), None)
-        if start is not None and all(token.text in ("generate", "endgenerate", "end", "begin", ")", "(*", "*)") or token.kind != "name" for token in item[:start]):
+        start = next(
+            (at for at, token in enumerate(item) if token.kind == "name" and token.text in (*_DECLARING, *_VALUES)),
+            None,
+        )
+        if start is not None and all(
+            token.text in ("generate", "endgenerate", "end", "begin", ")", "(*", "*)") or token.kind != "name"
+            for token in item[:start]
+        ):
             names.update(_names_in(item[start:]))
-        elif len(item) > 2 and item[0].kind in ("name", "escaped") and item[1].kind in ("name", "escaped") and item[2].text == "(":
+        elif (
+            len(item) > 2
+            and item[0].kind in ("name", "escaped")
+            and item[1].kind in ("name", "escaped")
+            and item[2].text == "("
+        ):
             names[item[1].text.lstrip("\\")] = ""
     return names
 
@@ -161,7 +189,12 @@ def _remade(name: str, tokens: List[Token], result: Cut) -> str:
     """A module without its insides, in which nets of insides that it names are free."""
     if name in result.closed:
         end = next(at for at, token in enumerate(tokens) if token.text == ";" and _level(tokens[:at]) == 0)
-        ports = [token for item in _items(tokens[end + 1 :]) if item[0].text in ("input", "output", "inout", "parameter") for token in item]
+        ports = [
+            token
+            for item in _items(tokens[end + 1 :])
+            if item[0].text in ("input", "output", "inout", "parameter")
+            for token in item
+        ]
         return " ".join(["(* blackbox *)", *(_spelled(token) for token in [*tokens[: end + 1], *ports]), "endmodule"])
     words = {token.text.lstrip("\\") for token in tokens}
     free: Dict[str, str] = {}
@@ -174,7 +207,9 @@ def _remade(name: str, tokens: List[Token], result: Cut) -> str:
                     continue
                 if not inside[word] or set(_WORD.findall(inside[word])) & values:
                     token = envelope.tokens[0]
-                    raise Leak(f"{token.file}:{token.line}: {word} is declared in an envelope, and its value or width is used outside of it")
+                    raise Leak(
+                        f"{token.file}:{token.line}: {word} is declared in an envelope, and its value or width is used outside of it"
+                    )
                 free[word] = inside[word]
     result.free[name] = set(free)
     added = " ".join(f"{declaration} {_escaped(word)} ;" for word, declaration in sorted(free.items()))
@@ -182,7 +217,12 @@ def _remade(name: str, tokens: List[Token], result: Cut) -> str:
 
 
 def _instances(tokens: List[Token], word: str) -> bool:
-    return not any(token.text in _VALUES and token.kind == "name" and word in _names_in([*tokens[at:], Token("op", ";", "", 0, 0, 0)]) for at, token in enumerate(tokens))
+    return not any(
+        token.text in _VALUES
+        and token.kind == "name"
+        and word in _names_in([*tokens[at:], Token("op", ";", "", 0, 0, 0)])
+        for at, token in enumerate(tokens)
+    )
 
 
 def _level(tokens: List[Token]) -> int:
@@ -225,8 +265,16 @@ def check_envelopes(original: Cut, design: Cut) -> None:
     for envelope in original.envelopes:
         for name in declared(envelope.tokens):
             authors.setdefault(plain(name), set()).add(envelope.author)
-    allowed = Counter((envelope.author, plain(item.split(".")[-1])) for envelope in original.envelopes for item, _ in envelope.viewports)
-    rights = {(envelope.author, plain(item.split(".")[-1])): access for envelope in original.envelopes for item, access in envelope.viewports}
+    allowed = Counter(
+        (envelope.author, plain(item.split(".")[-1]))
+        for envelope in original.envelopes
+        for item, _ in envelope.viewports
+    )
+    rights = {
+        (envelope.author, plain(item.split(".")[-1])): access
+        for envelope in original.envelopes
+        for item, access in envelope.viewports
+    }
     known = {envelope.author for envelope in original.envelopes}
     for envelope in design.envelopes:
         if envelope.author not in known:
@@ -238,7 +286,14 @@ def check_envelopes(original: Cut, design: Cut) -> None:
                 raise Leak(f"{name} stands in an envelope of {envelope.author}")
         for item, access in envelope.viewports:
             name = item.split(".")[-1]
-            key = next((key for key in ((envelope.author, name), (envelope.author, re.sub(r"__\d+$", "", name))) if allowed[key]), None)
+            key = next(
+                (
+                    key
+                    for key in ((envelope.author, name), (envelope.author, re.sub(r"__\d+$", "", name)))
+                    if allowed[key]
+                ),
+                None,
+            )
             if key is None or set(access.split("+")) - set(rights[key].split("+")):
                 raise Leak(f"a viewport of {item} with {access}, which the original has not")
 
@@ -269,7 +324,13 @@ class Pair:
 class Comparison:
     """Compares the modules of two netlists, from their tops down."""
 
-    def __init__(self, original: Dict[str, Any], design: Dict[str, Any], free: Dict[str, Set[str]], design_free: Dict[str, Set[str]]) -> None:
+    def __init__(
+        self,
+        original: Dict[str, Any],
+        design: Dict[str, Any],
+        free: Dict[str, Set[str]],
+        design_free: Dict[str, Set[str]],
+    ) -> None:
         self._original = original["modules"]
         self._design = design["modules"]
         self._free = free
@@ -295,7 +356,9 @@ class Comparison:
         source = re.sub(r"^\$paramod(\$[0-9a-f]+)?\\([^\\]+).*", r"\2", name)
         nets = self._design[made]["netnames"]
         for free in self._free.get(source, set()):
-            widths = [part for part in nets if part == plain(free) or re.fullmatch(re.escape(plain(free)) + r"__\d+", part)]
+            widths = [
+                part for part in nets if part == plain(free) or re.fullmatch(re.escape(plain(free)) + r"__\d+", part)
+            ]
             declared_here = [part for part in widths if part not in self._design_free.get(made, set())]
             if declared_here:
                 raise Leak(f"{made}: {free} is declared in the open text, and in an envelope of the original")
@@ -396,7 +459,11 @@ class Comparison:
         """Each helper of the open text is read by something that was compared."""
         reached = new.cone([right for _, _, right in sinks])
         for name, net in pair.design["netnames"].items():
-            if _HELPER.fullmatch(name) and not net.get("hide_name") and not any(bit in reached for bit in net["bits"] if isinstance(bit, int)):
+            if (
+                _HELPER.fullmatch(name)
+                and not net.get("hide_name")
+                and not any(bit in reached for bit in net["bits"] if isinstance(bit, int))
+            ):
                 if any(isinstance(bit, str) or not new.is_free(bit) for bit in net["bits"]):
                     raise Leak(f"{pair.name}: nothing of the open text reads {name}")
 
@@ -429,7 +496,10 @@ def netlist_by(yosys: Yosys) -> Netlist:
         rtlil.write_text(told, encoding="utf-8", errors="surrogateescape")
         yosys.run(f"read_rtlil {rtlil}; {_MEMORIES if which == 'original' else ''}write_json {path}.json")
         made: Dict[str, Any] = json.loads(Path(f"{path}.json").read_text(encoding="utf-8", errors="surrogateescape"))
-        numbers = {format(int(digits), "b") for digits in re.findall(r"^ +(?:connect|assign|update) \S+ (\d+)$", told, flags=re.MULTILINE)}
+        numbers = {
+            format(int(digits), "b")
+            for digits in re.findall(r"^ +(?:connect|assign|update) \S+ (\d+)$", told, flags=re.MULTILINE)
+        }
         made["constants"] = sorted(set(re.findall(r"\d+'([01xz]+)", told)) | numbers)
         return made
 
@@ -441,7 +511,12 @@ def _settled(rtlil: str) -> str:
     constant = dict(re.findall(r"^  connect (\$\S+) (\d+'[01xz]+|\d+)$", rtlil, flags=re.MULTILINE))
 
     def cell(found: "re.Match[str]") -> str:
-        return re.sub(r"(    connect \\\w+ )(\$\S+)$", lambda one: one[1] + constant.get(one[2], one[2]), found.group(), flags=re.MULTILINE)
+        return re.sub(
+            r"(    connect \\\w+ )(\$\S+)$",
+            lambda one: one[1] + constant.get(one[2], one[2]),
+            found.group(),
+            flags=re.MULTILINE,
+        )
 
     return re.sub(r"^  cell \$meminit.*?^  end$", cell, rtlil, flags=re.MULTILINE | re.DOTALL)
 
@@ -457,12 +532,18 @@ def _marked(text: str) -> Tuple[List[Token], List[Pragma], str]:
         if found:
             lines.append(f"/*loddrume-pragma {len(pragmas)}*/")
             pragmas.append(Pragma("design.v", number, found[1]))
-            inside = bool(re.search(r"\bbegin\s*$", found[1])) or (inside and not re.search(r"\bprotect\s+end\s*$", found[1]))
+            inside = bool(re.search(r"\bbegin\s*$", found[1])) or (
+                inside and not re.search(r"\bprotect\s+end\s*$", found[1])
+            )
             continue
         lines.append(line)
         if not inside:
             kept.append(line)
-    return [token for token in pieces("\n".join(lines), "design.v") if token.kind not in ("blank", "comment")], pragmas, "\n".join(kept)
+    return (
+        [token for token in pieces("\n".join(lines), "design.v") if token.kind not in ("blank", "comment")],
+        pragmas,
+        "\n".join(kept),
+    )
 
 
 def verify(netlist: Netlist, sources: Sources, top: str, text: str, design_top: str) -> None:
@@ -489,7 +570,10 @@ def verify(netlist: Netlist, sources: Sources, top: str, text: str, design_top: 
     found = comparison.compare(top, design_top)
     left = sorted(design.open_modules - found)
     if left:
-        for netlist_of, modules, text_of in (("original", old["modules"], original.text), ("design", new["modules"], design.text)):
+        for netlist_of, modules, text_of in (
+            ("original", old["modules"], original.text),
+            ("design", new["modules"], design.text),
+        ):
             for name, data in netlist(text_of, "", netlist_of)["modules"].items():
                 modules.setdefault(name, data)
     for name in left:
@@ -505,7 +589,9 @@ def _open_of(raw: str) -> str:
     for line in raw.split("\n"):
         found = re.search(r"`pragma\s+protect\b(.*)", line)
         if found:
-            inside = bool(re.search(r"\bbegin\b", re.sub(r'"[^"]*"', "", found[1]))) or (inside and not re.search(r"\bend\b", re.sub(r'"[^"]*"', "", found[1])))
+            inside = bool(re.search(r"\bbegin\b", re.sub(r'"[^"]*"', "", found[1]))) or (
+                inside and not re.search(r"\bend\b", re.sub(r'"[^"]*"', "", found[1]))
+            )
         elif not inside:
             kept.append(line)
     return "\n".join(kept)

@@ -31,7 +31,12 @@ class Yosys:
         """Runs a script, and gives what was printed."""
         words = [self._program, *(["-q"] if quiet else []), "-p", script]
         ran = subprocess.run(
-            words, stdout=subprocess.PIPE, stderr=subprocess.STDOUT, encoding="utf-8", errors="surrogateescape", check=False
+            words,
+            stdout=subprocess.PIPE,
+            stderr=subprocess.STDOUT,
+            encoding="utf-8",
+            errors="surrogateescape",
+            check=False,
         )
         if check and ran.returncode:
             self.fail(ran.stdout, origin)
@@ -41,7 +46,12 @@ class Yosys:
         """Raises a refusal with what Yosys told of its fault."""
         found = _FAULT.search(told)
         if not found:
-            raise Refusal("", 0, f"yosys failed: {told.strip()[-300:] or 'it told nothing'}", "look for modules that instantiate themselves")
+            raise Refusal(
+                "",
+                0,
+                f"yosys failed: {told.strip()[-300:] or 'it told nothing'}",
+                "look for modules that instantiate themselves",
+            )
         words = _COPY.sub(lambda name: origin(name.group()), found["words"])
         if found["file"] and int(found["line"]):
             raise Refusal(origin(found["file"]), int(found["line"]), f"yosys refuses it: {words}", "write it otherwise")

@@ -51,7 +51,11 @@ def stored_design(name: str) -> Tuple[str, Dict[str, Any], str]:
     """A stored design: its text, its netlist, and the text that it becomes."""
     folder = HERE / "designs"
     netlist = json.loads((folder / f"{name}.json").read_text(encoding="utf-8"))
-    return (folder / f"{name}.v").read_text(encoding="utf-8"), netlist, (folder / f"{name}.expected").read_text(encoding="utf-8")
+    return (
+        (folder / f"{name}.v").read_text(encoding="utf-8"),
+        netlist,
+        (folder / f"{name}.expected").read_text(encoding="utf-8"),
+    )
 
 
 def key_of(text: str, top: str, which: str) -> str:
@@ -64,10 +68,15 @@ def stored_netlist(netlist: Dict[str, Any]) -> Dict[str, Any]:
     modules = {}
     for name, module in netlist["modules"].items():
         cells = {
-            cell_name: {key: cell[key] for key in ("type", "parameters", "connections")} for cell_name, cell in module["cells"].items()
+            cell_name: {key: cell[key] for key in ("type", "parameters", "connections")}
+            for cell_name, cell in module["cells"].items()
         }
         nets = {
-            net: {"bits": data["bits"], "hide_name": data["hide_name"], "attributes": {key: data["attributes"][key] for key in ("init",) if key in data["attributes"]}}
+            net: {
+                "bits": data["bits"],
+                "hide_name": data["hide_name"],
+                "attributes": {key: data["attributes"][key] for key in ("init",) if key in data["attributes"]},
+            }
             for net, data in module["netnames"].items()
             if not data["hide_name"]
         }
@@ -108,18 +117,24 @@ def leaks(text: str) -> Iterator[Tuple[str, str]]:
     yield "name 5: an instance is moved outside", _moved(text, r"mul__e\d+_1 secret_mul\([^;]*;")
     yield "name 6: a viewport shows another net", _replaced(text, 'object="st"', 'object="look"')
     yield "name 7: a viewport gives more rights", _replaced(text, 'access="read"', 'access="read+put"')
-    yield "name 8: an envelope has another author", _replaced(text, '`pragma protect author="other"', '`pragma protect author="acme"')
+    yield "name 8: an envelope has another author", _replaced(
+        text, '`pragma protect author="other"', '`pragma protect author="acme"'
+    )
     yield "name 9: a module of an inside stands outside", _unwrapped(text)
     yield "name 10: a helper is named for a net", _added(text, "wire [7:0] look_copy = d;")
     yield "value 1: a net is replaced by its constant", _replaced(text, "d + k", "d + 8'b01011010")
     yield "value 2: a driver with a constant is moved outside", _moved(text, r"assign cfg = [^;]*;")
     yield "value 3: a localparam has the constant", _added(text, "localparam _n99 = 8'b01011010;")
     yield "value 4: a helper that nothing reads has the constant", _added(text, "wire [7:0] _n99 = 8'b01011010;")
-    yield "value 5: a choice has the constant and the same value", _replaced(text, "d + k", "k == 8'b01011010 ? 8'b01011010 + d : d + k")
+    yield "value 5: a choice has the constant and the same value", _replaced(
+        text, "d + k", "k == 8'b01011010 ? 8'b01011010 + d : d + k"
+    )
     yield "value 6: a register is driven outside", _moved(text, r"always @\(posedge clk\) r <= [^;]*;")
     yield "value 7: an initial value is set outside", _added(text, "initial r = 4'b0011;")
     yield "value 8: an operand is what the inside computes", _replaced(text, "st ^ open_sum", "(look + d) ^ open_sum")
-    yield "value 9: an instance is given a constant of the inside", _replaced(text, "mul m(.clk(clk), .a(d[3:0])", "mul m(.clk(clk), .a(4'b0101)")
+    yield "value 9: an instance is given a constant of the inside", _replaced(
+        text, "mul m(.clk(clk), .a(d[3:0])", "mul m(.clk(clk), .a(4'b0101)"
+    )
     yield "value 10: a constant of another register is changed", _replaced(text, "acc ^ 4'b0101", "acc ^ 4'b1001")
 
 

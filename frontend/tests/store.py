@@ -26,7 +26,16 @@ from loddrume_lower.yosys import Yosys  # noqa: E402
 from common import DESIGNS, key_of, stored_netlist, planted  # noqa: E402
 
 compare.CYCLES = 400
-CLOCKS = {"parameters": ["clk"], "memory": ["clk"], "initial_values": ["clk"], "function_call": ["clk"], "generate_loop": ["clk"], "wide_vectors": ["clk"], "resets_latches": ["clk"], "envelopes": ["clk"]}
+CLOCKS = {
+    "parameters": ["clk"],
+    "memory": ["clk"],
+    "initial_values": ["clk"],
+    "function_call": ["clk"],
+    "generate_loop": ["clk"],
+    "wide_vectors": ["clk"],
+    "resets_latches": ["clk"],
+    "envelopes": ["clk"],
+}
 
 
 def small(netlist: Dict[str, Any]) -> Dict[str, Any]:
@@ -71,7 +80,15 @@ def differences(name: str, result: front.Result, folder: Path) -> Dict[str, Any]
     found, theirs = compare.icarus(design, folder, ports, list(kept), cycles, {}, folder)
     (folder / f"{name}.v").write_text(without_pragmas(result.text), encoding="utf-8")
     cut = [compare.Port(part, port.direction, [(part, width)]) for port in ports for part, width in port.parts]
-    inputs = [{path.split(".")[1]: digits for port in ports if port.name in values for path, digits in compare.port_values(port, values[port.name]).items()} for values in cycles]
+    inputs = [
+        {
+            path.split(".")[1]: digits
+            for port in ports
+            if port.name in values
+            for path, digits in compare.port_values(port, values[port.name]).items()
+        }
+        for values in cycles
+    ]
     parts = [part for one in found for part in reversed(kept[one])]
     _, ours = compare.icarus(design, folder, cut, parts, inputs, {}, folder)
     rows: List[List[str]] = []

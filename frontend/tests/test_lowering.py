@@ -48,13 +48,17 @@ class StoredDesigns(unittest.TestCase):
         self.assertEqual(entry["names"]["lane[2].kept"], ["lane__2__kept"])
         text, netlist, _ = stored_design("parameters")
         result = assembled("parameters", text, netlist, "parameters.v")
-        self.assertEqual({one["name"] for one in result.names["modules"]["parameters"]["instances"].values()}, {"plain", "wide"})
+        self.assertEqual(
+            {one["name"] for one in result.names["modules"]["parameters"]["instances"].values()}, {"plain", "wide"}
+        )
 
     def test_the_report_tells_why_and_what_is_lost(self) -> None:
         text, netlist, _ = stored_design("memory")
         lines = assembled("memory", text, netlist, "memory.v").accounts[0].lines()
         self.assertEqual(lines[0], "memory: lowered, since a memory at memory.v:3")
-        self.assertIn("  lost: 2 processes of the original, and so races inside them; those of the text are others", lines)
+        self.assertIn(
+            "  lost: 2 processes of the original, and so races inside them; those of the text are others", lines
+        )
 
 
 class Envelopes(unittest.TestCase):
@@ -68,13 +72,19 @@ class Envelopes(unittest.TestCase):
         begins = [at for at, line in enumerate(lines) if line.endswith("begin")]
         self.assertEqual(len(begins), 3)
         for at in begins:
-            inside = [line for line in lines[at + 1 : lines.index("`pragma protect end", at)] if not line.startswith("`pragma")]
+            inside = [
+                line
+                for line in lines[at + 1 : lines.index("`pragma protect end", at)]
+                if not line.startswith("`pragma")
+            ]
             self.assertEqual(len(inside), 1)
 
     def test_a_constant_of_an_inside_does_not_change_the_open_text(self) -> None:
         changed = copy.deepcopy(self.netlist)
         core = changed["modules"]["core"]["cells"]
-        found = [cell for cell in core.values() if cell["type"] == "$pos" and cell["connections"]["A"] == list("01011010")]
+        found = [
+            cell for cell in core.values() if cell["type"] == "$pos" and cell["connections"]["A"] == list("01011010")
+        ]
         self.assertEqual(len(found), 1)
         found[0]["connections"]["A"] = list("11011011")
         text = assembled("envelopes", self.text, changed, "envelopes.v").text
@@ -87,7 +97,10 @@ class Envelopes(unittest.TestCase):
 
     def test_the_envelopes_are_told_by_number(self) -> None:
         told = assembled("envelopes", self.text, self.netlist, "envelopes.v").names["envelopes"]
-        self.assertEqual([(one["number"], one["author"], one["module"]) for one in told], [(1, "acme", "core"), (2, "other", "core"), (3, "acme", "core")])
+        self.assertEqual(
+            [(one["number"], one["author"], one["module"]) for one in told],
+            [(1, "acme", "core"), (2, "other", "core"), (3, "acme", "core")],
+        )
 
     def test_helpers_are_counted_by_place(self) -> None:
         self.assertEqual(set(re.findall(r"\b_e(\d+)n\d+", self.expected)), {"1", "2"})
@@ -113,7 +126,9 @@ class ThePassing(unittest.TestCase):
         )
         result = assembled("m", text, self.netlist("m"))
         self.assertIn('`pragma protect author="a", begin\n  reg k;\n`pragma protect end\n', result.text)
-        self.assertEqual(result.names["envelopes"], [{"number": 1, "author": "a", "file": "design.v", "line": 3, "module": "m"}])
+        self.assertEqual(
+            result.names["envelopes"], [{"number": 1, "author": "a", "file": "design.v", "line": 3, "module": "m"}]
+        )
 
     def test_a_bare_header(self) -> None:
         text = "module m(c,\n  q);\n  input c;\n  output [1:0] q; reg [1:0] q; reg r;\n  always @(posedge c) q = q + 1;\nendmodule\n"
@@ -170,7 +185,10 @@ class NamesOfAScope(unittest.TestCase):
 
     def test_names(self) -> None:
         names = Names()
-        self.assertEqual([names.of(name) for name in ("mem[3]", "g[0].h", "a+b", "3x", "end", "mem__3")], ["mem__3", "g__0__h", "a_b", "_3x", "end_", "mem__3_1"])
+        self.assertEqual(
+            [names.of(name) for name in ("mem[3]", "g[0].h", "a+b", "3x", "end", "mem__3")],
+            ["mem__3", "g__0__h", "a_b", "_3x", "end_", "mem__3_1"],
+        )
         self.assertEqual(names.of("mem[3]"), "mem__3")
 
 

@@ -43,25 +43,35 @@ class Cutting(unittest.TestCase):
         text = 'module m(input a, output y);\n`pragma protect author="x", begin\nreg [3:0] k, l;\n`pragma protect end\nassign y = a ^ k[0];\nendmodule\n'
         sources = sources_of(text)
         left = cut(sources.tokens, sources.pragmas)
-        self.assertEqual(left.text.split(";"), ["module m ( input a , output y ) ", " assign y = a ^ k [ 0 ] ", " reg [ 3 : 0 ] k ", " endmodule"])
+        self.assertEqual(
+            left.text.split(";"),
+            ["module m ( input a , output y ) ", " assign y = a ^ k [ 0 ] ", " reg [ 3 : 0 ] k ", " endmodule"],
+        )
         self.assertEqual([(envelope.author, envelope.home) for envelope in left.envelopes], [("x", "m")])
 
     def test_a_width_of_an_inside_is_refused(self) -> None:
-        text = 'module m(output y);\n`pragma protect begin\nlocalparam W = 3; reg [W:0] k;\n`pragma protect end\nassign y = k[0];\nendmodule\n'
+        text = "module m(output y);\n`pragma protect begin\nlocalparam W = 3; reg [W:0] k;\n`pragma protect end\nassign y = k[0];\nendmodule\n"
         sources = sources_of(text)
         with self.assertRaises(Leak):
             cut(sources.tokens, sources.pragmas)
 
     def test_declarations(self) -> None:
         sources = sources_of("wire signed [3:0] a = b + c, d; reg e; cell u(x); localparam K = 3; assign f = 1;")
-        self.assertEqual(declared(sources.tokens), {"a": "wire signed [ 3 : 0 ]", "d": "wire signed [ 3 : 0 ]", "e": "reg", "u": "", "K": ""})
+        self.assertEqual(
+            declared(sources.tokens),
+            {"a": "wire signed [ 3 : 0 ]", "d": "wire signed [ 3 : 0 ]", "e": "reg", "u": "", "K": ""},
+        )
 
 
 class Evaluation(unittest.TestCase):
     """Operators on two-valued vectors, against numbers that were reckoned by hand."""
 
     def value(self, kind: str, a: int, b: int, width: int = 4, signed: bool = False) -> int:
-        bits = {"A": [format(a, "04b")[3 - at] for at in range(4)], "B": [format(b, "04b")[3 - at] for at in range(4)], "Y": list(range(2, 2 + width))}
+        bits = {
+            "A": [format(a, "04b")[3 - at] for at in range(4)],
+            "B": [format(b, "04b")[3 - at] for at in range(4)],
+            "Y": list(range(2, 2 + width)),
+        }
         cell = {"type": kind, "parameters": {"A_SIGNED": int(signed), "B_SIGNED": int(signed)}, "connections": bits}
         module = {"ports": {}, "cells": {"c": cell}, "netnames": {}}
         evaluator = Evaluator(module, {})

@@ -122,12 +122,22 @@ def stimulus(ports: List[Port], design: Design) -> List[Dict[str, str]]:
 # ---- Icarus
 
 
-def icarus_bench(design: Design, ports: List[Port], kept: List[str], cycles: List[Dict[str, str]], regs: Dict[str, str], folder: Path) -> str:
+def icarus_bench(
+    design: Design, ports: List[Port], kept: List[str], cycles: List[Dict[str, str]], regs: Dict[str, str], folder: Path
+) -> str:
     """The testbench for the original."""
     inputs = [port for port in ports if port.direction == "input" and port.name not in design.clocks]
     width = sum(port.width for port in inputs) or 1
-    (folder / "stimulus.txt").write_text("".join("".join(values[port.name] for port in inputs) + "\n" if inputs else "0\n" for values in cycles), encoding="utf-8")
-    lines = ["module loddrume_bench;", "  integer cycle;", f"  reg [{width - 1}:0] rows [0:{CYCLES - 1}];", f"  reg [{width - 1}:0] row;"]
+    (folder / "stimulus.txt").write_text(
+        "".join("".join(values[port.name] for port in inputs) + "\n" if inputs else "0\n" for values in cycles),
+        encoding="utf-8",
+    )
+    lines = [
+        "module loddrume_bench;",
+        "  integer cycle;",
+        f"  reg [{width - 1}:0] rows [0:{CYCLES - 1}];",
+        f"  reg [{width - 1}:0] row;",
+    ]
     for port in ports:
         lines.append(f"  {'reg' if port.direction == 'input' else 'wire'} [{port.width - 1}:0] {port.name};")
     lines.append(f"  {design.top} dut({', '.join(f'.{port.name}({port.name})' for port in ports)});")
@@ -149,13 +159,35 @@ def icarus_bench(design: Design, ports: List[Port], kept: List[str], cycles: Lis
     return "\n".join(lines)
 
 
-def icarus(design: Design, sources: Path, ports: List[Port], kept: List[str], cycles: List[Dict[str, str]], regs: Dict[str, str], folder: Path) -> Tuple[List[str], List[List[str]]]:
+def icarus(
+    design: Design,
+    sources: Path,
+    ports: List[Port],
+    kept: List[str],
+    cycles: List[Dict[str, str]],
+    regs: Dict[str, str],
+    folder: Path,
+) -> Tuple[List[str], List[List[str]]]:
     """The values of the kept names at each cycle. Names that Icarus does not find are left out."""
     files = [str(sources / design.package / file) for file in design.files]
     kept, grammar = list(kept), "-g2005"
     while True:
         (folder / "bench.v").write_text(icarus_bench(design, ports, kept, cycles, regs, folder), encoding="utf-8")
-        made = subprocess.run(["iverilog", grammar, "-s", "loddrume_bench", "-o", str(folder / "bench.vvp"), *files, str(folder / "bench.v")], capture_output=True, text=True, check=False)
+        made = subprocess.run(
+            [
+                "iverilog",
+                grammar,
+                "-s",
+                "loddrume_bench",
+                "-o",
+                str(folder / "bench.vvp"),
+                *files,
+                str(folder / "bench.v"),
+            ],
+            capture_output=True,
+            text=True,
+            check=False,
+        )
         if not made.returncode:
             break
         if grammar == "-g2005" and "bench.v:" not in made.stderr:
@@ -163,7 +195,11 @@ def icarus(design: Design, sources: Path, ports: List[Port], kept: List[str], cy
             continue
         missing = {word for line in made.stderr.splitlines() for word in re.findall(r"bench\.v:(\d+):", line)}
         lines = (folder / "bench.v").read_text(encoding="utf-8").splitlines()
-        wrong = {found[1] for number in missing if (found := re.search(r"loddrume_bench\.(\S+?)(?:\)| =)", lines[int(number) - 1]))}
+        wrong = {
+            found[1]
+            for number in missing
+            if (found := re.search(r"loddrume_bench\.(\S+?)(?:\)| =)", lines[int(number) - 1]))
+        }
         if not wrong:
             raise RuntimeError(f"iverilog: {made.stderr.strip()[:300]}")
         kept = [name for name in kept if name not in wrong]
@@ -171,7 +207,9 @@ def icarus(design: Design, sources: Path, ports: List[Port], kept: List[str], cy
     ran = subprocess.run(["vvp", "-n", str(folder / "bench.vvp")], capture_output=True, text=True, check=False)
     values = [line for line in ran.stdout.splitlines() if re.fullmatch("[01xz]+", line)]
     if len(values) != len(kept) * CYCLES:
-        raise RuntimeError(f"vvp printed {len(values)} values, not {len(kept) * CYCLES}: {ran.stdout[:200]} {ran.stderr[:200]}")
+        raise RuntimeError(
+            f"vvp printed {len(values)} values, not {len(kept) * CYCLES}: {ran.stdout[:200]} {ran.stderr[:200]}"
+        )
     return kept, [values[at * len(kept) : (at + 1) * len(kept)] for at in range(CYCLES)]
 
 
@@ -240,7 +278,10 @@ class Served:
     def values(self, handles: List[int]) -> List[str]:
         replies: List[str] = []
         for at in range(0, len(handles), 500):
-            replies += [reply["value"] for reply in self.ask([{"op": "value", "h": handle} for handle in handles[at : at + 500]])]
+            replies += [
+                reply["value"]
+                for reply in self.ask([{"op": "value", "h": handle} for handle in handles[at : at + 500]])
+            ]
         return replies
 
     def end(self) -> None:
@@ -259,7 +300,15 @@ def port_values(port: Port, value: str) -> Dict[str, str]:
     return result
 
 
-def served(design: Design, session: Served, ports: List[Port], kept: Dict[str, List[str]], cycles: List[Dict[str, str]], regs: Dict[str, str], step: int) -> List[List[str]]:
+def served(
+    design: Design,
+    session: Served,
+    ports: List[Port],
+    kept: Dict[str, List[str]],
+    cycles: List[Dict[str, str]],
+    regs: Dict[str, str],
+    step: int,
+) -> List[List[str]]:
     """The values of the kept names at each cycle. `step` is how long what is put may take to settle."""
     by_name = {port.name: port for port in ports}
     session.run(1)
@@ -296,7 +345,9 @@ def regs_of(session: Served, kept: Dict[str, List[str]], seed: str) -> Tuple[Dic
     old: Dict[str, str] = {}
     new: Dict[str, str] = {}
     for (name, path), handle in zip(paths.items(), handles):
-        kind, size = session.ask([{"op": "get_str", "h": handle, "prop": "type"}, {"op": "get", "h": handle, "prop": "size"}])
+        kind, size = session.ask(
+            [{"op": "get_str", "h": handle, "prop": "type"}, {"op": "get", "h": handle, "prop": "size"}]
+        )
         if kind["s"] == "vpiReg":
             old[name] = new[path] = format(chance.getrandbits(size["n"]), f"0{size['n']}b")
     return old, new
@@ -326,7 +377,12 @@ def compared(ours: List[List[str]], theirs: List[List[str]], kept: List[str]) ->
                     unknown[name] = unknown.get(name, 0) + 1
     total = sum(counts.values()) or 1
     known = counts["equal"] + counts["unequal"]
-    return {**counts, "known": round(100 * known / total, 2), "differing": differing, "unknown": dict(sorted(unknown.items(), key=lambda item: -item[1])[:8])}
+    return {
+        **counts,
+        "known": round(100 * known / total, 2),
+        "differing": differing,
+        "unknown": dict(sorted(unknown.items(), key=lambda item: -item[1])[:8]),
+    }
 
 
 def _kind(ours: bool, theirs: bool, same: bool) -> str:
@@ -335,7 +391,9 @@ def _kind(ours: bool, theirs: bool, same: bool) -> str:
     return "x in Icarus" if ours else "x on the server" if theirs else "x in both"
 
 
-def simulate(design: Design, result: Result, sources: Path, program: str, folder: Path, setting: bool) -> Dict[str, Any]:
+def simulate(
+    design: Design, result: Result, sources: Path, program: str, folder: Path, setting: bool
+) -> Dict[str, Any]:
     """Runs both simulators on a design, and compares."""
     ports = top_ports(result.text, result.names)
     (folder / "served.v").write_text(result.text + server_bench(result.names, ports), encoding="utf-8")
@@ -346,10 +404,23 @@ def simulate(design: Design, result: Result, sources: Path, program: str, folder
     try:
         old, new = regs_of(session, kept, design.name) if setting else ({}, {})
         found, theirs = icarus(design, sources, ports, list(kept), cycles, old, folder)
-        ours = served(design, session, ports, {name: kept[name] for name in found}, cycles, new, 3 if re.search(r"#\s*\d", result.text) else 1)
+        ours = served(
+            design,
+            session,
+            ports,
+            {name: kept[name] for name in found},
+            cycles,
+            new,
+            3 if re.search(r"#\s*\d", result.text) else 1,
+        )
     finally:
         session.end()
-    return {"names": len(found), "not in Icarus": len(kept) - len(found), "set": setting, **compared(ours, theirs, found)}
+    return {
+        "names": len(found),
+        "not in Icarus": len(kept) - len(found),
+        "set": setting,
+        **compared(ours, theirs, found),
+    }
 
 
 def tried(design: Design, sources: Path, program: str, folder: Path) -> Dict[str, Any]:
@@ -387,7 +458,9 @@ def table(records: List[Dict[str, Any]]) -> str:
     ]
     for record in records:
         if record["status"] != "compared":
-            lines.append(f"| {record['name']} | {record['package']} | {record['status']}: {record.get('why', '').splitlines()[0][:160]} | | | | | | | | |")
+            lines.append(
+                f"| {record['name']} | {record['package']} | {record['status']}: {record.get('why', '').splitlines()[0][:160]} | | | | | | | | |"
+            )
             continue
         total = sum(record[key] for key in ("equal", "unequal", "x in Icarus", "x on the server", "x in both"))
         hows = sorted(set(record["how"].values()))
@@ -403,14 +476,22 @@ def main(words: List[str]) -> int:
     sources, program, folder = Path(words[0]).resolve(), str(Path(words[1]).resolve()), Path(words[2]).resolve()
     folder.mkdir(parents=True, exist_ok=True)
     kept = folder / "results.json"
-    records = {record["name"]: record for record in json.loads(kept.read_text(encoding="utf-8"))} if kept.exists() else {}
+    records = (
+        {record["name"]: record for record in json.loads(kept.read_text(encoding="utf-8"))} if kept.exists() else {}
+    )
     listed = list(designs(HERE / "designs.list"))
     for design in listed:
         if words[3:] and design.name not in words[3:]:
             continue
         records[design.name] = tried(design, sources, program, folder / design.name)
         record = records[design.name]
-        print(design.name, record["status"], record.get("why", ""), {key: record[key] for key in ("known", "unequal", "set", "seconds") if key in record}, flush=True)
+        print(
+            design.name,
+            record["status"],
+            record.get("why", ""),
+            {key: record[key] for key in ("known", "unequal", "set", "seconds") if key in record},
+            flush=True,
+        )
         ordered = [records[one.name] for one in listed if one.name in records]
         kept.write_text(json.dumps(ordered, indent=1), encoding="utf-8")
         (folder / "table.md").write_text(table(ordered), encoding="utf-8")

@@ -39,7 +39,11 @@ STAYING = ("input", "output", "inout", "parameter", "defparam", "")
 
 def blanked(text: str) -> str:
     """A text with blanks for directives that no token of a module needs."""
-    return re.sub(r"`(timescale|default_nettype|include|celldefine|endcelldefine|pragma)[^\n]*", lambda found: " " * len(found.group()), text)
+    return re.sub(
+        r"`(timescale|default_nettype|include|celldefine|endcelldefine|pragma)[^\n]*",
+        lambda found: " " * len(found.group()),
+        text,
+    )
 
 
 def spans(module: Module, chance: random.Random) -> List[Tuple[int, int]]:
@@ -57,7 +61,9 @@ def spans(module: Module, chance: random.Random) -> List[Tuple[int, int]]:
 def with_envelopes(text: str, chance: random.Random) -> Optional[Tuple[str, List[List[Item]]]]:
     """A text with envelopes in one of its modules, and the items of each."""
     layout = Splitter(tokens_of(blanked(text), "design.v"), []).split()
-    modules = [module for module in layout.modules.values() if sum(item.kind not in STAYING for item in module.items) > 2]
+    modules = [
+        module for module in layout.modules.values() if sum(item.kind not in STAYING for item in module.items) > 2
+    ]
     if not modules:
         return None
     module = chance.choice(modules)
@@ -66,7 +72,11 @@ def with_envelopes(text: str, chance: random.Random) -> Optional[Tuple[str, List
     for first, last in spans(module, chance):
         items = module.items[first : last + 1]
         lines = f'`pragma protect author="{chance.choice(AUTHORS)}", begin'
-        nets = [name for name, head in declared([token for item in items for token in item.tokens]).items() if head and name.isidentifier()]
+        nets = [
+            name
+            for name, head in declared([token for item in items for token in item.tokens]).items()
+            if head and name.isidentifier()
+        ]
         if nets and chance.random() < 0.4:
             lines += f'\n`pragma protect viewport=(object="{chance.choice(nets)}", access="{chance.choice(("list", "read", "read+watch"))}")'
         edits.append((items[0].tokens[0].start, f"\n{lines}\n"))
@@ -81,7 +91,9 @@ def with_envelopes(text: str, chance: random.Random) -> Optional[Tuple[str, List
 
 def changed_constant(text: str, chance: random.Random) -> Optional[str]:
     """The text with another value for one constant of an inside, of the same width; not one that says how wide a net is."""
-    tokens = tokens_of(re.sub(r"`(timescale|default_nettype|include)[^\n]*", lambda found: " " * len(found.group()), text), "design.v")
+    tokens = tokens_of(
+        re.sub(r"`(timescale|default_nettype|include)[^\n]*", lambda found: " " * len(found.group()), text), "design.v"
+    )
     inside, depth, found = False, 0, []
     for at, token in enumerate(tokens):
         if token.kind == "directive" and token.text == "`pragma":
@@ -94,7 +106,13 @@ def changed_constant(text: str, chance: random.Random) -> Optional[str]:
         if depth:
             continue
         before = tokens[at - 1]
-        if token.kind == "base" and before.kind == "number" or token.kind == "number" and tokens[at + 1].kind != "base" and before.text not in ("#", "repeat", "("):
+        if (
+            token.kind == "base"
+            and before.kind == "number"
+            or token.kind == "number"
+            and tokens[at + 1].kind != "base"
+            and before.text not in ("#", "repeat", "(")
+        ):
             found.append(token)
     if not found:
         return None
@@ -130,7 +148,9 @@ def view(program: str, text: str, folder: Path) -> str:
     """What a user without grants sees."""
     (folder / "design.v").write_text(text, encoding="utf-8")
     (folder / "policy.json").write_text(POLICY, encoding="utf-8")
-    ran = subprocess.run([program, "view", "design.v", "policy.json", "ann"], cwd=folder, capture_output=True, text=True, check=False)
+    ran = subprocess.run(
+        [program, "view", "design.v", "policy.json", "ann"], cwd=folder, capture_output=True, text=True, check=False
+    )
     if ran.returncode:
         raise RuntimeError(f"the program does not read it: {ran.stderr[:300]}")
     return ran.stdout
@@ -143,7 +163,12 @@ def hidden_names(text: str, insides: List[List[Item]]) -> List[str]:
     counts = Counter(token.text for token in tokens_of(blanked(text), "design.v"))
     inner = Counter(token.text for token in tokens)
     names = [name for name in declared(tokens) if name not in shown]
-    names += [item.tokens[1].text for items in insides for item in items if len(item.tokens) > 2 and item.tokens[1].kind == "name" and item.tokens[2].text == "("]
+    names += [
+        item.tokens[1].text
+        for items in insides
+        for item in items
+        if len(item.tokens) > 2 and item.tokens[1].kind == "name" and item.tokens[2].text == "("
+    ]
     return [name for name in set(names) if counts[name] == inner[name]]
 
 
@@ -157,7 +182,12 @@ def made(design: Design, text: str, sources: Path, folder: Path) -> Any:
 def one(design: Design, seed: int, sources: Path, program: str, folder: Path) -> Dict[str, Any]:
     """The record of one design."""
     chance = random.Random(seed)
-    raw = (sources / design.package / design.files[0]).read_bytes().decode("utf-8", errors="surrogateescape").replace("\r\n", "\n")
+    raw = (
+        (sources / design.package / design.files[0])
+        .read_bytes()
+        .decode("utf-8", errors="surrogateescape")
+        .replace("\r\n", "\n")
+    )
     record: Dict[str, Any] = {"design": design.name, "seed": seed}
     found = with_envelopes(raw, chance)
     if not found:
@@ -171,9 +201,18 @@ def one(design: Design, seed: int, sources: Path, program: str, folder: Path) ->
         return {**record, "status": "refused", "why": str(refusal)}
     seen = view(program, result.text, folder)
     words = set(re.findall(r"[A-Za-z_][\w$]*", seen))
-    leaked = [name for name in hidden_names(text, insides) if name in words or any(re.fullmatch(re.escape(name) + r"(__\d+)+", word) for word in words)]
+    leaked = [
+        name
+        for name in hidden_names(text, insides)
+        if name in words or any(re.fullmatch(re.escape(name) + r"(__\d+)+", word) for word in words)
+    ]
     other = changed_constant(text, chance)
-    record.update(envelopes=len(insides), authors=len(set(re.findall(r'author="([^"]*)"', text))), viewports=text.count("viewport="), hidden=len(hidden_names(text, insides)))
+    record.update(
+        envelopes=len(insides),
+        authors=len(set(re.findall(r'author="([^"]*)"', text))),
+        viewports=text.count("viewport="),
+        hidden=len(hidden_names(text, insides)),
+    )
     if other is None:
         return {**record, "status": "no constant"}
     try:
@@ -183,7 +222,14 @@ def one(design: Design, seed: int, sources: Path, program: str, folder: Path) ->
     same_view = view(program, again.text, folder) == seen
     same_open = open_text(again.text) == open_text(result.text)
     differs = again.text != result.text
-    return {**record, "status": "in", "leaked": leaked, "same view": same_view, "same open text": same_open, "inside differs": differs}
+    return {
+        **record,
+        "status": "in",
+        "leaked": leaked,
+        "same view": same_view,
+        "same open text": same_open,
+        "inside differs": differs,
+    }
 
 
 def main(words: List[str]) -> int:
@@ -209,7 +255,15 @@ def main(words: List[str]) -> int:
         (folder / "envelopes.json").write_text(json.dumps(records, indent=1), encoding="utf-8")
     counts = Counter(record["status"] for record in records)
     taken = [record for record in records if record["status"] == "in"]
-    print(dict(counts), "leaked", sum(bool(record["leaked"]) for record in taken), "other view", sum(not record["same view"] for record in taken), "other open text", sum(not record["same open text"] for record in taken))
+    print(
+        dict(counts),
+        "leaked",
+        sum(bool(record["leaked"]) for record in taken),
+        "other view",
+        sum(not record["same view"] for record in taken),
+        "other open text",
+        sum(not record["same open text"] for record in taken),
+    )
     return 0
 
 
