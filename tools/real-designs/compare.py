@@ -284,6 +284,21 @@ class Served:
             ]
         return replies
 
+    def watch(self, handles: List[int]) -> Dict[int, int]:
+        """Watches as many objects as a session may, and gives their handles by callback."""
+        first = handles[:1024]
+        replies = []
+        for at in range(0, len(first), 200):
+            replies += self.ask([{"op": "watch", "h": handle} for handle in first[at : at + 200]])
+        return {reply["cb"]: handle for reply, handle in zip(replies, first)}
+
+    def changes(self) -> List[Tuple[int, str]]:
+        """The changes since the last poll: callback and value."""
+        told = self.ask([{"op": "poll"}])[0]
+        if told["lost"]:
+            raise RuntimeError(f"vp_served: {told['lost']} notices were lost")
+        return [(notice["cb"], notice["value"]) for notice in told["notices"]]
+
     def end(self) -> None:
         self._socket.close()
         self._lines.close()
@@ -307,9 +322,11 @@ def served(
     kept: Dict[str, List[str]],
     cycles: List[Dict[str, str]],
     regs: Dict[str, str],
-    step: int,
+    text: str,
 ) -> List[List[str]]:
-    """The values of the kept names at each cycle. `step` is how long what is put may take to settle."""
+    """The values of the kept names at each cycle."""
+    # Where nothing waits for a time, what is put settles at once.
+    step = 3 if re.search(r"#\s*\d", text) else 1
     by_name = {port.name: port for port in ports}
     session.run(1)
     for clock in design.clocks:
@@ -318,22 +335,34 @@ def served(
     session.run(3)
     now = 3
     handles = session.handles(["loddrume_bench." + part for parts in kept.values() for part in reversed(parts)])
+    watched = session.watch(handles)
+    now_values = dict(zip(handles, session.values(handles)))
+    unwatched = handles[len(watched) :]
+    # A clock falls together with the next inputs, unless something waits for a falling edge.
+    apart = "negedge" in text
+    before: Dict[str, str] = {}
     result = []
     for values in cycles:
         inputs: Dict[str, str] = {}
         for name, value in values.items():
             inputs.update(port_values(by_name[name], value))
-        session.put(inputs)
+        session.put({path: value for path, value in inputs.items() if before.get(path) != value})
+        before.update(inputs)
         now += step
         session.run(now)
-        for level in "10":
-            for clock in design.clocks:
-                session.put(port_values(by_name[clock], level))
+        for clock in design.clocks:
+            session.put(port_values(by_name[clock], "1"))
+            now += step
+            session.run(now)
+        now_values.update({watched[callback]: value for callback, value in session.changes()})
+        now_values.update(zip(unwatched, session.values(unwatched)))
+        digits = iter([now_values[handle] for handle in handles])
+        result.append(["".join(next(digits) for _ in parts) for parts in kept.values()])
+        for clock in design.clocks:
+            session.put(port_values(by_name[clock], "0"))
+            if apart:
                 now += step
                 session.run(now)
-            if level == "1":
-                digits = iter(session.values(handles))
-                result.append(["".join(next(digits) for _ in parts) for parts in kept.values()])
     return result
 
 
@@ -411,7 +440,7 @@ def simulate(
             {name: kept[name] for name in found},
             cycles,
             new,
-            3 if re.search(r"#\s*\d", result.text) else 1,
+            result.text,
         )
     finally:
         session.end()
