@@ -13,7 +13,7 @@ from .refusal import Refusal
 def _parser() -> argparse.ArgumentParser:
     parser = argparse.ArgumentParser(
         prog="python3 -m loddrume_lower",
-        description="Turns ordinary Verilog into the Verilog that Loddrume reads. It wants Yosys (on Debian: apt-get install yosys).",
+        description="Turns ordinary Verilog into the Verilog that Loddrume reads. It wants Yosys (apt-get install yosys).",
     )
     parser.add_argument("FILES", nargs="+", help="the files of the design")
     parser.add_argument("--top", required=True, help="the name of the top module")
@@ -28,7 +28,10 @@ def _parser() -> argparse.ArgumentParser:
 
 
 def main(words: Optional[List[str]] = None) -> int:
-    """Does what the command line asks. The status is 1 for a design that is refused, and 2 for words that ask nothing."""
+    """Does what the command line asks.
+
+    The status is 1 for a design that is refused, and 2 for words that ask nothing.
+    """
     asked = _parser().parse_args(words)
     try:
         result = lower(asked.top, asked.FILES, asked.define, asked.include)
@@ -42,7 +45,7 @@ def main(words: Optional[List[str]] = None) -> int:
     except Exception as error:  # pylint: disable=broad-except
         # A design is told a fault in words, also one of this program.
         print(
-            f"loddrume_lower: a fault of the front end itself ({type(error).__name__}: {error}); report it with the design",
+            f"loddrume_lower: a fault of the front end ({type(error).__name__}: {error}); report it with the design",
             file=sys.stderr,
         )
         return 1

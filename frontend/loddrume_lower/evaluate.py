@@ -145,7 +145,10 @@ class Evaluator:
     # ---- values
 
     def start(self, given: Dict[Source, int], chance: Random, lanes: int) -> None:
-        """Begins with new vectors, one in each lane of a number. Sources that have the same name in both texts have the same values."""
+        """Begins with new vectors, one in each lane of a number.
+
+        Sources that have the same name in both texts have the same values.
+        """
         self._values = {}
         self._given = given
         self._chance = chance

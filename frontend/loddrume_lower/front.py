@@ -153,7 +153,10 @@ def place_by_readers(module: Dict[str, Any]) -> None:
 
 
 def _buffer(bufferer: Bufferer, folder: Path, name: str, kinds: Tuple[str, ...]) -> None:
-    """Rewrites a file of RTLIL. It is done before procedures are lowered and after, since Yosys reads through connections."""
+    """Rewrites a file of RTLIL.
+
+    It is done before procedures are lowered and after, since Yosys reads through connections.
+    """
     text = (folder / name).read_text(encoding="utf-8", errors="surrogateescape")
     (folder / name).write_text(bufferer.rewrite(text, kinds), encoding="utf-8", errors="surrogateescape")
 
@@ -247,7 +250,8 @@ class Assembly:
         )
 
     def _derived_group(self, place: int, module: Module, names: Dict[str, Any], accounts: List[Account]) -> List[str]:
-        """The modules whose parameters instances in an envelope set: all in one envelope more, so that their count is not seen."""
+        """The modules whose parameters instances in an envelope set: all in one envelope more, so that their count
+        is not seen."""
         inside = [name for name in self._netlist["modules"] if place and place in self._derived_in(name)]
         if not inside:
             return []
@@ -278,7 +282,10 @@ class Assembly:
 
 
 def derived_in(name: str, netlist: Dict[str, Any], layout: Layout, places: Places) -> Set[int]:
-    """The envelopes of all instances of a derived module, where none stands in the open text. Refuses what would be an envelope in another."""
+    """The envelopes of all instances of a derived module, where none stands in the open text.
+
+    Refuses what would be an envelope in another.
+    """
     module = layout.modules[source_name(name)]
     if module.place or not name.startswith("$paramod"):
         return set()

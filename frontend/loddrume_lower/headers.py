@@ -18,7 +18,8 @@ Edit = Tuple[int, int, str]
 
 @dataclass
 class Passed:
-    """A module that is passed on: its text, and how it was taken; or else the first construct that the server can't read."""
+    """A module that is passed on: its text, and how it was taken; or else the first construct that the server can't
+    read."""
 
     text: str = ""
     how: str = "verbatim"

@@ -1,4 +1,5 @@
-"""Puts helpers that are read once in the place where they are read, so that a design has fewer nets and a run fewer events."""
+"""Puts helpers that are read once in the place where they are read, so that a design has fewer nets and a run fewer
+events."""
 
 from __future__ import annotations
 

@@ -247,7 +247,8 @@ class Lowering:
     # ---- where outputs go
 
     def _place_registers(self) -> None:
-        """Makes a reg of each net of the original whose bits registers drive, or that has an initial value and no driver."""
+        """Makes a reg of each net of the original whose bits registers drive, or that has an initial value and no
+        driver."""
         for piece in self._nets.pieces:
             if piece.direction == "input" or piece.kind == "reg":
                 continue
@@ -462,7 +463,10 @@ def port_names(module: Dict[str, Any], port: str) -> List[str]:
 def module_names(
     netlist: Dict[str, Any], source: Callable[[str], str], derived_in: Callable[[str], Set[int]]
 ) -> Dict[str, str]:
-    """A name for each module of the netlist. Those derived by parameters are counted, and by themselves where an envelope sets them."""
+    """A name for each module of the netlist.
+
+    Those derived by parameters are counted, and by themselves where an envelope sets them.
+    """
     names = Names()
     result = {name: names.of(name) for name in netlist["modules"] if not name.startswith("$paramod")}
     counts: Dict[Tuple[str, int], int] = {}

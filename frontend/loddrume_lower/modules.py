@@ -135,7 +135,10 @@ class Splitter:
         return self._at < len(self._all)
 
     def _take(self, skip: bool = False) -> List[Token]:
-        """Takes a token; with `skip`, what stands in its parentheses, brackets or braces too. A border may not stand there."""
+        """Takes a token; with `skip`, what stands in its parentheses, brackets or braces too.
+
+        A border may not stand there.
+        """
         taken: List[Token] = []
         closing: List[str] = []
         pairs = {"(": ")", "[": "]", "{": "}", "(*": "*)"}
@@ -265,9 +268,11 @@ class Splitter:
 
 
 def refuse_values_across(layout: Layout) -> None:
-    """Refuses a parameter of an envelope that is used outside of it, and a function or task that is called from another side.
+    """Refuses a parameter of an envelope that is used outside of it, and a function or task that is called from
+    another side.
 
-    Yosys puts the value of a parameter, and the body of a function, where they are used, and no place tells them from what stands there.
+    Yosys puts the value of a parameter, and the body of a function, where they are used, and no place tells
+    them from what stands there.
     """
     for module in layout.modules.values():
         if not module.places():
@@ -359,11 +364,13 @@ def _targets_before(tokens: List[Token], at: int) -> Set[str]:
 
 
 _WORDS = set(
-    "always always_comb always_ff always_latch and assign assert assume automatic begin buf bufif0 bufif1 case casex casez cell config cover deassign "
-    "default defparam disable edge else end endcase endfunction endgenerate endmodule endtask event final for force forever fork function generate "
-    "genvar if initial inout input integer join localparam logic macromodule module nand negedge nor not notif0 notif1 or output parameter posedge "
-    "property pulldown pullup real realtime reg release repeat signed specify specparam supply0 supply1 table task time tri tri0 tri1 triand trior "
-    "trireg typedef unsigned var wait wand while wire wor xnor xor".split()
+    "always always_comb always_ff always_latch and assign assert assume automatic begin buf bufif0 bufif1 case "
+    "casex casez cell config cover deassign default defparam disable edge else end endcase endfunction "
+    "endgenerate endmodule endtask event final for force forever fork function generate genvar if initial inout "
+    "input integer join localparam logic macromodule module nand negedge nor not notif0 notif1 or output "
+    "parameter posedge property pulldown pullup real realtime reg release repeat signed specify specparam supply0 "
+    "supply1 table task time tri tri0 tri1 triand trior trireg typedef unsigned var wait wand while wire wor xnor "
+    "xor".split()
 )
 
 

@@ -6,9 +6,10 @@ import re
 from typing import Dict
 
 KEYWORDS = frozenset(
-    "module endmodule input output wire reg localparam assign initial always begin end if else case casez endcase default while for "
-    "forever wait posedge negedge or inout parameter defparam generate genvar task function specify signed integer time real realtime "
-    "event tri supply0 supply1 primitive fork join repeat disable force release deassign casex and nand nor not xor xnor buf".split()
+    "module endmodule input output wire reg localparam assign initial always begin end if else case casez endcase "
+    "default while for forever wait posedge negedge or inout parameter defparam generate genvar task function "
+    "specify signed integer time real realtime event tri supply0 supply1 primitive fork join repeat disable force "
+    "release deassign casex and nand nor not xor xnor buf".split()
 )
 
 

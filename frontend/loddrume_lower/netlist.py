@@ -1,7 +1,8 @@
 """Keeps nets apart that Yosys would join: turns connections of its RTLIL text into buffers with a place.
 
-A connection joins two nets, and then nobody can tell which side of a border read which. So a connection that drives a net of the
-original becomes a cell `$pos`. One that drives a helper net stays: its readers stand where the helper does.
+A connection joins two nets, and then nobody can tell which side of a border read which. So a connection that
+drives a net of the original becomes a cell `$pos`. One that drives a helper net stays: its readers stand where
+the helper does.
 """
 
 from __future__ import annotations
@@ -143,7 +144,8 @@ class Bufferer:
         ]  # fmt: skip
 
     def _source(self, targets: List[str], values: List[str], netlist: _Netlist, module: Module) -> str:
-        """The source of a connection: that of the helper nets that it reads, or that of the item that assigns the target."""
+        """The source of a connection: that of the helper nets that it reads, or that of the item that assigns the
+        target."""
         names = [value.split(" ")[0] for value in values]
         helpers = [netlist.sources.get(name, "") for name in names if is_helper(name)]
         known = [source for source in helpers if self._places.origin(source)]
@@ -216,7 +218,8 @@ def _with_constants(lines: List[str]) -> List[str]:
 
 
 def _with_initial_values(lines: List[str]) -> List[str]:
-    """Lets an `initial` that sets a constant give an initial value; Yosys lets it drive the net for ever where nothing else does."""
+    """Lets an `initial` that sets a constant give an initial value; Yosys lets it drive the net for ever where
+    nothing else does."""
     out: List[str] = []
     at = 0
     while at < len(lines):

@@ -74,7 +74,10 @@ class Nets:
     def helper(
         self, width: int, place: int, origin: Tuple[str, int], kind: str = "wire", bits: Optional[Bits] = None
     ) -> Piece:
-        """A net that is not of the original. Helpers are counted by place, so that none betrays how many another place has."""
+        """A net that is not of the original.
+
+        Helpers are counted by place, so that none betrays how many another place has.
+        """
         self._counts[place] = self._counts.get(place, 0) + 1
         name = self.names.fresh(f"_e{place}n{self._counts[place]}" if place else f"_n{self._counts[place]}")
         piece = Piece(
@@ -90,9 +93,12 @@ class Nets:
     def whole(self, bits: Sequence[Bit]) -> Optional[Piece]:
         """The piece that has exactly these bits."""
         first = self.owner.get(bits[0]) if bits and isinstance(bits[0], int) else None
-        if first and len(bits) == first[0].width and all(self.owner.get(bit) == (first[0], at) for at, bit in enumerate(bits)):  # type: ignore[arg-type]
-            return first[0]
-        return None
+        if not first or len(bits) != first[0].width:
+            return None
+        return first[0] if all(self._is(bit, first[0], at) for at, bit in enumerate(bits)) else None
+
+    def _is(self, bit: Bit, piece: Piece, index: int) -> bool:
+        return isinstance(bit, int) and self.owner.get(bit) == (piece, index)
 
     # ---- expressions
 
@@ -118,7 +124,7 @@ class Nets:
         if repeats > 1:
             return f"{{{repeats}{{{piece.select(index, 1)}}}}}", repeats
         length = 1
-        while at + length < len(bits) and self.owner.get(bits[at + length]) == (piece, index + length):  # type: ignore[arg-type]
+        while at + length < len(bits) and self._is(bits[at + length], piece, index + length):
             length += 1
         return piece.select(index, length), length
 

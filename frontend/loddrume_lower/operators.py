@@ -189,7 +189,8 @@ class Operators:
         width = max(len(a), len(b))
         a, b = extended(a, width, signed), extended(b, width, signed)
         if signed:
-            # Two numbers in two's complement compare as those without a sign do when their greatest bits are turned round.
+            # Two numbers in two's complement compare as those without a sign do when their greatest bits are turned
+            # round.
             a, b = self._turned(a), self._turned(b)
         if width <= WIDEST:
             return f"{self._text(a)} {RELATIONAL[kind]} {self._text(b)}"

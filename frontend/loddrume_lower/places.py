@@ -44,7 +44,10 @@ class Places:
         return result
 
     def place(self, source: str, module: Module, construct: str) -> int:
-        """The one envelope of a `src` attribute. Refuses a source that stands in two, or, beside envelopes, in none that is known."""
+        """The one envelope of a `src` attribute.
+
+        Refuses a source that stands in two, or, beside envelopes, in none that is known.
+        """
         found = self.envelopes(source)
         file, line = self.origin(source) or (module.file, module.line)
         if len(found) > 1:

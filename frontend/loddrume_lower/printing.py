@@ -46,7 +46,8 @@ def _port(piece: Piece) -> str:
 def in_envelope(
     lines: List[str], envelope: Envelope, opened: List[Tuple[str, str]], keep_lines: bool = False
 ) -> List[str]:
-    """Lines between the pragmas of an envelope, as one: an inside must not move the lines of what stands after it, which all may see."""
+    """Lines between the pragmas of an envelope, as one: an inside must not move the lines of what stands after it,
+    which all may see."""
     if not keep_lines:
         lines = [" ".join(re.sub(r"// (.*)$", r"/* \1 */", line.replace("*/", "")).strip() for line in lines)]
     first = f"`pragma protect author={envelope.author}, begin"

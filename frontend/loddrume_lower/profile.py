@@ -10,8 +10,8 @@ from .names import KEYWORDS
 from .tokens import Token
 
 USED = frozenset(
-    "module endmodule input output wire reg localparam assign initial always begin end if else case casez endcase default while for forever "
-    "wait posedge negedge or".split()
+    "module endmodule input output wire reg localparam assign initial always begin end if else case casez endcase "
+    "default while for forever wait posedge negedge or".split()
 )
 _BINARY = [
     ["||"],
@@ -70,7 +70,10 @@ class Reading:
 
 
 class Profile:
-    """A reader of one module. `children` gives the ports of a module by name: the direction of each, in order, and whether it is too wide."""
+    """A reader of one module.
+
+    `children` gives the ports of a module by name: the direction of each, in order, and whether it is too wide.
+    """
 
     def __init__(
         self,

@@ -111,7 +111,8 @@ class Reader:
         return "".join(out)
 
     def _found(self, name: str, file: str) -> Optional[str]:
-        """The file that is included: from the folders of -I, or else beside the file that includes it, or where we are."""
+        """The file that is included: from the folders of -I, or else beside the file that includes it, or where we
+        are."""
         for folder in [*self._include, os.path.dirname(file), "."]:
             path = os.path.join(folder, name) if folder not in ("", ".") else name
             if os.path.isfile(path):

@@ -57,7 +57,8 @@ def tokens_of(text: str, file: str) -> List[Token]:
 
 
 def flat_tokens(text: str) -> List[Token]:
-    """The tokens of preprocessed text, in which marks tell where a file begins and where one that includes it goes on."""
+    """The tokens of preprocessed text, in which marks tell where a file begins and where one that includes it goes
+    on."""
     stack = [["", 0]]
     result: List[Token] = []
     before = 1

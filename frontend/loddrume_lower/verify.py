@@ -1,9 +1,9 @@
 """Checks that a lowered design shows of envelopes nothing that the original does not show.
 
-It is written apart from the lowering, and reads `design.v` alone of what that makes. What stands inside envelopes is cut out of both
-texts. What is left of the original can't depend on an inside. So what is left of the lowered text must have no other names, and
-each of its nets, registers and instances must have the same function of its inputs. Functions are compared on random vectors,
-by Yosys's netlists of both.
+It is written apart from the lowering, and reads `design.v` alone of what that makes. What stands inside
+envelopes is cut out of both texts. What is left of the original can't depend on an inside. So what is left of
+the lowered text must have no other names, and each of its nets, registers and instances must have the same
+function of its inputs. Functions are compared on random vectors, by Yosys's netlists of both.
 """
 
 from __future__ import annotations
@@ -299,7 +299,8 @@ def check_envelopes(original: Cut, design: Cut) -> None:
 
 
 def check_constants(known: Set[str], open_text: str) -> None:
-    """Each constant of the open text is one of the original's, or a part of one; small ones, which extend and compare, are not looked at."""
+    """Each constant of the open text is one of the original's, or a part of one; small ones, which extend and
+    compare, are not looked at."""
     for digits in re.findall(r"'b([01]+)", re.sub(r"//[^\n]*", "", open_text)):
         value = digits.lstrip("0")
         if len(value) < 5 or set(value) == {"1"} or set(value[1:]) == {"0"}:
@@ -507,7 +508,8 @@ def netlist_by(yosys: Yosys) -> Netlist:
 
 
 def _settled(rtlil: str) -> str:
-    """RTLIL in which cells that give memories their initial values have constants, where they name wires that are constant."""
+    """RTLIL in which cells that give memories their initial values have constants, where they name wires that are
+    constant."""
     constant = dict(re.findall(r"^  connect (\$\S+) (\d+'[01xz]+|\d+)$", rtlil, flags=re.MULTILINE))
 
     def cell(found: "re.Match[str]") -> str:
@@ -547,7 +549,8 @@ def _marked(text: str) -> Tuple[List[Token], List[Pragma], str]:
 
 
 def verify(netlist: Netlist, sources: Sources, top: str, text: str, design_top: str) -> None:
-    """Raises `Leak` where the lowered text shows more of envelopes than the original, or says something else in the open text."""
+    """Raises `Leak` where the lowered text shows more of envelopes than the original, or says something else in the
+    open text."""
     original = cut(flat_tokens(sources.flat), sources.pragmas)
     if not original.envelopes:
         return

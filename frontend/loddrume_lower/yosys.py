@@ -24,7 +24,10 @@ class Yosys:
             raise Refusal("", 0, f"{program} is not installed", "on Debian: apt-get install yosys")
 
     def path(self, name: str) -> str:
-        """The path of a file in the folder. Yosys itself runs where we are, since files of memories are named from there."""
+        """The path of a file in the folder.
+
+        Yosys itself runs where we are, since files of memories are named from there.
+        """
         return os.path.join(self.folder, name)
 
     def run(self, script: str, quiet: bool = True, check: bool = True, origin: Callable[[str], str] = str) -> str:

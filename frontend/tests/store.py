@@ -1,7 +1,8 @@
 """Makes the stored files of the tests anew: python3 store.py, in this folder, with yosys and iverilog.
 
-Each design in `designs` is lowered as a whole. Its JSON netlist is stored, and the text is stored only if Icarus Verilog gives all
-kept names of both texts the same values in 400 cycles of random inputs, wherever the original's are known.
+Each design in `designs` is lowered as a whole. Its JSON netlist is stored, and the text is stored only if
+Icarus Verilog gives all kept names of both texts the same values in 400 cycles of random inputs, wherever the
+original's are known.
 """
 
 from __future__ import annotations

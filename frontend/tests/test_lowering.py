@@ -1,4 +1,5 @@
-"""Ten designs, one a construct, and one with envelopes: from stored netlists to stored text. Neither Yosys nor Icarus is needed.
+"""Ten designs, one a construct, and one with envelopes: from stored netlists to stored text. Neither Yosys nor
+Icarus is needed.
 
 The stored text was compared with the original in Icarus Verilog by store.py.
 """

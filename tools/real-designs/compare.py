@@ -3,10 +3,11 @@
 
     compare.py SOURCES PROGRAM FOLDER [NAME ..]
 
-SOURCES is a folder with the Debian source packages, one folder each (see fetch.sh); PROGRAM is vp_served; FOLDER takes what is made.
-Each design is lowered. Then 1,000 cycles of random inputs, with the reset first, run in both simulators, and all names that the map
-keeps are compared, bit by bit, at each cycle. `results.json` in FOLDER has a record for each design, and `table.md` the table.
-Where under 90 percent of the bits are known in both, a second run sets each reg to a random value before the first cycle.
+SOURCES is a folder with the Debian source packages, one folder each (see fetch.sh); PROGRAM is vp_served;
+FOLDER takes what is made. Each design is lowered. Then 1,000 cycles of random inputs, with the reset first, run
+in both simulators, and all names that the map keeps are compared, bit by bit, at each cycle. `results.json` in
+FOLDER has a record for each design, and `table.md` the table. Where under 90 percent of the bits are known in
+both, a second run sets each reg to a random value before the first cycle.
 """
 
 from __future__ import annotations
@@ -54,7 +55,8 @@ class Design:
 
 @dataclass
 class Port:
-    """A port of the top module: its name in the original, the names of its parts, lowest part first, and their widths."""
+    """A port of the top module: its name in the original, the names of its parts, lowest part first, and their
+    widths."""
 
     name: str
     direction: str

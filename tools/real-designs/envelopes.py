@@ -3,10 +3,11 @@
 
     envelopes.py SOURCES PROGRAM FOLDER [COUNT]
 
-Each design is one of the list, with pragmas at random places between items of its modules: one or two envelopes, of one or two authors,
-some with a viewport. What the front end refuses is counted, and another place is tried. Of each design that comes in, three things are
-checked. The view of a user without grants has no name that only an inside has. A constant of an inside is changed: then the view is the
-same to the byte, and so is the open text. The program reads the text.
+Each design is one of the list, with pragmas at random places between items of its modules: one or two
+envelopes, of one or two authors, some with a viewport. What the front end refuses is counted, and another place
+is tried. Of each design that comes in, three things are checked. The view of a user without grants has no name
+that only an inside has. A constant of an inside is changed: then the view is the same to the byte, and so is
+the open text. The program reads the text.
 """
 
 from __future__ import annotations
@@ -90,7 +91,8 @@ def with_envelopes(text: str, chance: random.Random) -> Optional[Tuple[str, List
 
 
 def changed_constant(text: str, chance: random.Random) -> Optional[str]:
-    """The text with another value for one constant of an inside, of the same width; not one that says how wide a net is."""
+    """The text with another value for one constant of an inside, of the same width; not one that says how wide a net
+    is."""
     tokens = tokens_of(
         re.sub(r"`(timescale|default_nettype|include)[^\n]*", lambda found: " " * len(found.group()), text), "design.v"
     )
