@@ -31,6 +31,7 @@ from loddrume_lower.front import Result, lower, write  # noqa: E402
 from loddrume_lower.refusal import Refusal  # noqa: E402
 
 CYCLES = 1000
+SETTLE = 4
 RESET_CYCLES = 8
 SETTLED = 10
 POLICY = '{"users":[{"name":"ann","token":"t","open":"list+read+watch+put","run":true}]}'
@@ -147,14 +148,14 @@ def icarus_bench(
     lines += [f"    {clock} = 0;" for clock in design.clocks]
     lines.append("    #1;")
     lines += [f"    loddrume_bench.{name} = {len(value)}'b{value};" for name, value in regs.items()]
-    lines.append(f"    for (cycle = 0; cycle < {CYCLES}; cycle = cycle + 1) begin\n      #1 row = rows[cycle];")
-    if inputs:
-        lines.append(f"      {{{', '.join(port.name for port in inputs)}}} = row;")
-    for clock in design.clocks:
-        lines.append(f"      #2 {clock} = 1;")
-    lines.append("      #3 sample;")
-    for clock in design.clocks:
-        lines.append(f"      #2 {clock} = 0;")
+    given = f"{{{', '.join(port.name for port in inputs)}}} = rows[cycle];" if inputs else ";"
+    lines.append(f"    cycle = 0; {given}")
+    lines.append(f"    #1; for (cycle = 0; cycle < {CYCLES}; cycle = cycle + 1) begin")
+    lines += [f"      #1 {clock} = 1;" for clock in design.clocks]
+    lines.append(f"      #{SETTLE} sample;")
+    lines.append(f"      cycle = cycle + 1; if (cycle < {CYCLES}) {given} cycle = cycle - 1;")
+    lines += [f"      #1 {clock} = 0;" for clock in design.clocks]
+    lines.append(f"      #{SETTLE};")
     lines += ["    end\n    $finish(0);\n  end", "  task sample; begin"]
     lines += [f'    $display("%b", loddrume_bench.{name});' for name in kept]
     lines += ["  end endtask", "endmodule", ""]
@@ -218,17 +219,60 @@ def icarus(
 # ---- the server's program
 
 
-def server_bench(names: Dict[str, Any], ports: List[Port]) -> str:
-    """A module that instantiates the lowered top, with a reg for each input."""
-    lines = ["module loddrume_bench;"]
-    words = []
+@dataclass
+class Bench:
+    """The module round the lowered top: its text, and which bits of which reg each input has."""
+
+    text: str
+    regs: List[Tuple[str, int]]
+    places: Dict[str, Tuple[int, int]]
+    settle: int
+
+    def puts(self, values: Dict[str, str], ports: List[Port]) -> Dict[str, str]:
+        """The values of the regs, for values of inputs."""
+        digits = [["0"] * width for _, width in self.regs]
+        for port in ports:
+            if port.name not in values:
+                continue
+            low = 0
+            for part, width in port.parts:
+                value = values[port.name][port.width - low - width : port.width - low]
+                which, start = self.places[part]
+                total = len(digits[which])
+                digits[which][total - start - width : total - start] = list(value)
+                low += width
+        return {f"loddrume_bench.{name}": "".join(digits[at]) for at, (name, _) in enumerate(self.regs)}
+
+
+def server_bench(names: Dict[str, Any], ports: List[Port], clocks: List[str], settle: int) -> Bench:
+    """A module that instantiates the lowered top, with its clocks, and with regs that have all inputs."""
+    regs: List[Tuple[str, int]] = []
+    places: Dict[str, Tuple[int, int]] = {}
+    lines, words = ["module loddrume_bench;"], []
+    called = [part for port in ports if port.name in clocks for part, _ in port.parts]
     for port in ports:
         for part, width in port.parts:
+            if port.direction == "input" and part not in called:
+                if not regs or regs[-1][1] + width > 64:
+                    regs.append((f"loddrume_inputs{len(regs)}", 0))
+                places[part] = (len(regs) - 1, regs[-1][1])
+                regs[-1] = (regs[-1][0], regs[-1][1] + width)
+                continue
             bounds = f"[{width - 1}:0] " if width > 1 else ""
-            lines.append(f"  {'reg' if port.direction == 'input' else 'wire'} {bounds}{part};")
+            lines.append(f"  {'reg' if part in called else 'wire'} {bounds}{part};")
             words.append(f".{part}({part})")
-    lines += [f"  {names['top']} dut({', '.join(words)});", "  initial forever #1 ;", "endmodule", ""]
-    return "\n".join(lines)
+    for part, (which, low) in places.items():
+        width = next(size for port in ports for name, size in port.parts if name == part)
+        high = low + width - 1
+        words.append(f".{part}({regs[which][0]}[{high}:{low}])")
+    lines += [f"  reg [{width - 1}:0] {name};" for name, width in regs]
+    toggles = [f"#1 {clock} = {level};" for level in "10" for clock in called]
+    half = len(called)
+    steps = [*toggles[:half], f"#{settle} ;", *toggles[half:], f"#{settle} ;"]
+    start = " ".join(f"{clock} = 0;" for clock in called)
+    lines += [f"  {names['top']} dut({', '.join(words)});", "  initial forever #1 ;"]
+    lines += [f"  initial begin {start} #2 ; forever begin {' '.join(steps)} end end", "endmodule", ""]
+    return Bench("\n".join(lines), regs, places, settle)
 
 
 class Served:
@@ -271,7 +315,7 @@ class Served:
         """Lets the design run until a time is reached, so that nothing of the times before is left to do."""
         self.ask([{"op": "run", "until": until}])
         while self.ask([{"op": "time"}])[0]["time"] < until:
-            pass
+            time.sleep(0.002)
 
     def put(self, values: Dict[str, str]) -> None:
         handles = self.handles(list(values))
@@ -309,7 +353,7 @@ class Served:
 
 
 def port_values(port: Port, value: str) -> Dict[str, str]:
-    """What is put on each part of a port."""
+    """The value of each part of a port."""
     result, low = {}, 0
     for part, width in port.parts:
         result[f"loddrume_bench.{part}"] = value[len(value) - low - width : len(value) - low]
@@ -324,47 +368,25 @@ def served(
     kept: Dict[str, List[str]],
     cycles: List[Dict[str, str]],
     regs: Dict[str, str],
-    text: str,
+    bench: Bench,
 ) -> List[List[str]]:
-    """The values of the kept names at each cycle."""
-    # Where nothing waits for a time, what is put settles at once.
-    step = 3 if re.search(r"#\s*\d", text) else 1
-    by_name = {port.name: port for port in ports}
+    """The values of the kept names at each cycle. The next inputs are put when a cycle has been read, before clocks fall."""
     session.run(1)
-    for clock in design.clocks:
-        session.put(port_values(by_name[clock], "0"))
-    session.put(regs)
-    session.run(3)
-    now = 3
+    session.put({**regs, **bench.puts(cycles[0], ports)})
     handles = session.handles(["loddrume_bench." + part for parts in kept.values() for part in reversed(parts)])
     watched = session.watch(handles)
-    now_values = dict(zip(handles, session.values(handles)))
+    values = dict(zip(handles, session.values(handles)))
     unwatched = handles[len(watched) :]
-    # A clock falls together with the next inputs, unless something waits for a falling edge.
-    apart = "negedge" in text
-    before: Dict[str, str] = {}
+    length = 2 * len(design.clocks) + 2 * bench.settle
     result = []
-    for values in cycles:
-        inputs: Dict[str, str] = {}
-        for name, value in values.items():
-            inputs.update(port_values(by_name[name], value))
-        session.put({path: value for path, value in inputs.items() if before.get(path) != value})
-        before.update(inputs)
-        now += step
-        session.run(now)
-        for clock in design.clocks:
-            session.put(port_values(by_name[clock], "1"))
-            now += step
-            session.run(now)
-        now_values.update({watched[callback]: value for callback, value in session.changes()})
-        now_values.update(zip(unwatched, session.values(unwatched)))
-        digits = iter([now_values[handle] for handle in handles])
+    for cycle in range(CYCLES):
+        session.run(2 + cycle * length + len(design.clocks) + bench.settle)
+        values.update({watched[callback]: value for callback, value in session.changes()})
+        values.update(zip(unwatched, session.values(unwatched)))
+        digits = iter([values[handle] for handle in handles])
         result.append(["".join(next(digits) for _ in parts) for parts in kept.values()])
-        for clock in design.clocks:
-            session.put(port_values(by_name[clock], "0"))
-            if apart:
-                now += step
-                session.run(now)
+        if cycle + 1 < CYCLES:
+            session.put(bench.puts(cycles[cycle + 1], ports))
     return result
 
 
@@ -427,7 +449,10 @@ def simulate(
 ) -> Dict[str, Any]:
     """Runs both simulators on a design, and compares."""
     ports = top_ports(result.text, result.names)
-    (folder / "served.v").write_text(result.text + server_bench(result.names, ports), encoding="utf-8")
+    # Where nothing waits for a time, what is put settles at once.
+    settle = SETTLE if re.search(r"#\s*\d", result.text) else 1
+    bench = server_bench(result.names, ports, design.clocks, settle)
+    (folder / "served.v").write_text(result.text + bench.text, encoding="utf-8")
     (folder / "policy.json").write_text(POLICY, encoding="utf-8")
     cycles = stimulus(ports, design)
     kept = dict(names_of(result.names, result.names["top"], "dut", "dut"))
@@ -442,7 +467,7 @@ def simulate(
             {name: kept[name] for name in found},
             cycles,
             new,
-            result.text,
+            bench,
         )
     finally:
         session.end()
