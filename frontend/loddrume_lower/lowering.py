@@ -430,6 +430,10 @@ class Lowering:
                 else:
                     bits.append(bit)
             sources = {helper.place for helper, _ in joined.values()}
+            if len(sources) > 1:
+                helper = max((helper for helper, _ in joined.values()), key=lambda one: one.place)
+                what = f"the net {piece.name} is driven on both sides of a border of an envelope"
+                raise Refusal(*helper.origin, what, "drive it on one side alone")
             place = sources.pop() if len(sources) == 1 else piece.place
             self._say(f"assign {piece.name} = {self._nets.text(bits)};", place, piece.origin)
 
