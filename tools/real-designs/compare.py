@@ -7,7 +7,8 @@ SOURCES is a folder with the Debian source packages, one folder each (see fetch.
 FOLDER takes what is made. Each design is lowered. Then 1,000 cycles of random inputs, with the reset first, run
 in both simulators, and all names that the map keeps are compared, bit by bit, at each cycle. `results.json` in
 FOLDER has a record for each design, and `table.md` the table. Where under 90 percent of the bits are known in
-both, a second run sets each reg to a random value before the first cycle.
+both, a second run sets each reg to a random value before the first cycle. With `iverilog` as PROGRAM, Icarus runs
+the lowered text too: that is quick, and tells nothing of the server.
 """
 
 from __future__ import annotations
@@ -390,20 +391,73 @@ def served(
     return result
 
 
-def regs_of(session: Served, kept: Dict[str, List[str]], seed: str) -> Tuple[Dict[str, str], Dict[str, str]]:
-    """A random value for each kept reg of one part: by its name in the original, and by its path on the server."""
-    paths = {name: "loddrume_bench." + parts[0] for name, parts in kept.items() if len(parts) == 1}
-    handles = session.handles(list(paths.values()))
+def declared_regs(text: str) -> Dict[str, Dict[str, int]]:
+    """The regs that each module of a lowered text declares, with their widths."""
+    found: Dict[str, Dict[str, int]] = {}
+    text = re.sub(r"//[^\n]*|/\*.*?\*/", "", text, flags=re.DOTALL)
+    for module in re.finditer(r"\bmodule\s+([\w$]+)(.*?)\bendmodule\b", text, re.DOTALL):
+        regs = found.setdefault(module[1], {})
+        for reg in re.finditer(r"\breg\b\s*(?:\[(\d+):(\d+)\])?\s*([\w$]+(?:\s*,\s*[\w$]+)*)", module[2]):
+            for name in reg[3].split(","):
+                regs[name.strip()] = int(reg[1]) - int(reg[2]) + 1 if reg[1] else 1
+    return found
+
+
+def regs_of(result: Result, kept: Dict[str, List[str]], seed: str) -> Tuple[Dict[str, str], Dict[str, str]]:
+    """A random value for each kept reg of one part: by its name in the original, and by its path in the lowered text."""
+    declared = declared_regs(result.text)
+    modules = dict(modules_of(result.names, result.names["top"], "dut"))
     chance = random.Random(seed)
     old: Dict[str, str] = {}
     new: Dict[str, str] = {}
-    for (name, path), handle in zip(paths.items(), handles):
-        kind, size = session.ask(
-            [{"op": "get_str", "h": handle, "prop": "type"}, {"op": "get", "h": handle, "prop": "size"}]
-        )
-        if kind["s"] == "vpiReg":
-            old[name] = new[path] = format(chance.getrandbits(size["n"]), f"0{size['n']}b")
+    for name, parts in kept.items():
+        path, _, last = parts[0].rpartition(".")
+        width = declared.get(modules[path], {}).get(last)
+        if len(parts) == 1 and width:
+            old[name] = new[parts[0]] = format(chance.getrandbits(width), f"0{width}b")
     return old, new
+
+
+def modules_of(names: Dict[str, Any], module: str, path: str) -> Iterator[Tuple[str, str]]:
+    """The module of each instance of a lowered design, by its path."""
+    yield path, module
+    for instance in names["modules"][module]["instances"].values():
+        yield from modules_of(names, instance["module"], f"{path}.{instance['name']}")
+
+
+def in_icarus(
+    design: Design,
+    result: Result,
+    ports: List[Port],
+    kept: Dict[str, List[str]],
+    cycles: List[Dict[str, str]],
+    regs: Dict[str, str],
+    folder: Path,
+) -> List[List[str]]:
+    """The values of the kept names at each cycle, where Icarus Verilog runs the lowered text too."""
+    folder.mkdir(exist_ok=True)
+    (folder / "lowered.v").write_text(re.sub(r"`pragma[^\n]*", "", result.text), encoding="utf-8")
+    cut = [Port(part, port.direction, [(part, width)]) for port in ports for part, width in port.parts]
+    given = [
+        {
+            path.split(".", 1)[1]: digits
+            for port in ports
+            if port.name in values
+            for path, digits in port_values(port, values[port.name]).items()
+        }
+        for values in cycles
+    ]
+    clocks = [part for port in ports if port.name in design.clocks for part, _ in port.parts]
+    parts = [part for one in kept.values() for part in reversed(one)]
+    lowered = Design(design.name, "", result.names["top"], clocks, None, ["lowered.v"])
+    found, rows = icarus(lowered, folder, cut, parts, given, regs, folder)
+    if found != parts:
+        raise RuntimeError("names of the map are not in the lowered text")
+    result_rows = []
+    for row in rows:
+        digits = iter(row)
+        result_rows.append(["".join(next(digits) for _ in one) for one in kept.values()])
+    return result_rows
 
 
 # ---- comparison
@@ -456,24 +510,22 @@ def simulate(
     (folder / "policy.json").write_text(POLICY, encoding="utf-8")
     cycles = stimulus(ports, design)
     kept = dict(names_of(result.names, result.names["top"], "dut", "dut"))
-    session = Served(program, folder)
-    try:
-        old, new = regs_of(session, kept, design.name) if setting else ({}, {})
-        found, theirs = icarus(design, sources, ports, list(kept), cycles, old, folder)
-        ours = served(
-            design,
-            session,
-            ports,
-            {name: kept[name] for name in found},
-            cycles,
-            new,
-            bench,
-        )
-    finally:
-        session.end()
+    all_names = len(kept)
+    old, new = regs_of(result, kept, design.name) if setting else ({}, {})
+    found, theirs = icarus(design, sources, ports, list(kept), cycles, old, folder)
+    kept = {name: kept[name] for name in found}
+    if program == "iverilog":
+        ours = in_icarus(design, result, ports, kept, cycles, new, folder / "lowered")
+    else:
+        session = Served(program, folder)
+        try:
+            puts = {f"loddrume_bench.{path}": value for path, value in new.items()}
+            ours = served(design, session, ports, kept, cycles, puts, bench)
+        finally:
+            session.end()
     return {
         "names": len(found),
-        "not in Icarus": len(kept) - len(found),
+        "not in Icarus": all_names - len(found),
         "set": setting,
         **compared(ours, theirs, found),
     }
@@ -493,7 +545,7 @@ def tried(design: Design, sources: Path, program: str, folder: Path) -> Dict[str
     record["seconds"] = round(time.monotonic() - began, 2)
     record["bytes"] = len(result.text)
     record["how"] = {account.name: account.how for account in result.accounts}
-    checked = subprocess.run([program, "check", "design.v"], cwd=folder, capture_output=True, text=True, check=False)
+    checked = subprocess.run([program, *(["-t", "null"] if program == "iverilog" else ["check"]), "design.v"], cwd=folder, capture_output=True, text=True, check=False)
     if checked.returncode:
         return {**record, "status": "not read", "why": checked.stderr[:400]}
     try:
@@ -529,7 +581,8 @@ def table(records: List[Dict[str, Any]]) -> str:
 
 def main(words: List[str]) -> int:
     """Tries all designs, or those that are named."""
-    sources, program, folder = Path(words[0]).resolve(), str(Path(words[1]).resolve()), Path(words[2]).resolve()
+    sources, folder = Path(words[0]).resolve(), Path(words[2]).resolve()
+    program = "iverilog" if words[1] == "iverilog" else str(Path(words[1]).resolve())
     folder.mkdir(parents=True, exist_ok=True)
     kept = folder / "results.json"
     records = (
