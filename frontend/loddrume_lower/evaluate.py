@@ -243,7 +243,7 @@ class Evaluator:
         result = self._word(ports["A"])
         width = len(result)
         choices = self._word(ports["B"])
-        for at, select in reversed(list(enumerate(ports["S"]))):
+        for at, select in enumerate(ports["S"]):
             result = self._either(self.value(select), choices[at * width : (at + 1) * width], result)
         return result
 

@@ -277,6 +277,7 @@ def refuse_values_across(layout: Layout) -> None:
     for module in layout.modules.values():
         if not module.places():
             continue
+        _refuse_ports_inside(module)
         for home in module.items:
             for name in home.declared:
                 is_called = home.kind in ("function", "task")
@@ -295,6 +296,32 @@ def refuse_values_across(layout: Layout) -> None:
                         what = f"the {home.kind} {name}"
                         advice = f"move it, or declare it on that side too; it is declared at {home.file}:{home.line}"
                         raise Refusal(token.file, token.line, f"{what} is used across a border of an envelope", advice)
+
+
+def _refuse_ports_inside(module: Module) -> None:
+    """Refuses a port that an envelope declares, or declares again as a reg."""
+    opening = next((at for at, token in enumerate(module.header) if token.text == "("), len(module.header))
+    ports = {token.text for token in module.header[opening:] if token.kind in ("name", "escaped")}
+    for item in module.items:
+        if item.place == module.place or item.kind not in ("input", "output", "inout", "reg", "wire"):
+            continue
+        token = next((token for token in item.tokens[1:] if token.text in ports and _declares(item, token)), None)
+        if token:
+            what = f"the port {token.text} is declared in an envelope"
+            raise Refusal(token.file, token.line, what, "declare it outside, or in the header")
+
+
+def _declares(item: Item, token: Token) -> bool:
+    """Whether an item of nets declares a name, and does not only read it."""
+    at = item.tokens.index(token)
+    depth = 0
+    for other in item.tokens[1:at]:
+        depth += {"(": 1, "[": 1, "{": 1, ")": -1, "]": -1, "}": -1}.get(other.text, 0)
+        if other.text == "=" and not depth:
+            depth = 100
+        if other.text == "," and depth >= 100:
+            depth = 0
+    return depth == 0
 
 
 def _without_attributes(tokens: List[Token]) -> List[Token]:

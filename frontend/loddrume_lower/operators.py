@@ -132,9 +132,14 @@ class Operators:
             self._assign(target.piece.name, expression, target.width)
 
     def _pmux(self, cell: Cell, a: Bits, b: Bits) -> None:
-        """Choices of a case, of which one holds at most: a ladder of `?:`, in steps that do not nest too deep."""
+        """Choices of a case, as a ladder of `?:` in steps that do not nest too deep.
+
+        Yosys counts them from the last, so that where more than one holds, as under `parallel_case`, the greatest
+        is the first of the text.
+        """
         width = len(a)
         choices = [(select, b[at * width : (at + 1) * width]) for at, select in enumerate(cell.connections["S"])]
+        choices.reverse()
         for target in cell.targets:
             rest = self._text(a[target.low : target.low + target.width])
             for start in reversed(range(0, len(choices), LADDER)):

@@ -104,6 +104,12 @@ class Refusals(unittest.TestCase):
                 self.refused(
                     lambda items=items: refuse_values_across(layout_of(f"module m;\n{items}endmodule\n")), words
                 )
+        again = f"module m(q);\noutput q;\n{BEGIN}reg k, q;\n{END}endmodule\n"
+        self.refused(
+            lambda: refuse_values_across(layout_of(again)), "design.v:4: the port q is declared in an envelope; declare"
+        )
+        read = f"module m(input q);\n{BEGIN}wire w = q;\n{END}endmodule\n"
+        refuse_values_across(layout_of(read))
         refuse_values_across(layout_of(f"module m;\nlocalparam K = 3;\n{BEGIN}wire [K:0] w;\n{END}endmodule\n"))
 
     def test_a_cell_of_a_vendor(self) -> None:

@@ -82,13 +82,14 @@ def designs(path: Path) -> Iterator[Design]:
 def top_ports(text: str, names: Dict[str, Any]) -> List[Port]:
     """The ports of the top module, by the header of the lowered text and the map."""
     top = names["top"]
+    text = re.sub(r"//[^\n]*|/\*.*?\*/", "", text, flags=re.DOTALL)
     header = re.search(rf"^module {re.escape(top)}\s*\((.*?)\);", text, re.MULTILINE | re.DOTALL)
     assert header, f"no header of {top}"
     was = {new: (old, at) for old, parts in names["modules"][top]["names"].items() for at, new in enumerate(parts)}
     ports: Dict[str, Port] = {}
     direction, bounds = "", ""
     for part in filter(str.strip, header[1].split(",")):
-        found = re.fullmatch(r"\s*(?:(input|output)\s*(?:(?:wire|reg)\b)?\s*(\[\d+:\d+\])?\s*)?([\w$]+)\s*", part)
+        found = re.fullmatch(r"\s*(?:(input|output)\s*(?:(?:wire|reg)\b)?\s*(\[\s*\d+\s*:\s*\d+\s*\])?\s*)?([\w$]+)\s*", part)
         assert found, part
         direction, bounds = (found[1], found[2] or "") if found[1] else (direction, bounds)
         width = 1
@@ -397,7 +398,7 @@ def declared_regs(text: str) -> Dict[str, Dict[str, int]]:
     text = re.sub(r"//[^\n]*|/\*.*?\*/", "", text, flags=re.DOTALL)
     for module in re.finditer(r"\bmodule\s+([\w$]+)(.*?)\bendmodule\b", text, re.DOTALL):
         regs = found.setdefault(module[1], {})
-        for reg in re.finditer(r"\breg\b\s*(?:\[(\d+):(\d+)\])?\s*([\w$]+(?:\s*,\s*[\w$]+)*)", module[2]):
+        for reg in re.finditer(r"\breg\b\s*(?:\[\s*(\d+)\s*:\s*(\d+)\s*\])?\s*([\w$]+(?:\s*,\s*[\w$]+)*)", module[2]):
             for name in reg[3].split(","):
                 regs[name.strip()] = int(reg[1]) - int(reg[2]) + 1 if reg[1] else 1
     return found
