@@ -76,6 +76,7 @@ class Cut:
 def _apply(text: str, author: str, envelope: Optional[Envelope]) -> Tuple[str, str]:
     """What a pragma says: `begin`, `end` or nothing, and the author from then on."""
     said = ""
+    text = re.sub(r'("(?:\\.|[^"\\])*")|//.*', lambda found: found[1] or "", text)
     if not re.match(r"\s*protect\b", text):
         return said, ("" if re.match(r"\s*(resetall|reset\s+protect)", text) else author)
     for found in re.finditer(
