@@ -9,7 +9,7 @@ from dataclasses import dataclass, field
 from pathlib import Path
 from typing import Any, Dict, List, Optional, Sequence, Set, Tuple
 
-from .headers import Passed, passed_modules
+from .headers import Passed, passed_modules, readable_modules
 from .inlining import inlined
 from .lowering import Lowered, Lowering, module_names
 from .modules import Layout, Module, Splitter, instantiated, refuse_values_across
@@ -89,7 +89,8 @@ def refuse_absent_modules(layout: Layout, top: str) -> None:
 def elaborated(yosys: Yosys, reader: Reader, layout: Layout, top: str, sources: Sources) -> Dict[str, Any]:
     """The netlist of a design as Yosys's JSON, with sources that name the files of the origin."""
     folder = Path(yosys.folder)
-    (folder / "flat.v").write_bytes(sources.flat.encode("utf-8", errors="surrogateescape"))
+    flat = without_procedures(sources.flat, readable_modules(layout, sources))
+    (folder / "flat.v").write_bytes(flat.encode("utf-8", errors="surrogateescape"))
     escaped = top if top.isidentifier() else f"\\{top}"
     bufferer = Bufferer(Places(layout, reader.origin))
     yosys.run(
@@ -150,6 +151,16 @@ def place_by_readers(module: Dict[str, Any]) -> None:
             if source == "unread:0.0-0.0":
                 del cells[name]
         waiting = [name for name in waiting if name not in found]
+
+
+def without_procedures(flat: str, modules: List[Module]) -> str:
+    """The text for Yosys: of modules that are passed on it needs ports, nets and instances alone, and can't read all the rest."""
+    for module in sorted(modules, key=lambda module: -module.header[0].start):
+        for item in reversed(module.items):
+            if item.kind in ("always", "initial", "assign"):
+                first, last = item.tokens[0].start, item.tokens[-1].end
+                flat = flat[:first] + "\n" * flat.count("\n", first, last) + flat[last:]
+    return flat
 
 
 def _buffer(bufferer: Bufferer, folder: Path, name: str, kinds: Tuple[str, ...]) -> None:

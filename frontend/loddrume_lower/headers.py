@@ -9,7 +9,7 @@ from typing import Any, Callable, Dict, List, Optional, Tuple
 from .modules import Layout, Module
 from .names import plain
 from .nets import WIDEST
-from .profile import Left, Profile, Reading
+from .profile import ANY_PORTS, Left, Profile, Reading
 from .sources import Sources
 from .tokens import Token, tokens_of
 
@@ -35,6 +35,12 @@ def passed_modules(layout: Layout, sources: Sources, netlist: Dict[str, Any]) ->
         if name in netlist["modules"]:
             result[name] = _Passing(module, layout, sources, _children_of(netlist)).passed()
     return result
+
+
+def readable_modules(layout: Layout, sources: Sources) -> List[Module]:
+    """The modules that the server can read, so far as can be told before the ports of their instances are known."""
+    modules = layout.modules.values()
+    return [module for module in modules if not _Passing(module, layout, sources, lambda _: ANY_PORTS).passed().fault]
 
 
 def _children_of(netlist: Dict[str, Any]) -> Callable[[str], Optional[Dict[str, str]]]:

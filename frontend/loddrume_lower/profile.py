@@ -28,6 +28,8 @@ _BINARY = [
 _UNARY = ("+", "-", "!", "~", "&", "~&", "|", "~|", "^", "~^", "^~")
 _ARITHMETIC = ("*", "+", "-", "&", "|", "^", "~^", "^~")
 DEEPEST = 64
+# The ports of a module that is not known yet: any connection is read.
+ANY_PORTS: Dict[str, str] = {"": "any"}
 WIDEST = 64
 
 
@@ -284,7 +286,10 @@ class Profile:
         self._expect("(")
         order, at = list(ports), 0
         while not self._is(")"):
-            if self._is("."):
+            if ports is ANY_PORTS and not self._is("."):
+                if not self._is(","):
+                    self._expression()
+            elif self._is("."):
                 self._take()
                 port = self._here().text
                 self._take()
@@ -301,6 +306,10 @@ class Profile:
         self._take()
 
     def _connection(self, port: str, ports: Dict[str, str], *ends: str) -> None:
+        if ports is ANY_PORTS:
+            if not self._is(*ends):
+                self._expression()
+            return
         if port not in ports:
             raise self._left(f"a connection of {port}, which is no port")
         if self._is(*ends):

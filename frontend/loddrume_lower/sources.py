@@ -122,7 +122,12 @@ class Reader:
     def _preprocessed(self) -> str:
         defines = "".join(f" -D{word}" for word in self._define)
         # A fault of the grammar is told later, of the text without marks; here only the preprocessor's part counts.
-        told = self._yosys.run(f"read_verilog -ppdump{defines} {self._yosys.path('all.v')}", quiet=False, check=False)
+        # What is printed before a fault is lost on the output, but not in a log that is written line by line.
+        log = self._yosys.path("preprocessed.log")
+        script = f"read_verilog -ppdump{defines} {self._yosys.path('all.v')}"
+        told = self._yosys.run(script, check=False, log=log)
+        if os.path.exists(log):
+            told = Path(log).read_text(encoding="utf-8", errors="surrogateescape") + told
         if _DUMP_BEGIN not in told or _DUMP_END not in told:
             self._yosys.fail(told, self.origin)
         return told.split(_DUMP_BEGIN, 1)[1].split(_DUMP_END, 1)[0].lstrip("\n")

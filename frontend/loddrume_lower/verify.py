@@ -17,8 +17,9 @@ from pathlib import Path
 from typing import Any, Callable, Dict, Iterable, List, Optional, Sequence, Set, Tuple
 
 from .evaluate import Evaluator, Source, plain
+from .modules import Module, Splitter
 from .sources import Pragma, Sources
-from .tokens import Token, flat_tokens, pieces
+from .tokens import Token, flat_tokens, pieces, tokens_of
 from .yosys import Yosys
 
 VECTORS = 1024
@@ -561,6 +562,7 @@ def verify(netlist: Netlist, sources: Sources, top: str, text: str, design_top: 
     open_text = re.sub(rf"// (?:\w+(?: \w+)?: )?(?:{files}):\d+$", "", open_text, flags=re.MULTILINE)
     words = {word for name, raw in sources.texts.items() for word in _WORD.findall(_open_of(raw))} | original.words
     check_words(original, design, open_text, words)
+    _leave_out_same(original, design)
     check_envelopes(original, design)
     if top in original.closed:
         if design_top not in design.closed:
@@ -585,6 +587,28 @@ def verify(netlist: Netlist, sources: Sources, top: str, text: str, design_top: 
         if same is None or same in original.closed:
             raise Leak(f"the module {name} stands in the open text, and no open instance makes it")
         found |= comparison.compare(same, name)
+
+
+def _leave_out_same(original: Cut, design: Cut) -> None:
+    """Leaves procedures and assignments out of modules that have the same text in both: they need no comparison, and Yosys may not read them."""
+    old, new = (Splitter(tokens_of(one.text, "design.v"), []).split().modules for one in (original, design))
+    same = [name for name in old if name in new and _texts(old[name]) == _texts(new[name])]
+    if not same:
+        return
+    for one, modules in ((original, old), (design, new)):
+        one.text = "\n".join(_spell_module(module, module.name in same, module.name in one.closed) for module in modules.values())
+
+
+def _texts(module: Module) -> List[str]:
+    return [token.text for token in module.tokens]
+
+
+def _spell_module(module: Module, leaves_out: bool, is_closed: bool) -> str:
+    items = [item for item in module.items if not leaves_out or item.kind not in ("always", "initial", "assign")]
+    tokens = module.tokens
+    if leaves_out:
+        tokens = [*module.header, *(token for item in items for token in item.tokens), module.tokens[-1]]
+    return ("(* blackbox *) " if is_closed else "") + " ".join(_spelled(token) for token in tokens)
 
 
 def _open_of(raw: str) -> str:

@@ -30,9 +30,9 @@ class Yosys:
         """
         return os.path.join(self.folder, name)
 
-    def run(self, script: str, quiet: bool = True, check: bool = True, origin: Callable[[str], str] = str) -> str:
+    def run(self, script: str, check: bool = True, origin: Callable[[str], str] = str, log: str = "") -> str:
         """Runs a script, and gives what was printed."""
-        words = [self._program, *(["-q"] if quiet else []), "-p", script]
+        words = [self._program, "-q", *(["-L", log] if log else []), "-p", script]
         ran = subprocess.run(
             words,
             stdout=subprocess.PIPE,

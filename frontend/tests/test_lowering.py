@@ -13,7 +13,10 @@ from pathlib import Path
 
 sys.path[:0] = [str(Path(__file__).resolve().parent), str(Path(__file__).resolve().parents[1])]
 
-from common import DESIGNS, assembled, stored_design  # noqa: E402
+from common import DESIGNS, assembled, sources_of, stored_design  # noqa: E402
+from loddrume_lower.front import without_procedures  # noqa: E402
+from loddrume_lower.headers import readable_modules  # noqa: E402
+from loddrume_lower.modules import Splitter  # noqa: E402
 from loddrume_lower.names import Names  # noqa: E402
 from loddrume_lower.profile import Left, Profile  # noqa: E402
 from loddrume_lower.tokens import tokens_of  # noqa: E402
@@ -162,6 +165,14 @@ class ThePassing(unittest.TestCase):
             with self.subTest(item), self.assertRaises(Left) as left:
                 Profile(tokens_of(f"module m(input wire i);\n{item}\nendmodule", "m.v"), lambda _: None).read()
             self.assertEqual((left.exception.construct, left.exception.token.line), (construct, 2))
+
+    def test_yosys_is_not_given_the_procedures_of_what_is_passed_on(self) -> None:
+        text = "module m;\n  reg c;\n  initial forever\n #5 c = ~c;\n  n u(c);\nendmodule\n"
+        sources = sources_of(text)
+        layout = Splitter(sources.tokens, sources.pragmas).split()
+        modules = readable_modules(layout, sources)
+        self.assertEqual([module.name for module in modules], ["m"])
+        self.assertEqual(without_procedures(text, modules), "module m;\n  reg c;\n  \n\n  n u(c);\nendmodule\n")
 
     def test_what_is_read(self) -> None:
         text = """module m(input wire [3:0] a, b, output reg [7:0] q, output wire z);
