@@ -20,6 +20,7 @@ its handles are for one thread at a time.
     python3 -m loddrume grant --server HOST:PORT --user USER ENVELOPE ACCESS  what a user is granted from now on, by the operator's token
 
 The token is read from the environment's LODDRUME_TOKEN, or asked for. `--files DESIGN POLICY` in place of `--server` starts `vp_served run`.
+`--names FILE` is the map of a design that was lowered: names are those of the original then (docs/REAL-DESIGNS.md).
 """
 
 from __future__ import annotations
@@ -214,6 +215,84 @@ def _opened(lines: Lines, user: str, token: str, still: float) -> "Session":
     return session
 
 
+# ---- names of the original
+
+class NameMap:
+    """What became of the names of a design that was lowered (docs/REAL-DESIGNS.md): users speak of the original's names.
+
+    It says nothing to a user: it only translates names that he gives, and names that the server tells him.
+    """
+
+    def __init__(self, told: Dict[str, Any]) -> None:
+        self._modules: Dict[str, Dict[str, Any]] = told["modules"]
+        self._top: str = told["top"]
+        self._was = {name: self._backwards(entry) for name, entry in self._modules.items()}
+
+    @classmethod
+    def read(cls, path: Union[str, Path]) -> "NameMap":
+        """Reads the file that `loddrume_lower --map` writes. Raises `LoddrumeError` where it is none."""
+        try:
+            return cls(json.loads(Path(path).read_text(encoding="utf-8")))
+        except (OSError, ValueError, KeyError, TypeError, AttributeError) as error:
+            raise LoddrumeError(f"{path} is no map of names: {error}") from error
+
+    @staticmethod
+    def _backwards(entry: Dict[str, Any]) -> Dict[str, str]:
+        """The name of the original for each name of a module. A part of a net that was cut up keeps its own."""
+        was = {parts[0]: name for name, parts in entry["names"].items() if len(parts) == 1}
+        return {**was, **{instance["name"]: name for name, instance in entry["instances"].items()}}
+
+    def lowered(self, name: str, module: Optional[str] = None) -> str:
+        """The path that a path of the original has now, from the top or from a module. What is not in the map stays."""
+        words = name.split(".")
+        path: List[str] = []
+        if module is None:
+            path, module, words = [words[0]], self._module_of_top(words[0]), words[1:]
+        while words:
+            count, new, module = self._longest(words, module)
+            path.append(new)
+            words = words[count:]
+        return ".".join(path)
+
+    def original(self, path: str) -> str:
+        """The path that a path of the server has in the original."""
+        return ".".join(self._originals(path))
+
+    def original_name(self, path: str) -> str:
+        """The last name of a path of the server, as the original has it."""
+        return self._originals(path)[-1]
+
+    def name_in(self, module: str, name: str) -> str:
+        """What the original calls an object of a module."""
+        return self._was.get(module, {}).get(name, name)
+
+    def _module_of_top(self, name: str) -> Optional[str]:
+        return name if name in self._modules else None
+
+    def _longest(self, words: List[str], module: Optional[str]) -> Tuple[int, str, Optional[str]]:
+        """How many words the first object of a path takes, for `g[0].h` is one name, its name now, and its module."""
+        entry = self._modules.get(module or "", {"names": {}, "instances": {}})
+        for count in range(len(words), 0, -1):
+            name = ".".join(words[:count])
+            if name in entry["instances"]:
+                return count, entry["instances"][name]["name"], entry["instances"][name]["module"]
+            if len(entry["names"].get(name, ())) == 1:
+                return count, entry["names"][name][0], None
+        return 1, words[0], None
+
+    def _originals(self, path: str) -> List[str]:
+        words = path.split(".")
+        module = self._module_of_top(words[0])
+        result = [words[0]]
+        for word in words[1:]:
+            result.append(self.name_in(module or "", word))
+            module = next((one["module"] for one in self._instances(module) if one["name"] == word), None)
+        return result
+
+    def _instances(self, module: Optional[str]) -> List[Dict[str, str]]:
+        return list(self._modules.get(module or "", {"instances": {}})["instances"].values())
+
+
 # ---- what is told
 
 
@@ -273,7 +352,11 @@ class Handle:
 
     def get_str(self, prop: Literal["type", "name", "full_name", "def_name"]) -> str:
         """vpi_get_str: `type` (such as `vpiReg`), `name`, `full_name`, or the `def_name` of a module. Needs the right list."""
-        return str(self.session.request("get_str", h=self.number, prop=prop)["s"])
+        names = self.session.names if prop in ("name", "full_name") else None
+        told = str(self.session.request("get_str", h=self.number, prop="full_name" if names else prop)["s"])
+        if not names:
+            return told
+        return names.original(told) if prop == "full_name" else names.original_name(told)
 
     def get_value(self) -> str:
         """vpi_get_value in the format vpiBinStrVal: the value in digits of `01xz`, greatest bit first. Needs the right read."""
@@ -333,10 +416,14 @@ class Listing:
 
 
 class Session:
-    """An open session of a user. It ends with `close`, or with the `with` statement that it stands in."""
+    """An open session of a user. It ends with `close`, or with the `with` statement that it stands in.
+
+    Where `names` is set, names are those of the original that was lowered.
+    """
 
     def __init__(self, lines: Lines, still: float = 0.0) -> None:
         self.still = still
+        self.names: Optional[NameMap] = None
         self.routines: Dict[int, Callable[[Notice], None]] = {}
         self._lines = lines
 
@@ -375,12 +462,16 @@ class Session:
 
         Where something in the scope is closed to the user, an absent name raises `Denied` as a hidden one does; else `Refused`, `no such name`.
         """
+        if self.names:
+            name = self.names.lowered(name, scope.get_str("def_name") if scope else None)
         return Handle(self, self.request("handle", name=name, scope=scope and scope.number)["h"])
 
     def iterate(self, kind: Kind, scope: Optional[Handle] = None) -> Listing:
         """vpi_iterate and vpi_scan: handles of all objects of a kind that the user may list, among the top modules or in a module."""
         reply = self.request("iterate", kind=kind, h=scope and scope.number)
-        return Listing({item["name"]: Handle(self, item["h"]) for item in reply["items"]}, reply["closed"])
+        module = scope.get_str("def_name") if scope and self.names and reply["items"] else ""
+        called = [self.names.name_in(module, item["name"]) if self.names else item["name"] for item in reply["items"]]
+        return Listing({name: Handle(self, item["h"]) for name, item in zip(called, reply["items"])}, reply["closed"])
 
     def objects(self, scope: Optional[Handle] = None, kinds: Sequence[Kind] = ("net", "reg")) -> Iterator[Tuple[str, Handle]]:
         """All objects of these kinds that the user may list below a scope, each with its path from there, module by module."""
@@ -441,7 +532,7 @@ class Session:
         """The races that the user is shown, in the order in which they were found."""
         for first in itertools.count(1, 100):
             told = self.request("races", **{"from": first})["races"]
-            yield from (_race_of(race) for race in told)
+            yield from (self._race_of(race) for race in told)
             if len(told) < 100:
                 return
 
@@ -449,7 +540,18 @@ class Session:
         """A race by its number in the user's list, with the steps of both orders. Raises `Refused`, `no such race`."""
         reply = self.request("race", no=number)
         first, second = reply["steps"]
-        return Orders(_race_of(reply), first, second)
+        if self.names:
+            first, second = ([self._step_of(step, self.names) for step in steps] for steps in (first, second))
+        return Orders(self._race_of(reply), first, second)
+
+    def _race_of(self, reply: Dict[str, Any]) -> Race:
+        first, second = reply["values"]
+        return Race(reply["no"], self.names.original(reply["name"]) if self.names else reply["name"], reply["time"], (first, second))
+
+    @staticmethod
+    def _step_of(step: str, names: NameMap) -> str:
+        port = step.startswith("port ")
+        return f"port {names.original(step[5:])}" if port else names.original(step)
 
     def grant(self, token: str, user: str, envelope: int, access: str) -> None:
         """Gives a user exactly this access to an envelope from now on, by the operator's token; for envelope 0, to the open text.
@@ -457,11 +559,6 @@ class Session:
         Access is rights joined by `+`, or empty. Raises `Refused`: `bad operator`, `no such user`, `no such envelope`, `bad request` for an access.
         """
         self.request("grant", token=token, user=user, envelope=envelope, access=access)
-
-
-def _race_of(reply: Dict[str, Any]) -> Race:
-    first, second = reply["values"]
-    return Race(reply["no"], reply["name"], reply["time"], (first, second))
 
 
 # ---- waves
@@ -801,6 +898,7 @@ def _with_words(parser: argparse.ArgumentParser, has_files: bool = True) -> argp
     if has_files:
         where.add_argument("--files", nargs=2, metavar=("DESIGN", "POLICY"), help="a run of one's own: vp_served run")
         parser.add_argument("--program", default="vp_served", help="the program that --files starts")
+        parser.add_argument("--names", metavar="FILE", help="the map that loddrume_lower wrote: names are those of the original")
     parser.add_argument("--user", required=True, help="the name of a user of the policy")
     parser.add_argument("--still", type=float, default=0.1, metavar="SECONDS", help="how long the time stays the same where a run is over (0.1)")
     parser.add_argument("--ca", metavar="FILE", help="speaks TLS with a server whose certificate is signed by one in this file")
@@ -893,7 +991,9 @@ def main(words: Optional[List[str]] = None) -> int:
         if asked.command == "grant":
             _server(asked).grant(token, asked.user, asked.ENVELOPE, asked.ACCESS)
             return 0
+        names = NameMap.read(asked.names) if asked.names else None
         with _source(asked).open(asked.user, token) as session:
+            session.names = names
             if asked.command == "shell":
                 _run_shell(session)
             elif asked.command == "races":

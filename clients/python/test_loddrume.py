@@ -211,6 +211,69 @@ class Tour(Files):
         self.assertEqual(shell.completedefault("none.", "value none.", 6, 11), [])
 
 
+LOWERED = """module cell__1(input wire c, output reg q); always @(posedge c) q <= ~q; initial q = 1'b0; endmodule
+module top; reg c; reg [3:0] mem__0; wire g__0__h; wire [7:0] v__1; wire [7:0] v__0;
+`pragma protect author="acme", begin
+  reg key__3;
+`pragma protect end
+  cell__1 g__0__u(.c(c), .q(g__0__h));
+endmodule
+"""
+NAMES = """{"version":1,"top":"top","modules":{
+  "cell__1":{"names":{"c":["c"],"q":["q"]},"instances":{}},
+  "top":{"names":{"c":["c"],"mem[0]":["mem__0"],"g[0].h":["g__0__h"],"v":["v__1","v__0"],"key[3]":["key__3"]},
+         "instances":{"g[0].u":{"name":"g__0__u","module":"cell__1"}}}}}"""
+LISTING = """{"users":[{"name":"ann","token":"t1","open":"list+read+watch+put+race","run":true}]}"""
+
+
+class NamesOfTheOriginal(unittest.TestCase):
+    """A design that was lowered, by the names of the original."""
+
+    def setUp(self) -> None:
+        place = tempfile.TemporaryDirectory()
+        self.addCleanup(place.cleanup)
+        folder = Path(place.name)
+        for name, text in {"design.v": LOWERED, "policy.json": LISTING, "names.json": NAMES}.items():
+            (folder / name).write_text(text, encoding="utf-8")
+        self.folder = folder
+        self.session = Program(folder / "design.v", folder / "policy.json", PROGRAM).open("ann", "t1")
+        self.session.names = loddrume.NameMap.read(folder / "names.json")
+        self.addCleanup(self.session.close)
+
+    def test_a_name_of_the_original_is_found(self) -> None:
+        word = self.session.handle_by_name("top.mem[0]")
+        word.put_value("1010")
+        self.assertEqual(word.get_value(), "1010")
+        self.assertEqual([word.get_str("name"), word.get_str("full_name")], ["mem[0]", "top.mem[0]"])
+        inner = self.session.handle_by_name("top.g[0].u.q")
+        self.assertEqual(inner.get_str("full_name"), "top.g[0].u.q")
+        top = self.session.handle_by_name("top")
+        self.assertEqual(top.handle_by_name("g[0].h").get_str("name"), "g[0].h")
+        self.assertEqual(self.session.handle_by_name("top.v__1").get_str("name"), "v__1")
+
+    def test_only_what_he_may_list_is_shown(self) -> None:
+        listed = [path for path, _ in self.session.objects()]
+        self.assertEqual(listed, ["top.g[0].h", "top.v__1", "top.v__0", "top.c", "top.mem[0]", "top.g[0].u.c", "top.g[0].u.q"])
+        told = []
+        for name in ("top.key[3]", "top.key[4]", "top.none"):
+            with self.assertRaises(Denied) as denied:
+                self.session.handle_by_name(name)
+            told.append(str(denied.exception))
+        self.assertEqual(len(set(told)), 1)
+
+    def test_the_option(self) -> None:
+        words = ["wave", "--files", str(self.folder / "design.v"), str(self.folder / "policy.json"), "--program", PROGRAM, "--user", "ann"]
+        out = self.folder / "out.vcd"
+        with mock.patch.dict(os.environ, LODDRUME_TOKEN="t1"):
+            self.assertEqual(loddrume.main([*words, "--names", str(self.folder / "names.json"), "0", str(out)]), 0)
+            with contextlib.redirect_stderr(io.StringIO()) as told:
+                self.assertEqual(loddrume.main([*words, "--names", str(self.folder / "none.json"), "0", str(out)]), 1)
+        self.assertIn("none.json is no map of names", told.getvalue())
+        dumped = out.read_text(encoding="utf-8")
+        self.assertIn(" mem[0] ", dumped)
+        self.assertNotIn("key", dumped)
+
+
 class Waiting(unittest.TestCase):
     """How a call waits for the server's simulation, over lines that are made up."""
 
