@@ -200,6 +200,7 @@ class Assembly:
         self._sources = sources
         self._places = places
         self._derived: Dict[str, Set[int]] = {}
+        self._reached = reached(netlist, top)
         self._named = module_names(netlist, source_name, self._derived_in)
         self._passed: Dict[str, Passed] = {} if lower_all else passed_modules(layout, sources, netlist)
 
@@ -281,7 +282,7 @@ class Assembly:
 
     def _order(self, original: str) -> List[str]:
         """A module of the text and those that are derived from it by parameters."""
-        kept = [name for name in self._netlist["modules"] if source_name(name) == original]
+        kept = [name for name in self._netlist["modules"] if source_name(name) == original and name in self._reached]
         return sorted(kept, key=lambda name: (name.startswith("$"), name))
 
     def _inside(self, module: Module) -> List[int]:
@@ -290,6 +291,18 @@ class Assembly:
     def _derived_in(self, name: str) -> Set[int]:
         """The envelopes in which instances alone set the parameters of a module, or none."""
         return self._derived.setdefault(name, derived_in(name, self._netlist, self._layout, self._places))
+
+
+def reached(netlist: Dict[str, Any], top: str) -> Set[str]:
+    """The modules of a netlist that its top instantiates, at any depth, and the top."""
+    found: Set[str] = set()
+    waiting = [top]
+    while waiting:
+        name = waiting.pop()
+        if name in netlist["modules"] and name not in found:
+            found.add(name)
+            waiting += [cell["type"] for cell in netlist["modules"][name]["cells"].values()]
+    return found
 
 
 def derived_in(name: str, netlist: Dict[str, Any], layout: Layout, places: Places) -> Set[int]:

@@ -6,7 +6,7 @@ import os
 import re
 from dataclasses import dataclass, field
 from pathlib import Path
-from typing import Dict, List, Optional, Sequence
+from typing import Dict, List, Optional, Sequence, Tuple
 
 from .refusal import Refusal
 from .tokens import Token, flat_tokens, pieces
@@ -45,6 +45,9 @@ class Reader:
         self._include = list(include)
         self._define = list(define)
         self._copies: Dict[str, str] = {}
+        self._inside = False
+        self._closed_macros: Dict[str, Tuple[str, int]] = {}
+        self._open_uses: Dict[str, Tuple[str, int]] = {}
         self.sources = Sources()
 
     def read(self, files: Sequence[str]) -> Sources:
@@ -92,6 +95,9 @@ class Reader:
                 skip = len(text) if skip < 0 else skip
                 out.append(f"/*loddrume-pragma {len(self.sources.pragmas)}*/")
                 self.sources.pragmas.append(Pragma(file, piece.line, text[piece.end : skip]))
+                self._note_border(text[piece.end : skip])
+            elif piece.kind == "directive" and self._notes_macro(piece, text):
+                out.append(piece.text)
             elif piece.kind == "directive" and piece.text == "`include":
                 found = _INCLUDE.match(text, piece.start)
                 wanted = found and self._found(found.group(1), file)
@@ -109,6 +115,26 @@ class Reader:
             else:
                 out.append(piece.text)
         return "".join(out)
+
+    def _note_border(self, pragma: str) -> None:
+        words = re.findall(r"\w+", re.sub(r'"[^"]*"|//.*', "", pragma))
+        if words[:1] == ["protect"] and ("begin" in words or "end" in words):
+            self._inside = "begin" in words
+
+    def _notes_macro(self, directive: Token, text: str) -> bool:
+        """Notes where macros are defined and used. Refuses one of an envelope that is used outside, in whichever order."""
+        found = re.match(r"`define\s+(\w+)", text[directive.start :])
+        name = found[1] if found else directive.text[1:]
+        where = (directive.file, directive.line)
+        if found and self._inside:
+            self._closed_macros.setdefault(name, where)
+        elif not found and not self._inside:
+            self._open_uses.setdefault(name, where)
+        if name in self._closed_macros and name in self._open_uses:
+            at = self._closed_macros[name]
+            construct = f"the macro {name}, which an envelope defines at {at[0]}:{at[1]}, is used outside of it"
+            raise Refusal(*self._open_uses[name], construct, "define it outside")
+        return bool(found)
 
     def _found(self, name: str, file: str) -> Optional[str]:
         """The file that is included: from the folders of -I, or else beside the file that includes it, or where we

@@ -18,6 +18,7 @@ from loddrume_lower.modules import refuse_values_across  # noqa: E402
 from loddrume_lower.netlist import ASSIGNING, Bufferer  # noqa: E402
 from loddrume_lower.places import Places  # noqa: E402
 from loddrume_lower.refusal import Refusal  # noqa: E402
+from loddrume_lower.sources import Reader  # noqa: E402
 from loddrume_lower.tokens import tokens_of  # noqa: E402
 from loddrume_lower.yosys import Yosys  # noqa: E402
 
@@ -111,6 +112,13 @@ class Refusals(unittest.TestCase):
         read = f"module m(input q);\n{BEGIN}wire w = q;\n{END}endmodule\n"
         refuse_values_across(layout_of(read))
         refuse_values_across(layout_of(f"module m;\nlocalparam K = 3;\n{BEGIN}wire [K:0] w;\n{END}endmodule\n"))
+
+    def test_a_macro_of_an_envelope(self) -> None:
+        text = f"module m;\n{BEGIN}`define K 3\nlocalparam A = `K;\n{END}localparam B = `K;\nendmodule\n"
+        reader = Reader(mock.Mock(), [], [])
+        self.refused(lambda: reader._marked(text, "a.v"), "a.v:6: the macro K, which an envelope defines at a.v:3")
+        inside = text.replace("localparam B = `K;", "")
+        self.assertIn("/*loddrume-pragma 0*/", Reader(mock.Mock(), [], [])._marked(inside, "a.v"))
 
     def test_a_cell_of_a_vendor(self) -> None:
         text = "module m(input c);\n  SB_GB buffer(.I(c));\nendmodule\n"
