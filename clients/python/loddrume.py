@@ -14,13 +14,15 @@ Each request is one line and each reply one line (docs/FORMATS.md, "Lines"). Eve
 author, the right and the object; `Refused` where the request is refused otherwise; `Disconnected` where the server has ended. A session and
 its handles are for one thread at a time.
 
-    python3 -m loddrume shell --server HOST:PORT --user USER                  a prompt, which completes names and tells denials in words
+    python3 -m loddrume shell --server HOST:PORT --user USER                  a prompt, which completes names and puts denials into words
     python3 -m loddrume wave --server HOST:PORT --user USER UNTIL FILE        what the user may watch, as a VCD file (clause 18)
     python3 -m loddrume races --server HOST:PORT --user USER [UNTIL]          the races that the user is shown, both orders side by side
     python3 -m loddrume grant --server HOST:PORT --user USER ENVELOPE ACCESS  what a user is granted from now on, by the operator's token
 
 The token is read from the environment's LODDRUME_TOKEN, or asked for. `--files DESIGN POLICY` in place of `--server` starts `vp_served run`.
 `--names FILE` is the map of a design that was lowered: names are those of the original then (docs/REAL-DESIGNS.md).
+
+Apache-2.0, see LICENSE.
 """
 
 from __future__ import annotations
@@ -95,7 +97,7 @@ class LostNotices(LoddrumeError):
 
 
 class Lines(Protocol):
-    """Something that is told a line and answers a line."""
+    """Something that takes a line and answers a line."""
 
     def ask(self, line: str) -> str:
         """The line that answers a line, both without their newlines."""
@@ -113,7 +115,7 @@ class _Streams:
         self._closing = closing
 
     def ask(self, line: str) -> str:
-        # What has ended may have told why before: its last line is read even where nothing can be written.
+        # What has ended may have said why before: its last line is read even where nothing can be written.
         with contextlib.suppress(OSError, ValueError):
             self._written.write(line + "\n")
             self._written.flush()
@@ -220,12 +222,12 @@ def _opened(lines: Lines, user: str, token: str, still: float) -> "Session":
 class NameMap:
     """What became of the names of a design that was lowered (docs/REAL-DESIGNS.md): users speak of the original's names.
 
-    It says nothing to a user: it only translates names that he gives, and names that the server tells him.
+    It says nothing to a user: it only translates names that he gives, and names that the server shows him.
     """
 
-    def __init__(self, told: Dict[str, Any]) -> None:
-        self._modules: Dict[str, Dict[str, Any]] = told["modules"]
-        self._top: str = told["top"]
+    def __init__(self, data: Dict[str, Any]) -> None:
+        self._modules: Dict[str, Dict[str, Any]] = data["modules"]
+        self._top: str = data["top"]
         self._was = {name: self._backwards(entry) for name, entry in self._modules.items()}
 
     @classmethod
@@ -293,12 +295,12 @@ class NameMap:
         return list(self._modules.get(module or "", {"instances": {}})["instances"].values())
 
 
-# ---- what is told
+# ---- what is answered
 
 
 @dataclass(frozen=True)
 class Notice:
-    """A change that a callback is told: the callback's number, the time in time units, and the value after it in binary digits."""
+    """A change of which a callback is notified: the callback's number, the time in time units, and the value after it in binary digits."""
 
     callback: int
     time: int
@@ -307,7 +309,7 @@ class Notice:
 
 @dataclass(frozen=True)
 class Notices:
-    """What a poll tells: the notices that waited, oldest first, and how many were lost since the last poll."""
+    """What a poll answers: the notices that waited, oldest first, and how many were lost since the last poll."""
 
     notices: List[Notice]
     lost: int
@@ -353,10 +355,10 @@ class Handle:
     def get_str(self, prop: Literal["type", "name", "full_name", "def_name"]) -> str:
         """vpi_get_str: `type` (such as `vpiReg`), `name`, `full_name`, or the `def_name` of a module. Needs the right list."""
         names = self.session.names if prop in ("name", "full_name") else None
-        told = str(self.session.request("get_str", h=self.number, prop="full_name" if names else prop)["s"])
+        name_there = str(self.session.request("get_str", h=self.number, prop="full_name" if names else prop)["s"])
         if not names:
-            return told
-        return names.original(told) if prop == "full_name" else names.original_name(told)
+            return name_there
+        return names.original(name_there) if prop == "full_name" else names.original_name(name_there)
 
     def get_value(self) -> str:
         """vpi_get_value in the format vpiBinStrVal: the value in digits of `01xz`, greatest bit first. Needs the right read."""
@@ -406,7 +408,7 @@ class Handle:
 
 @dataclass(frozen=True)
 class Listing:
-    """What an iteration tells: the handles by name, and the numbers of the envelopes in which something is declared there that is closed to the user."""
+    """What an iteration answers: the handles by name, and the numbers of the envelopes in which something is declared there that is closed to the user."""
 
     handles: Dict[str, Handle]
     closed: List[int]
@@ -486,12 +488,12 @@ class Session:
         self.request("unwatch", cb=callback)
 
     def poll(self) -> Notices:
-        """What the callbacks were told since the last poll; the routine of each is called. At most 4,096 notices wait, and later ones are lost."""
+        """The notices of the callbacks since the last poll; the routine of each is called. At most 4,096 notices wait, and later ones are lost."""
         reply = self.request("poll")
-        told = Notices([Notice(notice["cb"], notice["time"], notice["value"]) for notice in reply["notices"]], reply["lost"])
-        for notice in told.notices:
+        notices = Notices([Notice(notice["cb"], notice["time"], notice["value"]) for notice in reply["notices"]], reply["lost"])
+        for notice in notices.notices:
             self.routines.get(notice.callback, lambda _: None)(notice)
-        return told
+        return notices
 
     def run(self, until: int) -> None:
         """Lets the design run until a time, in time units, if nobody has let it run further. It answers at once. Needs the policy's run flag."""
@@ -500,7 +502,7 @@ class Session:
     def run_until(self, until: int, still: Optional[float] = None) -> Now:
         """Lets the design run until a time, waits for it, and gives the time at which it stands then. Needs the policy's run flag.
 
-        No reply tells that nothing is left to do at a time: this would tell of events which the user may not know. So what is waited for is that the
+        No reply says that nothing is left to do at a time: this would show events of which the user may not know. So what is waited for is that the
         time is past `until`, that `$finish` was executed, or that the time stays the same for `still` seconds, which is the session's own number
         unless it is given here. The last is a guess that a busy server can make wrong; of a `Program` it is sure without waiting.
         """
@@ -531,9 +533,9 @@ class Session:
     def races(self) -> Iterator[Race]:
         """The races that the user is shown, in the order in which they were found."""
         for first in itertools.count(1, 100):
-            told = self.request("races", **{"from": first})["races"]
-            yield from (self._race_of(race) for race in told)
-            if len(told) < 100:
+            page = self.request("races", **{"from": first})["races"]
+            yield from (self._race_of(race) for race in page)
+            if len(page) < 100:
                 return
 
     def race(self, number: int) -> Orders:
@@ -645,10 +647,10 @@ class _Dump:
         self._later = [notice for notice in polled if notice.time > self.start]
 
     def _poll(self) -> List[Notice]:
-        told = self._session.poll()
-        if told.lost:
-            raise LostNotices(f"{told.lost} changes were lost at time {self._session.time()}: dump a smaller part of the design, by --scope")
-        return [notice for notice in told.notices if notice.callback in self._wires]
+        polled = self._session.poll()
+        if polled.lost:
+            raise LostNotices(f"{polled.lost} changes were lost at time {self._session.time()}: dump a smaller part of the design, by --scope")
+        return [notice for notice in polled.notices if notice.callback in self._wires]
 
     def take(self, until: int) -> None:
         """Writes what has changed, but nothing that is later than a time."""
@@ -684,7 +686,7 @@ def wave(
     """Writes what the user may watch as VCD, from the current time until another, all of it or what is below a module.
 
     The design is let run from one time unit to the next, so that few notices wait at once; with `follow` it is not let run, and what others let run
-    is written, until the time is `until`. The server tells no timescale, so the file has the one that is given here. Raises `LostNotices` where
+    is written, until the time is `until`. The server has no timescale, so the file has the one that is given here. Raises `LostNotices` where
     changes were lost, `Denied` for a user who may not run the design, and `LoddrumeError` where the right to watch something ends meanwhile: the
     file is not whole then.
     """
@@ -732,7 +734,7 @@ def side_by_side(orders: Orders) -> str:
 
 
 class Shell(cmd.Cmd):
-    """A prompt over a session. Names are completed by what `iterate` tells the user, and denials are told in words."""
+    """A prompt over a session. Names are completed by what `iterate` shows the user, and denials are put into words."""
 
     prompt = "loddrume> "
     intro = "`help` tells the commands, and the Tab key completes names"
@@ -807,11 +809,11 @@ class Shell(cmd.Cmd):
 
     def do_poll(self, _: str) -> None:
         """poll: the changes since the last poll"""
-        told = self._session.poll()
-        for notice in told.notices:
+        polled = self._session.poll()
+        for notice in polled.notices:
             self._say(f"{notice.time}  {self._watched.get(notice.callback, notice.callback)}  {notice.value}")
-        if told.lost:
-            self._say(f"{told.lost} more were lost")
+        if polled.lost:
+            self._say(f"{polled.lost} more were lost")
 
     def do_run(self, line: str) -> None:
         """run TIME: lets the design run until a time, and waits for it"""

@@ -1,5 +1,5 @@
 """Tests of the faults that no text brings: words that ask nothing, standard input or output that fails, and out of memory and of threads. Each but the
-first is told by its number on standard output, and in words on standard error. python3 -m unittest, in this folder, over the program of test_loddrume.
+first is reported by its number on standard output, and in words on standard error. python3 -m unittest, in this folder, over the program of test_loddrume.
 """
 
 import errno
@@ -21,7 +21,7 @@ EXAMPLE = TOP / "docs" / "policy"
 # Sets the size of a pipe (fcntl(2)); Python has the name from 3.10 on.
 F_SETPIPE_SZ = 1031
 
-# What is told of each out of memory, by docs/FORMATS.md: of the design d.v and the policy p.json.
+# What is reported of each out of memory, by docs/FORMATS.md: of the design d.v and the policy p.json.
 WANTS = {
     **{number: [f"d.v: fault {number}: no memory (no line is known for it)\n"] for number in (206, 310, 404, 510, 604)},
     905: ["p.json: fault 905: no memory (no line is known for it)\n"],
@@ -44,7 +44,7 @@ def limited(**sizes: int) -> Callable[[], None]:
     return limit
 
 
-def told(process: "subprocess.CompletedProcess[str]") -> Tuple[int, str, str]:
+def outcome(process: "subprocess.CompletedProcess[str]") -> Tuple[int, str, str]:
     """The status, standard output and standard error."""
     return process.returncode, process.stdout, process.stderr
 
@@ -55,7 +55,7 @@ class Words(unittest.TestCase):
     def test_words_that_ask_nothing(self) -> None:
         run = subprocess.run([PROGRAM, "frob"], capture_output=True, encoding="utf-8", check=False)
         wanted = "error: unrecognized subcommand 'frob'\n\nUsage: vp_served [COMMAND]\n\nFor more information, try '--help'.\n"
-        self.assertEqual(told(run), (2, "", wanted))
+        self.assertEqual(outcome(run), (2, "", wanted))
 
 
 class Lines(unittest.TestCase):
@@ -69,7 +69,7 @@ class Lines(unittest.TestCase):
             run = subprocess.run(self.words, cwd=EXAMPLE, stdin=folder, capture_output=True, encoding="utf-8", check=False)
         finally:
             os.close(folder)
-        self.assertEqual(told(run), (1, "fault 1504 line 0\n", "fault 1504: standard input can't be read\n"))
+        self.assertEqual(outcome(run), (1, "fault 1504 line 0\n", "fault 1504: standard input can't be read\n"))
 
     def test_output_that_fails(self) -> None:
         with (EXAMPLE / "sam.script").open() as script, open("/dev/full", "w") as full:
@@ -87,7 +87,7 @@ class Lines(unittest.TestCase):
             run = subprocess.run(self.words, cwd=EXAMPLE, stdin=reader, capture_output=True, encoding="utf-8", check=False)
             os.close(reader)
         self.assertNotEqual(writing.returncode, 0)
-        self.assertEqual(told(run), (1, "fault 1506 line 0\n", "fault 1506: standard input was read 16,777,216 times\n"))
+        self.assertEqual(outcome(run), (1, "fault 1506 line 0\n", "fault 1506: standard input was read 16,777,216 times\n"))
 
 
 class Cuts(unittest.TestCase):
@@ -189,19 +189,19 @@ class Memory(unittest.TestCase):
         return size
 
     def faults(self, folder: Path, *words: str) -> Set[Tuple[str, str]]:
-        """What the program tells of files for which there is too little memory: faults, and their words."""
+        """What the program reports of files for which there is too little memory: faults, and their words."""
         least = self.enough(64 << 10, lambda size: size + (16 << 10), folder, "--help")
         enough = self.enough(least, lambda size: 2 * size, folder, *words)
         found = set()
         for size in range(least, enough, (enough - least) // SIZES):
-            status, output, error = told(self.run_within(size, folder, *words))
+            status, output, error = outcome(self.run_within(size, folder, *words))
             if (status, output, error) != (0, "", ""):
                 self.assertEqual(status, 1, error)
                 found.add((output, error))
         return found
 
     def check(self, command: str, design: str, rules: str, *wanted: int) -> None:
-        """Each fault of a design and a policy is out of memory and told so, and among them are these."""
+        """Each fault of a design and a policy is out of memory and reported so, and among them are these."""
         with tempfile.TemporaryDirectory() as folder:
             (Path(folder) / "d.v").write_text(design)
             (Path(folder) / "p.json").write_text(rules)
@@ -225,7 +225,7 @@ class Memory(unittest.TestCase):
     def test_threads(self) -> None:
         port = free_port()
         run = self.run_within(4 << 20, EXAMPLE, "serve", "soc.v", "policy.json", "--port", str(port))
-        self.assertEqual(told(run), (1, f"listening {port}\nfault 1606 line 0\n", "fault 1606: no thread can be started\n"))
+        self.assertEqual(outcome(run), (1, f"listening {port}\nfault 1606 line 0\n", "fault 1606: no thread can be started\n"))
 
     @needs_serve
     def test_the_end_of_a_server(self) -> None:
