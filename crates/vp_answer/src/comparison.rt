@@ -4,7 +4,7 @@ ghost use Rattle.std.specs.Prelude.{◌≡◌, true};
 use crate::reply::Reply;
 use crate::request::{GrantChange, Request, ValueFormat};
 use vp_elab::Kind;
-use vp_list::{Same, Text};
+use vp_text::{Same, Text};
 use vp_vpi::{NumberProperty, PutValue, TextProperty};
 
 impl Same for Reply {

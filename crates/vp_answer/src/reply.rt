@@ -3,7 +3,7 @@ ghost use Rattle.std.specs.Prelude.{◌≡◌, IfOk};
 use crate::request::SessionId;
 use std::alloc::AllocError;
 use vp_bits::Bits;
-use vp_list::{Sequence, SharedText};
+use vp_text::{Sequence, SharedText};
 use vp_vpi::{DenialText, RaceDetails, RaceLine, Shared, SharedListing, SharedNotices};
 
 /// What a line is answered where it is refused.

@@ -2,7 +2,7 @@ ghost use Rattle.std.specs.Prelude.{◌≡◌, IfOk};
 
 use std::alloc::{AllocError, Global};
 use vp_elab::Kind;
-use vp_list::Text;
+use vp_text::Text;
 use vp_vpi::{Access, NumberProperty, PutValue, TextProperty, UserId};
 
 /// A session: its user, and the how-many-th of his it is, from 1.

@@ -18,7 +18,7 @@ use Rattle.vp_statement.specs.Effects.{effect_at}
 use Rattle.vp_policy.specs.declared.denial.ShownBarrier.TheVariants as by
 use Rattle.vp_policy.specs.Users.{Member}
 use Rattle.vp_policy.specs.View.{SeenNode, view_of, marked}
-use Rattle.vp_waking.specs.declared.change.Change.{Change}
+use Rattle.vp_expr.specs.declared.change.Change.{Change}
 use Rattle.vp_vpi.specs.declared.property.PutValue.TheVariants.{Digits}
 use Rattle.vp_answer.specs.declared.request.SessionId.{SessionId}
 use Rattle.vp_answer.specs.declared.request.Request.TheVariants as request

@@ -11,8 +11,8 @@ use Rattle.vp_race.specs.Segments.{FindingState}
 use Rattle.vp_sim.specs.States as sim
 use Rattle.vp_sim.specs.laws.Designs.{Leaves, advance_leaves, step_leaves}
 use Rattle.vp_bits.specs.declared.bit.Bit.{Bit}
-use Rattle.vp_waking.specs.declared.change.Change.{Change}
-use Rattle.vp_waking.specs.Changes.{values_with}
+use Rattle.vp_expr.specs.declared.change.Change.{Change}
+use Rattle.vp_expr.specs.Changes.{values_with}
 use Rattle.vp_answer.specs.declared.request.GrantChange.{GrantChange}
 use Rattle.vp_answer.specs.declared.request.Request.{Request}
 use Rattle.vp_world.specs.declared.event.Event.{Event}

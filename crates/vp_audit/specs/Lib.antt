@@ -5,6 +5,7 @@ pub use Rattle.vp_world.specs.History
 pub use Rattle.vp_world.specs.Worlds
 pub mod Audits
 pub mod Explained
+pub mod Explanation
 pub mod Faults
 pub mod Known
 pub mod Openings

@@ -11,7 +11,7 @@ use Rattle.vp_policy.specs.PolicyState.{PolicyState}
 use Rattle.vp_policy.specs.Users.{Member, member_at, user_of}
 use Rattle.vp_policy.specs.View.{View, known_view, listed_marks, marked}
 use Rattle.vp_sim.specs.States as sim
-use Rattle.vp_waking.specs.declared.change.Change.{Change}
+use Rattle.vp_expr.specs.declared.change.Change.{Change}
 use Rattle.vp_vpi.specs.declared.races.ShownRace.{ShownRace}
 use Rattle.vp_vpi.specs.Observers.{is_readable, kind_at}
 use Rattle.vp_vpi.specs.Races.{is_shown, race_seen, races_seen}

@@ -9,7 +9,7 @@ use Rattle.vp_policy.specs.Filter.{denial_at}
 use Rattle.vp_policy.specs.PolicyState.{PolicyState}
 use Rattle.vp_policy.specs.Users.{Member}
 use Rattle.vp_race.specs.Segments.{FindingState}
-use Rattle.vp_waking.specs.Changes.{values_with}
+use Rattle.vp_expr.specs.Changes.{values_with}
 use Rattle.vp_vpi.specs.Observers.{is_readable, kind_at}
 use Rattle.vp_answer.specs.declared.request.GrantChange.{GrantChange}
 use Rattle.vp_world.specs.Entries.{Entry}

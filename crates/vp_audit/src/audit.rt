@@ -15,8 +15,8 @@ use crate::replaying::replay;
 use std::alloc::Global;
 use vp_answer::Reply;
 use vp_expr::Checked;
-use vp_list::Same;
 use vp_policy::{Policy, UserId};
+use vp_text::Same;
 use vp_world::{Entry, LoggedEvent};
 
 /// Whether the replies that a user was shown are those that were replayed.

@@ -18,8 +18,8 @@ use crate::item::{Item, OwnEvent, Projection};
 use crate::part::Part;
 use std::alloc::{AllocError, Global};
 use vp_answer::Reply;
-use vp_list::Sequence;
 use vp_policy::View;
+use vp_text::Sequence;
 
 /// What a user was shown by an event of his own.
 #[derive(Drop)]

@@ -1,11 +1,10 @@
 // What of a log goes to a user.
 use vp_answer::{Request, SessionId};
 use vp_bits::Bits;
-use vp_list::Sequence;
+use vp_expr::Change;
 use vp_policy::{Access, View};
-use vp_race::Shared;
+use vp_text::{Sequence, Shared};
 use vp_vpi::ShownRace;
-use vp_waking::Change;
 
 /// An event of a user's own.
 #[derive(Drop)]

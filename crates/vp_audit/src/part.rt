@@ -17,12 +17,12 @@ use std::marker::Model;
 use vp_answer::{Reply, Request, SessionId};
 use vp_bits::Bits;
 use vp_elab::ObjectId;
+use vp_expr::Change;
 use vp_notify::rises;
 use vp_policy::View;
-use vp_race::Shared;
+use vp_text::Shared;
 use vp_view::{PartObserver, watch_rights};
 use vp_vpi::ShownRace;
-use vp_waking::Change;
 
 /// A user's part of a world: what he sees of the objects that he knows, his open sessions, in which objects have their numbers in that
 /// view, the values that came to him, the time, and the races that he is shown.

@@ -14,9 +14,9 @@ use std::alloc::Global;
 use std::marker::Model;
 use vp_answer::{Refusal, Reply, Request, SessionId, respond};
 use vp_elab::ObjectId;
+use vp_expr::Change;
 use vp_pragma::Rights;
 use vp_vpi::{Observe, Session};
-use vp_waking::Change;
 
 /// An open session, with its name. A contract sees its name, its user, his handles and his callbacks.
 #[derive(Drop)]

@@ -12,8 +12,8 @@ use crate::item::Projection;
 use crate::reading::LogReader;
 use std::alloc::Global;
 use vp_expr::Checked;
-use vp_list::Sequence;
 use vp_policy::{Policy, UserId};
+use vp_text::Sequence;
 use vp_world::Entry;
 
 /// What of a log goes to the user of a reading that has read nothing of it. Refused when out of memory (1307).

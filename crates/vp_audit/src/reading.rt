@@ -24,13 +24,12 @@ use std::marker::Model;
 use vp_answer::{GrantChange, SessionId};
 use vp_bits::Bits;
 use vp_elab::{Design, ObjectId};
-use vp_expr::{Checked, Values};
-use vp_list::Sequence;
+use vp_expr::{Change, Checked, Values};
 use vp_policy::{Policy, PolicyError, UserId};
 use vp_pragma::Right;
-use vp_race::{Finding, Shared};
+use vp_race::Finding;
+use vp_text::{Sequence, Shared};
 use vp_vpi::{ShownRace, is_race_shown, seen_race, seen_races};
-use vp_waking::Change;
 use vp_world::{Entry, LoggedEvent};
 
 /// A log that is read for one user. A contract sees what is kept of the world's state, and which objects he knows.

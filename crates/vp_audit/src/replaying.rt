@@ -17,8 +17,8 @@ use crate::item::Projection;
 use crate::part::Part;
 use std::alloc::Global;
 use vp_answer::Reply;
-use vp_list::Sequence;
 use vp_policy::View;
+use vp_text::Sequence;
 
 /// The replies to a user's own events, in order, by what he sees at the opening and what of the log goes to him. Refused where an item is
 /// not taken up (1303), and when out of memory (1307).

@@ -1,5 +1,5 @@
 use crate::bits::Bits;
-use vp_list::Same;
+use vp_text::Same;
 
 impl Same for Bits {
     fn is_same(&self, other: &Bits) -> bool {

@@ -4,7 +4,7 @@ use clap::builder::ValueParser;
 use clap::error::ErrorKind;
 use clap::{Arg, ArgAction, ArgMatches, Error};
 use std::alloc::{AllocError, Global};
-use vp_list::Text;
+use vp_text::Text;
 
 const ABOUT: &str =
     "Answers questions about a Verilog design, to each user what the policy lets him see.";

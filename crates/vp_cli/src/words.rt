@@ -1,4 +1,4 @@
-use vp_list::Text;
+use vp_text::Text;
 
 /// What the program's words ask.
 #[derive(Drop)]

@@ -1,6 +1,6 @@
 -- The stages of a text, each where those before it are right.
 use Rattle.std.proofs.Common.{◌≡◌, ◌∙◌, ◌≤◌, ℕ, List, length, None, Ok, sym, subst}
-use Rattle.vp_list.specs.Refusals.{MayExplain}
+use Rattle.vp_text.specs.Refusals.{MayExplain}
 use Rattle.vp_lex.specs.declared.token.Token.{Token}
 use Rattle.vp_lex.specs.Tokens.{AreTokens}
 use Rattle.vp_pragma.specs.declared.error.PragmaError.{PragmaError}

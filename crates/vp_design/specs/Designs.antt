@@ -13,8 +13,8 @@ use Rattle.vp_parse_expr.specs.Symbols.{symbols_of}
 use Rattle.vp_parse.specs.Told.{IsUnderivable, Tells}
 use Rattle.vp_elab.specs.Built.{Elaborated, design_of}
 use Rattle.vp_elab.specs.Refusals.{refusal_of}
-use Rattle.vp_list.specs.Refusals.{MayExplain}
-use Rattle.vp_names.specs.declared.error.ElabError.TheVariants as elab_error
+use Rattle.vp_text.specs.Refusals.{MayExplain}
+use Rattle.vp_modules.specs.declared.error.ElabError.TheVariants as elab_error
 use Rattle.vp_resolve.specs.declared.error.ExprError.TheVariants as expr_error
 use Rattle.vp_resolve.specs.Checks as expr
 use Rattle.vp_design.specs.declared.error.DesignError.{DesignError}

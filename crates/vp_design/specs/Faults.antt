@@ -3,7 +3,7 @@ use Rattle.std.specs.Prelude.{ℕ}
 use Rattle.vp_lex.specs.Faults as lex
 use Rattle.vp_pragma.specs.Faults as pragma
 use Rattle.vp_parse.specs.Faults as parse
-use Rattle.vp_names.specs.Faults as elab
+use Rattle.vp_modules.specs.Faults as elab
 use Rattle.vp_resolve.specs.Faults as expr
 use Rattle.vp_design.specs.declared.error.DesignError.{DesignError}
 use Rattle.vp_design.specs.declared.error.DesignError.TheVariants.{Tokens, Envelopes, Source, Names, Expressions, TooLong, NoMemory}

@@ -1,2 +1,13 @@
 pub mod Faults
 pub mod Designs
+pub mod Words
+pub mod Lines
+pub mod Rendering
+pub mod Spreading
+pub mod Fronts
+pub mod Places
+pub mod Expected
+pub mod LeftOut
+pub mod Tables
+pub mod Diagnostics
+pub mod Policies

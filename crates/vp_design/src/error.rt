@@ -4,7 +4,7 @@ ghost use Rattle.vp_design.specs.declared.error.DesignError.TheVariants.{Envelop
 use std::alloc::{AllocError, AllocFailed};
 use thiserror::Error;
 use vp_lex::LexError;
-use vp_names::ElabError;
+use vp_modules::ElabError;
 use vp_parse::ParseError;
 use vp_pragma::PragmaError;
 use vp_resolve::ExprError;

@@ -6,19 +6,19 @@ use Rattle.std.specs.Option.{option_map_or}
 use Rattle.std.proofs.Math.Bool.{or-false, or-true}
 use Rattle.std.proofs.lemmas.List.{length-append, length-map}
 use Rattle.std.proofs.lemmas.List.Folds.{list_any-append}
-use Rattle.vp_list.specs.Refusals.{MayExplain}
+use Rattle.vp_text.specs.Refusals.{MayExplain}
 use Rattle.vp_source.specs.declared.source.Source.{Source}
 use Rattle.vp_source.specs.declared.source.Module.{Module}
 use Rattle.vp_source.specs.declared.source.Item.{Item}
-use Rattle.vp_names.specs.declared.error.ElabError.{ElabError}
-use Rattle.vp_names.specs.declared.error.ElabError.TheVariants.{TooManyObjects, NoMemory}
-use Rattle.vp_names.specs.Items.{definition_of, is_top, items_in}
+use Rattle.vp_modules.specs.declared.error.ElabError.{ElabError}
+use Rattle.vp_modules.specs.declared.error.ElabError.TheVariants.{TooManyObjects, NoMemory}
+use Rattle.vp_modules.specs.Items.{definition_of, is_top, items_in}
 use Rattle.vp_pragma.specs.declared.envelope.Envelope.{Envelope}
 use Rattle.vp_elab.specs.declared.object.TheConstants.{OBJECT_LIMIT}
 use Rattle.vp_elab.specs.Tree.{Node, Step}
 use Rattle.vp_elab.specs.Elaboration.{further_limit, item_node, item_nodes, item_step, nodes_below, nodes_of, root_node, root_step, top_nodes}
-use Rattle.vp_names.specs.Refusals.{first_of_two}
-use Rattle.vp_modules.specs.Refusals as modules
+use Rattle.vp_modules.specs.Refusals.{first_of_two}
+use Rattle.vp_modules.specs.ModuleRefusals as modules
 use Rattle.vp_pragma.specs.Envelopes.{Protection}
 use Rattle.vp_elab.specs.Objects.{objects_within}
 use Rattle.vp_elab.specs.Refusals.{are_too_many, is_too_long, refusal_of, too_many, unmatched_in}

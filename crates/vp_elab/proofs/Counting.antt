@@ -7,7 +7,7 @@ use Rattle.vp_source.specs.declared.source.Source.{Source}
 use Rattle.vp_source.specs.declared.source.Module.{Module}
 use Rattle.vp_source.specs.declared.source.Item.{Item}
 use Rattle.vp_modules.specs.Definitions.{definitions_in}
-use Rattle.vp_names.specs.Items.{definition_number, definition_of, is_top, items_in}
+use Rattle.vp_modules.specs.Items.{definition_number, definition_of, is_top, items_in}
 use Rattle.std.specs.Prelude.{slice_get}
 use Rattle.vp_pragma.specs.Rights.{RightSet}
 use Rattle.vp_elab.specs.Objects.{Declared}

@@ -11,10 +11,10 @@ use Rattle.vp_source.specs.Places.{line_at, word_at}
 use Rattle.vp_source.specs.declared.source.Source.{Source}
 use Rattle.vp_source.specs.declared.source.Module.{Module}
 use Rattle.vp_source.specs.declared.source.Item.{Item}
-use Rattle.vp_names.specs.declared.tables.Tables.{Tables}
-use Rattle.vp_names.specs.Items.{definition_of, has_name, is_top, item_name, item_named, items_in}
-use Rattle.vp_names.specs.Refusals.{twice_in}
-use Rattle.vp_names.specs.Tables.{module_names, scope_in}
+use Rattle.vp_modules.specs.declared.tables.Tables.{Tables}
+use Rattle.vp_modules.specs.Items.{definition_of, has_name, is_top, item_name, item_named, items_in}
+use Rattle.vp_modules.specs.Refusals.{twice_in}
+use Rattle.vp_modules.specs.Tables.{module_names, scope_in}
 use Rattle.vp_pragma.specs.declared.envelope.Envelope.{Envelope}
 use Rattle.vp_pragma.specs.Envelopes.{Protection}
 use Rattle.vp_pragma.specs.Rights.{nothing}

@@ -6,10 +6,10 @@ use Rattle.std.proofs.lemmas.Slice.Eq.{bytes_eq-Decides}
 use Rattle.vp_source.specs.Places.{line_at, word_at}
 use Rattle.vp_source.specs.declared.source.Source.{Source}
 use Rattle.vp_source.specs.declared.source.Module.{Module}
-use Rattle.vp_names.specs.declared.error.ElabError.{ElabError}
-use Rattle.vp_names.specs.declared.error.ElabError.TheVariants.{Duplicate}
-use Rattle.vp_names.specs.Items.{is_among, items_in}
-use Rattle.vp_names.specs.Refusals.{first_of_two, twice, twice_in}
+use Rattle.vp_modules.specs.declared.error.ElabError.{ElabError}
+use Rattle.vp_modules.specs.declared.error.ElabError.TheVariants.{Duplicate}
+use Rattle.vp_modules.specs.Items.{is_among, items_in}
+use Rattle.vp_modules.specs.Refusals.{first_of_two, twice, twice_in}
 
 -- a text is itself
 pub bytes_eq-self : (xs : List ℕ) → bytes_eq xs xs ≡ true

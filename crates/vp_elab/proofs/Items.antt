@@ -9,8 +9,8 @@ use Rattle.vp_source.specs.Places.{word_at}
 use Rattle.vp_source.specs.declared.source.Source.{Source}
 use Rattle.vp_source.specs.declared.source.Module.{Module}
 use Rattle.vp_source.specs.declared.source.Item.{Item}
-use Rattle.vp_names.specs.Items.{definition_of, item_name, item_named, items_in, module_named}
-use Rattle.vp_names.specs.Refusals.{twice_in}
+use Rattle.vp_modules.specs.Items.{definition_of, item_name, item_named, items_in, module_named}
+use Rattle.vp_modules.specs.Refusals.{twice_in}
 use Rattle.vp_pragma.specs.declared.envelope.Envelope.{Envelope}
 use Rattle.vp_elab.specs.declared.object.Object.{Object}
 use Rattle.vp_elab.specs.declared.object.ObjectId.{ObjectId}

@@ -10,8 +10,8 @@ use Rattle.vp_source.specs.Places.{word_at}
 use Rattle.vp_source.specs.declared.source.Source.{Source}
 use Rattle.vp_source.specs.declared.source.Module.{Module}
 use Rattle.vp_source.specs.declared.source.Item.{Item}
-use Rattle.vp_names.specs.Items.{is_top, items_in}
-use Rattle.vp_names.specs.Refusals.{twice_in}
+use Rattle.vp_modules.specs.Items.{is_top, items_in}
+use Rattle.vp_modules.specs.Refusals.{twice_in}
 use Rattle.vp_pragma.specs.declared.envelope.Envelope.{Envelope}
 use Rattle.vp_elab.specs.declared.object.TheConstants.{OBJECT_LIMIT}
 use Rattle.vp_elab.specs.Tree.{Node, Step, below, find_named, is_in, names_of, step_in}

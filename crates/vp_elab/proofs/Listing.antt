@@ -9,8 +9,8 @@ use Rattle.std.proofs.lemmas.Option.{get_or_from_slice_get, slice_get-get_or, sl
 use Rattle.vp_source.specs.Places.{word_at}
 use Rattle.vp_source.specs.declared.source.Source.{Source}
 use Rattle.vp_source.specs.declared.source.Module.{Module}
-use Rattle.vp_names.specs.declared.tables.Tables.{Tables}
-use Rattle.vp_names.specs.Refusals.{twice_in}
+use Rattle.vp_modules.specs.declared.tables.Tables.{Tables}
+use Rattle.vp_modules.specs.Refusals.{twice_in}
 use Rattle.vp_pragma.specs.declared.envelope.Envelope.{Envelope}
 use Rattle.vp_pragma.specs.Envelopes.{Protection}
 use Rattle.vp_elab.specs.declared.design.Objects.{Objects}

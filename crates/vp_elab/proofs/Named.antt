@@ -8,17 +8,17 @@ use Rattle.std.proofs.lemmas.List.Folds.{list_any-append}
 use Rattle.std.proofs.lemmas.List.Quantifiers.{position-Some}
 use Rattle.std.proofs.lemmas.Option.{get_or_from_slice_get}
 use Rattle.std.proofs.lemmas.Slice.Eq.{bytes_eq-Decides}
-use Rattle.vp_list.specs.Lists.{has_range}
+use Rattle.vp_text.specs.Lists.{has_range}
 use Rattle.vp_source.specs.Places.{earlier, earliest, line_at, word_at}
 use Rattle.vp_source.specs.declared.source.Source.{Source}
 use Rattle.vp_source.specs.declared.source.Module.{Module}
 use Rattle.vp_source.specs.declared.source.Item.{Item}
 use Rattle.vp_source.specs.declared.source.Item.TheVariants as item
-use Rattle.vp_names.specs.declared.error.ElabError.{ElabError}
-use Rattle.vp_names.specs.declared.error.ElabError.TheVariants.{Duplicate, UnknownModule, Recursive}
-use Rattle.vp_names.specs.Items.{definition_number, definition_of, instantiated, is_among, item_name, item_place, items_in, module_named, module_number}
-use Rattle.vp_names.specs.Refusals.{first_in, first_of_two, refused_at, twice, twice_in}
-use Rattle.vp_modules.specs.Refusals.{missing_module, recursive, refusal_of, refusal_of_instances, refusal_of_uses}
+use Rattle.vp_modules.specs.declared.error.ElabError.{ElabError}
+use Rattle.vp_modules.specs.declared.error.ElabError.TheVariants.{Duplicate, UnknownModule, Recursive}
+use Rattle.vp_modules.specs.Items.{definition_number, definition_of, instantiated, is_among, item_name, item_place, items_in, module_named, module_number}
+use Rattle.vp_modules.specs.Refusals.{first_in, first_of_two, refused_at, twice, twice_in}
+use Rattle.vp_modules.specs.ModuleRefusals.{missing_module, recursive, refusal_of, refusal_of_instances, refusal_of_uses}
 use Rattle.vp_elab.proofs.Distinct.{accepted, bytes_eq-self, neither, new_by}
 use Rattle.vp_elab.proofs.Parts.{definition_at, nowhere, some_same}
 use Rattle.vp_elab.specs.laws.Positions.{position_is}

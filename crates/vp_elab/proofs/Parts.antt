@@ -3,12 +3,12 @@ use Rattle.std.proofs.Common.{◌≡◌, ℕ, ◌-◌, Bool, true, false, cond, 
 use Rattle.std.specs.Prelude.{nat_le, slice_range}
 use Rattle.std.specs.Option.{option_and_then}
 use Rattle.std.proofs.lemmas.List.{drop-map, take-map, length-map}
-use Rattle.vp_list.specs.Lists.{range_of}
+use Rattle.vp_text.specs.Lists.{range_of}
 use Rattle.vp_source.specs.declared.source.Source.{Source}
 use Rattle.vp_source.specs.declared.source.Module.{Module}
 use Rattle.vp_source.specs.declared.source.Item.{Item}
 use Rattle.vp_modules.specs.Definitions.{definitions_in}
-use Rattle.vp_names.specs.Items.{definition_number, definition_of, instantiated, items_in, module_number}
+use Rattle.vp_modules.specs.Items.{definition_number, definition_of, instantiated, items_in, module_number}
 
 -- a module, for a place past the end of a list
 abbrev pub nowhere : Module

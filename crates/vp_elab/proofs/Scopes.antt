@@ -7,11 +7,11 @@ use Rattle.std.specs.Str.{bytes_eq}
 use Rattle.std.proofs.lemmas.List.{map-append}
 use Rattle.std.proofs.lemmas.Option.{slice_get-map}
 use Rattle.std.proofs.lemmas.Slice.Eq.{bytes_eq-Decides}
-use Rattle.vp_list.specs.laws.Searches.{list_any-map}
+use Rattle.vp_text.specs.laws.Searches.{list_any-map}
 use Rattle.vp_source.specs.declared.source.Source.{Source}
 use Rattle.vp_source.specs.declared.source.Module.{Module}
-use Rattle.vp_names.specs.Items.{definition_number, is_top, item_place, items_in}
-use Rattle.vp_names.specs.Refusals.{twice_in}
+use Rattle.vp_modules.specs.Items.{definition_number, is_top, item_place, items_in}
+use Rattle.vp_modules.specs.Refusals.{twice_in}
 use Rattle.vp_pragma.specs.declared.envelope.Envelope.{Envelope}
 use Rattle.vp_pragma.specs.Envelopes.{envelope_at}
 use Rattle.vp_elab.specs.declared.object.Object.{Object}

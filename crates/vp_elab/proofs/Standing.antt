@@ -13,9 +13,9 @@ use Rattle.vp_source.specs.Places.{line_at, word_at}
 use Rattle.vp_source.specs.declared.source.Source.{Source}
 use Rattle.vp_source.specs.declared.source.Module.{Module}
 use Rattle.vp_source.specs.declared.source.Item.{Item}
-use Rattle.vp_names.specs.Items.{definition_number, instantiated, item_name, items_in, module_number}
-use Rattle.vp_modules.specs.Refusals.{refusal_of}
-use Rattle.vp_names.specs.Tables.{scope_in}
+use Rattle.vp_modules.specs.Items.{definition_number, instantiated, item_name, items_in, module_number}
+use Rattle.vp_modules.specs.ModuleRefusals.{refusal_of}
+use Rattle.vp_modules.specs.Tables.{scope_in}
 use Rattle.vp_pragma.specs.declared.envelope.Envelope.{Envelope}
 use Rattle.vp_pragma.specs.Envelopes.{Viewport, envelope_at}
 use Rattle.vp_pragma.specs.Rights.{nothing}

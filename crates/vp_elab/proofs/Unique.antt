@@ -6,8 +6,8 @@ use Rattle.std.proofs.lemmas.Slice.Eq.{bytes_eq-Decides}
 use Rattle.vp_source.specs.Places.{word_at}
 use Rattle.vp_source.specs.declared.source.Source.{Source}
 use Rattle.vp_source.specs.declared.source.Module.{Module}
-use Rattle.vp_names.specs.Items.{item_name, items_in}
-use Rattle.vp_names.specs.Refusals.{twice_in}
+use Rattle.vp_modules.specs.Items.{item_name, items_in}
+use Rattle.vp_modules.specs.Refusals.{twice_in}
 use Rattle.vp_pragma.specs.declared.envelope.Envelope.{Envelope}
 use Rattle.vp_elab.specs.Tree.{Step, is_named, names_of}
 use Rattle.vp_elab.specs.Elaboration.{item_step}

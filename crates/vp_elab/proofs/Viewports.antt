@@ -11,10 +11,10 @@ use Rattle.vp_source.specs.declared.source.Item.{Item}
 use Rattle.vp_source.specs.declared.source.Module.{Module}
 use Rattle.vp_pragma.specs.declared.envelope.Envelope.{Envelope}
 use Rattle.vp_pragma.specs.Envelopes.{Viewport, envelope_at}
-use Rattle.vp_names.specs.declared.error.ElabError.TheVariants.{Duplicate}
-use Rattle.vp_names.specs.Items.{is_among, item_name, item_place, items_in}
-use Rattle.vp_names.specs.Refusals.{first_of_two, twice, twice_in}
-use Rattle.vp_names.specs.Tables.{scope_in}
+use Rattle.vp_modules.specs.declared.error.ElabError.TheVariants.{Duplicate}
+use Rattle.vp_modules.specs.Items.{is_among, item_name, item_place, items_in}
+use Rattle.vp_modules.specs.Refusals.{first_of_two, twice, twice_in}
+use Rattle.vp_modules.specs.Tables.{scope_in}
 use Rattle.vp_elab.specs.Tree.{fits_module, matches, step_named}
 use Rattle.vp_elab.specs.Refusals.{is_on_item}
 use Rattle.vp_elab.proofs.Distinct.{accepted, bytes_eq-swap, neither, new_by, not_there}

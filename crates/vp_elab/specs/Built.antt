@@ -5,10 +5,10 @@ use Rattle.vp_source.specs.declared.source.Item.{Item}
 use Rattle.vp_source.specs.declared.source.Module as declared
 use Rattle.vp_source.specs.declared.source.Source.{Source}
 use Rattle.vp_source.specs.Whole.{AreWhole}
-use Rattle.vp_names.specs.declared.tables.Tables.{Tables}
-use Rattle.vp_modules.specs.Refusals as modules
-use Rattle.vp_names.specs.Items.{item_named, items_in}
-use Rattle.vp_names.specs.Tables.{tables_in}
+use Rattle.vp_modules.specs.declared.tables.Tables.{Tables}
+use Rattle.vp_modules.specs.ModuleRefusals as modules
+use Rattle.vp_modules.specs.Items.{item_named, items_in}
+use Rattle.vp_modules.specs.Tables.{tables_in}
 use Rattle.vp_pragma.specs.Envelopes.{Protection}
 use Rattle.vp_pragma.specs.Rights.{RightSet, set_of}
 use Rattle.vp_elab.specs.declared.design.Objects.{Objects}

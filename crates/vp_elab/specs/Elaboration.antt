@@ -12,7 +12,7 @@ use Rattle.vp_source.specs.declared.source.Source.{Source}
 use Rattle.vp_source.specs.declared.source.Module as declared
 use Rattle.vp_source.specs.declared.source.Item.{Item}
 use Rattle.vp_source.specs.declared.source.Item.TheVariants as item
-use Rattle.vp_names.specs.Items.{definition_of, instantiated, is_top, item_name, item_place, items_in}
+use Rattle.vp_modules.specs.Items.{definition_of, instantiated, is_top, item_name, item_place, items_in}
 use Rattle.vp_pragma.specs.declared.envelope.Envelope.{Envelope}
 use Rattle.vp_pragma.specs.Envelopes.{Protection, envelope_at}
 use Rattle.vp_elab.specs.declared.object.Kind.{Kind}

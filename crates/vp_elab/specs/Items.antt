@@ -4,7 +4,7 @@ use Rattle.std.specs.Option.{option_and_then}
 use Rattle.vp_source.specs.declared.source.Source.{Source}
 use Rattle.vp_source.specs.declared.source.Module as declared
 use Rattle.vp_source.specs.declared.source.Item.{Item}
-use Rattle.vp_names.specs.Items.{definition_of, item_named, items_in, module_named}
+use Rattle.vp_modules.specs.Items.{definition_of, item_named, items_in, module_named}
 use Rattle.vp_elab.specs.Tree.{Node, Step, find_named, last_step, names_of}
 
 -- the item to which a step leads; none where it leads to a top module (clause 12.5)

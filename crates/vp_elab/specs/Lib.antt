@@ -1,4 +1,4 @@
-pub use Rattle.vp_modules.specs.Refusals as modules
+pub use Rattle.vp_modules.specs.ModuleRefusals as modules
 pub use Rattle.vp_pragma.specs.Rights
 pub use Rattle.vp_pragma.specs.Envelopes
 pub mod Tree

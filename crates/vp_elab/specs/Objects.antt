@@ -5,8 +5,8 @@ use Rattle.std.specs.Option.{option_map_or}
 use Rattle.vp_source.specs.declared.source.Source.{Source}
 use Rattle.vp_source.specs.declared.source.Item.{Item}
 use Rattle.vp_source.specs.declared.source.Module as declared
-use Rattle.vp_names.specs.Items.{definition_number, definition_of, is_top, item_place, items_in}
-use Rattle.vp_names.specs.Tables.{module_names}
+use Rattle.vp_modules.specs.Items.{definition_number, definition_of, is_top, item_place, items_in}
+use Rattle.vp_modules.specs.Tables.{module_names}
 use Rattle.vp_pragma.specs.declared.envelope.Envelope.{Envelope}
 use Rattle.vp_pragma.specs.Envelopes.{Protection, envelope_at}
 use Rattle.vp_pragma.specs.Rights.{RightSet}

@@ -4,11 +4,11 @@ use Rattle.std.specs.List.{list_any}
 use Rattle.vp_source.specs.declared.source.Source.{Source}
 use Rattle.vp_source.specs.declared.source.Item.{Item}
 use Rattle.vp_source.specs.declared.source.Module as declared
-use Rattle.vp_names.specs.declared.error.ElabError.{ElabError}
-use Rattle.vp_names.specs.declared.error.ElabError.TheVariants.{TooManyObjects, ViewportUnknown}
-use Rattle.vp_names.specs.Items.{items_in}
-use Rattle.vp_names.specs.Refusals.{first_of_two}
-use Rattle.vp_modules.specs.Refusals as modules
+use Rattle.vp_modules.specs.declared.error.ElabError.{ElabError}
+use Rattle.vp_modules.specs.declared.error.ElabError.TheVariants.{TooManyObjects, ViewportUnknown}
+use Rattle.vp_modules.specs.Items.{items_in}
+use Rattle.vp_modules.specs.Refusals.{first_of_two}
+use Rattle.vp_modules.specs.ModuleRefusals as modules
 use Rattle.vp_pragma.specs.declared.envelope.Envelope.{Envelope}
 use Rattle.vp_pragma.specs.Envelopes.{Protection, Viewport}
 use Rattle.vp_elab.specs.declared.object.TheConstants.{OBJECT_LIMIT}

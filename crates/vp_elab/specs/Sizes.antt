@@ -4,7 +4,7 @@ use Rattle.std.specs.Option.{option_map_or}
 use Rattle.vp_source.specs.declared.source.Source.{Source}
 use Rattle.vp_source.specs.declared.source.Item.{Item}
 use Rattle.vp_source.specs.declared.source.Module as declared
-use Rattle.vp_names.specs.Items.{definition_of, items_in}
+use Rattle.vp_modules.specs.Items.{definition_of, items_in}
 use Rattle.vp_elab.specs.declared.object.TheConstants.{OBJECT_LIMIT}
 use Rattle.vp_elab.specs.Elaboration.{tops, further_limit}
 

@@ -5,7 +5,7 @@ ghost use Rattle.vp_elab.specs.Objects.{top_of};
 
 use crate::object::{Object, ObjectId};
 use std::alloc::{AllocError, Global};
-use vp_list::Sequence;
+use vp_text::Sequence;
 
 /// The objects that stand so far after an object. Takes memory.
 pub fn objects_after(

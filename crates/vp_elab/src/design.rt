@@ -1,8 +1,8 @@
 ghost use Rattle.std.specs.Prelude.{◌≡◌, ◌≤◌, [], None, Some, All, map, option_and_then, option_map, length, position, slice_get, slice_index_or, ◌++◌, string_bytes, IfOk, IfSome, MatchOption, OnOk};
 ghost use Rattle.std.specs.Option.{option_map_or};
 ghost use Rattle.std.specs.Str.{bytes_eq};
-ghost use Rattle.vp_names.specs.Items.{items_in};
-ghost use Rattle.vp_names.specs.Tables.{module_names};
+ghost use Rattle.vp_modules.specs.Items.{items_in};
+ghost use Rattle.vp_modules.specs.Tables.{module_names};
 ghost use Rattle.vp_pragma.specs.Envelopes.{object_of};
 ghost use Rattle.vp_pragma.specs.Reading.{viewport_of};
 ghost use Rattle.vp_pragma.specs.Rights.{nothing};
@@ -10,7 +10,7 @@ ghost use Rattle.vp_source.specs.Whole.{AreWhole};
 ghost use Rattle.vp_elab.specs.Tree.{AreAlike, author_in, children_of, declared_envelopes, find_in, first_of, full_name_at, matches_at, name_at, node_envelope, step_rights_at};
 ghost use Rattle.vp_elab.specs.Objects.{AreObjects, StandsFor, module_name_at};
 ghost use Rattle.vp_elab.specs.Built.{IsBuilt, IsElaborated, ItemsAreFound, design_of, shown};
-ghost use Rattle.vp_modules.specs.Refusals as modules;
+ghost use Rattle.vp_modules.specs.ModuleRefusals as modules;
 ghost use Rattle.vp_elab.specs.Items.{instantiated_at, node_item, parent_of};
 
 use crate::children::{objects_after, top_at, tops_at};
@@ -20,10 +20,10 @@ use crate::scope::Scope;
 use crate::step_rights::{StepRights, is_on};
 use std::alloc::{AllocError, Global};
 use std::marker::Model;
-use vp_list::{Sequence, SharedText, Text};
-use vp_names::{Names, Tables, items_of};
+use vp_modules::{Names, Tables, items_of};
 use vp_pragma::{Envelopes, Viewport};
 use vp_source::{Item, Module, Source};
+use vp_text::{Sequence, SharedText, Text};
 
 /// The objects of a design.
 #[derive(Drop)]

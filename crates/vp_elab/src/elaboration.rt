@@ -1,9 +1,9 @@
-ghost use Rattle.vp_list.specs.Refusals.{MayExplain};
-ghost use Rattle.vp_names.specs.declared.error.ElabError.TheVariants.{NoMemory};
+ghost use Rattle.vp_text.specs.Refusals.{MayExplain};
+ghost use Rattle.vp_modules.specs.declared.error.ElabError.TheVariants.{NoMemory};
 ghost use Rattle.std.specs.Prelude.{◌≡◌, ◌≤◌, None, suc, length, map, IfErr, IfOk, OnOk};
 ghost use Rattle.vp_source.specs.Whole.{AreWhole};
-ghost use Rattle.vp_names.specs.Items.{definition_number, is_top};
-ghost use Rattle.vp_modules.specs.Refusals as modules;
+ghost use Rattle.vp_modules.specs.Items.{definition_number, is_top};
+ghost use Rattle.vp_modules.specs.ModuleRefusals as modules;
 ghost use Rattle.vp_modules.specs.Resolution.{resolved_in};
 ghost use Rattle.vp_elab.specs.declared.object.TheConstants.{OBJECT_LIMIT};
 ghost use Rattle.vp_elab.specs.Built.{IsBuilt, design_of};
@@ -19,11 +19,10 @@ use crate::scope::{Scope, root_envelopes_of, scopes_of};
 use crate::sizes::{check_count, sizes_of};
 use crate::step_rights::check_viewports;
 use std::alloc::{AllocError, Global};
-use vp_list::Sequence;
-use vp_modules::{Resolved, check_modules};
-use vp_names::{ElabError, Tables};
+use vp_modules::{ElabError, Resolved, Tables, check_modules};
 use vp_pragma::Envelopes;
 use vp_source::Source;
+use vp_text::Sequence;
 
 /// What a design is made of beside its source and its envelopes.
 #[derive(Drop)]

@@ -4,7 +4,7 @@ ghost use Rattle.vp_elab.specs.Objects.{AreFirsts};
 
 use crate::object::{Object, ObjectId};
 use std::alloc::{AllocError, Global};
-use vp_list::Sequence;
+use vp_text::Sequence;
 
 /// For each of so many modules the first of these objects that is of it.
 pub fn firsts_of(

@@ -15,4 +15,4 @@ pub use design::Design;
 pub use elaboration::elaborate;
 pub use object::{Kind, OBJECT_LIMIT, Object, ObjectId, range_width};
 pub use step_rights::StepRights;
-pub use vp_names::ElabError;
+pub use vp_modules::ElabError;

@@ -1,9 +1,9 @@
 ghost use Rattle.std.specs.Prelude.{◌≡◌, option_and_then, option_map, slice_get};
-ghost use Rattle.vp_names.specs.Items.{definition_number};
+ghost use Rattle.vp_modules.specs.Items.{definition_number};
 ghost use Rattle.vp_elab.specs.Elaboration.{item_kind, item_range, literal_range, lowest_of, range_width, width_of};
 ghost use Rattle.vp_elab.specs.Objects.{item_object, root_object};
 
-use vp_names::place_of;
+use vp_modules::place_of;
 use vp_pragma::Envelopes;
 use vp_source::{DeclaredRange, Direction, Expression, Item, Module, Range, Source};
 

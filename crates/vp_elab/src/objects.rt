@@ -1,6 +1,6 @@
 ghost use Rattle.std.specs.Prelude.{◌≡◌, ◌+◌, ◌-◌, ◌≤◌, suc, ◌∷◌, ◌++◌, [], length, map, slice_get, option_and_then, IfOk, OnOk};
 ghost use Rattle.std.specs.Option.{option_map_or};
-ghost use Rattle.vp_names.specs.Items.{definition_number, is_top};
+ghost use Rattle.vp_modules.specs.Items.{definition_number, is_top};
 ghost use Rattle.vp_elab.specs.declared.object.TheConstants.{OBJECT_LIMIT};
 ghost use Rattle.vp_elab.specs.Elaboration.{further_limit};
 ghost use Rattle.vp_elab.specs.Objects.{objects_below, objects_within};
@@ -9,10 +9,10 @@ ghost use Rattle.vp_elab.specs.Sizes.{object_count, size};
 use crate::object::{OBJECT_LIMIT, Object, ObjectId, item_object, root_object};
 use crate::sizes::definitions_of;
 use std::alloc::{AllocError, Global};
-use vp_list::Sequence;
-use vp_names::items_of;
+use vp_modules::items_of;
 use vp_pragma::Envelopes;
 use vp_source::{Module, Source};
+use vp_text::Sequence;
 
 /// How many steps a path may have.
 fn step_limit() -> u32

@@ -1,8 +1,8 @@
 ghost use Rattle.std.specs.Prelude.{◌≡◌, ◌<◌, ◌==◌, ℕ, suc, None, false, [], filter, map, slice_index_or, IfOk};
 ghost use Rattle.std.specs.List.{list_any};
-ghost use Rattle.vp_names.specs.Items.{definition_number, is_top, item_place, items_in};
-ghost use Rattle.vp_names.specs.Refusals.{twice_in};
-ghost use Rattle.vp_names.specs.Tables.{scope_in, tables_in};
+ghost use Rattle.vp_modules.specs.Items.{definition_number, is_top, item_place, items_in};
+ghost use Rattle.vp_modules.specs.Refusals.{twice_in};
+ghost use Rattle.vp_modules.specs.Tables.{scope_in, tables_in};
 ghost use Rattle.vp_pragma.specs.Envelopes.{envelope_at};
 ghost use Rattle.vp_pragma.specs.Rights.{nothing};
 ghost use Rattle.vp_elab.specs.Built.{shown};
@@ -15,10 +15,10 @@ use crate::sizes::{definitions_of, slots_of};
 use crate::step_rights::{StepRights, all_step_rights_of};
 use std::alloc::{AllocError, Global};
 use std::marker::Model;
-use vp_list::Sequence;
-use vp_names::{Names, Tables, items_of, place_of};
+use vp_modules::{Names, Tables, items_of, place_of};
 use vp_pragma::Envelopes;
 use vp_source::{Item, Module, Source};
+use vp_text::Sequence;
 
 /// What the items of a module have in common in each of its instances.
 #[derive(Drop)]

@@ -1,17 +1,17 @@
 // How many objects stand below those of modules, computed without an object: they may be far more than there may be.
 ghost use Rattle.std.specs.Prelude.{◌≡◌, ◌+◌, ◌≤◌, ◌<◌, false, if◌then◌else◌, length, map, slice_index_or, IfOk, MatchResult};
 ghost use Rattle.vp_modules.specs.Definitions.{definitions_in};
-ghost use Rattle.vp_names.specs.Items.{definition_number, is_top, items_in};
-ghost use Rattle.vp_names.specs.declared.error.ElabError.TheVariants.{TooManyObjects};
+ghost use Rattle.vp_modules.specs.Items.{definition_number, is_top, items_in};
+ghost use Rattle.vp_modules.specs.declared.error.ElabError.TheVariants.{TooManyObjects};
 ghost use Rattle.vp_elab.specs.Elaboration.{further_limit};
 ghost use Rattle.vp_elab.specs.declared.object.TheConstants.{OBJECT_LIMIT};
 ghost use Rattle.vp_elab.specs.Sizes.{capped, many, object_count, size_by, sizes_in, slots_by, total};
 
 use crate::object::OBJECT_LIMIT;
 use std::alloc::{AllocError, Global};
-use vp_list::Sequence;
-use vp_names::{ElabError, items_of};
+use vp_modules::{ElabError, items_of};
 use vp_source::{Item, Module, Source};
+use vp_text::Sequence;
 
 /// More objects than there may be.
 const MANY: u32 = OBJECT_LIMIT as u32 + 1;

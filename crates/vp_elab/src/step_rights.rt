@@ -1,12 +1,12 @@
 // What viewports open at the objects of a design, and whether each is on something (docs/FORMATS.md, "Viewports").
-ghost use Rattle.vp_list.specs.Refusals.{MayExplain};
-ghost use Rattle.vp_names.specs.declared.error.ElabError.TheVariants.{NoMemory};
+ghost use Rattle.vp_text.specs.Refusals.{MayExplain};
+ghost use Rattle.vp_modules.specs.declared.error.ElabError.TheVariants.{NoMemory};
 ghost use Rattle.std.specs.Prelude.{◌≡◌, [], None, Some, map, slice_index_or, IfOk, MatchResult};
 ghost use Rattle.std.specs.List.{list_any};
 ghost use Rattle.std.specs.Option.{option_or};
-ghost use Rattle.vp_names.specs.Items.{item_name, items_in};
-ghost use Rattle.vp_names.specs.Refusals.{twice, twice_in};
-ghost use Rattle.vp_names.specs.Tables.{scope_in, tables_in};
+ghost use Rattle.vp_modules.specs.Items.{item_name, items_in};
+ghost use Rattle.vp_modules.specs.Refusals.{twice, twice_in};
+ghost use Rattle.vp_modules.specs.Tables.{scope_in, tables_in};
 ghost use Rattle.vp_pragma.specs.Reading.{viewport_of};
 ghost use Rattle.vp_pragma.specs.Rights.{either, nothing, set_of};
 ghost use Rattle.vp_elab.specs.Tree.{matches, step_rights_of, step_named};
@@ -15,10 +15,10 @@ ghost use Rattle.vp_elab.specs.Built.{shown};
 ghost use Rattle.vp_elab.specs.Refusals.{is_on_any, is_on_item, unmatched_in};
 
 use std::alloc::{AllocError, Global};
-use vp_list::Sequence;
-use vp_names::{ElabError, Names, Tables, items_of, place_of};
+use vp_modules::{ElabError, Names, Tables, items_of, place_of};
 use vp_pragma::{Envelopes, Rights, Viewport};
 use vp_source::{Item, Module, Source};
+use vp_text::Sequence;
 
 /// What the viewports that match an object open of it.
 #[derive(Clone, Copy)]

@@ -7,7 +7,7 @@ use Rattle.std.proofs.lemmas.List.{take_more}
 use Rattle.std.proofs.lemmas.List.Quantifiers.{position-Some}
 use Rattle.std.proofs.lemmas.Option.{slice_get-get_or}
 use Rattle.std.proofs.lemmas.Slice.Eq.{bytes_eq-Decides}
-use Rattle.vp_names.specs.Items.{is_among}
+use Rattle.vp_modules.specs.Items.{is_among}
 use Rattle.vp_expr.specs.Origins.{by_first, first_index}
 use Rattle.vp_elab.specs.laws.Positions.{or_else, position_from-append, position_is, slice_get_after}
 

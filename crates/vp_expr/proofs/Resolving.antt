@@ -17,10 +17,10 @@ use Rattle.vp_source.specs.declared.source.Item.{Item}
 use Rattle.vp_source.specs.declared.source.Module.{Module}
 use Rattle.vp_source.specs.declared.source.Source.{Source}
 use Rattle.vp_source.specs.Places.{earliest, word_at}
-use Rattle.vp_names.specs.declared.error.ElabError.{ElabError}
-use Rattle.vp_names.specs.declared.error.ElabError.TheVariants.{Undeclared}
-use Rattle.vp_names.specs.Items.{expressions_in, is_operand, is_signal, items_in, named_at, statements_in, terms_in}
-use Rattle.vp_names.specs.Refusals.{assigned_by, first_in, first_of_two, name_in, refused_at, target_of, undeclared, unfit}
+use Rattle.vp_modules.specs.declared.error.ElabError.{ElabError}
+use Rattle.vp_modules.specs.declared.error.ElabError.TheVariants.{Undeclared}
+use Rattle.vp_modules.specs.Items.{expressions_in, is_operand, is_signal, items_in, named_at, statements_in, terms_in}
+use Rattle.vp_modules.specs.Refusals.{assigned_by, first_in, first_of_two, name_in, refused_at, target_of, undeclared, unfit}
 use Rattle.vp_elab.specs.modules as modules
 use Rattle.vp_elab.specs.Built.{Elaborated, IsFoundAs, ItemsAreFound}
 use Rattle.vp_elab.specs.Elaboration.{range_width}

@@ -6,7 +6,7 @@ use Rattle.std.specs.List.{flat_map, slice_range}
 use Rattle.vp_source.specs.declared.expression.Expression.{Expression}
 use Rattle.vp_source.specs.declared.source.Module.{Module}
 use Rattle.vp_source.specs.Whole.{AreGapless, AreWhole}
-use Rattle.vp_names.specs.Items.{expressions_in}
+use Rattle.vp_modules.specs.Items.{expressions_in}
 use Rattle.vp_elab.specs.Built.{Elaborated}
 use Rattle.vp_operand.specs.declared.operand.Operand.{Operand}
 use Rattle.vp_resolve.specs.Names.{scope_of}

@@ -1,7 +1,7 @@
 -- What statements read, and the changes for which they wait.
 use Rattle.std.specs.Prelude.{ℕ, ◌==◌, if◌then◌else◌, List, [], ◌∷◌, ◌++◌, length, map, slice_index_or, take, Option, Some, None, option_map}
 use Rattle.std.specs.List.{filter_map, flat_map, fold}
-use Rattle.vp_list.specs.Lists.{range_of}
+use Rattle.vp_text.specs.Lists.{range_of}
 use Rattle.vp_source.specs.declared.expression.Selection.{Selection}
 use Rattle.vp_source.specs.declared.expression.Selection.TheVariants as selection
 use Rattle.vp_source.specs.declared.statement.Choice.{Choice}
@@ -12,7 +12,7 @@ use Rattle.vp_source.specs.declared.statement.Statement.{Statement}
 use Rattle.vp_source.specs.declared.statement.Statement.TheVariants as statement
 use Rattle.vp_source.specs.declared.source.Module as declared
 use Rattle.vp_source.specs.declared.source.Source.{Source}
-use Rattle.vp_names.specs.Items.{statements_in}
+use Rattle.vp_modules.specs.Items.{statements_in}
 use Rattle.vp_elab.specs.Built.{Elaborated}
 use Rattle.vp_expr.specs.declared.awaited.Awaited.{Awaited}
 use Rattle.vp_operand.specs.declared.operand.Operand.{Operand}

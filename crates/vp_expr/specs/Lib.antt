@@ -5,3 +5,4 @@ pub mod Start
 pub mod Evaluation
 pub mod Derived
 pub mod Resolved
+pub mod Changes

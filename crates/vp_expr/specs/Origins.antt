@@ -9,7 +9,7 @@ use Rattle.vp_source.specs.declared.source.Source.{Source}
 use Rattle.vp_source.specs.declared.source.Module as declared
 use Rattle.vp_source.specs.declared.source.Item.{Item}
 use Rattle.vp_source.specs.declared.source.Item.TheVariants as item
-use Rattle.vp_names.specs.Items.{connections_of, definition_of, is_input, item_place, ports_in}
+use Rattle.vp_modules.specs.Items.{connections_of, definition_of, is_input, item_place, ports_in}
 use Rattle.vp_elab.specs.declared.object.ObjectId.{ObjectId}
 use Rattle.vp_elab.specs.Built.{Elaborated}
 use Rattle.vp_elab.specs.Items.{node_item, parent_of}

@@ -7,8 +7,8 @@ use Rattle.vp_source.specs.declared.source.Item.{Item}
 use Rattle.vp_source.specs.declared.source.Module as declared
 use Rattle.vp_source.specs.declared.source.Source.{Source}
 use Rattle.vp_source.specs.Places.{word_at}
-use Rattle.vp_names.specs.Items.{expressions_in, items_in, named_at, statements_in, terms_in}
-use Rattle.vp_names.specs.Refusals.{assigned_by, name_in, target_of}
+use Rattle.vp_modules.specs.Items.{expressions_in, items_in, named_at, statements_in, terms_in}
+use Rattle.vp_modules.specs.Refusals.{assigned_by, name_in, target_of}
 use Rattle.vp_elab.specs.Built.{Elaborated, IsFoundAs}
 use Rattle.vp_resolve.specs.Names.{scope_of}
 use Rattle.vp_resolve.specs.Operands.{sizes_of}

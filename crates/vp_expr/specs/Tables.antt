@@ -10,7 +10,7 @@ use Rattle.vp_source.specs.declared.statement.Statement.{Statement}
 use Rattle.vp_source.specs.declared.statement.Statement.TheVariants as statement
 use Rattle.vp_source.specs.declared.source.Module as declared
 use Rattle.vp_source.specs.declared.source.Source.{Source}
-use Rattle.vp_names.specs.Items.{statements_in}
+use Rattle.vp_modules.specs.Items.{statements_in}
 use Rattle.vp_elab.specs.Built.{Elaborated}
 use Rattle.vp_elab.specs.Elaboration.{range_width}
 use Rattle.vp_expr.specs.Origins as origin

@@ -7,11 +7,11 @@ use crate::statement_reads::choices_at;
 use crate::tables::{Action, Target};
 use std::alloc::{AllocError, Global};
 use vp_elab::{Design, ObjectId, range_width};
-use vp_list::Sequence;
-use vp_names::statements_of;
+use vp_modules::statements_of;
 use vp_operand::{ExprId, fitted, size_at};
 use vp_resolve::{lowest_in, object_named, part_place, scope_of, slot_in, width_in};
 use vp_source::{Choice, Module, Selection, Source, Span, Statement};
+use vp_text::Sequence;
 
 /// The expression at a place in a context of a size, in bits; none where no vector has that.
 pub fn sized_at(place: u32, size: u32) -> Option<ExprId>

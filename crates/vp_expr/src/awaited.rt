@@ -7,7 +7,7 @@ ghost use Rattle.vp_resolve.specs.Names.{scope_of};
 use crate::statement_reads::add_below;
 use std::alloc::{AllocError, Global};
 use vp_elab::{Design, ObjectId};
-use vp_names::statements_of;
+use vp_modules::statements_of;
 use vp_operand::{Operand, Slot, add_slots};
 use vp_resolve::{object_named, scope_of, slot_in};
 use vp_source::{Edge, EventTerm, Module, Source, Span, Statement};

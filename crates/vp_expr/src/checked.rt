@@ -1,4 +1,4 @@
-ghost use Rattle.vp_list.specs.Refusals.{MayExplain};
+ghost use Rattle.vp_text.specs.Refusals.{MayExplain};
 ghost use Rattle.vp_resolve.specs.declared.error.ExprError.TheVariants.{NoMemory};
 ghost use Rattle.std.specs.Prelude.{◌≡◌, ◌≤◌, ℕ, [], slice_index_or, true, length, map, All, None, IfErr, IfOk, OnOk};
 ghost use Rattle.std.specs.List.{list_all};

@@ -4,8 +4,8 @@ ghost use Rattle.std.specs.Arc.{arc_value};
 use std::marker::Model;
 use std::sync::Arc;
 use vp_bits::Bits;
+use vp_cow_list::{Chunk, SharedList};
 use vp_elab::ObjectId;
-use vp_list::{Chunk, SharedList};
 
 /// A value for each object of a design, as they were at some time: copies of one design's share what did not change between
 /// them. A contract sees their list, by object number.

@@ -1,15 +1,15 @@
 ghost use Rattle.std.specs.Prelude.{◌≡◌, ℕ, List, [], ◌++◌, length, slice_get, IfOk, OnOk};
 ghost use Rattle.std.specs.Str.{bytes_eq};
-ghost use Rattle.vp_names.specs.Items.{definition_of, ports_in};
+ghost use Rattle.vp_modules.specs.Items.{definition_of, ports_in};
 ghost use Rattle.vp_expr.specs.Origins.{AreNamed, assignment_origin, by_first, connected, first_index, item_origins, listed, names_port, origin_at_port, origins_at, place_of_port, port_origin, port_origins, through_port};
 ghost use Rattle.vp_expr.specs.Tables.{process_from, processes_from, processes_of};
 
 use crate::tables::{Process, assignment_of};
 use std::alloc::{AllocError, Global};
 use vp_elab::{Design, ObjectId};
-use vp_list::Sequence;
-use vp_names::{Names, connections_of, is_input, place_of, ports_of};
+use vp_modules::{Names, connections_of, is_input, place_of, ports_of};
 use vp_source::{Connection, Item, Module, Source};
+use vp_text::Sequence;
 
 /// The ports that connections name (clause 12.3.6): each name once, with the index of the first connection that has it.
 #[derive(Drop)]

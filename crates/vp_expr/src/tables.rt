@@ -9,10 +9,10 @@ use crate::awaited::{Awaited, awaits_of};
 use crate::process::processes_of;
 use std::alloc::{AllocError, Global};
 use vp_elab::{Design, ObjectId};
-use vp_list::Sequence;
 use vp_operand::{ExprId, Operand, Slot, fitted, size_at, sizes_of};
 use vp_resolve::width_in;
 use vp_source::Span;
+use vp_text::Sequence;
 
 /// What of an object of an instance an assignment sets (clause 5.2.1).
 #[derive(Clone, Copy)]

@@ -11,8 +11,8 @@ use crate::kept::ValuesCheckpoint;
 use std::alloc::Global;
 use std::marker::Model;
 use vp_bits::Bits;
+use vp_cow_list::TrackedList;
 use vp_elab::{Design, Kind, Object, ObjectId};
-use vp_list::TrackedList;
 use vp_resolve::{ExprError, constant_at};
 
 /// A value for each object of a design, of which copies can be kept. A contract sees their list, by object number.

@@ -2,7 +2,7 @@
 use Rattle.std.proofs.Common.{◌≡◌, ◌≢◌, ◌∙◌, Err, IfOk, IsOkUnless, Ok, Result, inl, inr, refl, sym}
 use Rattle.vp_answer.specs.declared.reply.Reply.{Reply}
 use Rattle.vp_answer.specs.declared.request.Request.{Request}
-use Rattle.vp_list.specs.Refusals.{Explains, MayExplain}
+use Rattle.vp_text.specs.Refusals.{Explains, MayExplain}
 use Rattle.vp_world.specs.declared.error.WorldError.{WorldError}
 use Rattle.vp_world.specs.declared.error.WorldError.TheVariants as world_error
 use Rattle.vp_world.specs.History.{answered_by, refused_by}

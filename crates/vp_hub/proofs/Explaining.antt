@@ -1,7 +1,7 @@
 -- The world's refusals, reported by the hub.
 use Rattle.std.proofs.Common.{Option, Some, None, ap, sym}
 use Rattle.std.specs.Prelude.{option_map}
-use Rattle.vp_list.specs.Refusals.{Explains, MayExplain}
+use Rattle.vp_text.specs.Refusals.{Explains, MayExplain}
 use Rattle.vp_world.specs.declared.error.WorldError.{WorldError}
 use Rattle.vp_world.specs.declared.error.WorldError.TheVariants as world_error
 use Rattle.vp_hub.specs.declared.error.HubError.TheVariants.{World}

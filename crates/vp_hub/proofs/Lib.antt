@@ -5,3 +5,4 @@ pub mod Calling
 pub mod Receiving
 pub mod Closings
 pub mod Crossing
+pub mod ServerCrossing

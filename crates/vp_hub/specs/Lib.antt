@@ -6,3 +6,5 @@ pub mod Calls
 pub mod Desks
 pub mod Hubs
 pub mod Closing
+pub mod ServerFaults
+pub mod Clients

@@ -13,7 +13,7 @@ use crate::pass::Pass;
 use crate::receipt::Receipt;
 use std::alloc::{AllocError, Global};
 use vp_answer::SessionId;
-use vp_list::Sequence;
+use vp_text::Sequence;
 use vp_world::{Entry, LoggedEvent, World};
 
 /// What is left of a hub: its world, with the log, and for each pass that was handed back the indexes of its calls, in order.

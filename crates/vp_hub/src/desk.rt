@@ -3,7 +3,7 @@ ghost use Rattle.std.specs.Prelude.{IfSome};
 ghost use Rattle.std.specs.Arc.{arc_value};
 ghost use Rattle.vp_answer.specs.declared.reply.Reply.TheVariants as replies;
 ghost use Rattle.vp_answer.specs.declared.request.Request.TheVariants as requests;
-ghost use Rattle.vp_list.specs.Refusals.{Explains, MayExplain};
+ghost use Rattle.vp_text.specs.Refusals.{Explains, MayExplain};
 ghost use Rattle.vp_world.specs.declared.event.Event.TheVariants as event;
 ghost use Rattle.vp_world.specs.declared.error.WorldError.TheVariants.{NoMemory};
 ghost use Rattle.vp_world.specs.Events.{IsWellFormed};
@@ -21,8 +21,8 @@ use std::marker::Model;
 use std::sync::Arc;
 use std::sync::ledger::{Blank, Book, Share};
 use vp_answer::{Reply, Request};
-use vp_list::Text;
-use vp_race::{Finding, Segment, Shared, SimError};
+use vp_race::{Finding, Segment, SimError};
+use vp_text::{Shared, Text};
 use vp_world::{Entry, Event, World, WorldError};
 
 /// What stands behind the lock of a hub: a world, and the total of the ledger of its sessions' calls. A contract sees both, and how

@@ -12,7 +12,7 @@ ghost use Rattle.vp_hub.specs.Calls.{IsCall, Stands, event_of, is_of_session, se
 
 use crate::receipt::Receipt;
 use vp_answer::{Reply, Request, SessionId};
-use vp_list::Same;
+use vp_text::Same;
 use vp_world::{Asked, Entry, Event, LoggedEvent, Login};
 
 /// The event of a request with which a session calls.

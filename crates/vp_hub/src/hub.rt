@@ -16,8 +16,8 @@ use std::alloc::Global;
 use std::collections::VecDeque;
 use std::sync::{Arc, Mutex, Wait};
 use vp_answer::{GrantChange, Reply, Request};
-use vp_list::Text;
 use vp_race::{Finding, Gate, Segment, search};
+use vp_text::Text;
 use vp_world::{Event, WorldError};
 
 /// A search tries so many seeds.

@@ -1,14 +1,25 @@
-//! The hub: many threads share one world. Each event is applied under one lock, and each session keeps receipts of its calls.
+//! The hub: many threads share one world. Each event is applied under one lock, and each session keeps receipts of its calls. Over it the
+//! server: connections, and threads that let the simulation run and search it for races.
 #![tactic(auto)]
 
+mod accept;
+mod background;
+mod client;
 mod close;
+mod connection;
 mod desk;
 mod entries;
 mod error;
 mod hub;
+mod incoming;
 mod opens;
 mod pass;
+mod passes;
 mod receipt;
+mod server;
+mod server_error;
+mod service;
+mod settings;
 
 pub use close::{Closed, session_of};
 pub use desk::Desk;
@@ -17,4 +28,7 @@ pub use hub::{Hub, Ran, Worked};
 pub use opens::NamesOpening;
 pub use pass::Pass;
 pub use receipt::Receipt;
+pub use server::serve;
+pub use server_error::ServerError;
+pub use settings::Settings;
 pub use vp_world::{Limits, World};

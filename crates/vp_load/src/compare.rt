@@ -16,7 +16,7 @@ use std::sync::Arc;
 use vp_answer::{GrantChange, Reply, Request, SessionId};
 use vp_expr::Checked;
 use vp_hub::session_of;
-use vp_list::Same;
+use vp_text::Same;
 use vp_wire::{reply_line, request};
 use vp_world::{Entry, Event, Limits, LoggedEvent, World};
 

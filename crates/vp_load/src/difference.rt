@@ -2,7 +2,7 @@ use crate::kinds::Kind;
 use std::alloc::AllocError;
 use std::io;
 use thiserror::Error;
-use vp_serve::ServerError;
+use vp_hub::ServerError;
 use vp_wire::WireError;
 
 /// What first differs, or why nothing was compared. Places in the log count from 0, users and orders from 1.

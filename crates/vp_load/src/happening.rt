@@ -5,7 +5,7 @@ ghost use Rattle.vp_world.specs.Entries.{event_in, reply_in};
 
 use std::alloc::{AllocError, Global};
 use vp_answer::Reply;
-use vp_list::Text;
+use vp_text::Text;
 use vp_wire::{WireError, reply_line};
 use vp_world::{Event, LoggedEvent};
 

@@ -13,9 +13,8 @@ use std::sync::{Arc, Wait};
 use std::thread::{Threads, join};
 use std::time::Clock;
 use vp_expr::Checked;
-use vp_hub::Closed;
+use vp_hub::{Closed, Settings, serve};
 use vp_race::OpenGate;
-use vp_serve::{Settings, serve};
 use vp_world::Limits;
 
 /// So many threads search for races.

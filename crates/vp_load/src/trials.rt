@@ -13,8 +13,8 @@ use std::alloc::{AllocError, Global};
 use std::sync::Arc;
 use vp_answer::{Reply, Request, SessionId};
 use vp_expr::Checked;
-use vp_list::Text;
 use vp_policy::UserId;
+use vp_text::Text;
 use vp_world::{Asked, Entry, Limits, LoggedEvent, Login};
 
 /// What first differs between a log and what was shown.

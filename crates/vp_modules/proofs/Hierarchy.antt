@@ -7,16 +7,16 @@ use Rattle.std.specs.Prelude.{nat_le, slice_get, slice_range, if◌then◌else�
 use Rattle.std.specs.List.{list_any}
 use Rattle.std.specs.Option.{option_and_then, option_map_or}
 use Rattle.std.specs.Str.{bytes_eq}
-use Rattle.vp_list.specs.Lists.{range_of}
-use Rattle.vp_list.specs.laws.Searches.{list_any-map}
+use Rattle.vp_text.specs.Lists.{range_of}
+use Rattle.vp_text.specs.laws.Searches.{list_any-map}
 use Rattle.vp_source.specs.Places.{word_at}
 use Rattle.vp_source.specs.declared.source.Source.{Source}
 use Rattle.vp_source.specs.declared.source.Module.{Module}
 use Rattle.vp_source.specs.declared.source.Item.{Item}
 use Rattle.vp_modules.specs.Definitions.{definitions_in, is_marked, is_number}
-use Rattle.vp_names.specs.Items.{definition_number, instantiated, items_in, module_named, module_number}
-use Rattle.vp_names.specs.Refusals.{twice_in}
-use Rattle.vp_modules.specs.Refusals.{leads, leads_by, recursive}
+use Rattle.vp_modules.specs.Items.{definition_number, instantiated, items_in, module_named, module_number}
+use Rattle.vp_modules.specs.Refusals.{twice_in}
+use Rattle.vp_modules.specs.ModuleRefusals.{leads, leads_by, recursive}
 use Rattle.vp_modules.proofs.Numbers.{in_range, list_any_same, numbered}
 use Rattle.vp_modules.proofs.Graph.{Graph, chain, goes, reaches, steps_on, unchained}
 

@@ -1,3 +1,6 @@
+pub mod Earliest
+pub mod Twice
+pub mod Looked
 pub mod Numbers
 pub mod Graph
 pub mod Hierarchy

@@ -10,16 +10,16 @@ use Rattle.std.specs.Prelude.{nat_eq, not, if◌then◌else◌}
 use Rattle.std.specs.List.{list_any, position_or_len}
 use Rattle.std.specs.Option.{option_and_then, option_map_or}
 use Rattle.std.specs.Str.{bytes_eq}
-use Rattle.vp_list.specs.laws.Searches.{list_any-map}
+use Rattle.vp_text.specs.laws.Searches.{list_any-map}
 use Rattle.vp_source.specs.Places.{word_at}
 use Rattle.vp_source.specs.declared.source.Source.{Source}
 use Rattle.vp_source.specs.declared.source.Module.{Module}
 use Rattle.vp_source.specs.declared.source.Item.{Item}
-use Rattle.vp_names.specs.declared.error.ElabError.{ElabError}
+use Rattle.vp_modules.specs.declared.error.ElabError.{ElabError}
 use Rattle.vp_modules.specs.Definitions.{is_number}
-use Rattle.vp_names.specs.Items.{definition_number, instantiated, instantiates, is_among, is_top, module_number}
-use Rattle.vp_names.specs.Refusals.{first_of_two, twice_in}
-use Rattle.vp_names.proofs.Looked.{nowhere}
+use Rattle.vp_modules.specs.Items.{definition_number, instantiated, instantiates, is_among, is_top, module_number}
+use Rattle.vp_modules.specs.Refusals.{first_of_two, twice_in}
+use Rattle.vp_modules.proofs.Looked.{nowhere}
 
 -- tests that agree find the same
 pub list_any_same : {X : Type 0} (p q : X → Bool) (xs : List X) → ((x : X) → p x ≡ q x) → list_any p xs ≡ list_any q xs

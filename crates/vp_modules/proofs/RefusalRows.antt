@@ -22,9 +22,9 @@ use Rattle.vp_source.specs.declared.source.Source.{Source}
 use Rattle.vp_source.specs.declared.source.Module.{Module}
 use Rattle.vp_source.specs.declared.source.Item.{Item}
 use Rattle.vp_source.specs.declared.source.Item.TheVariants as item
-use Rattle.vp_names.specs.declared.error.ElabError.TheVariants.{Duplicate, UnknownModule, Recursive, Undeclared, BadTarget, BadConnection, MultipleDrivers}
-use Rattle.vp_names.specs.Items.{definition_number, is_top}
-use Rattle.vp_modules.specs.Refusals.{recursive, refusal_of}
+use Rattle.vp_modules.specs.declared.error.ElabError.TheVariants.{Duplicate, UnknownModule, Recursive, Undeclared, BadTarget, BadConnection, MultipleDrivers}
+use Rattle.vp_modules.specs.Items.{definition_number, is_top}
+use Rattle.vp_modules.specs.ModuleRefusals.{recursive, refusal_of}
 
 abbrev tokens_in : Result (List Token) LexError → List Token
 tokens_in (Ok tokens) = tokens

@@ -2,10 +2,10 @@
 use Rattle.std.specs.Prelude.{◌≡◌, ℕ, nat_eq, nat_le, Bool, false, if◌then◌else◌, List, [], ◌∷◌, ◌++◌, slice_get, slice_index_or, Option, Some, None}
 use Rattle.std.specs.List.{list_any}
 use Rattle.std.specs.Option.{option_map_or}
-use Rattle.vp_list.specs.Lists.{range_of}
+use Rattle.vp_text.specs.Lists.{range_of}
 use Rattle.vp_source.specs.declared.source.Source.{Source}
 use Rattle.vp_source.specs.declared.source.Module as declared
-use Rattle.vp_modules.specs.Refusals.{recursive}
+use Rattle.vp_modules.specs.ModuleRefusals.{recursive}
 
 -- what the items of a module instantiate, of what those of the text do
 abbrev pub definitions_in : List (Option ℕ) → declared.Module → List (Option ℕ)

@@ -1,12 +1,16 @@
 ghost use Rattle.std.specs.Prelude.{◌≡◌, map, IfErr, IfOk};
-ghost use Rattle.vp_names.specs.Refusals.{bad_connection, bad_target, first_in, undeclared};
-ghost use Rattle.vp_modules.specs.Refusals.{driven_twice};
-ghost use Rattle.vp_names.specs.Tables.{scope_in, tables_in};
-ghost use Rattle.vp_names.specs.declared.error.ElabError.TheVariants.{NoMemory};
+ghost use Rattle.vp_modules.specs.Refusals.{bad_connection, bad_target, first_in, undeclared};
+ghost use Rattle.vp_modules.specs.ModuleRefusals.{driven_twice};
+ghost use Rattle.vp_modules.specs.Tables.{scope_in, tables_in};
+ghost use Rattle.vp_modules.specs.declared.error.ElabError.TheVariants.{NoMemory};
 
+use crate::connections::{Scope, bad_connection};
 use crate::drivers::driven_twice;
+use crate::error::ElabError;
+use crate::names::Names;
+use crate::operands::{bad_target, undeclared};
+use crate::tables::Tables;
 use std::alloc::Global;
-use vp_names::{ElabError, Names, Scope, Tables, bad_connection, bad_target, undeclared};
 use vp_source::{Source, earlier};
 
 /// The first name of a text that is not declared in its module; `scopes` are the names of each module's items.

@@ -1,12 +1,13 @@
 ghost use Rattle.std.specs.Prelude.{◌≡◌, [], None, map, IfOk};
-ghost use Rattle.vp_names.specs.Items.{definition_number, is_top};
-ghost use Rattle.vp_names.specs.Refusals.{twice_in};
-ghost use Rattle.vp_names.specs.Tables.{module_names, tables_in};
+ghost use Rattle.vp_modules.specs.Items.{definition_number, is_top};
+ghost use Rattle.vp_modules.specs.Refusals.{twice_in};
+ghost use Rattle.vp_modules.specs.Tables.{module_names, tables_in};
 
+use crate::names::Names;
+use crate::tables::Tables;
 use std::alloc::{AllocError, Global};
-use vp_list::Sequence;
-use vp_names::{Names, Tables};
 use vp_source::{Item, Source};
+use vp_text::Sequence;
 
 /// The number of the module that an item instantiates, its index in the text.
 fn definition_number(source: &Source, modules: &Names, item: Item) -> Option<usize>

@@ -1,14 +1,16 @@
 ghost use Rattle.std.specs.Prelude.{◌≡◌, [], ◌∷◌, ◌++◌, IfErr, IfOk, IfSome, OnOk};
 ghost use Rattle.std.specs.List.{flat_map};
-ghost use Rattle.vp_names.specs.declared.error.ElabError.TheVariants.{NoMemory};
-ghost use Rattle.vp_names.specs.Items.{items_in};
-ghost use Rattle.vp_modules.specs.Refusals.{driven_by, driven_from, driven_through, driven_twice, repeated};
-ghost use Rattle.vp_names.specs.Tables.{scope_in, tables_in};
+ghost use Rattle.vp_modules.specs.declared.error.ElabError.TheVariants.{NoMemory};
+ghost use Rattle.vp_modules.specs.Items.{items_in};
+ghost use Rattle.vp_modules.specs.ModuleRefusals.{driven_by, driven_from, driven_through, driven_twice, repeated};
+ghost use Rattle.vp_modules.specs.Tables.{scope_in, tables_in};
 
+use crate::connections::{Scope, definition_of, port_of};
+use crate::error::ElabError;
+use crate::items::{connections_of, is_input, items_of};
+use crate::names::Names;
+use crate::tables::Tables;
 use std::alloc::{AllocError, Global};
-use vp_names::{
-    ElabError, Names, Scope, Tables, connections_of, definition_of, is_input, items_of, port_of,
-};
 use vp_source::{Connection, Direction, Item, Module, Source};
 
 /// The place of the net that a connection to a module's port, after so many, drives.

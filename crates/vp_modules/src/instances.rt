@@ -1,9 +1,10 @@
 ghost use Rattle.std.specs.Prelude.{◌≡◌};
 ghost use Rattle.vp_source.specs.Places.{earliest};
-ghost use Rattle.vp_modules.specs.Refusals.{missing_module};
-ghost use Rattle.vp_names.specs.Tables.{module_names};
+ghost use Rattle.vp_modules.specs.ModuleRefusals.{missing_module};
+ghost use Rattle.vp_modules.specs.Tables.{module_names};
 
-use vp_names::{Names, module_named};
+use crate::lookup::module_named;
+use crate::names::Names;
 use vp_source::{Item, Source, earlier};
 
 /// The name of the module that an item instantiates, where no module has it.

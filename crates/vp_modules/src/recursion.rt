@@ -2,14 +2,14 @@ ghost use Rattle.std.specs.Prelude.{◌≡◌, ◌<◌, ℕ, [], ◌∷◌, ◌+
 ghost use Rattle.std.specs.List.{count_by, list_any};
 ghost use Rattle.vp_source.specs.Places.{earlier, word_at};
 ghost use Rattle.vp_modules.specs.Definitions.{AreSuspects, definitions_in, is_marked, is_member, is_number, is_up_to, with_number, with_numbers};
-ghost use Rattle.vp_names.specs.Items.{definition_number};
-ghost use Rattle.vp_names.specs.Refusals.{first_in, twice_in};
-ghost use Rattle.vp_modules.specs.Refusals.{leads, recursive};
-ghost use Rattle.vp_names.specs.declared.error.ElabError.TheVariants.{NoMemory};
+ghost use Rattle.vp_modules.specs.Items.{definition_number};
+ghost use Rattle.vp_modules.specs.Refusals.{first_in, twice_in};
+ghost use Rattle.vp_modules.specs.ModuleRefusals.{leads, recursive};
+ghost use Rattle.vp_modules.specs.declared.error.ElabError.TheVariants.{NoMemory};
 
+use crate::error::ElabError;
 use crate::reachable::Reached;
 use std::alloc::{AllocError, Global};
-use vp_names::ElabError;
 use vp_source::{Module, Source};
 
 /// How many instances, one within the other, the quick test follows: a module at which no chain of so many begins does not lead to itself.

@@ -1,20 +1,21 @@
-ghost use Rattle.vp_list.specs.Refusals.{MayExplain};
-ghost use Rattle.vp_names.specs.declared.error.ElabError.TheVariants.{NoMemory};
+ghost use Rattle.vp_text.specs.Refusals.{MayExplain};
+ghost use Rattle.vp_modules.specs.declared.error.ElabError.TheVariants.{NoMemory};
 ghost use Rattle.std.specs.Prelude.{◌≡◌, [], None, map, IfErr, IfOk, OnOk};
-ghost use Rattle.vp_names.specs.Items.{definition_number, is_top};
-ghost use Rattle.vp_names.specs.Refusals.{twice_in};
-ghost use Rattle.vp_modules.specs.Refusals.{refusal_of, refusal_of_instances, refusal_of_uses};
-ghost use Rattle.vp_names.specs.Tables.{tables_in};
+ghost use Rattle.vp_modules.specs.Items.{definition_number, is_top};
+ghost use Rattle.vp_modules.specs.Refusals.{twice_in};
+ghost use Rattle.vp_modules.specs.ModuleRefusals.{refusal_of, refusal_of_instances, refusal_of_uses};
+ghost use Rattle.vp_modules.specs.Tables.{tables_in};
 ghost use Rattle.vp_modules.specs.Resolution.{resolved_in};
 
 use crate::checks::{first_bad_connection, first_bad_target, first_driven_twice, first_undeclared};
 use crate::definitions::{definitions_of, tops_of};
+use crate::error::ElabError;
 use crate::instances::first_missing;
 use crate::recursion::first_recursive;
+use crate::tables::{Tables, tables_of};
 use std::alloc::Global;
-use vp_list::Sequence;
-use vp_names::{ElabError, Tables, tables_of};
 use vp_source::Source;
+use vp_text::Sequence;
 
 /// A text whose modules are right.
 #[derive(Drop)]

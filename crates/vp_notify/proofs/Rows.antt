@@ -1,7 +1,7 @@
 -- A registry, computed call by call. Each row is an equation that holds by computation.
 use Rattle.std.proofs.Common.{◌≡◌, ℕ, ◌-◌, ◌^◌, [], ◌∷◌, None, Some, false, true, replicate, refl}
 use Rattle.vp_bits.specs.declared.bit.Bit.TheVariants.{One}
-use Rattle.vp_waking.specs.declared.change.Change.{Change}
+use Rattle.vp_expr.specs.declared.change.Change.{Change}
 use Rattle.vp_notify.specs.declared.notice.Notice.{Notice}
 use Rattle.vp_notify.specs.declared.registry.Callback.{Callback}
 use Rattle.vp_notify.specs.Registry.{RegistryState, drained, due, empty_registry, has_number, is_full, registered, watches, with_notice, without}

@@ -1,4 +1,4 @@
-pub use Rattle.vp_waking.specs.declared.change.Change
+pub use Rattle.vp_expr.specs.declared.change.Change
 pub mod Faults
 pub mod Registry
 pub mod Renumbered

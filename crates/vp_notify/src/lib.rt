@@ -14,4 +14,4 @@ pub use error::NotifyError;
 pub use notice::{Notice, Notices, PolledNotice};
 pub use registry::{CALLBACK_LIMIT, Callback, NOTICE_LIMIT, Registry};
 pub use renumbering::{number_now, rises};
-pub use vp_waking::Change;
+pub use vp_expr::Change;

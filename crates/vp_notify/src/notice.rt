@@ -2,7 +2,7 @@ ghost use Rattle.std.specs.Prelude.{◌≡◌};
 ghost use Rattle.vp_notify.specs.Registry.{polled_notice};
 
 use vp_bits::Bits;
-use vp_waking::ObjectId;
+use vp_expr::ObjectId;
 
 /// What a callback is notified of a change: its number, the object, the time in time units, and the object's new value (IEEE Std 1364-2005,
 /// 27.33.1).

@@ -3,7 +3,7 @@ ghost use Rattle.std.specs.List.Sorted.{IsPartitionPoint};
 ghost use Rattle.vp_notify.specs.Registry.{AreOrdered, is_below, is_by, is_on};
 
 use crate::registry::Callback;
-use vp_waking::ObjectId;
+use vp_expr::ObjectId;
 
 /// How many of the callbacks, which stand by object, are on an object or a lower one.
 pub fn count_by(callbacks: &[Callback], object: ObjectId) -> usize

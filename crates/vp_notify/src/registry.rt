@@ -11,8 +11,8 @@ use crate::renumbering::number_now;
 use circular_buffer::HeapCircularBuffer;
 use std::alloc::{AllocError, Global};
 use std::marker::Model;
+use vp_expr::{Change, ObjectId};
 use vp_pragma::{Right, Rights};
-use vp_waking::{Change, ObjectId};
 
 /// The most callbacks that a registry has at a time.
 pub const CALLBACK_LIMIT: usize = 1_024;

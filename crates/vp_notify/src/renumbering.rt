@@ -2,7 +2,7 @@
 ghost use Rattle.std.specs.Prelude.{◌≡◌};
 ghost use Rattle.vp_notify.specs.Renumbered.{number_now, rises};
 
-use vp_waking::ObjectId;
+use vp_expr::ObjectId;
 
 /// Each of these numbers is higher than the one before it, so that objects keep their order under them.
 pub fn rises(numbers: &[u32]) -> bool

@@ -3,7 +3,7 @@ ghost use Rattle.vp_operand.specs.Arena.{fitting, is_width, operand_sign, operan
 
 use crate::operand::{Infix, Operand};
 use std::alloc::{AllocError, Global};
-use vp_list::Sequence;
+use vp_text::Sequence;
 
 /// The greatest size of a vector, in bits.
 const SIZE_LIMIT: u64 = 64;

@@ -10,8 +10,8 @@ use crate::words::{
     push_access, push_closed, push_envelope, push_numbers, push_quoted, push_width, push_word,
 };
 use std::alloc::{AllocError, Global};
-use vp_list::Text;
 use vp_policy::{SeenEnvelope, SeenObject, View};
+use vp_text::Text;
 
 /// Adds the line that reports whether a user may let the design run.
 fn push_run(text: &mut String, run: bool) -> Result<(), AllocError>

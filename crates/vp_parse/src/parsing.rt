@@ -19,9 +19,9 @@ use crate::items::items;
 use crate::ports::header;
 use std::alloc::Global;
 use vp_lex::{Keyword, Punctuator, Token};
-use vp_list::{Sequence, Text};
 use vp_parse_expr::{Stop, name, skip, symbols};
 use vp_source::{DEPTH_LIMIT, Module, Source, Span, Symbol, SymbolKind};
+use vp_text::{Sequence, Text};
 
 /// The places of a list from one up to another.
 fn span(first: u32, end: u32) -> Span

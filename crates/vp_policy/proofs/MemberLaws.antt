@@ -4,7 +4,7 @@ use Rattle.std.specs.Prelude.{String, if◌then◌else◌, option_and_then, opti
 use Rattle.std.specs.Map.{keys_of}
 use Rattle.std.specs.Option.{option_map_or}
 use Rattle.std.specs.Str.{bytes_eq}
-use Rattle.vp_list.specs.laws.Searches.{position-map}
+use Rattle.vp_text.specs.laws.Searches.{position-map}
 use Rattle.std.specs.declared.alloc.Global.{Global}
 use Rattle.vp_policy.specs.declared.policy.User.{User}
 use Rattle.vp_policy.specs.Members.{member_of}

@@ -7,7 +7,7 @@ use Rattle.std.specs.Str.{bytes_eq}
 use Rattle.std.specs.declared.alloc.Global.{Global}
 use Rattle.std.proofs.lemmas.List.{append_assoc, append-nil, map-append}
 use Rattle.std.proofs.Math.Bool.{or-false}
-use Rattle.vp_list.specs.laws.Searches.{list_any-map}
+use Rattle.vp_text.specs.laws.Searches.{list_any-map}
 use Rattle.vp_policy.specs.declared.policy.User.{User}
 use Rattle.vp_policy.specs.File.{grants_missing, has_user, is_for_missing, is_named_twice}
 use Rattle.vp_policy.specs.Members.{grant_shown, member_of}

@@ -7,7 +7,7 @@ use Rattle.std.proofs.lemmas.Slice.Eq.{bytes_eq-Decides}
 use Rattle.std.proofs.lemmas.Bool.{and_parts}
 use Rattle.std.proofs.lemmas.List.Quantifiers.{position-Some}
 use Rattle.std.proofs.Math.Bool.{and-true}
-use Rattle.vp_list.specs.Texts.{part_and_rest, begun, parts}
+use Rattle.vp_text.specs.Texts.{part_and_rest, begun, parts}
 use Rattle.vp_pragma.specs.declared.rights.Right.{Right}
 use Rattle.vp_pragma.specs.Rights.{RightSet, both, either, everything, has, nothing}
 use Rattle.vp_elab.specs.declared.object.Kind.TheVariants as kind

@@ -4,8 +4,8 @@ ghost use Rattle.vp_policy.specs.File.{opened_by};
 
 use crate::reading::opened_by;
 use std::marker::Model;
-use vp_list::Same;
 use vp_pragma::{Right, Rights};
+use vp_text::Same;
 
 /// What a grant gives. A contract sees the set of its rights.
 #[derive(Drop)]

@@ -5,7 +5,7 @@ ghost use Rattle.vp_policy.specs.Members.{member_of};
 use crate::policy::User;
 use indexmap::IndexMap;
 use std::alloc::{AllocError, Global};
-use vp_list::{Sequence, Text};
+use vp_text::{Sequence, Text};
 
 /// A copy of a text, if there is one.
 pub fn copied(alloc: Global, text: Option<&str>) -> Result<Option<Text>, AllocError>

@@ -6,8 +6,8 @@ use std::alloc::{AllocError, Global};
 use std::marker::Model;
 use std::sync::Arc;
 use vp_elab::{Design, ObjectId};
-use vp_list::{Same, SharedText};
 use vp_pragma::Right;
+use vp_text::{Same, SharedText};
 
 /// What keeps a user out.
 #[derive(Clone, Copy, Debug, PartialEq, Eq)]

@@ -1,6 +1,6 @@
 // What is opened to a user, step by step of an object's path (docs/FORMATS.md, "Rights").
 ghost use Rattle.std.specs.Prelude.{◌≡◌, ℕ, Option, Some, IsSome, IfOk, IsOkUnless, is_some, map, option_map};
-ghost use Rattle.vp_list.specs.Texts.{parts};
+ghost use Rattle.vp_text.specs.Texts.{parts};
 ghost use Rattle.vp_pragma.specs.Rights.{either, set_of};
 ghost use Rattle.vp_elab.specs.Tree.{find_in};
 ghost use Rattle.vp_policy.specs.Filter.{IsAnsweredAlike, by_first, by_grant, closed_in, denial_at, is_listed_at, listed, listed_in, look_in, unlisted};
@@ -13,8 +13,8 @@ use crate::policy::{Policy, UserId};
 use crate::rights_tables::entry_of;
 use std::alloc::Global;
 use vp_elab::{Design, ObjectId, StepRights};
-use vp_list::{Sequence, first_part};
 use vp_pragma::{Right, Rights};
+use vp_text::{Sequence, first_part};
 
 impl Policy {
     /// What keeps a user out of an envelope: his grant, if it is the open text or he has an entry for it, else the

@@ -21,8 +21,8 @@ use std::alloc::{AllocError, Global};
 use std::marker::Model;
 use std::snapshot::Snapshot;
 use vp_elab::{Design, ObjectId};
-use vp_list::{Sequence, Text};
 use vp_pragma::{Right, Rights};
+use vp_text::{Sequence, Text};
 
 /// A user of a policy, by his number in the file, from 0.
 #[derive(Clone, Copy, Debug, PartialEq, Eq, Hash)]

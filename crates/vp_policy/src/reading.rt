@@ -3,7 +3,7 @@ ghost use Rattle.std.specs.Prelude.{◌≡◌, ◌⊎◌, [], None, Ok, Some, le
 ghost use Rattle.std.specs.List.{list_all};
 ghost use Rattle.std.specs.Result.{result_err};
 ghost use Rattle.vp_policy.specs.declared.error.PolicyError.TheVariants.{NoMemory};
-ghost use Rattle.vp_list.specs.Refusals.{MayExplain};
+ghost use Rattle.vp_text.specs.Refusals.{MayExplain};
 ghost use Rattle.serde_json.specs.View.{items_view, view};
 ghost use Rattle.vp_pragma.specs.Rights.{set_of};
 ghost use Rattle.vp_policy.specs.File.{access_in, each_of, file_in, file_of, grant_of, grants_missing, grants_of, is_for_missing, is_word, is_word_byte, open_set_of, opened_by, operator_of, policy_of, run_of, user_from, users_of, word_at, word_of};
@@ -20,8 +20,8 @@ use serde_json::Value;
 use std::alloc::Global;
 use vp_elab::Design;
 use vp_json::{ReadError, has_keys, number, read, text};
-use vp_list::{Sequence, Text};
 use vp_pragma::{Rights, access};
+use vp_text::{Sequence, Text};
 
 /// The greatest number of users of a policy file.
 pub const USER_LIMIT: usize = 256;

@@ -12,8 +12,8 @@ use crate::policy::User;
 use crate::rights_tables::UserTables;
 use indexmap::IndexMap;
 use std::alloc::{AllocError, Global};
-use vp_list::Sequence;
 use vp_pragma::Rights;
+use vp_text::Sequence;
 
 /// These grants, but for an envelope exactly this one.
 fn with_grant(

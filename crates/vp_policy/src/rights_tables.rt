@@ -14,8 +14,8 @@ use crate::scope_lists::{ScopeLists, scope_lists_of};
 use indexmap::IndexMap;
 use std::alloc::{AllocError, Global};
 use vp_elab::{Design, ObjectId};
-use vp_list::Sequence;
 use vp_pragma::{Right, Rights};
+use vp_text::Sequence;
 
 /// The tables of a user.
 #[derive(Drop)]

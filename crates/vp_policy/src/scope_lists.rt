@@ -6,7 +6,7 @@ ghost use Rattle.vp_policy.specs.ScopeLists.{AreScopeLists};
 
 use std::alloc::{AllocError, Global};
 use vp_elab::{Design, ObjectId};
-use vp_list::Sequence;
+use vp_text::Sequence;
 
 /// The lists of the envelopes that are declared in the scopes of a design.
 #[derive(Drop)]

@@ -15,10 +15,10 @@ use std::alloc::Global;
 use std::marker::Model;
 use vp_bits::Bits;
 use vp_elab::{Design, Kind, Object, ObjectId};
-use vp_list::{Sequence, SharedText, Text};
 use vp_operand::fitted;
 use vp_pragma::{Right, Rights};
 use vp_resolve::constant_at;
+use vp_text::{Sequence, SharedText, Text};
 
 /// A viewport as a user sees it: its envelope is that of the object that it matches, and its line is not reported.
 #[derive(Drop)]

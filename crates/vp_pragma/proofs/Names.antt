@@ -1,7 +1,7 @@
 -- A text with two dots names no item.
 use Rattle.std.proofs.Common.{◌≡◌, ℕ, ◌≤◌, List, [], ◌∷◌, length, None, refl, arith}
-use Rattle.vp_list.specs.Texts.{parts}
-use Rattle.vp_list.specs.laws.Texts.{parts_some}
+use Rattle.vp_text.specs.Texts.{parts}
+use Rattle.vp_text.specs.laws.Texts.{parts_some}
 use Rattle.vp_pragma.specs.EnvelopesOf.{item_named}
 
 three_of : (a b : List ℕ) (ps : List (List ℕ)) → 1 ≤ length ps → item_named (a ∷ b ∷ ps) ≡ None

@@ -15,7 +15,7 @@ use Rattle.vp_pragma.specs.Pragmas.{before_effects, effect_of}
 use Rattle.vp_pragma.specs.LineReading.{effects_from, expression_at, first_effects, next_effects, all_effects}
 use Rattle.vp_pragma.specs.TokenClasses.{Placed}
 use Rattle.std.specs.Result.{result_err}
-use Rattle.vp_list.specs.Refusals.{MayExplain}
+use Rattle.vp_text.specs.Refusals.{MayExplain}
 use Rattle.vp_pragma.specs.Reading.{after_all, after_one, directive_of, placed}
 
 refusal_through :

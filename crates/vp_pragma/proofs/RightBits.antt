@@ -1,7 +1,7 @@
 -- Rights as bits.
 use Rattle.std.proofs.Common.{◌≡◌, ℕ, zero, suc, ◌*◌, ◌^◌, ◌<◌, ◌≤◌, ◌==◌, Bool, true, false, ◌&&◌, ◌||◌, refl, sym, ap, ◌∙◌, arith}
 use Rattle.std.specs.Prelude.{min, max, List, [], option_and_then, option_map, Option, Some, None}
-use Rattle.vp_list.specs.Texts.{part_and_rest, parts}
+use Rattle.vp_text.specs.Texts.{part_and_rest, parts}
 use Rattle.vp_pragma.specs.Access.{right_of, rights_named}
 use Rattle.std.specs.Int.{bit_at}
 use Rattle.std.specs.Int.RustNames.{bit_and, bit_or}

@@ -10,7 +10,7 @@ use Rattle.vp_pragma.specs.Pragmas.{begins_line, on_line, pragma_line}
 use Rattle.vp_pragma.specs.LineReading.{effects_after, directive_effects}
 use Rattle.vp_pragma.specs.TokenClasses.{Placed}
 use Rattle.std.specs.Result.{result_err}
-use Rattle.vp_list.specs.Refusals.{MayExplain}
+use Rattle.vp_text.specs.Refusals.{MayExplain}
 use Rattle.vp_pragma.specs.declared.error.PragmaError.TheVariants as error
 use Rattle.vp_pragma.specs.Reading.{after_left, progress_of}
 use Rattle.vp_pragma.proofs.Refusals.{explains_through}

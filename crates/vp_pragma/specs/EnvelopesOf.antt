@@ -10,13 +10,13 @@ use Rattle.vp_pragma.specs.declared.pragma_effect.ViewportStrings.{ViewportStrin
 use Rattle.vp_pragma.specs.declared.envelope.Envelope.{Envelope}
 use Rattle.vp_pragma.specs.declared.error.PragmaError.{PragmaError}
 use Rattle.vp_pragma.specs.declared.error.PragmaError.TheVariants as error
-use Rattle.vp_list.specs.Texts.{parts}
+use Rattle.vp_text.specs.Texts.{parts}
 use Rattle.vp_lex.specs.Pieces.{is_word}
 use Rattle.vp_pragma.specs.Access.{access_of}
 use Rattle.vp_pragma.specs.Envelopes.{Protection, Viewport}
 use Rattle.vp_pragma.specs.Rights.{RightSet}
 use Rattle.vp_pragma.specs.Surroundings.{is_free, module_at}
-use Rattle.vp_list.specs.Refusals.{MayExplain}
+use Rattle.vp_text.specs.Refusals.{MayExplain}
 use Rattle.vp_pragma.specs.Pragmas.{LinesDo, lines_of}
 use Rattle.vp_pragma.specs.TokenClasses.{Placed}
 

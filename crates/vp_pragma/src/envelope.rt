@@ -5,7 +5,7 @@ ghost use Rattle.vp_pragma.specs.Reading.{objects_of};
 use crate::viewport::Viewport;
 use std::alloc::{AllocError, Global};
 use std::marker::Model;
-use vp_list::{Sequence, SharedText};
+use vp_text::{Sequence, SharedText};
 
 /// An envelope: the places of its `begin` and of its `end`, and its author.
 #[derive(Drop)]

@@ -9,7 +9,7 @@ ghost use Rattle.vp_pragma.specs.EnvelopesOf.{AreEnvelopes, IsFaultOf, after_eff
 ghost use Rattle.vp_pragma.specs.Pragmas.{before_effects, begins_line, is_pragma, on_line, pragma_line};
 ghost use Rattle.vp_pragma.specs.LineReading.{effects_from, effects_of_text, directive_effects, line_effects, named_effects, all_effects};
 ghost use Rattle.vp_pragma.specs.declared.error.PragmaError.TheVariants.{NoMemory};
-ghost use Rattle.vp_list.specs.Refusals.{MayExplain};
+ghost use Rattle.vp_text.specs.Refusals.{MayExplain};
 ghost use Rattle.vp_pragma.specs.Reading.{HasPlaces, HasRoom, IsBefore, IsLine, after_all, after_left, after_one, placed, progress_of};
 ghost use Rattle.vp_pragma.specs.Surroundings.{is_before_else, is_free_around};
 
@@ -21,7 +21,7 @@ use crate::surroundings::{Surroundings, is_before_else};
 use crate::viewport::{Viewport, read_view};
 use std::alloc::{AllocError, Global};
 use vp_lex::{Token, string_value};
-use vp_list::{SharedText, Text};
+use vp_text::{SharedText, Text};
 
 /// The greatest number of envelopes.
 pub const ENVELOPE_LIMIT: usize = 255;

@@ -3,7 +3,7 @@ ghost use Rattle.vp_pragma.specs.Access.{access_of, right_of};
 ghost use Rattle.vp_pragma.specs.Rights.{set_of};
 
 use bitflags::{Flag, Flags, bitflag_items};
-use vp_list::first_part;
+use vp_text::first_part;
 
 /// What a user may do with an object (docs/FORMATS.md, "Access strings").
 #[derive(Clone, Copy, Debug, PartialEq, Eq)]

@@ -2,7 +2,7 @@
 ghost use Rattle.std.specs.Result.{result_err};
 ghost use Rattle.std.specs.Prelude.{◌≡◌, ◌+◌, ◌++◌, ◌∷◌, [], Ok, codes, length, option_map, IfOk, MatchResult};
 ghost use Rattle.std.specs.List.{list_all};
-ghost use Rattle.vp_list.specs.Texts.{parts};
+ghost use Rattle.vp_text.specs.Texts.{parts};
 ghost use Rattle.vp_lex.specs.Bytes.{begins_name, goes_on_name};
 ghost use Rattle.vp_lex.specs.Pieces.{is_word};
 ghost use Rattle.vp_lex.specs.Strings.{string_value};
@@ -10,7 +10,7 @@ ghost use Rattle.vp_lex.specs.Texts.{text_of};
 ghost use Rattle.vp_pragma.specs.Envelopes.{object_of};
 ghost use Rattle.vp_pragma.specs.EnvelopesOf.{Progress, item_named, viewed};
 ghost use Rattle.vp_pragma.specs.declared.error.PragmaError.TheVariants.{NoMemory};
-ghost use Rattle.vp_list.specs.Refusals.{MayExplain};
+ghost use Rattle.vp_text.specs.Refusals.{MayExplain};
 ghost use Rattle.vp_pragma.specs.Reading.{viewport_of};
 
 use crate::error::PragmaError;
@@ -18,7 +18,7 @@ use crate::pragma_effect::ViewportStrings;
 use crate::rights::{Rights, access};
 use std::alloc::{AllocError, Global};
 use vp_lex::string_value;
-use vp_list::{Text, first_part};
+use vp_text::{Text, first_part};
 
 /// A viewport: it opens rights on an item of the envelope in which it stands.
 #[derive(Drop)]

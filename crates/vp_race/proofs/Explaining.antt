@@ -1,7 +1,7 @@
 -- Why choices are refused, from the first that is no step's on.
 use Rattle.std.proofs.Common.{◌≡◌, ℕ, List, Option, Some, None, refl, subst}
 use Rattle.vp_race.specs.Segments.{choices_refusal}
-use Rattle.vp_list.specs.Refusals.{MayExplain}
+use Rattle.vp_text.specs.Refusals.{MayExplain}
 use Rattle.vp_race.specs.declared.error.RaceError.{RaceError}
 use Rattle.vp_race.specs.declared.error.RaceError.TheVariants.{NotAnOrder, NotComplete, SameValue, SegmentGone, Booked, BookFull, NoMemory}
 use Rattle.vp_race.specs.Orders.{followed}

@@ -3,7 +3,7 @@ use Rattle.std.proofs.Common.{◌≡◌, ◌≢◌, ◌∙◌, ℕ, ◌&&◌, Bo
 use Rattle.vp_bits.specs.declared.bit.Bit.{Bit}
 use Rattle.std.specs.Option.{option_map_or}
 use Rattle.vp_race.specs.Segments.{choices_refusal}
-use Rattle.vp_list.specs.Refusals.{MayExplain}
+use Rattle.vp_text.specs.Refusals.{MayExplain}
 use Rattle.vp_bits.specs.Vector.{same_bits}
 use Rattle.vp_bits.specs.laws.Words.{same_bits-Decides}
 use Rattle.vp_elab.specs.declared.object.ObjectId.{ObjectId}

@@ -2,7 +2,7 @@
 use Rattle.std.specs.Prelude.{◌≡◌, ℕ, ◌+◌, ◌-◌, ◌*◌, ◌/◌, ◌%◌, ◌^◌, ◌==◌, ◌<◌, ◌&&◌, zero, suc, Bool, false, not, if◌then◌else◌, List, [], ◌∷◌, ◌++◌, filter, length, map, min, Option, Some, None, option_map, Result, IfErr, IfOk, OnOk, slice_index_or}
 use Rattle.std.specs.List.{list_any}
 use Rattle.vp_race.specs.declared.error.RaceError.TheVariants.{NoMemory}
-use Rattle.vp_list.specs.Refusals.{MayExplain}
+use Rattle.vp_text.specs.Refusals.{MayExplain}
 use Rattle.vp_elab.specs.Tree.{below}
 use Rattle.vp_elab.specs.declared.object.ObjectId.{ObjectId}
 use Rattle.vp_sim.specs.States.{State, eligible, step}

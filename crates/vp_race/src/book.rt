@@ -1,16 +1,16 @@
 ghost use Rattle.std.specs.List.{list_any};
 ghost use Rattle.std.specs.Prelude.{◌≡◌, ◌∷◌, ◌++◌, [], false, None, Some, IfErr, IfSome, OnErr, OnOk, option_copied};
 ghost use Rattle.vp_race.specs.declared.error.RaceError.TheVariants.{NoMemory};
-ghost use Rattle.vp_list.specs.Refusals.{Explains};
+ghost use Rattle.vp_text.specs.Refusals.{Explains};
 ghost use Rattle.vp_race.specs.Booking.{is_booked, is_name, refusal_of_finding, with_race};
 
 use crate::error::RaceError;
 use crate::finding::Finding;
 use crate::segment::Segment;
-use crate::shared::Shared;
 use indexmap::IndexSet;
 use std::alloc::{AllocError, Global};
 use std::marker::Model;
+use vp_text::Shared;
 
 /// The races that were found, in the order in which they were booked. A contract sees them, and how many there may be.
 #[derive(Drop)]

@@ -1,6 +1,6 @@
 ghost use Rattle.std.specs.Prelude.{◌≡◌, if◌then◌else◌, true, None, Some, IfErr, IfOk, OnOk, IsOkUnless};
 ghost use Rattle.std.specs.Arc.{arc_value};
-ghost use Rattle.vp_list.specs.Refusals.{MayExplain};
+ghost use Rattle.vp_text.specs.Refusals.{MayExplain};
 ghost use Rattle.vp_race.specs.declared.error.RaceError.TheVariants.{NoMemory};
 ghost use Rattle.vp_race.specs.Orders.{after_choices, differs, is_over};
 ghost use Rattle.vp_race.specs.Search.{IsChecked, finding_of};

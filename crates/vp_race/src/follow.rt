@@ -1,6 +1,6 @@
 ghost use Rattle.std.specs.Prelude.{◌≡◌, ◌++◌, Some, IfErr, IfOk, OnOk, IsOkUnless};
 ghost use Rattle.vp_race.specs.Segments.{choices_refusal};
-ghost use Rattle.vp_list.specs.Refusals.{MayExplain};
+ghost use Rattle.vp_text.specs.Refusals.{MayExplain};
 ghost use Rattle.vp_race.specs.declared.error.RaceError.TheVariants.{NoMemory};
 ghost use Rattle.vp_race.specs.Orders.{after_choices, is_over, is_signal, reached, sources_of};
 ghost use Rattle.vp_sim.specs.States.{step};

@@ -17,7 +17,6 @@ mod pair;
 mod recording;
 mod seeds;
 mod segment;
-mod shared;
 mod trial;
 
 pub use book::Book;
@@ -29,5 +28,4 @@ pub use pair::OrderPair;
 pub use recording::Recording;
 pub use seeds::search;
 pub use segment::Segment;
-pub use shared::Shared;
 pub use vp_sim::{Sim, SimError};

@@ -1,9 +1,8 @@
 ghost use Rattle.std.specs.Prelude.{◌≡◌, ◌<◌, ◌+◌, ◌^◌, None, option_copied, option_map, IfErr, IfOk, IsOkUnless, MatchOption, OnErr, OnOk};
 ghost use Rattle.std.specs.Arc.{arc_value};
-ghost use Rattle.vp_sim.specs.States.{refusal_in};
-ghost use Rattle.vp_list.specs.Refusals.{Explains};
+ghost use Rattle.vp_sim.specs.States.{refusal_in, Goes, advance, put, start, step};
+ghost use Rattle.vp_text.specs.Refusals.{Explains};
 ghost use Rattle.vp_sim.specs.declared.error.SimError.TheVariants.{NoMemory};
-ghost use Rattle.vp_sim.specs.States.{Goes, advance, put, start, step};
 ghost use Rattle.vp_race.specs.Recording.{first_segments, kept_of, next_job, with_anew, with_job, with_step};
 
 use crate::follow::is_over;

@@ -5,8 +5,8 @@ use Rattle.std.proofs.lemmas.List.Folds.{list_all-map}
 use Rattle.std.specs.List.{list_all}
 use Rattle.vp_source.specs.Places.{earliest}
 use Rattle.vp_source.specs.Whole.{AreWhole}
-use Rattle.vp_names.specs.Items.{items_in, statements_in}
-use Rattle.vp_names.specs.Refusals.{first_in}
+use Rattle.vp_modules.specs.Items.{items_in, statements_in}
+use Rattle.vp_modules.specs.Refusals.{first_in}
 use Rattle.vp_elab.specs.Built.{Elaborated, IsElaborated}
 use Rattle.vp_elab.specs.Elaboration.{further_limit}
 use Rattle.vp_elab.specs.Tree.{Node}

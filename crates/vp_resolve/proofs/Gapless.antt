@@ -4,12 +4,12 @@ use Rattle.std.proofs.lemmas.Bool.{le-leb}
 use Rattle.std.proofs.lemmas.List.Folds.{drop_split}
 use Rattle.std.proofs.Math.Seq.{drop-length}
 use Rattle.std.specs.List.{flat_map, slice_range}
-use Rattle.vp_list.specs.Lists.{range_of}
+use Rattle.vp_text.specs.Lists.{range_of}
 use Rattle.vp_source.specs.declared.source.Module.{Module}
 use Rattle.vp_source.specs.declared.source.Source.{Source}
 use Rattle.vp_source.specs.declared.statement.Span.{Span}
 use Rattle.vp_source.specs.Whole.{AreGapless, AreWhole}
-use Rattle.vp_names.specs.Items.{expressions_in}
+use Rattle.vp_modules.specs.Items.{expressions_in}
 
 -- a list has the items of a span that ends in it
 pub in_range : {X : Type 0} (xs : List X) (a b : ℕ) → a ≤ b → b ≤ length xs → range_of xs a b ≡ slice_range xs a b

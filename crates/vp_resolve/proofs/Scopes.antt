@@ -6,8 +6,8 @@ use Rattle.vp_source.specs.declared.expression.Expression.{Expression}
 use Rattle.vp_source.specs.declared.statement.Statement.{Statement}
 use Rattle.vp_source.specs.Places.{earlier, earliest}
 use Rattle.vp_source.specs.declared.source.Module.{Module}
-use Rattle.vp_names.specs.Items.{expressions_in, statements_in}
-use Rattle.vp_names.specs.Tables.{module_names}
+use Rattle.vp_modules.specs.Items.{expressions_in, statements_in}
+use Rattle.vp_modules.specs.Tables.{module_names}
 use Rattle.vp_elab.specs.Built.{Elaborated}
 use Rattle.vp_elab.specs.Tree.{first_of}
 use Rattle.vp_resolve.specs.Checks.{bad_at, bad_in, bad_target}

@@ -17,7 +17,7 @@ use Rattle.vp_source.specs.declared.operator.UnaryOperator.TheVariants as before
 use Rattle.vp_source.specs.declared.source.Module.{Module}
 use Rattle.vp_source.specs.declared.source.Source.{Source}
 use Rattle.vp_source.specs.Places.{earliest, word_at}
-use Rattle.vp_names.specs.Items.{expressions_in}
+use Rattle.vp_modules.specs.Items.{expressions_in}
 use Rattle.vp_elab.specs.Built.{Elaborated}
 use Rattle.vp_elab.specs.Elaboration.{range_width}
 use Rattle.vp_elab.specs.Tree.{Node, find_named, is_named, scope_names}

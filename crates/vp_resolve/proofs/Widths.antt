@@ -12,7 +12,7 @@ use Rattle.vp_source.specs.declared.source.Item.TheVariants as item
 use Rattle.vp_source.specs.declared.source.Module.{Module}
 use Rattle.vp_source.specs.declared.source.Source.{Source}
 use Rattle.vp_source.specs.Places.{earliest}
-use Rattle.vp_names.specs.Items.{definition_of, instantiated, is_top, items_in, module_named, module_number}
+use Rattle.vp_modules.specs.Items.{definition_of, instantiated, is_top, items_in, module_named, module_number}
 use Rattle.vp_elab.specs.Envelopes.{Protection}
 use Rattle.vp_elab.specs.Elaboration.{item_nodes, item_range, item_step, literal_range, nodes_below, nodes_within, range_width, root_step, top_nodes, width_of}
 use Rattle.vp_elab.specs.Tree.{Node, Step}

@@ -15,8 +15,8 @@ use Rattle.vp_source.specs.declared.source.Item.TheVariants as item
 use Rattle.vp_source.specs.declared.source.Module as declared
 use Rattle.vp_source.specs.declared.statement.Statement.{Statement}
 use Rattle.vp_source.specs.declared.statement.Statement.TheVariants as statement
-use Rattle.vp_names.specs.Items.{expressions_in, items_in, statements_in}
-use Rattle.vp_names.specs.Refusals.{first_in}
+use Rattle.vp_modules.specs.Items.{expressions_in, items_in, statements_in}
+use Rattle.vp_modules.specs.Refusals.{first_in}
 use Rattle.vp_elab.specs.Built.{Elaborated}
 use Rattle.vp_elab.specs.Elaboration.{range_width}
 use Rattle.vp_elab.specs.Tree.{below}

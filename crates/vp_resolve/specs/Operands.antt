@@ -11,7 +11,7 @@ use Rattle.vp_source.specs.declared.operator.UnaryOperator.{UnaryOperator}
 use Rattle.vp_source.specs.declared.operator.UnaryOperator.TheVariants as before
 use Rattle.vp_source.specs.Places.{word_at}
 use Rattle.vp_source.specs.declared.source.Module as declared
-use Rattle.vp_names.specs.Items.{expressions_in}
+use Rattle.vp_modules.specs.Items.{expressions_in}
 use Rattle.vp_elab.specs.Built.{Elaborated}
 use Rattle.vp_elab.specs.Elaboration.{range_width}
 use Rattle.vp_operand.specs.declared.operand.Operand.{Operand}

@@ -1,7 +1,7 @@
 // What is refused of a design's expressions, by the place of each fault.
 ghost use Rattle.std.specs.Prelude.{◌≡◌, drop, option_map, slice_index_or, IfOk, OnOk};
 ghost use Rattle.vp_source.specs.Places.{earliest};
-ghost use Rattle.vp_names.specs.Refusals.{first_in};
+ghost use Rattle.vp_modules.specs.Refusals.{first_in};
 ghost use Rattle.vp_resolve.specs.Checks.{bad_at, bad_in, bad_name, bad_target, bits_named, counted, counted_size, counted_sizes, first_bad, first_signed, first_wide, first_wide_in, first_wide_of, is_bad, is_relational, is_wide, is_wide_part, node_size, range_in, signed_at, signed_in, wide_among, wide_at, wide_declared, wide_item, wide_target, with_sizes};
 ghost use Rattle.vp_resolve.specs.Names.{scope_of};
 ghost use Rattle.vp_resolve.specs.Operands.{operands_of};
@@ -9,7 +9,7 @@ ghost use Rattle.vp_resolve.specs.Operands.{operands_of};
 use crate::resolving::{object_named, operand_of, scope_of};
 use std::alloc::{AllocError, Global};
 use vp_elab::{Design, ObjectId, range_width};
-use vp_names::{expressions_of, items_of, statements_of};
+use vp_modules::{expressions_of, items_of, statements_of};
 use vp_operand::{Operand, operand_size, sign_at, signs_of};
 use vp_source::{
     BinaryOperator, DeclaredRange, Expression, Item, Module, Selection, Source, Statement, earlier,

@@ -1,5 +1,5 @@
 // Why the expressions of a design are refused: the first refusal that holds, each tested over the whole text.
-ghost use Rattle.vp_list.specs.Refusals.{MayExplain};
+ghost use Rattle.vp_text.specs.Refusals.{MayExplain};
 ghost use Rattle.vp_resolve.specs.declared.error.ExprError.TheVariants.{NoMemory};
 ghost use Rattle.std.specs.Prelude.{◌≡◌, true, None, IfErr, OnOk};
 ghost use Rattle.vp_resolve.specs.Checks.{refusal_of};

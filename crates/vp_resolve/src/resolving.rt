@@ -7,13 +7,13 @@ ghost use Rattle.vp_resolve.specs.Operands.{infix_of, named_operand, operand_of,
 use std::alloc::{AllocError, Global};
 use vp_bits::Bits;
 use vp_elab::{Design, ObjectId, range_width};
-use vp_list::Sequence;
-use vp_names::expressions_of;
+use vp_modules::expressions_of;
 use vp_operand::{
     Binary, Comparison, Infix, Logical, Operand, Reduction, Shift, Slot, Unary, based_bits, fitted,
     literal_bits, number_bits,
 };
 use vp_source::{BinaryOperator, Expression, Module, Range, Selection, UnaryOperator};
+use vp_text::Sequence;
 
 /// The object in which the names of the module of a number are looked up: its first, since a name has the same slot in each
 /// instance of a module. None where the module has no object.

@@ -1,14 +1,14 @@
 -- What an audit rests on, and why there is none.
 use Rattle.std.proofs.Common.{◌≡◌, ◌∙◌, ◌≤◌, ℕ, Bool, List, length, None, Ok, Some, Option, inl, inr, ap, sym, subst}
 use Rattle.vp_source.specs.declared.source.Source.{Source}
-use Rattle.vp_modules.specs.Refusals as modules
+use Rattle.vp_modules.specs.ModuleRefusals as modules
 use Rattle.vp_elab.specs.Built.{Elaborated, design_of}
 use Rattle.vp_elab.proofs.Distinct.{neither}
 use Rattle.vp_policy.specs.File.{file_in, file_of, policy_for}
 use Rattle.vp_policy.specs.PolicyState.{Fits, PolicyState}
 use Rattle.vp_policy.specs.Users.{user_of}
 use Rattle.vp_elab.specs.Tree.{Tree}
-use Rattle.vp_explain.specs.Openings.{IsRight}
+use Rattle.vp_audit.specs.Openings.{IsRight}
 use Rattle.vp_script.specs.declared.audits.Audited.{Audited}
 use Rattle.vp_script.specs.declared.error.ServeFault.{ServeFault}
 use Rattle.vp_script.specs.declared.error.ServeFault.TheVariants as fault

@@ -7,8 +7,8 @@ use Rattle.std.specs.Option.{unwrap_or}
 use Rattle.std.proofs.lemmas.Bool.{eqb-true}
 use Rattle.std.proofs.lemmas.List.{append_assoc, append-nil, length-append}
 use Rattle.std.proofs.Math.Seq.{take-append_seam}
-use Rattle.vp_list.specs.Texts.{begun, part_and_rest, parts}
-use Rattle.vp_list.specs.laws.Texts.{parts_some}
+use Rattle.vp_text.specs.Texts.{begun, part_and_rest, parts}
+use Rattle.vp_text.specs.laws.Texts.{parts_some}
 use Rattle.vp_script.specs.Bundles.{cut_lines, cut_of, joined, prefixed}
 
 joined_begun : (byte : ℕ) (ps : List (List ℕ)) → joined (begun byte ps) ≡ byte ∷ joined ps

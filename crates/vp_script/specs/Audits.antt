@@ -5,9 +5,9 @@ use Rattle.vp_policy.specs.Users.{user_of}
 use Rattle.vp_world.specs.declared.error.WorldError.TheVariants as error
 use Rattle.vp_world.specs.Entries.{Entry}
 use Rattle.vp_world.specs.Worlds.{Opening}
-use Rattle.vp_explain.specs.Audit.{Audit}
-use Rattle.vp_explain.specs.Projections.{replies_of}
-use Rattle.vp_explain.specs.Explanation.{log_explanation}
+use Rattle.vp_audit.specs.declared.audit.Audit.{Audit}
+use Rattle.vp_audit.specs.Projections.{replies_of}
+use Rattle.vp_audit.specs.Explanation.{log_explanation}
 use Rattle.vp_script.specs.declared.audits.Audited.{Audited}
 use Rattle.vp_script.specs.declared.error.ServeFault.{ServeFault}
 use Rattle.vp_script.specs.declared.error.ServeFault.TheVariants as fault

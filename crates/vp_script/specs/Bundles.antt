@@ -1,7 +1,7 @@
 -- A bundle, cut at its lines `%%` (profile).
 use Rattle.std.specs.Prelude.{ℕ, if◌then◌else◌, List, [], ◌∷◌, ◌++◌, Option, Some, None, option_map, codes}
 use Rattle.std.specs.Str.{bytes_eq}
-use Rattle.vp_list.specs.Texts.{parts}
+use Rattle.vp_text.specs.Texts.{parts}
 
 -- lines, with newlines between them
 abbrev pub joined : List (List ℕ) → List ℕ

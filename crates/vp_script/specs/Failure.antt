@@ -1,9 +1,9 @@
 -- What is reported of a fault in words (profile).
 use Rattle.std.specs.Prelude.{◌≡◌, ◌⊎◌, ◌≤◌, IsUtf8, length, ℕ, List, [], codes}
 use Rattle.vp_design.specs.Designs.{text_limit}
-use Rattle.vp_diagnostic.specs.Diagnostics.{IsDesignDiagnostic}
-use Rattle.vp_diagnostic.specs.Policies.{IsPolicyDiagnostic}
-use Rattle.vp_diagnostic.specs.Rendering.{file_text, plain_text}
+use Rattle.vp_design.specs.Diagnostics.{IsDesignDiagnostic}
+use Rattle.vp_design.specs.Policies.{IsPolicyDiagnostic}
+use Rattle.vp_design.specs.Rendering.{file_text, plain_text}
 use Rattle.vp_script.specs.Faults.{code_of}
 use Rattle.vp_script.specs.Scripts.{IsCutInto, Parts}
 use Rattle.vp_script.specs.declared.error.ServeFault.{ServeFault}

@@ -1,7 +1,7 @@
 // Audits: whether what a user was shown by a script is what comes of what he can know.
 ghost use Rattle.std.specs.Prelude.{◌≡◌, IfErr, IfOk, IsOkUnless, OnOk};
 ghost use Rattle.std.specs.Arc.{arc_value};
-ghost use Rattle.vp_explain.specs.Openings.{IsRight};
+ghost use Rattle.vp_audit.specs.Openings.{IsRight};
 ghost use Rattle.vp_policy.specs.PolicyState.{Fits};
 ghost use Rattle.vp_script.specs.declared.error.ServeFault.TheVariants.{NoMemory};
 ghost use Rattle.vp_script.specs.Audits.{EndsAuditBy, EndsOpenedBy, EndsRunBy, IsAuditAfter, IsAudited, IsOutOfMemory, RunsTo, audit_of, audited_of, explanation_if};
@@ -16,10 +16,10 @@ use std::alloc::Global;
 use std::io;
 use std::io::Read;
 use std::sync::Arc;
-use vp_explain::{Audit, audit_user, explain_user};
+use vp_audit::{Audit, audit_user, explain_user};
 use vp_expr::Checked;
-use vp_list::Text;
 use vp_policy::{Policy, UserId};
+use vp_text::Text;
 use vp_wire::Counted;
 
 /// What an audit gives.

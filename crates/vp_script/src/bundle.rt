@@ -8,7 +8,7 @@ use crate::script::{Ran, run_script};
 use crate::sources::{BUNDLE_LIMIT, text_of};
 use std::alloc::Global;
 use std::io::Write;
-use vp_list::first_piece;
+use vp_text::first_piece;
 use vp_wire::Counted;
 
 /// A line is `%%`.

@@ -1,7 +1,6 @@
 // What a run is refused for, in words.
 ghost use Rattle.std.specs.Prelude.{◌≡◌, [], MatchOption, MatchResult};
-ghost use Rattle.vp_script.specs.Failure.{HasDesignText, HasNoDesignText, IsBundleDiagnostic, IsToldOr};
-ghost use Rattle.vp_script.specs.Failure.{words_of, words_of_hub, words_of_lines};
+ghost use Rattle.vp_script.specs.Failure.{HasDesignText, HasNoDesignText, IsBundleDiagnostic, IsToldOr, words_of, words_of_hub, words_of_lines};
 
 use crate::bundle::cut;
 use crate::error::ServeFault;
@@ -9,13 +8,13 @@ use crate::script::checked;
 use crate::sources::text_of;
 use std::alloc::{AllocError, Global};
 use std::sync::Arc;
-use vp_diagnostic::{
+use vp_design::{
     design_diagnostic, file_diagnostic, keyless_diagnostic, plain_diagnostic, policy_diagnostic,
 };
 use vp_expr::Checked;
 use vp_hub::HubError;
-use vp_list::Text;
 use vp_policy::PolicyError;
+use vp_text::Text;
 use vp_wire::WireError;
 
 /// The name under which the parts of a bundle are reported.
@@ -31,7 +30,7 @@ pub struct Failure {
 
 impl Failure {
     ghost use Rattle.std.specs.Prelude.{◌≡◌};
-    ghost use Rattle.vp_diagnostic.specs.Rendering.{file_text, plain_text};
+    ghost use Rattle.vp_design.specs.Rendering.{file_text, plain_text};
     ghost use Rattle.vp_script.specs.Faults.{code_of};
     ghost use Rattle.vp_script.specs.Failure.{IsToldOr, words_of};
 
@@ -128,7 +127,7 @@ pub struct Sources<'d, 'p> {
 
 impl Sources<'_, '_> {
     ghost use Rattle.std.specs.Prelude.{◌≡◌, IfOk};
-    ghost use Rattle.vp_diagnostic.specs.Policies.{IsPolicyDiagnostic};
+    ghost use Rattle.vp_design.specs.Policies.{IsPolicyDiagnostic};
     ghost use Rattle.vp_script.specs.Failure.{IsDiagnostic, IsToldOr};
 
     /// A fault of a run over these sources.

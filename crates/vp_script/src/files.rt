@@ -11,7 +11,7 @@ use std::io::BufWriter;
 use std::rt::Files;
 use std::{fs, io};
 use vp_design::TEXT_LIMIT;
-use vp_list::Text;
+use vp_text::Text;
 use vp_wire::Counted;
 
 /// The bytes of the file of a design or a policy, at most one more than it may have; `ReadFailed` (1602) where it can't be read.

@@ -15,8 +15,9 @@ use std::alloc::{AllocError, Global};
 use std::collections::VecDeque;
 use std::sync::Arc;
 use vp_answer::{Refusal, Reply, Request, SessionId};
-use vp_race::{Finding, OpenGate, Segment, Shared, search};
+use vp_race::{Finding, OpenGate, Segment, search};
 use vp_sim::SimError;
+use vp_text::Shared;
 use vp_wire::Caller;
 use vp_world::{Entry, Event, World, WorldError};
 

@@ -9,9 +9,9 @@ use crate::error::ServeFault;
 use crate::script::{checked, policy_of};
 use std::alloc::Global;
 use vp_elab::Design;
-use vp_list::Text;
 use vp_outline::outline;
 use vp_policy::Policy;
+use vp_text::Text;
 
 /// Reads a design, and nothing more; or reports its first fault, as a run does.
 pub fn check_design(alloc: Global, design: &str) -> Result<(), ServeFault>

@@ -13,11 +13,11 @@ use std::time::Clock;
 use std::{env, io};
 use vp_audit::Audit;
 use vp_cli::{Command, Misuse, command};
-use vp_list::Text;
+use vp_hub::Settings;
 use vp_script::{
     Audited, Failure, Ran, ServeFault, audit_files, check_files, run_files, run_input, view_files,
 };
-use vp_serve::Settings;
+use vp_text::Text;
 
 /// Prints a text; the status is 0.
 fn print_text<R: Print>(rt: &R, text: &Text) -> io::Result<ExitCode> {

@@ -2,17 +2,16 @@
 ghost use Rattle.std.specs.Prelude.{◌≡◌, [], IfOk};
 ghost use Rattle.vp_script.specs.Faults.{code_of};
 ghost use Rattle.vp_script.specs.Scripts.{greatest};
-ghost use Rattle.vp_serve.specs.Faults as server;
+ghost use Rattle.vp_hub.specs.ServerFaults as server;
 
 use std::net::{Ipv4Addr, Net, TcpListener, TcpStream};
 use std::rt::Files;
 use std::sync::Wait;
 use std::thread::Threads;
 use std::time::Clock;
-use vp_hub::Closed;
+use vp_hub::{Closed, ServerError, Settings, serve};
 use vp_race::OpenGate;
 use vp_script::{Failure, ServeFault, SourceFiles, fresh_world};
-use vp_serve::{ServerError, Settings, serve};
 use vp_wire::WireError;
 use vp_world::{Limits, World};
 
@@ -78,7 +77,7 @@ fn fault_of(fault: ServerError) -> ServeFault
 }
 
 /// Serves a world in which nothing has happened, with the greatest limits, to whoever connects to a listener, and gives the number of the log's
-/// entries at the end; or the fault of `vp_serve::serve`.
+/// entries at the end; or the fault of `vp_hub::serve`.
 fn serve_world<R: AllocGlobal + Threads + Wait + Clock + Sync>(
     rt: &R,
     world: World,
@@ -97,7 +96,7 @@ fn serve_world<R: AllocGlobal + Threads + Wait + Clock + Sync>(
 
 /// Serves the files of a design and a policy on a port of 127.0.0.1, and prints `listening` and the port before, and `closed` and the number of
 /// the log's entries at the end. The faults are first those of reading both, then that the port can't be listened on (1605), and then those of
-/// `vp_serve::serve`.
+/// `vp_hub::serve`.
 pub fn serve_files<R>(
     rt: &R,
     design: &str,

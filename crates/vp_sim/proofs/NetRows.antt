@@ -7,11 +7,11 @@ use Rattle.vp_operand.specs.declared.operand.Operand.TheVariants.{Object, Applie
 use Rattle.vp_operand.specs.declared.operand.Unary.TheVariants.{Negation}
 use Rattle.vp_expr.specs.declared.tables.Process.TheVariants.{Assignment, Connection}
 use Rattle.vp_expr.specs.declared.tables.Tables.{Tables}
-use Rattle.vp_active.specs.declared.event.Event.{Event}
-use Rattle.vp_active.specs.declared.event.Event.TheVariants.{Evaluation, NetUpdate}
-use Rattle.vp_active.specs.Events.{eligible_places}
+use Rattle.vp_active_events.specs.declared.event.Event.{Event}
+use Rattle.vp_active_events.specs.declared.event.Event.TheVariants.{Evaluation, NetUpdate}
+use Rattle.vp_active_events.specs.Events.{eligible_places}
 use Rattle.vp_strata.specs.Queues.{no_events, with_active}
-use Rattle.vp_waking.specs.declared.change.Change.{Change}
+use Rattle.vp_expr.specs.declared.change.Change.{Change}
 use Rattle.vp_sim.specs.declared.error.SimError.{SimError}
 use Rattle.vp_sim.specs.declared.error.SimError.TheVariants.{Idle, NoSuchChoice}
 use Rattle.vp_waking.specs.declared.waiting.Waiting.{Waiting}

@@ -2,9 +2,9 @@
 use Rattle.std.proofs.Common.{◌≡◌, ℕ, ◌+◌, Bool, true, false, List, [], ◌∷◌, Option, Some, None, refl, ap, ◌∙◌, sym}
 use Rattle.std.specs.Prelude.{slice_get, slice_set}
 use Rattle.vp_strata.specs.declared.event.Delayed.{Delayed}
-use Rattle.vp_active.specs.declared.event.Event.{Event}
+use Rattle.vp_active_events.specs.declared.event.Event.{Event}
 use Rattle.vp_strata.specs.declared.event.Timed.{Timed}
-use Rattle.vp_active.specs.Events.{eligible_places}
+use Rattle.vp_active_events.specs.Events.{eligible_places}
 use Rattle.vp_strata.specs.Queues.{Queue, activated, activated_from, scheduled, taken, with_future, without}
 use Rattle.vp_sim.specs.States.{State, delayed, taken_if, with_activation}
 

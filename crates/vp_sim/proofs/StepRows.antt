@@ -9,10 +9,10 @@ use Rattle.vp_expr.specs.declared.tables.Tables.{Tables}
 use Rattle.vp_statement.specs.declared.effect.Effect.{Effect}
 use Rattle.vp_statement.specs.declared.effect.Effect.TheVariants as effect
 use Rattle.vp_strata.specs.declared.event.Delayed.TheVariants as later
-use Rattle.vp_active.specs.declared.event.Event.TheVariants.{Evaluation, NetUpdate}
-use Rattle.vp_active.specs.declared.event.NonblockingUpdate.{NonblockingUpdate}
+use Rattle.vp_active_events.specs.declared.event.Event.TheVariants.{Evaluation, NetUpdate}
+use Rattle.vp_active_events.specs.declared.event.NonblockingUpdate.{NonblockingUpdate}
 use Rattle.vp_strata.specs.Queues.{Queue, no_events, with_active}
-use Rattle.vp_waking.specs.declared.change.Change.{Change}
+use Rattle.vp_expr.specs.declared.change.Change.{Change}
 use Rattle.vp_sim.specs.declared.error.SimError.{SimError}
 use Rattle.vp_sim.specs.declared.error.SimError.TheVariants.{Finished, Idle, SlotNotDone, NoSuchChoice, TimeLimit}
 use Rattle.vp_waking.specs.declared.waiting.Waiting.{Waiting}

@@ -20,18 +20,18 @@ use Rattle.vp_statement.specs.Effects.{effect_at}
 use Rattle.vp_statement.specs.Walking.{after_at, flow_of, next_event}
 use Rattle.vp_strata.specs.declared.event.Delayed.{Delayed}
 use Rattle.vp_strata.specs.declared.event.Delayed.TheVariants as later
-use Rattle.vp_active.specs.declared.event.Event.{Event}
-use Rattle.vp_active.specs.declared.event.Event.TheVariants.{Evaluation, NetUpdate, Nonblocking}
-use Rattle.vp_active.specs.declared.event.NonblockingUpdate.{NonblockingUpdate}
+use Rattle.vp_active_events.specs.declared.event.Event.{Event}
+use Rattle.vp_active_events.specs.declared.event.Event.TheVariants.{Evaluation, NetUpdate, Nonblocking}
+use Rattle.vp_active_events.specs.declared.event.NonblockingUpdate.{NonblockingUpdate}
 use Rattle.vp_strata.specs.declared.strata.TheConstants.{TIME_LIMIT}
-use Rattle.vp_active.specs.Events.{process_of}
+use Rattle.vp_active_events.specs.Events.{process_of}
 use Rattle.vp_strata.specs.Queues.{Queue, activated, advanced, first_time, is_done, no_events, peeked, ready, scheduled, taken, with_active, with_future, with_inactive, with_nonblocking}
-use Rattle.vp_waking.specs.declared.change.Change.{Change}
+use Rattle.vp_expr.specs.declared.change.Change.{Change}
 use Rattle.vp_sim.specs.declared.error.SimError.{SimError}
 use Rattle.vp_sim.specs.declared.error.SimError.TheVariants.{Finished, Idle, SlotNotDone, NoSuchChoice, TimeLimit}
 use Rattle.vp_waking.specs.declared.waiting.Waiting.{Waiting}
 use Rattle.vp_waking.specs.declared.waiting.Waiting.TheVariants as wait
-use Rattle.vp_waking.specs.Changes.{change_of, net_at, set_change, updated_by, values_with}
+use Rattle.vp_expr.specs.Changes.{change_of, net_at, set_change, updated_by, values_with}
 use Rattle.vp_waking.specs.Listening.{AreHeard}
 use Rattle.vp_waking.specs.Waking.{woken_state, with_evaluations, woken_by}
 

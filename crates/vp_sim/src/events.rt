@@ -1,19 +1,18 @@
 ghost use Rattle.std.specs.Prelude.{◌≡◌, ◌<◌, ◌≤◌, ℕ, Bool, length, slice_get, slice_index_or, None, Some, IfErr, IfOk, IfSome, OnErr, OnOk, IsOkUnless};
-ghost use Rattle.vp_sim.specs.States.{refusal_in};
-ghost use Rattle.vp_list.specs.Refusals.{Explains};
+ghost use Rattle.vp_sim.specs.States.{refusal_in, Goes, IsStep, Refuses, with_activation, driven, evaluated, happened, without_event, step, run_procedure, with_event};
+ghost use Rattle.vp_text.specs.Refusals.{Explains};
 ghost use Rattle.vp_expr.specs.Tables.{tables_of};
-ghost use Rattle.vp_active.specs.declared.event.Event.TheVariants.{NetUpdate};
+ghost use Rattle.vp_active_events.specs.declared.event.Event.TheVariants.{NetUpdate};
 ghost use Rattle.vp_sim.specs.declared.error.SimError.TheVariants.{NoMemory};
-ghost use Rattle.vp_waking.specs.Changes.{change_of, net_at, updated_by};
-ghost use Rattle.vp_sim.specs.States.{Goes, IsStep, Refuses, with_activation, driven, evaluated, happened, without_event, step, run_procedure, with_event};
+ghost use Rattle.vp_expr.specs.Changes.{change_of, net_at, updated_by};
 
 use crate::error::SimError;
 use crate::machine::Machine;
 use vp_bits::Bits;
 use vp_elab::ObjectId;
-use vp_expr::{Process, eval};
+use vp_expr::{Change, Process, change_of, eval};
 use vp_strata::Event;
-use vp_waking::{Change, Waiting, change_of, net_at, process_at};
+use vp_waking::{Waiting, net_at, process_at};
 
 impl Machine {
     /// The event that a step takes, the k-th of the eligible ones; else the refusal (804, 801, 802).

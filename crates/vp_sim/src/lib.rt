@@ -14,5 +14,4 @@ mod steps;
 pub use error::SimError;
 pub use kept::SimCheckpoint;
 pub use sim::Sim;
-pub use vp_expr::Checked;
-pub use vp_waking::Change;
+pub use vp_expr::{Change, Checked};

@@ -5,8 +5,8 @@ ghost use Rattle.vp_sim.specs.States.{start};
 use crate::error::SimError;
 use crate::remaining::{all_whole, none_waits};
 use std::alloc::Global;
+use vp_cow_list::{SharedList, TrackedList};
 use vp_expr::{Checked, Values, ValuesCheckpoint};
-use vp_list::{SharedList, TrackedList};
 use vp_waking::Waiting;
 
 /// What a simulation lists by objects and by processes.

@@ -11,11 +11,11 @@ use std::alloc::Global;
 use std::marker::Model;
 use std::sync::Arc;
 use vp_bits::Bits;
-use vp_expr::{Checked, Values};
-use vp_list::TrackedList;
+use vp_cow_list::TrackedList;
+use vp_expr::{Change, Checked, Values};
 use vp_statement::Flow;
 use vp_strata::Strata;
-use vp_waking::{Change, Listeners, Waiting, wake};
+use vp_waking::{Listeners, Waiting, wake};
 
 /// A simulation while an event happens. What takes memory comes before the first visible change. A contract sees the state, for how
 /// many more events there is room, and the listeners of each object.

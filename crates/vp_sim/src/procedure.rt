@@ -1,24 +1,24 @@
 ghost use Rattle.std.specs.Prelude.{◌≡◌, ◌≤◌, ◌<◌, ◌+◌, false, is_none, length, slice_index_or, slice_set, None, Some, IfErr, IfOk, IfSome, MatchOption, OnErr, OnOk, IsOkUnless};
 ghost use Rattle.std.specs.Option.{option_or};
-ghost use Rattle.vp_sim.specs.States.{refusal_in};
-ghost use Rattle.vp_list.specs.Refusals.{Explains};
+ghost use Rattle.vp_sim.specs.States.{refusal_in, Goes, restart_always, deferred, delay_of, delayed, is_late, next_effect, paused, performs, rest_of, taken_if, with_activation};
+ghost use Rattle.vp_text.specs.Refusals.{Explains};
 ghost use Rattle.vp_expr.specs.Tables.{tables_of};
 ghost use Rattle.vp_sim.specs.declared.error.SimError.TheVariants.{NoMemory};
 ghost use Rattle.vp_statement.specs.declared.effect.Effect.TheVariants as effect;
 ghost use Rattle.vp_statement.specs.Walking.{after_at, next_event};
 ghost use Rattle.vp_strata.specs.Queues.{taken};
-ghost use Rattle.vp_waking.specs.Changes.{set_change};
-ghost use Rattle.vp_sim.specs.States.{Goes, restart_always, deferred, delay_of, delayed, is_late, next_effect, paused, performs, rest_of, taken_if, with_activation};
+ghost use Rattle.vp_expr.specs.Changes.{set_change};
 
 use crate::error::SimError;
 use crate::machine::Machine;
 use crate::remaining::remaining_of;
 use vp_bits::Bits;
 use vp_elab::ObjectId;
+use vp_expr::{Change, change_of};
 use vp_operand::set_in;
 use vp_statement::{Effect, effect_of, next_event};
 use vp_strata::{Delayed, NonblockingUpdate, TIME_LIMIT};
-use vp_waking::{Change, Waiting, change_of};
+use vp_waking::Waiting;
 
 /// So much later the event of a procedure makes something happen.
 fn delay_of(effect: &Effect) -> u32

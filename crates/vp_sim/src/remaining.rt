@@ -3,8 +3,8 @@ ghost use Rattle.vp_sim.specs.States.{whole_of};
 ghost use Rattle.vp_waking.specs.declared.waiting.Waiting.TheVariants as wait;
 
 use std::alloc::{AllocError, Global};
+use vp_cow_list::TrackedList;
 use vp_expr::Process;
-use vp_list::TrackedList;
 use vp_waking::Waiting;
 
 /// What a process does: the statement of a procedure, and no statement of another.

@@ -1,10 +1,9 @@
 ghost use Rattle.std.specs.Prelude.{◌≡◌, length, slice_index_or, None, IfErr, IfOk, OnErr, OnOk, IsOkUnless};
 ghost use Rattle.std.specs.Arc.{arc_value};
-ghost use Rattle.vp_sim.specs.States.{refusal_in};
-ghost use Rattle.vp_list.specs.Refusals.{Explains};
+ghost use Rattle.vp_sim.specs.States.{refusal_in, Goes, IsStep, Refuses, advance, eligible, next_time, put, slot_done, source_of, start, step};
+ghost use Rattle.vp_text.specs.Refusals.{Explains};
 ghost use Rattle.vp_operand.specs.Values.{no_value};
 ghost use Rattle.vp_sim.specs.declared.error.SimError.TheVariants.{NoMemory};
-ghost use Rattle.vp_sim.specs.States.{Goes, IsStep, Refuses, advance, eligible, next_time, put, slot_done, source_of, start, step};
 
 use crate::error::SimError;
 use crate::kept::SimCheckpoint;
@@ -14,8 +13,7 @@ use std::marker::Model;
 use std::sync::Arc;
 use vp_bits::Bits;
 use vp_elab::{Design, ObjectId};
-use vp_expr::{Checked, Values};
-use vp_waking::Change;
+use vp_expr::{Change, Checked, Values};
 
 /// A simulation of a design (IEEE Std 1364-2005, 11.3; docs/FORMATS.md, "Simulation"). A contract sees its state.
 // Behind a pointer, so that to move a simulation is to move the pointer, and to let go of it one call.

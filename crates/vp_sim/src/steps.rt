@@ -1,15 +1,14 @@
 ghost use Rattle.std.specs.Prelude.{◌≡◌, length, map, None, Some, IfErr, IfOk, OnErr, OnOk, IsOkUnless};
 ghost use Rattle.std.specs.Arc.{arc_value};
-ghost use Rattle.vp_sim.specs.States.{refusal_in};
-ghost use Rattle.vp_list.specs.Refusals.{Explains};
+ghost use Rattle.vp_sim.specs.States.{refusal_in, Goes, IsStep, Refuses, advance, advanced_to, eligible, next_time, put, slot_done, source_of, start, step};
+ghost use Rattle.vp_text.specs.Refusals.{Explains};
 ghost use Rattle.vp_elab.specs.Tree.{below};
-ghost use Rattle.vp_active.specs.declared.event.Event.TheVariants.{Evaluation};
-ghost use Rattle.vp_active.specs.Events.{process_of};
+ghost use Rattle.vp_active_events.specs.declared.event.Event.TheVariants.{Evaluation};
+ghost use Rattle.vp_active_events.specs.Events.{process_of};
 ghost use Rattle.vp_strata.specs.Queues.{no_events, with_active};
 ghost use Rattle.vp_expr.specs.Tables.{tables_of};
 ghost use Rattle.vp_statement.specs.Walking.{flow_of};
 ghost use Rattle.vp_sim.specs.declared.error.SimError.TheVariants.{NoMemory};
-ghost use Rattle.vp_sim.specs.States.{Goes, IsStep, Refuses, advance, advanced_to, eligible, next_time, put, slot_done, source_of, start, step};
 
 use crate::error::SimError;
 use crate::lists::first_lists;
@@ -18,10 +17,10 @@ use std::alloc::{AllocError, Global};
 use std::sync::Arc;
 use vp_bits::Bits;
 use vp_elab::ObjectId;
-use vp_expr::{Checked, Values};
+use vp_expr::{Change, Checked, Values};
 use vp_statement::Flow;
 use vp_strata::{Event, Strata, StrataError};
-use vp_waking::{Change, Listeners, process_at};
+use vp_waking::{Listeners, process_at};
 
 /// The event queue at the start: so many processes are evaluated, in order.
 fn first_queue(alloc: Global, processes: usize) -> Result<Strata, StrataError>

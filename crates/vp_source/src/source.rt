@@ -4,7 +4,7 @@ ghost use Rattle.vp_source.specs.Places.{earlier};
 use crate::expression::{Expression, Range};
 use crate::statement::{Choice, EventTerm, Span, Statement};
 use vp_lex::Token;
-use vp_list::{Sequence, Text};
+use vp_text::{Sequence, Text};
 
 /// How deep statements, and expressions, may nest in one another.
 pub const DEPTH_LIMIT: u32 = 64;

@@ -2,7 +2,7 @@
 use Rattle.std.proofs.Common.{◌≡◌, ◌∙◌, ℕ, ◌-◌, ◌≤◌, ◌<◌, List, [], ◌∷◌, ◌++◌, length, take, drop, slice_get, get_or, Some, None, refl, sym, subst, ap, append_assoc, arith}
 use Rattle.std.proofs.lemmas.List.{get_or_append_left, get_or_push, length-append, length_push}
 use Rattle.std.proofs.Math.Seq.{drop-append_seam, take-append_seam}
-use Rattle.vp_list.specs.Lists.{range_of}
+use Rattle.vp_text.specs.Lists.{range_of}
 use Rattle.vp_source.specs.declared.expression.Selection as chosen
 use Rattle.vp_source.specs.ExprGrammar as expression
 use Rattle.vp_source.specs.declared.statement.Choice.{Choice}

@@ -2,7 +2,7 @@
 use Rattle.std.proofs.Common.{◌≡◌, ◌∙◌, ℕ, zero, suc, ◌+◌, ◌-◌, ◌≤◌, ◌<◌, List, [], ◌∷◌, ◌++◌, length, map, drop, get_or, slice_get, Some, refl, sym, ap, arith}
 use Rattle.std.proofs.lemmas.List.{get_or-append_right, get_or-drop, get_or-map, get_or-take, get_or_append_left, length-drop, length-map, length-take}
 use Rattle.std.specs.List.{flat_map}
-use Rattle.vp_list.specs.Lists.{range_of}
+use Rattle.vp_text.specs.Lists.{range_of}
 use Rattle.vp_source.specs.declared.source.Module.{Module}
 use Rattle.vp_source.specs.Whole.{AreGapless}
 use Rattle.vp_source.specs.declared.statement.Span.{Span}

@@ -9,7 +9,7 @@ use Rattle.vp_bits.specs.Vector.{resized, same_bits}
 use Rattle.vp_source.specs.declared.statement.Choice.{Choice}
 use Rattle.vp_source.specs.declared.statement.Span.{Span}
 use Rattle.vp_source.specs.declared.source.Source.{Source}
-use Rattle.vp_list.specs.Lists.{range_of}
+use Rattle.vp_text.specs.Lists.{range_of}
 use Rattle.vp_elab.specs.Built.{Elaborated}
 use Rattle.vp_elab.specs.declared.object.ObjectId.{ObjectId}
 use Rattle.vp_expr.specs.declared.tables.Action.{Action}

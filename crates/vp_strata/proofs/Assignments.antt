@@ -6,14 +6,14 @@ use Rattle.std.proofs.lemmas.List.{append_assoc, append-nil, length-map}
 use Rattle.std.proofs.lemmas.List.Edits.{remove-append_right}
 use Rattle.std.proofs.lemmas.List.Elements.{All-head, All-tail}
 use Rattle.std.proofs.lemmas.Option.{slice_get-map}
-use Rattle.vp_active.specs.declared.event.Event.{Event}
-use Rattle.vp_active.specs.declared.event.Event.TheVariants.{Evaluation, NetUpdate, Nonblocking}
-use Rattle.vp_active.specs.declared.event.NonblockingUpdate.{NonblockingUpdate}
+use Rattle.vp_active_events.specs.declared.event.Event.{Event}
+use Rattle.vp_active_events.specs.declared.event.Event.TheVariants.{Evaluation, NetUpdate, Nonblocking}
+use Rattle.vp_active_events.specs.declared.event.NonblockingUpdate.{NonblockingUpdate}
 use Rattle.vp_strata.specs.declared.event.Timed.{Timed}
-use Rattle.vp_active.specs.Events.{drives, eligible_after, eligible_places, is_eligible, is_nonblocking}
+use Rattle.vp_active_events.specs.Events.{drives, eligible_after, eligible_places, is_eligible, is_nonblocking}
 use Rattle.vp_strata.specs.Queues.{Queue, with_active, without}
-use Rattle.vp_active.specs.Slots.{IsPushed, without_at}
-use Rattle.vp_active.specs.laws.Choosing.{get_after, oldest}
+use Rattle.vp_active_events.specs.Slots.{IsPushed, without_at}
+use Rattle.vp_active_events.specs.laws.Choosing.{get_after, oldest}
 
 -- ---- which events are eligible
 

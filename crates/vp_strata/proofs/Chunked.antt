@@ -9,7 +9,7 @@ use Rattle.std.proofs.lemmas.List.Elements.{All-append, All-cons, All-drop, All-
 use Rattle.std.proofs.lemmas.List.Concat.{flat_map-append}
 use Rattle.vp_strata.specs.declared.event.Timed.{Timed}
 use Rattle.vp_strata.specs.Queues.{first_time}
-use Rattle.vp_list.specs.Chunks.{joined}
+use Rattle.vp_text.specs.Lists.{joined}
 use Rattle.vp_strata.specs.Chunks.{AreUnfinished, first_place, position, remaining}
 
 -- ---- one more event in a chunk

@@ -11,7 +11,7 @@ use Rattle.std.proofs.lemmas.List.Sorted.{IsNonDecreasingBy-drop, IsNonDecreasin
 use Rattle.std.proofs.lemmas.Option.{slice_get-get_or}
 use Rattle.vp_strata.specs.declared.event.Timed.{Timed}
 use Rattle.vp_strata.specs.Queues.{AreOrdered, is_by}
-use Rattle.vp_list.specs.Chunks.{joined}
+use Rattle.vp_text.specs.Lists.{joined}
 use Rattle.vp_strata.specs.Chunks.{AreUnfinished, ends_by, first_place, position, remaining}
 use Rattle.vp_strata.proofs.Chunked.{as_many, chunk_at, remaining_at}
 

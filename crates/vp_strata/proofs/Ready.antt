@@ -1,11 +1,11 @@
 -- The queue after the activation that a step would make.
 use Rattle.std.proofs.Common.{◌≡◌, ◌∙◌, ℕ, ◌<◌, List, [], ◌∷◌, None, ap, arith, length, min, refl}
 use Rattle.std.specs.Prelude.{option_and_then, option_map, slice_get}
-use Rattle.vp_active.specs.declared.event.Event.{Event}
-use Rattle.vp_active.specs.declared.event.Event.TheVariants.{Evaluation}
-use Rattle.vp_active.specs.Events.{eligible_places}
+use Rattle.vp_active_events.specs.declared.event.Event.{Event}
+use Rattle.vp_active_events.specs.declared.event.Event.TheVariants.{Evaluation}
+use Rattle.vp_active_events.specs.Events.{eligible_places}
 use Rattle.vp_strata.specs.Queues.{Queue, activated_from, inactive_activated, nonblocking_activated, peeked, ready}
-use Rattle.vp_active.specs.laws.Choosing.{all_of_evaluations, evaluation_at, not_second, one_of_updates}
+use Rattle.vp_active_events.specs.laws.Choosing.{all_of_evaluations, evaluation_at, not_second, one_of_updates}
 
 by_inactive : (q : Queue) (active : List Event) (inactive : List ℕ) → length active ≡ 0 → 0 < length inactive → activated_from q active inactive ≡ inactive_activated q
 by_inactive q (e ∷ es) inactive none some = absurd (omega arith)

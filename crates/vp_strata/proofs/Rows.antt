@@ -2,11 +2,11 @@
 use Rattle.std.proofs.Common.{◌≡◌, ℕ, List, [], ◌∷◌, None, Some, refl}
 use Rattle.vp_bits.specs.declared.bit.Bit.TheVariants.{One, Zero}
 use Rattle.vp_strata.specs.declared.event.Delayed.TheVariants as later
-use Rattle.vp_active.specs.declared.event.Event.{Event}
-use Rattle.vp_active.specs.declared.event.Event.TheVariants.{Evaluation, NetUpdate, Nonblocking}
-use Rattle.vp_active.specs.declared.event.NonblockingUpdate.{NonblockingUpdate}
+use Rattle.vp_active_events.specs.declared.event.Event.{Event}
+use Rattle.vp_active_events.specs.declared.event.Event.TheVariants.{Evaluation, NetUpdate, Nonblocking}
+use Rattle.vp_active_events.specs.declared.event.NonblockingUpdate.{NonblockingUpdate}
 use Rattle.vp_strata.specs.declared.event.Timed.{Timed}
-use Rattle.vp_active.specs.Events.{eligible_places}
+use Rattle.vp_active_events.specs.Events.{eligible_places}
 use Rattle.vp_strata.specs.Queues.{Queue, activated, advanced, no_events, peeked, ready, scheduled, taken}
 
 -- a 1 for the least significant bit of an object, by a process that is process 3

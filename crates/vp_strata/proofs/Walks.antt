@@ -4,7 +4,7 @@ use Rattle.std.proofs.lemmas.Bool.{cases_lt}
 use Rattle.std.proofs.lemmas.List.{get_or_read, take_all}
 use Rattle.std.proofs.lemmas.List.Concat.{get_or-flat_map}
 use Rattle.vp_strata.specs.declared.event.Timed.{Timed}
-use Rattle.vp_list.specs.Chunks.{joined}
+use Rattle.vp_text.specs.Lists.{joined}
 use Rattle.vp_strata.specs.Chunks.{position}
 
 -- a place that stands after fewer events than there are is in a chunk

@@ -1,7 +1,7 @@
 -- Future events in chunks.
 use Rattle.std.specs.Prelude.{◌≡◌, ℕ, zero, suc, ◌+◌, ◌-◌, ◌<◌, Bool, true, List, [], ◌∷◌, length, drop, take, option_map, slice_get, unwrap_or}
 use Rattle.std.specs.List.{All}
-use Rattle.vp_list.specs.Chunks.{joined}
+use Rattle.vp_text.specs.Lists.{joined}
 use Rattle.vp_strata.specs.declared.event.Timed.{Timed}
 use Rattle.vp_strata.specs.Queues.{is_by}
 

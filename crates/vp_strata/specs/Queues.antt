@@ -4,11 +4,11 @@ use Rattle.std.specs.List.{fold, remove}
 use Rattle.std.specs.List.Sorted.{IsNonDecreasingBy}
 use Rattle.vp_strata.specs.declared.event.Delayed.{Delayed}
 use Rattle.vp_strata.specs.declared.event.Delayed.TheVariants as later
-use Rattle.vp_active.specs.declared.event.Event.{Event}
-use Rattle.vp_active.specs.declared.event.Event.TheVariants.{Evaluation, Nonblocking}
-use Rattle.vp_active.specs.declared.event.NonblockingUpdate.{NonblockingUpdate}
+use Rattle.vp_active_events.specs.declared.event.Event.{Event}
+use Rattle.vp_active_events.specs.declared.event.Event.TheVariants.{Evaluation, Nonblocking}
+use Rattle.vp_active_events.specs.declared.event.NonblockingUpdate.{NonblockingUpdate}
 use Rattle.vp_strata.specs.declared.event.Timed.{Timed}
-use Rattle.vp_active.specs.Events.{eligible_places}
+use Rattle.vp_active_events.specs.Events.{eligible_places}
 
 -- the events that are active, those that are inactive (processes that go on), the updates of nonblocking assignments, and the future
 -- events, by their time and those of one time in the order in which they were scheduled (clause 11.3); monitor events there are none

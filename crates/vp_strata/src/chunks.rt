@@ -2,7 +2,7 @@ ghost use Rattle.std.specs.Prelude.{◌≡◌, ◌+◌, ◌^◌, ◌<◌, ◌≤
 ghost use Rattle.std.specs.Arc.{arc_value};
 ghost use Rattle.std.specs.List.{insert};
 ghost use Rattle.std.specs.List.Sorted.{IsPartitionPoint};
-ghost use Rattle.vp_list.specs.Chunks.{joined};
+ghost use Rattle.vp_text.specs.Lists.{joined};
 ghost use Rattle.vp_strata.specs.Chunks.{first_place, position};
 ghost use Rattle.vp_strata.specs.Queues.{AreOrdered, first_time, is_by};
 
@@ -12,7 +12,7 @@ use std::alloc::{AllocError, Global};
 use std::collections::VecDeque;
 use std::marker::Model;
 use std::sync::Arc;
-use vp_list::Same;
+use vp_text::Same;
 
 /// Future events in chunks that clones share. A contract sees the events of each chunk, but those that are over.
 #[derive(Drop)]

@@ -1,5 +1,5 @@
 use crate::event::{Delayed, Timed};
-use vp_list::Same;
+use vp_text::Same;
 
 impl Same for Delayed {
     fn is_same(&self, other: &Delayed) -> bool {

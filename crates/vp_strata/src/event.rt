@@ -1,4 +1,4 @@
-use vp_active::NonblockingUpdate;
+use vp_active_events::NonblockingUpdate;
 
 /// What happens at a later time. It names a process by its number.
 #[derive(Clone, Copy)]

@@ -18,7 +18,7 @@ pub struct FutureRegion {
 impl Model for FutureRegion {
     ghost use Rattle.std.specs.Prelude.{◌≡◌, List, length};
     ghost use Rattle.vp_strata.specs.declared.event.Timed.{Timed};
-    ghost use Rattle.vp_list.specs.Chunks.{joined};
+    ghost use Rattle.vp_text.specs.Lists.{joined};
     ghost use Rattle.vp_strata.specs.Queues.{AreOrdered};
 
     ghost Value = { List Timed };

@@ -6,8 +6,8 @@ use crate::future::FutureRegion;
 use crate::strata::Strata;
 use std::alloc::Global;
 use std::marker::Model;
-use vp_active::{Event, NonblockingUpdate};
-use vp_list::are_same;
+use vp_active_events::{Event, NonblockingUpdate};
+use vp_text::are_same;
 
 /// The events of a queue as they were when a copy of it was kept. Its future events are shared with the queue, chunk by chunk. A contract
 /// sees the queue and the number of processes.
@@ -26,9 +26,9 @@ pub struct StrataCheckpoint {
 impl Model for StrataCheckpoint {
     ghost use Rattle.std.specs.Prelude.{◌++◌, map};
     ghost use Rattle.std.specs.List.{All};
-    ghost use Rattle.vp_active.specs.declared.event.Event.TheVariants.{Nonblocking};
+    ghost use Rattle.vp_active_events.specs.declared.event.Event.TheVariants.{Nonblocking};
     ghost use Rattle.vp_strata.specs.Queues.{KeptQueue};
-    ghost use Rattle.vp_active.specs.Slots.{IsPushed};
+    ghost use Rattle.vp_active_events.specs.Slots.{IsPushed};
 
     ghost Value = { KeptQueue };
 

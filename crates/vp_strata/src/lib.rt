@@ -18,4 +18,4 @@ pub use error::StrataError;
 pub use event::Delayed;
 pub use kept::StrataCheckpoint;
 pub use strata::{Strata, TIME_LIMIT};
-pub use vp_active::{Event, NonblockingUpdate};
+pub use vp_active_events::{Event, NonblockingUpdate};

@@ -1,7 +1,7 @@
 ghost use Rattle.std.specs.Prelude.{◌≡◌, ◌<◌, ◌≤◌, ◌+◌, ◌==◌, ◌++◌, ◌∷◌, [], drop, length, option_and_then, slice_get, Err, IfErr, IfOk, IsOk, OnErr, OnOk};
 ghost use Rattle.vp_strata.specs.declared.error.StrataError.TheVariants.{NoMemory, TimeLimit};
-ghost use Rattle.vp_active.specs.declared.event.Event.TheVariants.{Evaluation, NetUpdate};
-ghost use Rattle.vp_active.specs.Events.{eligible_places};
+ghost use Rattle.vp_active_events.specs.declared.event.Event.TheVariants.{Evaluation, NetUpdate};
+ghost use Rattle.vp_active_events.specs.Events.{eligible_places};
 ghost use Rattle.vp_strata.specs.Queues.{activated, advanced, first_time, inactive_activated, is_done, no_events, nonblocking_activated, peeked, put_in, ready, scheduled, taken, with_active, with_future, with_inactive, with_nonblocking};
 
 use crate::copies::{append, copied};
@@ -13,7 +13,7 @@ use std::alloc::{AllocError, Global};
 use std::collections::VecDeque;
 use std::marker::Model;
 use std::mem::swap;
-use vp_active::{ActiveRegion, Event, NonblockingUpdate};
+use vp_active_events::{ActiveRegion, Event, NonblockingUpdate};
 use vp_bits::Bits;
 
 /// Room is made for at least so many events at once, so that few of the events that follow have to ask for memory.
@@ -40,7 +40,7 @@ pub struct Strata {
 impl Model for Strata {
     ghost use Rattle.std.specs.Prelude.{◌+◌, ◌++◌, ◌≤◌, map};
     ghost use Rattle.std.specs.VecDeque.{deque_capacity, deque_len};
-    ghost use Rattle.vp_active.specs.declared.event.Event.TheVariants.{Nonblocking};
+    ghost use Rattle.vp_active_events.specs.declared.event.Event.TheVariants.{Nonblocking};
     ghost use Rattle.vp_strata.specs.Queues.{Regions};
 
     ghost Value = { Regions };

@@ -1,7 +1,7 @@
 -- The walk of a dotted name.
 use Rattle.std.proofs.Common.{◌≡◌, ◌∙◌, ℕ, ◌==◌, List, [], ◌∷◌, ◌++◌, Option, Some, None, Bool, true, false, refl, sym, ap}
 use Rattle.std.specs.Prelude.{if◌then◌else◌}
-use Rattle.vp_list.specs.Texts.{begun, part_and_rest, parts}
+use Rattle.vp_text.specs.Texts.{begun, part_and_rest, parts}
 use Rattle.vp_policy.specs.View.{View}
 use Rattle.vp_vpi.specs.Observers.{Absent, Found, Lookup}
 use Rattle.vp_view.specs.Objects.{names_to}

@@ -6,9 +6,9 @@ ghost use Rattle.vp_view.specs.Seen.{author_seen, barrier_at, barrier_by_grant, 
 
 use crate::path::first_missing_step;
 use std::alloc::{AllocError, Global};
-use vp_list::{SharedText, Text};
 use vp_policy::{DenialText, SeenEnvelope, SeenObject, SeenViewport, ShownBarrier, View};
 use vp_pragma::Right;
+use vp_text::{SharedText, Text};
 
 /// The envelope of a number; none of the open text.
 fn envelope_at(view: &View, number: u8) -> Option<&SeenEnvelope>

@@ -1,6 +1,6 @@
 // Scopes, and the objects in them by their names.
 ghost use Rattle.std.specs.Prelude.{◌≡◌, ◌++◌, ◌∷◌, [], IfOk, IsTrue, OnErr, map};
-ghost use Rattle.vp_list.specs.Texts.{parts};
+ghost use Rattle.vp_text.specs.Texts.{parts};
 ghost use Rattle.vp_policy.specs.SeenObjects.{path_to};
 ghost use Rattle.vp_vpi.specs.Lookups.{found_shown, is_denial};
 ghost use Rattle.vp_vpi.specs.Observers.{Absent};
@@ -11,9 +11,9 @@ use crate::denials::{author, barrier_by_grant};
 use crate::path::{is_listed, last_step, object_at};
 use std::alloc::{AllocError, Global};
 use vp_elab::ObjectId;
-use vp_list::{Sequence, first_part};
 use vp_policy::{DenialText, View};
 use vp_pragma::Right;
+use vp_text::{Sequence, first_part};
 use vp_vpi::Found;
 
 /// The same names lead to two scopes.

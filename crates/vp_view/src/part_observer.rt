@@ -10,9 +10,9 @@ use crate::races::{lines_of, race_details};
 use std::alloc::{AllocError, Global};
 use vp_bits::Bits;
 use vp_elab::{Kind, ObjectId};
-use vp_list::{Sequence, Text};
 use vp_policy::{DenialText, View};
 use vp_pragma::Right;
+use vp_text::{Sequence, Text};
 use vp_vpi::{Found, Observe, RaceDetails, RaceLine, Shared, ShownRace};
 
 /// A view, with the values that its user knows, the time, whether `$finish` was executed, and the races that he is shown.

@@ -7,9 +7,9 @@ ghost use Rattle.vp_view.specs.Objects.{before, most_steps};
 ghost use Rattle.vp_view.specs.Seen.{last_name, listed_seen, names_seen, path_seen};
 
 use std::alloc::{AllocError, Global};
-use vp_list::Text;
 use vp_policy::{SeenObject, View};
 use vp_pragma::Right;
+use vp_text::Text;
 
 /// The object of a number, if there is one.
 pub fn object_at(view: &View, number: u32) -> Option<&SeenObject>

@@ -1,7 +1,7 @@
 -- What a session can look up.
 use Rattle.std.specs.Prelude.{ℕ, ◌&&◌, Bool, false, if◌then◌else◌, List, [], ◌∷◌, slice_get, slice_index_or, Option, Some, None, is_none, is_some, option_map}
 use Rattle.std.specs.Option.{option_map_or}
-use Rattle.vp_list.specs.Texts.{parts}
+use Rattle.vp_text.specs.Texts.{parts}
 use Rattle.vp_bits.specs.declared.bit.Bit.{Bit}
 use Rattle.vp_bits.specs.declared.bit.Bit.TheVariants.{Unknown}
 use Rattle.vp_pragma.specs.declared.rights.Right.{Right}

@@ -5,8 +5,8 @@ use crate::iteration::{ListedObject, Listing, SharedListing};
 use crate::notices::SharedNotices;
 use crate::property::{PutValue, VectorWord};
 use crate::races::{RaceDetails, RaceLine};
-use vp_list::Same;
 use vp_notify::PolledNotice;
+use vp_text::Same;
 
 impl Same for ListedObject {
     fn is_same(&self, other: &ListedObject) -> bool {

@@ -8,7 +8,7 @@ use std::alloc::{AllocError, Global};
 use std::marker::Model;
 use std::sync::Arc;
 use vp_elab::{Kind, ObjectId};
-use vp_list::{Sequence, Text};
+use vp_text::{Sequence, Text};
 
 /// An object that is listed: the handle that is made of it, and its name.
 #[derive(Drop)]

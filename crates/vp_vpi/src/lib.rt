@@ -23,4 +23,4 @@ pub use session::{HANDLE_LIMIT, Session};
 pub use shown_races::{is_race_shown, seen_race, seen_races};
 pub use user_observer::UserObserver;
 pub use vp_policy::{Access, DenialText, UserId};
-pub use vp_race::Shared;
+pub use vp_text::Shared;

@@ -8,9 +8,9 @@ use crate::races::{RaceDetails, RaceLine};
 use std::alloc::{AllocError, Global};
 use vp_bits::Bits;
 use vp_elab::{Kind, ObjectId};
-use vp_list::{Sequence, Text};
 use vp_policy::DenialText;
 use vp_pragma::Right;
+use vp_text::{Sequence, Text};
 
 /// What is found under a name.
 #[derive(Drop)]

@@ -1,7 +1,7 @@
 ghost use Rattle.std.specs.Prelude.{◌≡◌, IfOk};
 
 use std::alloc::{AllocError, Global};
-use vp_list::{Sequence, Text};
+use vp_text::{Sequence, Text};
 
 /// A number that is asked of an object (clause 26.6).
 #[derive(Clone, Copy, Debug, PartialEq, Eq)]

@@ -3,7 +3,7 @@ ghost use Rattle.std.specs.Prelude.{◌≡◌};
 ghost use Rattle.vp_vpi.specs.Calls.{race_details};
 
 use vp_bits::Bits;
-use vp_list::{Sequence, Text};
+use vp_text::{Sequence, Text};
 
 /// A race as a user is shown it, which his list numbers.
 #[derive(Drop)]

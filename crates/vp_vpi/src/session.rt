@@ -17,10 +17,10 @@ use std::alloc::{AllocError, Global};
 use std::marker::Model;
 use vp_bits::Bits;
 use vp_elab::{Kind, ObjectId};
-use vp_list::{Sequence, SharedText, Text};
 use vp_notify::Registry;
 use vp_policy::UserId;
 use vp_pragma::Right;
+use vp_text::{Sequence, SharedText, Text};
 
 /// How many handles a session has at most at once.
 pub const HANDLE_LIMIT: usize = 65_536;

@@ -7,10 +7,10 @@ ghost use Rattle.vp_vpi.specs.Races.{is_shown, race_seen, races_seen, step_name,
 use crate::races::ShownRace;
 use std::alloc::{AllocError, Global};
 use vp_elab::{Design, Kind, ObjectId};
-use vp_list::{Sequence, Text};
 use vp_policy::{Policy, UserId};
 use vp_pragma::Right;
-use vp_race::{Finding, Shared};
+use vp_race::Finding;
+use vp_text::{Sequence, Shared, Text};
 
 /// The name of a step of an object; or out of memory.
 fn step_name(alloc: Global, design: &Design, object: ObjectId) -> Result<Text, AllocError>

@@ -11,10 +11,10 @@ use crate::shown_races::{is_race_shown, seen_race};
 use std::alloc::{AllocError, Global};
 use vp_bits::Bits;
 use vp_elab::{Kind, ObjectId};
-use vp_list::{Sequence, Text};
 use vp_policy::{DenialText, Look, Policy, UserId};
 use vp_pragma::Right;
 use vp_race::{Book, Finding, Sim};
+use vp_text::{Sequence, Text};
 
 /// At most so many races are reported in one list.
 const RACE_LIMIT: usize = 100;

@@ -15,9 +15,9 @@ use Rattle.vp_expr.specs.declared.tables.Tables.{Tables}
 use Rattle.vp_operand.specs.Arena.{term_at}
 use Rattle.vp_expr.specs.Tables.{awaited_of}
 use Rattle.vp_operand.specs.Reads.{reads}
-use Rattle.vp_active.specs.declared.event.Event.TheVariants.{Evaluation}
+use Rattle.vp_active_events.specs.declared.event.Event.TheVariants.{Evaluation}
 use Rattle.vp_strata.specs.Queues.{Queue, with_active}
-use Rattle.vp_waking.specs.declared.change.Change.{Change}
+use Rattle.vp_expr.specs.declared.change.Change.{Change}
 use Rattle.vp_waking.specs.declared.waiting.Waiting.{Waiting}
 use Rattle.vp_waking.specs.declared.waiting.Waiting.TheVariants.{Nothing, Statement, Operands}
 

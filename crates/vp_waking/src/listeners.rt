@@ -14,8 +14,8 @@ use std::marker::Model;
 use std::sync::Arc;
 use vp_elab::ObjectId;
 use vp_expr::{Checked, Process, add_reads};
-use vp_list::Same;
 use vp_operand::{ExprId, Slot};
+use vp_text::Same;
 
 /// A design, and of each object its listeners: the processes that have waited for its changes, rising. A process that waits for an
 /// object stands among them, and none is ever taken out. A contract sees the design and the listeners.

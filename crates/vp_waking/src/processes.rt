@@ -1,6 +1,6 @@
 ghost use Rattle.std.specs.Prelude.{◌≡◌, slice_get};
 ghost use Rattle.vp_expr.specs.Tables.{tables_of};
-ghost use Rattle.vp_waking.specs.Changes.{net_at, net_of};
+ghost use Rattle.vp_expr.specs.Changes.{net_at, net_of};
 
 use vp_elab::ObjectId;
 use vp_expr::{Checked, Process};

@@ -1,7 +1,7 @@
 ghost use Rattle.std.specs.Prelude.{◌≡◌, slice_set};
 ghost use Rattle.vp_waking.specs.Waking.{wait_of};
 
-use vp_list::Same;
+use vp_text::Same;
 
 /// What a process waits for.
 #[derive(Clone, Copy)]

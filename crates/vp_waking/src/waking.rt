@@ -4,14 +4,13 @@ ghost use Rattle.vp_expr.specs.Tables.{awaited_of, tables_of};
 ghost use Rattle.vp_waking.specs.Listening.{AreHeard, listeners_of, may_listen};
 ghost use Rattle.vp_waking.specs.Waking.{counts, first_bit, is_continuous, is_negedge, is_of, is_posedge, located, woken_state, woken_one, statement_terms, terms_of, wakes, wakes_at, with_evaluations, woken_alone, woken_by};
 
-use crate::change::Change;
 use crate::listeners::Listeners;
 use crate::processes::process_at;
 use crate::waiting::{Waiting, wait_of};
 use vp_bits::{Bit, Bits};
+use vp_cow_list::TrackedList;
 use vp_elab::ObjectId;
-use vp_expr::{Awaited, Checked, Process};
-use vp_list::TrackedList;
+use vp_expr::{Awaited, Change, Checked, Process};
 use vp_source::Edge;
 use vp_strata::Strata;
 

@@ -1,8 +1,8 @@
 -- The parts of bytes read one after another, and the lines of an input by its parts.
 use Rattle.std.proofs.Common.{◌≡◌, ◌∙◌, ℕ, ◌≤◌, ◌==◌, Bool, true, false, cond, List, [], ◌∷◌, ◌++◌, length, Option, Some, None, refl, ap, arith, subst, sym}
 use Rattle.std.proofs.lemmas.List.{append-nil}
-use Rattle.vp_list.specs.Texts.{begun, part_and_rest, parts}
-use Rattle.vp_list.specs.laws.Texts.{parts_some}
+use Rattle.vp_text.specs.Texts.{begun, part_and_rest, parts}
+use Rattle.vp_text.specs.laws.Texts.{parts_some}
 use Rattle.vp_wire.specs.Dialogue.{lines_of, whole_lines, without_empty_end, without_last}
 
 -- ---- parts

@@ -13,7 +13,7 @@ use crate::replies::reply_line;
 use std::alloc::Global;
 use std::io::{Read, Write};
 use vp_answer::{Reply, Request};
-use vp_list::first_piece;
+use vp_text::first_piece;
 
 /// How often the reader is asked at most.
 pub const TURN_LIMIT: u32 = 16_777_216;

@@ -9,9 +9,9 @@ use serde_json::{Map, Value, put};
 use std::alloc::{AllocError, Global};
 use vp_answer::{Refusal, Reply};
 use vp_bits::Bits;
-use vp_list::Text;
 use vp_notify::PolledNotice;
 use vp_policy::{DenialText, ShownBarrier};
+use vp_text::Text;
 use vp_vpi::{ListedObject, Listing, RaceDetails, RaceLine, SharedNotices};
 
 /// An object of one member.

@@ -11,8 +11,8 @@ use std::alloc::{AllocError, Global};
 use vp_answer::{GrantChange, Request, ValueFormat};
 use vp_elab::Kind;
 use vp_json::{ReadError, has_keys, number, read, text};
-use vp_list::{Sequence, Text};
 use vp_policy::Access;
+use vp_text::{Sequence, Text};
 use vp_vpi::{NumberProperty, PutValue, TextProperty, VectorWord};
 
 /// Every time is below this one, in time units.

@@ -15,7 +15,7 @@ use Rattle.vp_sim.specs.States as sim
 use Rattle.vp_sim.specs.laws.Designs.{after_step}
 use Rattle.vp_vpi.specs.Observers.{Observer}
 use Rattle.vp_vpi.specs.SessionStates.{SessionState}
-use Rattle.vp_waking.specs.declared.change.Change.{Change}
+use Rattle.vp_expr.specs.declared.change.Change.{Change}
 use Rattle.vp_answer.specs.declared.answering.Answer.{Answer}
 use Rattle.vp_world.specs.declared.putting.AnswerWithChange.{AnswerWithChange}
 use Rattle.vp_answer.specs.declared.request.Request.{Request}

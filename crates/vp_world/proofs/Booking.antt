@@ -2,7 +2,7 @@
 use Rattle.std.proofs.Common.{◌≡◌, ◌≢◌, ◌∙◌, Bool, true, false, Option, Some, None, sym, ap, refl}
 use Rattle.std.specs.Prelude.{if◌then◌else◌, nat_le, length, option_map}
 use Rattle.vp_world.specs.declared.error.WorldError.TheVariants as world_error
-use Rattle.vp_list.specs.Refusals.{Explains}
+use Rattle.vp_text.specs.Refusals.{Explains}
 use Rattle.vp_race.specs.declared.error.RaceError.{RaceError}
 use Rattle.vp_race.specs.declared.error.RaceError.TheVariants.{NotAnOrder, NotComplete, SameValue, SegmentGone, Booked, BookFull, NoMemory}
 use Rattle.vp_race.specs.Booking.{BookState, is_booked, refusal_of_finding, refusal_of_race}

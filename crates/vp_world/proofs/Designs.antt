@@ -12,7 +12,7 @@ use Rattle.vp_race.specs.Segments.{Run}
 use Rattle.vp_sim.specs.States as sim
 use Rattle.vp_sim.specs.laws.Designs.{after_put, after_step}
 use Rattle.vp_policy.specs.PolicyState.{Fits, PolicyState}
-use Rattle.vp_waking.specs.declared.change.Change.{Change}
+use Rattle.vp_expr.specs.declared.change.Change.{Change}
 use Rattle.vp_world.specs.History.{outcome_of_put, segments_of_put}
 use Rattle.vp_world.specs.Shown.{AreOfDesign}
 

@@ -2,8 +2,8 @@
 use Rattle.std.proofs.Common.{◌≡◌, ◌∙◌, Bool, List, [], ◌∷◌, ◌++◌, Option, Some, None, Result, Err, ℕ, refl, sym, ap, subst, append_assoc, append-nil}
 use Rattle.std.specs.Prelude.{fold}
 use Rattle.vp_world.specs.declared.error.WorldError.TheVariants as world_error
-use Rattle.vp_list.specs.Refusals.{Explains}
-use Rattle.vp_waking.specs.declared.change.Change.{Change}
+use Rattle.vp_text.specs.Refusals.{Explains}
+use Rattle.vp_expr.specs.declared.change.Change.{Change}
 use Rattle.vp_world.specs.declared.event.Event.{Event}
 use Rattle.vp_world.specs.declared.error.WorldError.{WorldError}
 use Rattle.vp_answer.specs.declared.reply.Reply.{Reply}

@@ -10,7 +10,7 @@ use Rattle.vp_policy.specs.PolicyState.{PolicyState}
 use Rattle.vp_policy.specs.Users.{member_at}
 use Rattle.vp_vpi.specs.Observers.{is_watch_denied}
 use Rattle.vp_vpi.specs.SessionStates.{SessionState, retired}
-use Rattle.vp_waking.specs.declared.change.Change.{Change}
+use Rattle.vp_expr.specs.declared.change.Change.{Change}
 use Rattle.vp_world.specs.declared.session.OpenSession.{OpenSession}
 use Rattle.vp_world.specs.Marks.{all_marked, are_marked, is_marked, is_watched, may_be_watched}
 use Rattle.vp_world.specs.Shown.{retired_open, notified_session}

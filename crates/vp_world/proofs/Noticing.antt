@@ -1,7 +1,7 @@
 -- Open sessions that are notified of a change, or out of which is taken what may not be watched any more.
 use Rattle.std.proofs.Common.{◌≡◌, ℕ, List, [], ◌∷◌, map, Option, None, refl, ap}
 use Rattle.vp_policy.specs.PolicyState.{PolicyState}
-use Rattle.vp_waking.specs.declared.change.Change.{Change}
+use Rattle.vp_expr.specs.declared.change.Change.{Change}
 use Rattle.vp_world.specs.declared.session.OpenSession.{OpenSession}
 use Rattle.vp_world.specs.History.{noticed, retired_for}
 use Rattle.vp_world.specs.Shown.{retired_open, session_shown, notified_session}

@@ -1,7 +1,7 @@
 -- An error of the simulation explains its refusal.
 use Rattle.std.proofs.Common.{◌≡◌, ◌≢◌, ◌∙◌, ℕ, refl, sym, ap}
 use Rattle.vp_world.specs.declared.error.WorldError.TheVariants as world_error
-use Rattle.vp_list.specs.Refusals.{Explains}
+use Rattle.vp_text.specs.Refusals.{Explains}
 use Rattle.vp_sim.specs.declared.error.SimError.{SimError}
 use Rattle.vp_sim.specs.declared.error.SimError.TheVariants.{Finished, Idle, SlotNotDone, NoSuchChoice, TimeLimit, NoMemory}
 use Rattle.vp_sim.specs.States as sim

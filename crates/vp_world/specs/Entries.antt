@@ -1,7 +1,7 @@
 -- An entry of the log.
 use Rattle.std.specs.Prelude.{ℕ, Bool, Option, Some, None}
 use Rattle.std.specs.Arc.{arc_value}
-use Rattle.vp_waking.specs.declared.change.Change.{Change}
+use Rattle.vp_expr.specs.declared.change.Change.{Change}
 use Rattle.vp_world.specs.declared.entry.LoggedEvent.{LoggedEvent}
 use Rattle.vp_world.specs.declared.entry.LoggedEvent.TheVariants as happening
 use Rattle.vp_world.specs.declared.event.Event.{Event}

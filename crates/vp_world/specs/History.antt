@@ -2,12 +2,12 @@
 use Rattle.std.specs.Prelude.{◌≡◌, ℕ, ◌+◌, ◌==◌, ◌||◌, nat_le, nat_lt, max, Bool, true, false, if◌then◌else◌, List, [], ◌∷◌, ◌++◌, length, fold, map, slice_get, slice_index, slice_set, Option, Some, None, is_none, option_and_then, option_map, Result, IfErr, OnErr, OnOk}
 use Rattle.std.specs.List.{remove}
 use Rattle.std.specs.Option.{option_map_or}
-use Rattle.vp_list.specs.Refusals.{Explains}
+use Rattle.vp_text.specs.Refusals.{Explains}
 use Rattle.vp_bits.specs.declared.bit.Bit.{Bit}
 use Rattle.vp_policy.specs.PolicyState.{PolicyState}
 use Rattle.vp_policy.specs.Regrants.{is_operator, regranted}
 use Rattle.vp_policy.specs.Users.{Member, login_of, member_at, user_of}
-use Rattle.vp_waking.specs.declared.change.Change.{Change}
+use Rattle.vp_expr.specs.declared.change.Change.{Change}
 use Rattle.vp_race.specs.declared.error.RaceError.{RaceError}
 use Rattle.vp_race.specs.Booking.{refusal_of_finding}
 use Rattle.vp_race.specs.Recording.{Segments, kept_of, next_job, with_anew, with_job, with_step}

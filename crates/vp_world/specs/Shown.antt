@@ -6,7 +6,7 @@ use Rattle.vp_race.specs.Recording.{Recorded}
 use Rattle.vp_race.specs.Segments.{Run, FindingState}
 use Rattle.vp_vpi.specs.Observers.{is_watch_denied}
 use Rattle.vp_vpi.specs.SessionStates.{retired, with_due}
-use Rattle.vp_waking.specs.declared.change.Change.{Change}
+use Rattle.vp_expr.specs.declared.change.Change.{Change}
 use Rattle.vp_world.specs.declared.limits.Limits.{Limits}
 use Rattle.vp_world.specs.declared.session.OpenSession.{OpenSession}
 use Rattle.vp_world.specs.Worlds.{OpenSessionState, WorldState}

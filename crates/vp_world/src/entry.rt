@@ -6,9 +6,9 @@ ghost use Rattle.vp_answer.specs.declared.reply.Reply.TheVariants as reply;
 use std::marker::Model;
 use std::sync::Arc;
 use vp_answer::{GrantChange, Reply, Request, SessionId};
-use vp_list::Text;
-use vp_race::{Finding, Shared};
-use vp_waking::Change;
+use vp_expr::Change;
+use vp_race::Finding;
+use vp_text::{Shared, Text};
 
 /// The name and the token with which a user opens a session.
 #[derive(Drop)]

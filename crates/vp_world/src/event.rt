@@ -1,6 +1,6 @@
 use vp_answer::{GrantChange, Request, SessionId};
-use vp_list::Text;
-use vp_race::{Finding, Shared};
+use vp_race::Finding;
+use vp_text::{Shared, Text};
 
 /// What can happen to a world (docs/FORMATS.md, "Lines" and "Simulation").
 #[derive(Drop)]

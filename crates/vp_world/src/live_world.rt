@@ -1,6 +1,6 @@
 ghost use Rattle.std.specs.Prelude.{◌≡◌, ◌<◌, ◌≤◌, ◌+◌, ◌^◌, false, true, length, slice_index, slice_set, None, Some, option_copied, option_map, IfErr, IfOk, IfSome, IsOkUnless, OnErr, OnOk};
 ghost use Rattle.std.specs.Arc.{arc_value};
-ghost use Rattle.vp_list.specs.Refusals.{Explains};
+ghost use Rattle.vp_text.specs.Refusals.{Explains};
 ghost use Rattle.vp_policy.specs.PolicyState.{Fits};
 ghost use Rattle.vp_policy.specs.Users.{login_of, user_of};
 ghost use Rattle.vp_race.specs.Recording.{kept_of, next_job, with_anew, with_step};
@@ -22,11 +22,12 @@ use std::marker::Model;
 use std::snapshot::Snapshot;
 use std::sync::Arc;
 use vp_answer::{GrantChange, Request, SessionId};
+use vp_expr::Change;
 use vp_policy::{Policy, UserId};
-use vp_race::{Book, Finding, Recording, Segment, Shared};
+use vp_race::{Book, Finding, Recording, Segment};
 use vp_sim::Checked;
+use vp_text::Shared;
 use vp_vpi::Session;
-use vp_waking::Change;
 
 /// A world without its log: a design with a policy, its simulation, and the sessions of its users. A contract sees how it began
 /// and its state.

@@ -13,10 +13,10 @@ use crate::error::WorldError;
 use vp_answer::{Reply, Request, respond};
 use vp_bits::Bits;
 use vp_elab::ObjectId;
+use vp_expr::Change;
 use vp_policy::Policy;
 use vp_race::{Book, Recording};
 use vp_vpi::{Session, UserObserver};
-use vp_waking::Change;
 
 /// What a request is answered, and what it changed.
 #[derive(Drop)]

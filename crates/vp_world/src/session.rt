@@ -3,9 +3,9 @@ ghost use Rattle.vp_world.specs.Shown.{retired_open, session_shown, notified_ses
 ghost use Rattle.vp_world.specs.Worlds.{index_of, same_session};
 
 use vp_answer::SessionId;
+use vp_expr::Change;
 use vp_policy::{Policy, UserId};
 use vp_vpi::Session;
-use vp_waking::Change;
 
 /// An open session, with its name.
 #[derive(Drop)]

@@ -10,9 +10,9 @@ ghost use Rattle.vp_world.specs.Marks.{all_marked, are_marked, is_watch, is_watc
 use crate::session::{OpenSession, notify_sessions};
 use vp_answer::Request;
 use vp_elab::ObjectId;
+use vp_expr::Change;
 use vp_notify::Callback;
 use vp_vpi::Session;
-use vp_waking::Change;
 
 /// Some open session may have a callback on an object, by a list that says so of each object.
 fn may_be_watched(watched: &[bool], object: ObjectId) -> bool

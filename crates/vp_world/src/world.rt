@@ -18,10 +18,10 @@ use std::alloc::Global;
 use std::marker::Model;
 use std::sync::Arc;
 use vp_answer::{GrantChange, Reply, Request, SessionId};
-use vp_list::Text;
 use vp_policy::Policy;
-use vp_race::{Finding, Segment, Shared};
+use vp_race::{Finding, Segment};
 use vp_sim::Checked;
+use vp_text::{Shared, Text};
 
 /// A design with a policy, its simulation, the sessions of its users, and the log of what has happened. A contract sees how it
 /// began and its log, of which its state is a function.

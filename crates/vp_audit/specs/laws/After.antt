@@ -16,8 +16,8 @@ use Rattle.vp_policy.specs.View.{View, known_view}
 use Rattle.vp_notify.specs.declared.registry.Callback.{Callback}
 use Rattle.vp_notify.specs.declared.notice.Notice.{Notice}
 use Rattle.vp_notify.specs.Registry as registry
-use Rattle.vp_waking.specs.declared.change.Change.{Change}
-use Rattle.vp_waking.specs.Changes.{values_with}
+use Rattle.vp_expr.specs.declared.change.Change.{Change}
+use Rattle.vp_expr.specs.Changes.{values_with}
 use Rattle.vp_vpi.specs.declared.error.VpiError.{VpiError}
 use Rattle.vp_vpi.specs.declared.error.VpiError.TheVariants as vpi
 use Rattle.vp_vpi.specs.Calls.{allowed, handle_of, is_watchable, iterated, number_of, or_refusal, put_of, race_of, same_of, text_of, then_by, undenied, value_of, watchable_of, watched_of}

@@ -15,7 +15,7 @@ use Rattle.vp_sim.specs.States as sim
 use Rattle.vp_sim.specs.laws.Designs.{Leaves, put_leaves}
 use Rattle.vp_race.specs.Recording.{Segments}
 use Rattle.vp_race.specs.Segments.{FindingState}
-use Rattle.vp_waking.specs.declared.change.Change.{Change}
+use Rattle.vp_expr.specs.declared.change.Change.{Change}
 use Rattle.vp_vpi.specs.declared.races.ShownRace.{ShownRace}
 use Rattle.vp_vpi.specs.Races.{is_shown, observer_with, race_seen, races_seen}
 use Rattle.vp_vpi.specs.SessionStates.{SessionState, new_session_state}

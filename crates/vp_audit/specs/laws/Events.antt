@@ -13,8 +13,8 @@ use Rattle.vp_policy.specs.View.{View, known_view}
 use Rattle.vp_sim.specs.States as sim
 use Rattle.vp_race.specs.Recording.{Segments}
 use Rattle.vp_sim.specs.laws.Designs.{Leaves}
-use Rattle.vp_waking.specs.declared.change.Change.{Change}
-use Rattle.vp_waking.specs.Changes.{values_with}
+use Rattle.vp_expr.specs.declared.change.Change.{Change}
+use Rattle.vp_expr.specs.Changes.{values_with}
 use Rattle.vp_vpi.specs.declared.races.ShownRace.{ShownRace}
 use Rattle.vp_vpi.specs.Races.{races_seen}
 use Rattle.vp_answer.specs.Renumbering as under

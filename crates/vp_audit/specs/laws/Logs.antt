@@ -6,7 +6,7 @@ use Rattle.std.proofs.lemmas.List.Sums.{fold-append}
 use Rattle.vp_elab.specs.Built.{Elaborated}
 use Rattle.vp_policy.specs.Users.{member_at}
 use Rattle.vp_policy.specs.View.{View, view_of}
-use Rattle.vp_waking.specs.declared.change.Change.{Change}
+use Rattle.vp_expr.specs.declared.change.Change.{Change}
 use Rattle.vp_vpi.specs.declared.races.ShownRace.{ShownRace}
 use Rattle.vp_world.specs.Entries.{Entry}
 use Rattle.vp_world.specs.History.{IsLegal, after, entry_of, state_after}

@@ -13,12 +13,12 @@ use Rattle.vp_source.specs.declared.source.Source.{Source}
 use Rattle.vp_source.specs.declared.source.Module as declared
 use Rattle.vp_source.specs.declared.source.Item.{Item}
 use Rattle.vp_pragma.specs.declared.envelope.Envelope.{Envelope}
-use Rattle.vp_names.specs.declared.error.ElabError.{ElabError}
-use Rattle.vp_names.specs.declared.error.ElabError.TheVariants.{Duplicate}
+use Rattle.vp_modules.specs.declared.error.ElabError.{ElabError}
+use Rattle.vp_modules.specs.declared.error.ElabError.TheVariants.{Duplicate}
 use Rattle.vp_source.specs.Places.{line_at, word_at}
-use Rattle.vp_names.specs.Items.{definition_of, instantiated, is_among, is_top, item_name, item_place, items_in, module_named, module_number}
-use Rattle.vp_names.specs.Refusals.{first_of_two, twice, twice_in}
-use Rattle.vp_modules.specs.Refusals.{refusal_of, refusal_of_instances, refusal_of_uses}
+use Rattle.vp_modules.specs.Items.{definition_of, instantiated, is_among, is_top, item_name, item_place, items_in, module_named, module_number}
+use Rattle.vp_modules.specs.Refusals.{first_of_two, twice, twice_in}
+use Rattle.vp_modules.specs.ModuleRefusals.{refusal_of, refusal_of_instances, refusal_of_uses}
 use Rattle.vp_pragma.specs.Envelopes.{Protection}
 use Rattle.vp_elab.specs.Elaboration.{further_limit, tree_of, item_node, item_nodes, item_step, nodes_below, root_step, top_nodes, tops}
 use Rattle.vp_elab.specs.Tree.{Node, Step, find_named, is_named, names_of}

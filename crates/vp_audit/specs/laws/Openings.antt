@@ -10,7 +10,7 @@ use Rattle.vp_source.specs.declared.source.Module as declared
 use Rattle.vp_source.specs.declared.source.Item.{Item}
 use Rattle.vp_pragma.specs.declared.envelope.Envelope.{Envelope}
 use Rattle.vp_pragma.specs.Envelopes.{Protection, envelope_at, holds, last_holding, or_later}
-use Rattle.vp_names.specs.Items.{definition_of, item_place, items_in}
+use Rattle.vp_modules.specs.Items.{definition_of, item_place, items_in}
 use Rattle.vp_elab.specs.Built.{Elaborated, IsElaborated}
 use Rattle.vp_elab.specs.Elaboration.{further_limit, item_node, item_nodes, item_step, nodes_below, root_node, root_step, top_nodes, tops, tree_of}
 use Rattle.vp_elab.specs.Tree.{Node, Step, Tree}

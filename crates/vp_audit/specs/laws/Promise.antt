@@ -10,7 +10,7 @@ use Rattle.vp_policy.specs.Users.{Member, has_token, login_of, member_at, nobody
 use Rattle.vp_sim.specs.States as sim
 use Rattle.vp_sim.specs.laws.Designs.{advance_leaves, step_leaves}
 use Rattle.vp_race.specs.Recording.{with_anew, with_step}
-use Rattle.vp_waking.specs.declared.change.Change.{Change}
+use Rattle.vp_expr.specs.declared.change.Change.{Change}
 use Rattle.vp_vpi.specs.declared.races.ShownRace.{ShownRace}
 use Rattle.vp_answer.specs.declared.request.GrantChange.{GrantChange}
 use Rattle.vp_answer.specs.declared.request.Request.{Request}

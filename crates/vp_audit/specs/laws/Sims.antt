@@ -9,14 +9,14 @@ use Rattle.vp_expr.specs.Tables.{tables_of}
 use Rattle.vp_statement.specs.declared.effect.Effect.{Effect}
 use Rattle.vp_statement.specs.declared.effect.Effect.TheVariants as effect
 use Rattle.vp_statement.specs.Walking.{next_event}
-use Rattle.vp_active.specs.declared.event.Event.{Event}
-use Rattle.vp_active.specs.declared.event.Event.TheVariants.{Evaluation, NetUpdate, Nonblocking}
+use Rattle.vp_active_events.specs.declared.event.Event.{Event}
+use Rattle.vp_active_events.specs.declared.event.Event.TheVariants.{Evaluation, NetUpdate, Nonblocking}
 use Rattle.vp_strata.specs.Queues.{first_time, is_done, peeked}
-use Rattle.vp_waking.specs.declared.change.Change.{Change}
+use Rattle.vp_expr.specs.declared.change.Change.{Change}
 use Rattle.std.proofs.lemmas.Option.{slice_get_within}
 use Rattle.vp_bits.specs.Vector.{resized, same_bits}
 use Rattle.vp_operand.specs.Terms.{set_in}
-use Rattle.vp_waking.specs.Changes.{change_of, net_at, set_change_of, updated_by, values_with}
+use Rattle.vp_expr.specs.Changes.{change_of, net_at, set_change_of, updated_by, values_with}
 use Rattle.vp_sim.specs.States.{Outcome, Goes, Refuses, State, advance, advanced_to, change_by, delay_of, evaluated, happened, is_late, next_effect, performed, put, step, run_procedure, with_activation, with_effect, with_remaining}
 
 -- a change is of an object that has a value

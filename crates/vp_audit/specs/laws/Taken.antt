@@ -9,7 +9,7 @@ use Rattle.vp_pragma.specs.declared.rights.Right.TheVariants as right
 use Rattle.vp_elab.specs.Built.{Elaborated}
 use Rattle.vp_policy.specs.Users.{login_of, member_at}
 use Rattle.vp_policy.specs.View.{View, known_view, marked, seen_node, view_of}
-use Rattle.vp_waking.specs.declared.change.Change.{Change}
+use Rattle.vp_expr.specs.declared.change.Change.{Change}
 use Rattle.vp_notify.specs.Renumbered.{rises}
 use Rattle.vp_vpi.specs.declared.races.ShownRace.{ShownRace}
 use Rattle.vp_vpi.specs.Renumbered.{moved_session_state}

@@ -5,7 +5,7 @@ use Rattle.std.specs.List.{fold, list_all, position}
 use Rattle.std.specs.Option.{option_flatten}
 use Rattle.std.proofs.lemmas.List.Quantifiers.{position-Some}
 use Rattle.vp_bits.specs.declared.bit.Bit.{Bit}
-use Rattle.vp_list.specs.Texts.{parts}
+use Rattle.vp_text.specs.Texts.{parts}
 use Rattle.vp_pragma.specs.declared.rights.Right.{Right}
 use Rattle.vp_pragma.specs.declared.rights.Right.TheVariants as right
 use Rattle.vp_elab.specs.declared.object.Kind.{Kind}
@@ -13,7 +13,7 @@ use Rattle.vp_elab.specs.declared.object.ObjectId.{ObjectId}
 use Rattle.vp_elab.specs.Tree.{below}
 use Rattle.vp_policy.specs.Denials.{DenialText}
 use Rattle.vp_policy.specs.View.{View}
-use Rattle.vp_waking.specs.declared.change.Change.{Change}
+use Rattle.vp_expr.specs.declared.change.Change.{Change}
 use Rattle.vp_notify.specs.declared.notice.Notice.{Notice}
 use Rattle.vp_notify.specs.Registry.{RegistryState, due, has_number, is_past_goal, is_by, is_numbered, is_on, notice_of, registered, with_notice}
 use Rattle.vp_notify.specs.Registry as registry

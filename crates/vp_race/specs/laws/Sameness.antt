@@ -8,9 +8,9 @@ use Rattle.vp_bits.specs.Vector.{same_bits}
 use Rattle.vp_bits.specs.laws.Words.{same_bits-Decides}
 use Rattle.vp_strata.specs.declared.event.Delayed.{Delayed}
 use Rattle.vp_strata.specs.declared.event.Delayed.TheVariants as later
-use Rattle.vp_active.specs.declared.event.Event.{Event}
-use Rattle.vp_active.specs.declared.event.Event.TheVariants.{Evaluation, NetUpdate, Nonblocking}
-use Rattle.vp_active.specs.declared.event.NonblockingUpdate.{NonblockingUpdate}
+use Rattle.vp_active_events.specs.declared.event.Event.{Event}
+use Rattle.vp_active_events.specs.declared.event.Event.TheVariants.{Evaluation, NetUpdate, Nonblocking}
+use Rattle.vp_active_events.specs.declared.event.NonblockingUpdate.{NonblockingUpdate}
 use Rattle.vp_strata.specs.declared.event.Timed.{Timed}
 use Rattle.vp_strata.specs.Queues.{Queue}
 use Rattle.vp_sim.specs.Waiting.{Waiting}

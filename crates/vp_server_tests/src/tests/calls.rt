@@ -8,7 +8,7 @@ use std::time::{Clock, Duration};
 use vp_answer::{Reply, Request, ValueFormat};
 use vp_bits::Bits;
 use vp_hub::{Closed, Hub, HubError, NamesOpening, Pass};
-use vp_list::Text;
+use vp_text::Text;
 use vp_vpi::PutValue;
 
 /// A user opens a session by his token.

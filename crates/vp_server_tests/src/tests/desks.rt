@@ -8,7 +8,7 @@ use std::marker::Brand;
 use std::sync::ledger::Blank;
 use vp_answer::Request;
 use vp_hub::{Desk, NamesOpening, Pass};
-use vp_list::Text;
+use vp_text::Text;
 use vp_world::{Event, LoggedEvent, World};
 
 /// The numbers of the refusal of an opening by another token than Ann's.

@@ -6,8 +6,8 @@ use std::net::{Net, TcpStream};
 use std::sync::atomic::{AtomicU32, Ordering};
 use std::thread;
 use std::time::{Clock, Duration};
+use vp_hub::Settings;
 use vp_race::{Gate, OpenGate};
-use vp_serve::Settings;
 
 /// The three requests of a short session, and their replies.
 const SHORT: [(&str, &str); 3] = [

@@ -2,9 +2,9 @@
 
 use vp_answer::{GrantChange, Reply, Request};
 use vp_bits::Bits;
-use vp_list::Same;
 use vp_policy::ShownBarrier;
 use vp_pragma::Right;
+use vp_text::Same;
 use vp_world::{Entry, LoggedEvent};
 
 /// What Bob, who has watched `k` and given it a value, may see at an index of the log.

@@ -15,8 +15,8 @@ use std::thread::Threads;
 use std::time::Clock;
 use vp_answer::{GrantChange, Reply, Request};
 use vp_hub::{Closed, Desk, Hub, NamesOpening, Pass};
-use vp_list::Text;
 use vp_policy::Access;
+use vp_text::Text;
 use vp_world::World;
 
 /// The log holds so many entries.

@@ -5,8 +5,8 @@ use std::alloc::Global;
 use std::net::{Net, TcpStream};
 use std::thread;
 use std::time::{Clock, Duration, Instant};
+use vp_hub::Settings;
 use vp_race::OpenGate;
-use vp_serve::Settings;
 
 /// A server whose clients have a few seconds to open a session, and to read.
 fn impatient(sessions: u32) -> Settings {

@@ -9,7 +9,7 @@ use std::sync::Wait;
 use std::sync::ledger::Blank;
 use vp_answer::Request;
 use vp_hub::{Desk, Hub, NamesOpening, Pass};
-use vp_list::Text;
+use vp_text::Text;
 use vp_world::World;
 
 /// The numbers of the refusal of an opening by another token than Ann's.

@@ -5,8 +5,8 @@ use std::alloc::Global;
 use std::net::{Net, TcpStream};
 use std::thread;
 use std::time::{Clock, Duration};
+use vp_hub::{Limits, Settings};
 use vp_race::OpenGate;
-use vp_serve::{Limits, Settings};
 
 /// A design whose simulation never ends, with an empty envelope.
 const ENDLESS: &str = "module top;

@@ -6,8 +6,8 @@ use std::net::{Ipv4Addr, Net, TcpListener, TcpStream};
 use std::sync::Wait;
 use std::thread::{Threads, join};
 use std::time::Clock;
+use vp_hub::{Limits, Settings, serve};
 use vp_race::Gate;
-use vp_serve::{Limits, Settings, serve};
 use vp_world_samples::world_of;
 
 /// A module of a vendor, in an envelope, and one that has an instance of it.

@@ -6,8 +6,8 @@ use Rattle.vp_expr.specs.declared.tables.Process.TheVariants.{Procedure, Assignm
 use Rattle.vp_expr.specs.declared.tables.Tables.{Tables}
 use Rattle.vp_expr.specs.Tables.{tables_of}
 use Rattle.vp_statement.specs.Walking.{next_event}
-use Rattle.vp_active.specs.declared.event.Event.{Event}
-use Rattle.vp_active.specs.declared.event.Event.TheVariants.{Evaluation, NetUpdate, Nonblocking}
+use Rattle.vp_active_events.specs.declared.event.Event.{Event}
+use Rattle.vp_active_events.specs.declared.event.Event.TheVariants.{Evaluation, NetUpdate, Nonblocking}
 use Rattle.vp_strata.specs.Queues.{first_time, is_done, peeked}
 use Rattle.vp_sim.specs.declared.error.SimError.TheVariants.{NoMemory}
 use Rattle.vp_sim.specs.States.{Outcome, Goes, Refuses, State, advance, advanced_to, with_activation, delay_of, evaluated, happened, is_late, next_effect, step, run_procedure}

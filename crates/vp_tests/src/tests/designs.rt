@@ -3,7 +3,7 @@
 use std::alloc::Global;
 use vp_design::shared_of;
 use vp_elab::{Design, ObjectId};
-use vp_list::Sequence;
+use vp_text::Sequence;
 
 /// Two top modules, one of them with a reg and two instances, each of which has two ports and an assignment.
 const DESIGN: &str = "module inv(input wire a, output wire y);

@@ -6,9 +6,9 @@ use std::alloc::Global;
 use vp_answer::{GrantChange, Request, SessionId};
 use vp_design::shared_of;
 use vp_elab::{Design, ObjectId};
-use vp_list::Text;
 use vp_policy::{Access, Policy, UserId};
 use vp_pragma::{Right, access};
+use vp_text::Text;
 use vp_world::{Event, Limits, World};
 use vp_world_samples::{policy_of, world_of};
 

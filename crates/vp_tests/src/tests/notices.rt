@@ -3,8 +3,8 @@
 use std::alloc::Global;
 use vp_bits::Bits;
 use vp_elab::ObjectId;
+use vp_expr::Change;
 use vp_notify::{Notices, NotifyError, Registry};
-use vp_waking::Change;
 
 /// More changes than there is room for the notices of, where each is due to two callbacks.
 const MANY: u64 = 2_050;

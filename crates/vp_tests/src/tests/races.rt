@@ -7,7 +7,8 @@ use std::alloc::Global;
 use std::sync::Arc;
 use vp_bits::Bits;
 use vp_elab::ObjectId;
-use vp_race::{Book, Finding, OpenGate, RaceError, Recording, Segment, Shared, check, search};
+use vp_race::{Book, Finding, OpenGate, RaceError, Recording, Segment, check, search};
+use vp_text::Shared;
 
 /// The finding of an object by an order, or the refusal.
 fn finding_at(

@@ -8,7 +8,8 @@ use std::alloc::Global;
 use std::sync::Arc;
 use vp_answer::Request;
 use vp_elab::ObjectId;
-use vp_race::{Finding, Segment, Shared, check};
+use vp_race::{Finding, Segment, check};
+use vp_text::Shared;
 use vp_world::{Event, World, WorldError};
 
 /// Regs `top.a` (1), `top.b` (2) and `top.c` (3), and two processes that race for `a` and `b` at time 5.

@@ -3,8 +3,8 @@ ghost use Rattle.vp_answer.specs.Requests.{IsAsked};
 
 use std::alloc::Global;
 use vp_answer::{Reply, Request, SessionId};
-use vp_list::Text;
 use vp_policy::UserId;
+use vp_text::Text;
 use vp_vpi::PutValue;
 use vp_world::{Event, Limits, World};
 use vp_world_samples::world_of;

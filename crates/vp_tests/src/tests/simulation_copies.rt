@@ -1,10 +1,10 @@
 //! Copies of lists and of values that are kept.
 use std::alloc::Global;
 use vp_bits::Bits;
+use vp_cow_list::{SharedList, TrackedList};
 use vp_design::shared_of;
 use vp_elab::ObjectId;
 use vp_expr::{Values, ValuesCheckpoint};
-use vp_list::{SharedList, TrackedList};
 
 /// The numbers up to 200.
 fn numbers(alloc: Global) -> Option<TrackedList<u32>> {

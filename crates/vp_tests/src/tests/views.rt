@@ -3,8 +3,8 @@ use crate::tests::sessions::READER;
 use std::alloc::Global;
 use vp_design::shared_of;
 use vp_elab::Design;
-use vp_list::Text;
 use vp_policy::{SeenObject, UserId, View};
+use vp_text::Text;
 use vp_world_samples::policy_of;
 
 /// A design in which `acme` hides two regs, and opens one of them by a viewport.

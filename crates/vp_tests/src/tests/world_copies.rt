@@ -1,8 +1,8 @@
 //! Copies of requests, which have their contents.
 use std::alloc::Global;
 use vp_answer::{GrantChange, Request};
-use vp_list::{Same, Text};
 use vp_policy::Access;
+use vp_text::{Same, Text};
 use vp_vpi::PutValue;
 
 /// A request to open a session.

@@ -9,8 +9,8 @@ use std::alloc::Global;
 use vp_answer::{Reply, Request, SessionId};
 use vp_design::shared_of;
 use vp_elab::{Design, ObjectId};
-use vp_list::{Sequence, Text};
 use vp_policy::UserId;
+use vp_text::{Sequence, Text};
 use vp_world::{Event, Limits, World, WorldError};
 
 /// The README's design. Its objects are `top` (0), `a` (1), `k` (2) and the process (3).

@@ -6,8 +6,7 @@ use super::Session;
 use crate::error::VpiError;
 use crate::observer::Observe;
 use crate::races::{RaceDetails, RaceLine};
-use vp_list::Sequence;
-use vp_race::Shared;
+use vp_text::{Sequence, Shared};
 
 impl Session {
     /// The races that the user is shown, from a number on, at most 100; they are numbered from 1, and from 0 on is from 1 on. The only

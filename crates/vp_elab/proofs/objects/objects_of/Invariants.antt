@@ -1,5 +1,5 @@
 use Rattle.std.proofs.Common.{◌≡◌, ◌+◌, ◌≤◌, ◌++◌, suc, length, drop, filter}
-use Rattle.vp_names.specs.Items.{is_top}
+use Rattle.vp_modules.specs.Items.{is_top}
 use Rattle.vp_elab.specs.declared.object.TheConstants.{OBJECT_LIMIT}
 use Rattle.vp_elab.specs.Elaboration.{further_limit}
 use Rattle.vp_elab.specs.Objects.{objects_within}

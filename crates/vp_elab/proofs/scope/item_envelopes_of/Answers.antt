@@ -1,7 +1,7 @@
 use Rattle.std.proofs.Common.{◌≡◌, List, ℕ, suc, ◌==◌, ◌∙◌, ap, subst, false, filter, get_or, map, arith}
 use Rattle.std.specs.Prelude.{IfOk}
 use Rattle.std.specs.List.{list_any}
-use Rattle.vp_names.specs.Items.{item_place}
+use Rattle.vp_modules.specs.Items.{item_place}
 use Rattle.vp_pragma.specs.Envelopes.{envelope_at}
 use Rattle.vp_elab.specs.Tree.{below}
 use Rattle.vp_elab.specs.Objects.{numbers_of}

@@ -3,7 +3,7 @@ use Rattle.std.proofs.lemmas.List.{get_or-replicate, length-replicate, length-se
 use Rattle.vp_source.specs.declared.source.Direction.TheVariants.{Input}
 use Rattle.vp_source.specs.declared.source.Item.TheVariants.{Port}
 use Rattle.vp_pragma.specs.Envelopes.{envelope_at}
-use Rattle.vp_names.specs.Items.{item_place}
+use Rattle.vp_modules.specs.Items.{item_place}
 use Rattle.vp_elab.proofs.Marks.{mark_next}
 use Rattle.vp_elab.proofs.scope.marks_of.Goals as goal
 

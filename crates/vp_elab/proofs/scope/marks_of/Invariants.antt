@@ -1,7 +1,7 @@
 use Rattle.std.proofs.Common.{◌≡◌, ◌<◌, ◌==◌, ℕ, false, map, take, slice_index_or, length}
 use Rattle.std.specs.List.{list_any}
 use Rattle.vp_pragma.specs.Envelopes.{envelope_at}
-use Rattle.vp_names.specs.Items.{item_place}
+use Rattle.vp_modules.specs.Items.{item_place}
 use Rattle.vp_elab.proofs.scope.marks_of.Given as goal
 
 abbrev pub invariant-loop-item : goal.invariant-loop-item

@@ -1,6 +1,6 @@
 use Rattle.std.proofs.Common.{◌∙◌, List, map, ap}
 use Rattle.vp_source.specs.declared.source.Item.{Item}
-use Rattle.vp_names.specs.Items.{item_place}
+use Rattle.vp_modules.specs.Items.{item_place}
 use Rattle.vp_modules.specs.Definitions.{definitions_in}
 use Rattle.vp_elab.specs.Objects.{numbers_of}
 use Rattle.vp_elab.specs.Sizes.{slots_by}

@@ -1,6 +1,6 @@
 use Rattle.std.proofs.Common.{◌<◌, ◌+◌, ◌++◌, ◌∷◌, [], ◌∙◌, ℕ, Vec, Global, List, true, false, ap, length, drop, filter, get_or, arith}
 use Rattle.vp_source.specs.declared.source.Module.{Module}
-use Rattle.vp_names.specs.Items.{is_top}
+use Rattle.vp_modules.specs.Items.{is_top}
 use Rattle.vp_elab.proofs.Counting.{top_known, tops_more, tops_same}
 use Rattle.vp_elab.proofs.Parts.{nowhere}
 use Rattle.vp_elab.proofs.scope.tops_of.Goals as goal

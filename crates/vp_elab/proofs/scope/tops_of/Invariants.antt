@@ -1,5 +1,5 @@
 use Rattle.std.proofs.Common.{◌≡◌, ◌++◌, drop, filter}
-use Rattle.vp_names.specs.Items.{is_top}
+use Rattle.vp_modules.specs.Items.{is_top}
 use Rattle.vp_elab.specs.Elaboration.{tops}
 use Rattle.vp_elab.proofs.scope.tops_of.Given as goal
 

@@ -1,5 +1,5 @@
 use Rattle.std.proofs.Common.{◌≡◌, map, take}
-use Rattle.vp_names.specs.Items.{items_in}
+use Rattle.vp_modules.specs.Items.{items_in}
 use Rattle.vp_elab.specs.Sizes.{capped, many, total}
 use Rattle.vp_elab.proofs.sizes.first_sizes.Given as goal
 

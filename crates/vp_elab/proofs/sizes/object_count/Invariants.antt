@@ -1,5 +1,5 @@
 use Rattle.std.proofs.Common.{◌≡◌, ◌+◌, ◌≤◌, drop, filter}
-use Rattle.vp_names.specs.Items.{is_top}
+use Rattle.vp_modules.specs.Items.{is_top}
 use Rattle.vp_elab.specs.Sizes.{capped, many, object_count, total, whole_size}
 use Rattle.vp_elab.proofs.sizes.object_count.Given as goal
 

@@ -1,9 +1,9 @@
 use Rattle.std.proofs.Common.{◌∙◌, ap, sym, map, []}
-use Rattle.vp_names.specs.Refusals.{twice_in}
-use Rattle.vp_names.specs.Tables.{scope_in}
+use Rattle.vp_modules.specs.Refusals.{twice_in}
+use Rattle.vp_modules.specs.Tables.{scope_in}
 use Rattle.vp_elab.proofs.Parts.{nowhere}
 use Rattle.vp_elab.proofs.Viewports.{names_at, once_each}
-use Rattle.vp_names.specs.declared.tables.Tables.{Tables}
+use Rattle.vp_modules.specs.declared.tables.Tables.{Tables}
 use Rattle.vp_elab.proofs.step_rights.is_on_any.Goals as goal
 
 pub is_on_item-requires-clause-once : goal.is_on_item-requires-clause-once

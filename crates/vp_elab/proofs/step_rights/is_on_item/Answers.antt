@@ -7,7 +7,7 @@ use Rattle.std.specs.Prelude.{option_map}
 use Rattle.vp_source.specs.declared.source.Item.{Item}
 use Rattle.vp_pragma.specs.Envelopes.{Viewport, envelope_at}
 use Rattle.vp_pragma.specs.Reading.{viewport_of}
-use Rattle.vp_names.specs.Items.{item_name, items_in}
+use Rattle.vp_modules.specs.Items.{item_name, items_in}
 use Rattle.vp_elab.proofs.Viewports.{is_on_none, is_on_one}
 use Rattle.vp_elab.proofs.step_rights.is_on_item.Goals as goal
 

@@ -1,6 +1,6 @@
 use Rattle.std.proofs.Common.{◌∙◌, ap, refl, List, ℕ}
 use Rattle.vp_pragma.specs.Envelopes.{Viewport, envelope_at}
-use Rattle.vp_names.specs.Items.{item_name, item_place}
+use Rattle.vp_modules.specs.Items.{item_name, item_place}
 use Rattle.vp_source.specs.Places.{word_at}
 use Rattle.vp_elab.proofs.OpenedSteps.{step_rights_named}
 use Rattle.vp_elab.proofs.step_rights.item_step_rights.Goals as goal

@@ -1,6 +1,6 @@
 use Rattle.std.proofs.Common.{◌≡◌, ◌++◌, drop}
 use Rattle.std.specs.List.{flat_map}
-use Rattle.vp_names.specs.Items.{statements_in}
+use Rattle.vp_modules.specs.Items.{statements_in}
 use Rattle.vp_expr.specs.Awaits.{statements_of}
 use Rattle.vp_expr.proofs.awaited.all_statements.Given as goal
 

@@ -2,8 +2,8 @@ use Rattle.std.proofs.Common.{ℕ, List, ◌∙◌, sym, ap, position}
 use Rattle.std.specs.Str.{bytes_eq}
 use Rattle.vp_source.specs.Places.{word_at}
 use Rattle.vp_source.specs.declared.source.Module.{Module}
-use Rattle.vp_names.specs.Items.{definition_number}
-use Rattle.vp_names.proofs.Looked.{placed}
+use Rattle.vp_modules.specs.Items.{definition_number}
+use Rattle.vp_modules.proofs.Looked.{placed}
 use Rattle.vp_modules.proofs.definitions.definition_number.Goals as goal
 
 pub returns-in-Instance : goal.returns-in-Instance

@@ -3,9 +3,9 @@ use Rattle.std.proofs.lemmas.List.{get_or-map, length-map, take_all}
 use Rattle.std.specs.Prelude.{not}
 use Rattle.std.specs.List.{list_any}
 use Rattle.vp_source.specs.declared.source.Item.TheVariants as item
-use Rattle.vp_names.specs.Items.{definition_number}
+use Rattle.vp_modules.specs.Items.{definition_number}
 use Rattle.vp_modules.specs.Definitions.{is_number}
-use Rattle.vp_names.proofs.Looked.{nowhere}
+use Rattle.vp_modules.proofs.Looked.{nowhere}
 use Rattle.vp_modules.proofs.Numbers.{in_range, tops_are}
 use Rattle.vp_modules.proofs.definitions.tops_of.Goals as goal
 

@@ -1,5 +1,5 @@
 use Rattle.std.proofs.Common.{◌≡◌, ◌++◌, drop}
-use Rattle.vp_modules.specs.Refusals.{driven_through}
+use Rattle.vp_modules.specs.ModuleRefusals.{driven_through}
 use Rattle.vp_modules.proofs.drivers.add_driven.Given as goal
 
 abbrev pub invariant-loop-before : goal.invariant-loop-before

@@ -1,6 +1,6 @@
 use Rattle.std.proofs.Common.{◌≡◌, ◌++◌, drop}
 use Rattle.std.specs.List.{flat_map}
-use Rattle.vp_modules.specs.Refusals.{driven_by}
+use Rattle.vp_modules.specs.ModuleRefusals.{driven_by}
 use Rattle.vp_modules.proofs.drivers.driven_in.Given as goal
 
 abbrev pub invariant-loop-item : goal.invariant-loop-item

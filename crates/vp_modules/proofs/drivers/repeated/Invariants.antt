@@ -1,5 +1,5 @@
 use Rattle.std.proofs.Common.{◌≡◌, [], drop}
-use Rattle.vp_modules.specs.Refusals.{repeated}
+use Rattle.vp_modules.specs.ModuleRefusals.{repeated}
 use Rattle.vp_modules.proofs.drivers.repeated.Given as goal
 
 abbrev pub invariant-loop-place : goal.invariant-loop-place

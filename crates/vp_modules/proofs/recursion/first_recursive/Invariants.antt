@@ -1,6 +1,6 @@
 use Rattle.std.proofs.Common.{◌≡◌, drop}
 use Rattle.vp_source.specs.Places.{earlier, earliest}
-use Rattle.vp_modules.specs.Refusals.{recursive}
+use Rattle.vp_modules.specs.ModuleRefusals.{recursive}
 use Rattle.vp_modules.proofs.recursion.first_recursive.Given as goal
 
 abbrev pub invariant-loop-number : goal.invariant-loop-number

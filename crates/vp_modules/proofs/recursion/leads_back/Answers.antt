@@ -2,8 +2,8 @@ use Rattle.std.proofs.Common.{◌≡◌, ◌≤◌, ◌<◌, ◌+◌, ℕ, Bool,
 use Rattle.std.proofs.lemmas.List.Sums.{count_by-le-length}
 use Rattle.std.specs.List.{list_any}
 use Rattle.vp_modules.specs.Definitions.{is_number, with_numbers}
-use Rattle.vp_names.specs.Items.{items_in}
-use Rattle.vp_names.proofs.Looked.{nowhere}
+use Rattle.vp_modules.specs.Items.{items_in}
+use Rattle.vp_modules.proofs.Looked.{nowhere}
 use Rattle.vp_modules.proofs.Graph.{Searched, searched_all, searched_found, searched_more}
 use Rattle.vp_modules.proofs.Hierarchy.{graph_in_range, graph_of, leads_back_is, nexts_are}
 use Rattle.vp_modules.proofs.recursion.leads_back.Goals as goal

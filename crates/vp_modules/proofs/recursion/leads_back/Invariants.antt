@@ -1,5 +1,5 @@
 use Rattle.std.proofs.Common.{◌≡◌, length}
-use Rattle.vp_names.proofs.Looked.{nowhere}
+use Rattle.vp_modules.proofs.Looked.{nowhere}
 use Rattle.vp_modules.proofs.Graph.{Searched}
 use Rattle.vp_modules.proofs.Hierarchy.{graph_of}
 use Rattle.vp_modules.proofs.recursion.leads_back.Given as goal

@@ -2,7 +2,7 @@ use Rattle.std.proofs.Common.{Bool, false, List, length, get_or, ap, ◌∙◌}
 use Rattle.std.proofs.lemmas.List.{length-map}
 use Rattle.std.specs.List.{list_any}
 use Rattle.vp_modules.specs.Definitions.{definitions_in, is_marked}
-use Rattle.vp_names.proofs.Looked.{nowhere}
+use Rattle.vp_modules.proofs.Looked.{nowhere}
 use Rattle.vp_modules.proofs.Hierarchy.{chains_more, not_recursive}
 use Rattle.vp_modules.proofs.recursion.suspects.Goals as goal
 

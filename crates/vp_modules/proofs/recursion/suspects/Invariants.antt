@@ -1,5 +1,5 @@
 use Rattle.std.proofs.Common.{◌≡◌, ◌<◌, ℕ, false, length, get_or}
-use Rattle.vp_names.proofs.Looked.{nowhere}
+use Rattle.vp_modules.proofs.Looked.{nowhere}
 use Rattle.vp_modules.proofs.Graph.{chain}
 use Rattle.vp_modules.proofs.Hierarchy.{graph_of}
 use Rattle.vp_modules.proofs.recursion.suspects.Given as goal

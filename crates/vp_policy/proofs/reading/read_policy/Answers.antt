@@ -2,7 +2,7 @@ use Rattle.std.proofs.Common.{◌≡◌, ℕ, Err, Ok, ap, length, subst, sym, I
 use Rattle.std.specs.Prelude.{Result}
 use Rattle.std.specs.Result.{result_err}
 use Rattle.vp_policy.specs.declared.error.PolicyError.TheVariants.{NoMemory}
-use Rattle.vp_list.specs.Refusals.{MayExplain}
+use Rattle.vp_text.specs.Refusals.{MayExplain}
 use Rattle.serde_json.specs.View.{view}
 use Rattle.vp_policy.specs.declared.error.PolicyError.{PolicyError}
 use Rattle.vp_policy.specs.File.{PolicyFile, file_in}

@@ -5,7 +5,7 @@ use Rattle.vp_pragma.specs.declared.error.PragmaError.{PragmaError}
 use Rattle.vp_pragma.specs.EnvelopesOf.{Progress}
 use Rattle.vp_pragma.specs.LineReading.{effects_from}
 use Rattle.std.specs.Result.{result_err}
-use Rattle.vp_list.specs.Refusals.{MayExplain}
+use Rattle.vp_text.specs.Refusals.{MayExplain}
 use Rattle.vp_pragma.specs.declared.error.PragmaError.TheVariants as error
 use Rattle.vp_pragma.specs.Reading.{HasPlaces, after_all, placed}
 use Rattle.vp_pragma.proofs.Refusals.{at_some, next_left, all_some}

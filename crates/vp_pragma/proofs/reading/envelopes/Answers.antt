@@ -3,7 +3,7 @@ use Rattle.std.proofs.lemmas.Result.{MatchResult-weaker, err_from_is_err_and}
 use Rattle.vp_pragma.specs.declared.error.PragmaError.{PragmaError}
 use Rattle.vp_pragma.specs.EnvelopesOf.{AreEnvelopes, Progress, after_effects, at_start, envelopes_after}
 use Rattle.std.specs.Result.{result_err}
-use Rattle.vp_list.specs.Refusals.{MayExplain}
+use Rattle.vp_text.specs.Refusals.{MayExplain}
 use Rattle.vp_pragma.specs.declared.error.PragmaError.TheVariants as error
 use Rattle.vp_pragma.specs.LineReading.{effects_of_text, envelopes_read}
 use Rattle.vp_pragma.proofs.Refusals.{explains_through}

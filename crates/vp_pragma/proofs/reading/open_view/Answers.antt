@@ -4,7 +4,7 @@ use Rattle.std.proofs.lemmas.Result.{err_from_is_err_and}
 use Rattle.vp_pragma.specs.declared.error.PragmaError.{PragmaError}
 use Rattle.vp_pragma.specs.EnvelopesOf.{Progress}
 use Rattle.std.specs.Result.{result_err}
-use Rattle.vp_list.specs.Refusals.{MayExplain}
+use Rattle.vp_text.specs.Refusals.{MayExplain}
 use Rattle.vp_pragma.specs.declared.error.PragmaError.TheVariants as error
 use Rattle.vp_pragma.specs.Reading.{progress_of}
 use Rattle.vp_pragma.proofs.Views.{in_envelope, one_more}

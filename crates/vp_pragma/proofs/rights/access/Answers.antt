@@ -1,6 +1,6 @@
 use Rattle.std.proofs.Common.{rules, ◌∙◌, ap}
 use Rattle.std.specs.Prelude.{option_map}
-use Rattle.vp_list.specs.Texts.{part_and_rest}
+use Rattle.vp_text.specs.Texts.{part_and_rest}
 use Rattle.vp_pragma.proofs.RightBits.{access_last, access_next}
 use Rattle.vp_pragma.specs.Rights.{either, set_of}
 use Rattle.vp_pragma.proofs.rights.access.Goals as goal

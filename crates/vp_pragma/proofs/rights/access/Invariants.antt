@@ -1,6 +1,6 @@
 use Rattle.std.proofs.Common.{◌≡◌, length}
 use Rattle.std.specs.Prelude.{IsUtf8, option_map}
-use Rattle.vp_list.specs.Texts.{parts}
+use Rattle.vp_text.specs.Texts.{parts}
 use Rattle.vp_pragma.specs.Access.{access_of, rights_named}
 use Rattle.vp_pragma.specs.Rights.{either, set_of}
 use Rattle.vp_pragma.proofs.rights.access.Given as goal

@@ -3,7 +3,7 @@ use Rattle.std.proofs.Math.Seq.{drop-cons}
 use Rattle.std.proofs.lemmas.Result.{err_from_is_err_and}
 use Rattle.vp_race.specs.declared.error.RaceError.TheVariants.{NoMemory}
 use Rattle.vp_race.specs.Segments.{choices_refusal}
-use Rattle.vp_list.specs.Refusals.{MayExplain}
+use Rattle.vp_text.specs.Refusals.{MayExplain}
 use Rattle.vp_race.specs.Orders.{after_choices, reached}
 use Rattle.vp_sim.specs.States.{State, step}
 use Rattle.vp_race.proofs.Explaining.{first_explains}

@@ -1,6 +1,6 @@
 use Rattle.std.proofs.Common.{◌∙◌, ap}
 use Rattle.vp_source.specs.declared.source.Source.{Source}
-use Rattle.vp_names.specs.Items.{expressions_in, statements_in}
+use Rattle.vp_modules.specs.Items.{expressions_in, statements_in}
 use Rattle.vp_resolve.proofs.Scopes.{bad_there}
 use Rattle.vp_resolve.proofs.checks.bad_in.Goals as goal
 

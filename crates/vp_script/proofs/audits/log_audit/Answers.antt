@@ -3,7 +3,7 @@ use Rattle.std.proofs.lemmas.Result.{IfOk-at_ok}
 use Rattle.vp_world.specs.Entries.{Entry}
 use Rattle.vp_world.specs.History.{IsLegal}
 use Rattle.vp_world.specs.Worlds.{WorldLog}
-use Rattle.vp_explain.specs.Audit.{Audit}
+use Rattle.vp_audit.specs.declared.audit.Audit.{Audit}
 use Rattle.vp_script.specs.Audits.{audit_of}
 use Rattle.vp_script.proofs.audits.log_audit.Goals as goal
 

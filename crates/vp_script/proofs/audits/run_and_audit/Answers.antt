@@ -1,6 +1,6 @@
 use Rattle.std.proofs.Common.{◌∙◌, ap, subst, sym}
 use Rattle.std.proofs.lemmas.Result.{IfErr-weaker, IfOk-weaker}
-use Rattle.vp_explain.specs.Openings.{IsRight}
+use Rattle.vp_audit.specs.Openings.{IsRight}
 use Rattle.vp_world.specs.Worlds.{Opening}
 use Rattle.vp_design.proofs.Results.{told_as}
 use Rattle.vp_script.specs.Audits.{EndsRunBy}

@@ -2,7 +2,7 @@ use Rattle.std.proofs.Common.{inl, refl, subst, sym}
 use Rattle.std.proofs.lemmas.Result.{IfErr-weaker, IfOk-weaker}
 use Rattle.std.specs.Arc.{arc_value}
 use Rattle.vp_elab.specs.Built.{Elaborated}
-use Rattle.vp_explain.specs.Openings.{IsRight}
+use Rattle.vp_audit.specs.Openings.{IsRight}
 use Rattle.vp_design.proofs.Results.{told_as}
 use Rattle.vp_script.specs.Audits.{EndsOpenedBy}
 use Rattle.vp_script.specs.Scripts.{opening_of}

@@ -1,7 +1,7 @@
 use Rattle.std.proofs.Common.{◌≡◌, ◌∙◌, ℕ, ◌+◌, ◌∷◌, ◌++◌, [], add-one, ap, arith, map, sym}
 use Rattle.std.proofs.lemmas.List.{map_push}
 use Rattle.vp_elab.specs.Tree.{below}
-use Rattle.vp_active.specs.declared.event.Event.TheVariants.{Evaluation}
+use Rattle.vp_active_events.specs.declared.event.Event.TheVariants.{Evaluation}
 use Rattle.vp_strata.specs.Queues.{Queue, no_events, with_active}
 use Rattle.vp_sim.proofs.steps.first_queue.Goals as goal
 

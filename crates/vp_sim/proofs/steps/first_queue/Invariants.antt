@@ -1,6 +1,6 @@
 use Rattle.std.proofs.Common.{◌≡◌, map}
 use Rattle.vp_elab.specs.Tree.{below}
-use Rattle.vp_active.specs.declared.event.Event.TheVariants.{Evaluation}
+use Rattle.vp_active_events.specs.declared.event.Event.TheVariants.{Evaluation}
 use Rattle.vp_strata.specs.Queues.{no_events, with_active}
 use Rattle.vp_sim.proofs.steps.first_queue.Given as goal
 

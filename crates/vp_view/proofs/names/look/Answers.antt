@@ -1,6 +1,6 @@
 use Rattle.std.proofs.Common.{rules, ◌≡◌, ◌∙◌, IfOk, ap, subst}
 use Rattle.std.specs.Prelude.{IsTrue, OnErr, option_map}
-use Rattle.vp_list.specs.Texts.{part_and_rest}
+use Rattle.vp_text.specs.Texts.{part_and_rest}
 use Rattle.vp_vpi.specs.Lookups.{found_shown, is_denial}
 use Rattle.vp_vpi.specs.Observers.{Lookup}
 use Rattle.vp_view.proofs.Walks.{walk_end, walk_next, walk_unlisted}

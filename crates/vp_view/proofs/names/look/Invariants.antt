@@ -1,6 +1,6 @@
 use Rattle.std.proofs.Common.{◌≡◌, length}
 use Rattle.std.specs.Prelude.{IsUtf8}
-use Rattle.vp_list.specs.Texts.{parts}
+use Rattle.vp_text.specs.Texts.{parts}
 use Rattle.vp_vpi.specs.Observers.{Absent}
 use Rattle.vp_view.specs.Seen.{walk_seen}
 use Rattle.vp_view.proofs.names.look.Given as goal

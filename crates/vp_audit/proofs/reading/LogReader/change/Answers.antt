@@ -3,7 +3,7 @@ use Rattle.std.specs.Prelude.{slice_get}
 use Rattle.std.specs.Option.{option_flatten}
 use Rattle.vp_policy.specs.SeenObjects.{numbers_from}
 use Rattle.vp_policy.specs.Users.{Member, member_at}
-use Rattle.vp_waking.specs.declared.change.Change.{Change}
+use Rattle.vp_expr.specs.declared.change.Change.{Change}
 use Rattle.vp_audit.specs.Projections.{is_followed}
 use Rattle.vp_audit.specs.Readings.{LogReader}
 use Rattle.vp_audit.proofs.Marks.{change_by}

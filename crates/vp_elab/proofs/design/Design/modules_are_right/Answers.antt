@@ -1,5 +1,5 @@
 use Rattle.std.proofs.Common.{◌≡◌, None, subst}
-use Rattle.vp_modules.specs.Refusals as modules
+use Rattle.vp_modules.specs.ModuleRefusals as modules
 use Rattle.vp_elab.specs.Built.{Elaborated}
 use Rattle.vp_elab.proofs.design.Design.modules_are_right.Goals as goal
 

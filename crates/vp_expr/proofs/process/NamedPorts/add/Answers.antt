@@ -1,6 +1,6 @@
 use Rattle.std.proofs.Common.{◌≡◌, ℕ, Bool, true, false, cond, List, [], ◌∷◌, ◌++◌, sym, ap, refl, ◌∙◌}
 use Rattle.std.specs.Prelude.{not, string_bytes}
-use Rattle.vp_names.specs.Items.{is_among}
+use Rattle.vp_modules.specs.Items.{is_among}
 use Rattle.vp_expr.specs.Origins.{first_index}
 use Rattle.vp_expr.proofs.FirstIndexes.{added_new, added_old}
 use Rattle.vp_expr.proofs.process.NamedPorts.add.Goals as goal

@@ -1,5 +1,5 @@
 use Rattle.std.proofs.Common.{rules, ◌≡◌, ◌∙◌, ◌++◌, ◌∷◌, [], None, List, length, ap, subst}
-use Rattle.vp_list.specs.Refusals.{Explains}
+use Rattle.vp_text.specs.Refusals.{Explains}
 use Rattle.vp_world.specs.declared.event.Event.{Event}
 use Rattle.vp_world.specs.declared.error.WorldError.TheVariants.{NoMemory}
 use Rattle.vp_world.specs.Entries.{Entry}

@@ -1,5 +1,5 @@
 use Rattle.std.proofs.Common.{rules, ◌≡◌, Err, IfErr, subst, sym}
-use Rattle.vp_list.specs.Refusals.{Explains}
+use Rattle.vp_text.specs.Refusals.{Explains}
 use Rattle.vp_world.specs.declared.error.WorldError.TheVariants.{NoMemory}
 use Rattle.vp_world.specs.History.{refused_by}
 use Rattle.vp_hub.proofs.desk.Desk.count.Goals as goal

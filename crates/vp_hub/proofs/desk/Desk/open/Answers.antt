@@ -1,5 +1,5 @@
 use Rattle.std.proofs.Common.{rules, ◌≡◌, Err, IfErr, subst, sym}
-use Rattle.vp_list.specs.Refusals.{Explains, MayExplain}
+use Rattle.vp_text.specs.Refusals.{Explains, MayExplain}
 use Rattle.vp_world.specs.declared.event.Event.TheVariants as event
 use Rattle.vp_world.specs.declared.error.WorldError.TheVariants.{NoMemory}
 use Rattle.vp_world.specs.History.{refused_by}

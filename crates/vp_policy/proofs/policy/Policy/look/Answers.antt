@@ -1,6 +1,6 @@
 use Rattle.std.proofs.Common.{rules, ◌≡◌, ◌∙◌, ap, Option, List, ℕ}
 use Rattle.std.specs.Prelude.{option_map}
-use Rattle.vp_list.specs.Texts.{part_and_rest, parts}
+use Rattle.vp_text.specs.Texts.{part_and_rest, parts}
 use Rattle.vp_elab.specs.declared.object.ObjectId.{ObjectId}
 use Rattle.vp_policy.specs.declared.denial.Look.TheVariants as look
 use Rattle.vp_policy.specs.Filter.{look_in}

@@ -1,6 +1,6 @@
 use Rattle.std.proofs.Common.{◌≡◌, length}
 use Rattle.std.specs.Prelude.{IsUtf8, option_map}
-use Rattle.vp_list.specs.Texts.{parts}
+use Rattle.vp_text.specs.Texts.{parts}
 use Rattle.vp_policy.specs.Filter.{look_in}
 use Rattle.vp_policy.specs.Users.{member_at}
 use Rattle.vp_policy.proofs.policy.Policy.look.Given as goal

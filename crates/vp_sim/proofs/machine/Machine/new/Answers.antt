@@ -6,7 +6,7 @@ use Rattle.vp_elab.specs.Tree.{below}
 use Rattle.vp_expr.specs.declared.tables.Tables.{Tables}
 use Rattle.vp_expr.specs.Tables.{tables_of}
 use Rattle.vp_statement.specs.Walking.{flow_of}
-use Rattle.vp_active.specs.declared.event.Event.TheVariants.{Evaluation}
+use Rattle.vp_active_events.specs.declared.event.Event.TheVariants.{Evaluation}
 use Rattle.vp_strata.specs.Queues.{no_events, with_active}
 use Rattle.vp_waking.specs.Listening.{Listening}
 use Rattle.vp_sim.specs.States.{IsWhole, start}

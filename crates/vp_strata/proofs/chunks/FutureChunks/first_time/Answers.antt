@@ -2,7 +2,7 @@ use Rattle.std.proofs.Common.{◌∙◌, ◌<◌, List, ap, arith, drop, length,
 use Rattle.std.specs.Arc.{arc_value}
 use Rattle.std.proofs.lemmas.List.{length-map}
 use Rattle.vp_strata.specs.declared.event.Timed.{Timed}
-use Rattle.vp_list.specs.Chunks.{joined}
+use Rattle.vp_text.specs.Lists.{joined}
 use Rattle.vp_strata.specs.Queues.{first_time}
 use Rattle.vp_strata.proofs.Chunked.{chunk_at, first_time_at}
 use Rattle.vp_strata.proofs.chunks.FutureChunks.first_time.Goals as goal

@@ -3,7 +3,7 @@ use Rattle.std.specs.Arc.{arc_value}
 use Rattle.std.proofs.lemmas.List.{length-drop, length-map}
 use Rattle.std.proofs.lemmas.Result.{on_ok_weaker}
 use Rattle.vp_strata.specs.declared.event.Timed.{Timed}
-use Rattle.vp_list.specs.Chunks.{joined}
+use Rattle.vp_text.specs.Lists.{joined}
 use Rattle.vp_strata.specs.Chunks.{AreUnfinished, first_place, position, remaining}
 use Rattle.vp_strata.proofs.Chunked.{as_many, chunk_at, fits_in, map_split, more_in_chunk, more_in_two, unfinished_after, unfinished_split}
 use Rattle.vp_strata.proofs.Found.{remains}

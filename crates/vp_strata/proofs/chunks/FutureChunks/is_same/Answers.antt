@@ -1,7 +1,7 @@
 use Rattle.std.proofs.Common.{◌≡◌, ◌∙◌, ◌+◌, List, ap, arith, get_or, sym}
 use Rattle.std.proofs.lemmas.List.{take_more_same}
 use Rattle.vp_strata.specs.declared.event.Timed.{Timed}
-use Rattle.vp_list.specs.Chunks.{joined}
+use Rattle.vp_text.specs.Lists.{joined}
 use Rattle.vp_strata.proofs.Walks.{event_after}
 use Rattle.vp_strata.proofs.chunks.FutureChunks.is_same.Goals as goal
 

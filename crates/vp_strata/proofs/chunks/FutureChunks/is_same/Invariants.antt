@@ -1,6 +1,6 @@
 use Rattle.std.proofs.Common.{◌≡◌, ◌<◌, [], length, take}
 use Rattle.std.specs.Prelude.{slice_index_or}
-use Rattle.vp_list.specs.Chunks.{joined}
+use Rattle.vp_text.specs.Lists.{joined}
 use Rattle.vp_strata.specs.Chunks.{position}
 use Rattle.vp_strata.proofs.chunks.FutureChunks.is_same.Given as goal
 

@@ -3,7 +3,7 @@ use Rattle.std.specs.Prelude.{slice_get}
 use Rattle.std.specs.Arc.{arc_value}
 use Rattle.std.proofs.lemmas.List.{drop-map, length-map}
 use Rattle.vp_strata.specs.declared.event.Timed.{Timed}
-use Rattle.vp_list.specs.Chunks.{joined}
+use Rattle.vp_text.specs.Lists.{joined}
 use Rattle.vp_strata.specs.Chunks.{AreUnfinished, remaining}
 use Rattle.vp_strata.proofs.Chunked.{chunk_at, first_at, first_within, rest_at, rest_after, unfinished_following}
 use Rattle.vp_strata.proofs.chunks.FutureChunks.pop.Goals.{then-self-count, else-self-count}

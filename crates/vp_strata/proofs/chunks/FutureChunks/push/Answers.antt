@@ -4,7 +4,7 @@ use Rattle.std.proofs.lemmas.List.{length-map, map-append}
 use Rattle.std.proofs.lemmas.Result.{on_ok_weaker}
 use Rattle.vp_strata.specs.declared.event.Timed.{Timed}
 use Rattle.vp_strata.specs.declared.chunks.FutureChunks.TheInside.{Inside}
-use Rattle.vp_list.specs.Chunks.{joined}
+use Rattle.vp_text.specs.Lists.{joined}
 use Rattle.vp_strata.specs.Chunks.{AreUnfinished, remaining}
 use Rattle.vp_strata.proofs.Chunked.{chunk_at, joined_push, more_last, unfinished_after, unfinished_push}
 use Rattle.vp_strata.proofs.chunks.FutureChunks.push.Goals.{in-Some+else-not-is_full, in_default}

@@ -1,5 +1,5 @@
 use Rattle.std.proofs.Common.{◌≡◌, Some, ap, arith, length, sym}
-use Rattle.vp_list.specs.Chunks.{joined}
+use Rattle.vp_text.specs.Lists.{joined}
 use Rattle.vp_strata.specs.Chunks.{position}
 use Rattle.vp_strata.specs.Queues.{first_time}
 use Rattle.vp_strata.proofs.Found.{position_fits}

@@ -2,7 +2,7 @@ use Rattle.std.proofs.Common.{◌≡◌, ◌∙◌, ◌≤◌, ℕ, List, ap, ar
 use Rattle.std.proofs.lemmas.List.Edits.{insert_end, length-insert}
 use Rattle.vp_strata.specs.declared.event.Timed.{Timed}
 use Rattle.vp_strata.specs.declared.future.FutureRegion.TheInside.{Inside}
-use Rattle.vp_list.specs.Chunks.{joined}
+use Rattle.vp_text.specs.Lists.{joined}
 use Rattle.vp_strata.specs.Chunks.{position}
 use Rattle.vp_strata.specs.Queues.{AreOrdered, scheduled}
 use Rattle.vp_strata.proofs.Found.{position_all, position_fits}

@@ -1,7 +1,7 @@
 use Rattle.std.proofs.Common.{◌≡◌, ◌∙◌, ◌++◌, [], List, ap, arith, map, refl}
 use Rattle.std.proofs.lemmas.List.{drop_all, take_all}
-use Rattle.vp_active.specs.declared.event.Event.TheVariants.{Evaluation, Nonblocking}
-use Rattle.vp_active.specs.declared.event.NonblockingUpdate.{NonblockingUpdate}
+use Rattle.vp_active_events.specs.declared.event.Event.TheVariants.{Evaluation, Nonblocking}
+use Rattle.vp_active_events.specs.declared.event.NonblockingUpdate.{NonblockingUpdate}
 use Rattle.vp_strata.specs.Queues.{Regions, inactive_activated}
 use Rattle.vp_strata.proofs.Assignments.{no_parts, same_queue}
 use Rattle.vp_strata.proofs.strata.Strata.activate_inactive.Goals as goal

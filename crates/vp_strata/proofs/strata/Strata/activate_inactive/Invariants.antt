@@ -1,6 +1,6 @@
 use Rattle.std.proofs.Common.{◌≡◌, ◌+◌, ◌≤◌, drop, map, take}
 use Rattle.std.specs.VecDeque.{deque_capacity, deque_len}
-use Rattle.vp_active.specs.declared.event.Event.TheVariants.{Evaluation}
+use Rattle.vp_active_events.specs.declared.event.Event.TheVariants.{Evaluation}
 use Rattle.vp_strata.proofs.strata.Strata.activate_inactive.Given as goal
 
 -- those so far are active, and the others are left; the rest of the queue and the room stay

@@ -1,9 +1,9 @@
 use Rattle.std.proofs.Common.{◌≡◌, ◌∙◌, ◌++◌, [], List, ap, arith, length, map, refl}
 use Rattle.std.proofs.lemmas.List.{append-nil}
 use Rattle.std.specs.VecDeque.{deque_capacity, deque_len}
-use Rattle.vp_active.specs.declared.event.Event.{Event}
-use Rattle.vp_active.specs.declared.event.Event.TheVariants.{Nonblocking}
-use Rattle.vp_active.specs.declared.event.NonblockingUpdate.{NonblockingUpdate}
+use Rattle.vp_active_events.specs.declared.event.Event.{Event}
+use Rattle.vp_active_events.specs.declared.event.Event.TheVariants.{Nonblocking}
+use Rattle.vp_active_events.specs.declared.event.NonblockingUpdate.{NonblockingUpdate}
 use Rattle.vp_strata.specs.Queues.{Regions, nonblocking_activated}
 use Rattle.vp_strata.proofs.Assignments.{no_parts, same_queue}
 use Rattle.vp_strata.proofs.strata.Strata.activate_nonblocking.Goals as goal

@@ -1,5 +1,5 @@
 use Rattle.std.proofs.Common.{◌≡◌, ◌∙◌, ◌+◌, ap, arith, length, min}
-use Rattle.vp_active.specs.Events.{eligible_places}
+use Rattle.vp_active_events.specs.Events.{eligible_places}
 use Rattle.vp_strata.specs.Queues.{Regions}
 use Rattle.vp_strata.proofs.Assignments.{count_with}
 use Rattle.vp_strata.proofs.strata.Strata.eligible.Goals as goal

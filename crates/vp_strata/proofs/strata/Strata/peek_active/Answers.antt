@@ -1,6 +1,6 @@
 use Rattle.std.proofs.Common.{◌<◌, ◌∙◌, ap, arith, length, rules}
 use Rattle.std.specs.Prelude.{option_and_then, slice_get}
-use Rattle.vp_active.specs.Events.{eligible_places}
+use Rattle.vp_active_events.specs.Events.{eligible_places}
 use Rattle.vp_strata.specs.Queues.{Regions}
 use Rattle.vp_strata.proofs.Assignments.{peeked_with}
 use Rattle.vp_strata.proofs.strata.Strata.peek_active.Goals as goal

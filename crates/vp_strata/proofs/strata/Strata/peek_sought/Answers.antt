@@ -2,7 +2,7 @@ use Rattle.std.proofs.Common.{rules, ◌≡◌, ◌∙◌, ◌<◌, None, Some, 
 use Rattle.std.specs.Prelude.{option_map, slice_get}
 use Rattle.std.proofs.lemmas.Grind.{common_steps}
 use Rattle.std.proofs.lemmas.Option.{gets, slice_get_past}
-use Rattle.vp_active.specs.declared.event.Event.TheVariants.{Evaluation}
+use Rattle.vp_active_events.specs.declared.event.Event.TheVariants.{Evaluation}
 use Rattle.vp_strata.specs.Queues.{Regions}
 use Rattle.vp_strata.proofs.Ready.{inactive_peeked, nonblocking_peeked}
 use Rattle.vp_strata.proofs.strata.Strata.peek_sought.Goals as goal

@@ -1,6 +1,6 @@
 use Rattle.std.proofs.Common.{◌<◌, ◌∙◌, ◌++◌, List, ap, arith, length, map, refl, rules}
-use Rattle.vp_active.specs.declared.event.Event.{Event}
-use Rattle.vp_active.specs.declared.event.Event.TheVariants.{Nonblocking}
+use Rattle.vp_active_events.specs.declared.event.Event.{Event}
+use Rattle.vp_active_events.specs.declared.event.Event.TheVariants.{Nonblocking}
 use Rattle.vp_strata.specs.Queues.{Queue, Regions, taken, with_active}
 use Rattle.vp_strata.proofs.Assignments.{taken_with}
 use Rattle.vp_strata.proofs.strata.Strata.take.Goals as goal

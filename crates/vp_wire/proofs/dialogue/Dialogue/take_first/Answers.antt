@@ -1,6 +1,6 @@
 use Rattle.std.proofs.Common.{arith, ◌≡◌, ◌∙◌, ◌++◌, ◌∷◌, ap, subst, sym}
 use Rattle.std.specs.Prelude.{MatchOption, option_map}
-use Rattle.vp_list.specs.Texts.{part_and_rest}
+use Rattle.vp_text.specs.Texts.{part_and_rest}
 use Rattle.vp_wire.proofs.Progressing.{answered, failed, failures_err, gathered, matches_err, none_ok, rest_shorter}
 use Rattle.vp_wire.proofs.dialogue.Dialogue.take_first.Goals as goal
 

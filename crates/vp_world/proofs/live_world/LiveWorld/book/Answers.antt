@@ -2,7 +2,7 @@ use Rattle.std.proofs.Common.{◌≡◌, ◌∙◌, ℕ, Option, Err, IfErr, ap,
 use Rattle.std.specs.Prelude.{option_copied, option_map}
 use Rattle.vp_race.specs.declared.error.RaceError.TheVariants as race_error
 use Rattle.vp_world.specs.declared.error.WorldError.TheVariants as world_error
-use Rattle.vp_list.specs.Refusals.{Explains}
+use Rattle.vp_text.specs.Refusals.{Explains}
 use Rattle.vp_race.specs.Booking.{refusal_of_finding}
 use Rattle.vp_race.specs.Recording.{kept_of}
 use Rattle.vp_race.specs.Segments.{Run, FindingState}

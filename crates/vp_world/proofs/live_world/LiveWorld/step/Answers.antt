@@ -2,7 +2,7 @@ use Rattle.std.proofs.Common.{◌≡◌, ◌∙◌, ℕ, List, Option, ap, map, 
 use Rattle.std.proofs.lemmas.List.{with_items_is}
 use Rattle.vp_race.specs.Recording.{with_step}
 use Rattle.vp_sim.specs.States as sim
-use Rattle.vp_waking.specs.declared.change.Change.{Change}
+use Rattle.vp_expr.specs.declared.change.Change.{Change}
 use Rattle.vp_world.specs.declared.session.OpenSession.{OpenSession}
 use Rattle.vp_world.specs.History.{noticed}
 use Rattle.vp_world.specs.Marks.{all_marked}

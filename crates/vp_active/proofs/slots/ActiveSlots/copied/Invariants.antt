@@ -1,7 +1,0 @@
-use Rattle.std.proofs.Common.{◌≡◌, take}
-use Rattle.vp_active.specs.Slots.{events_of}
-use Rattle.vp_active.proofs.slots.ActiveSlots.copied.Given as goal
-
--- the events so far
-abbrev pub invariant-loop-place : goal.invariant-loop-place
-invariant-loop-place l = l.events.items ≡ events_of (take l.place l.self.slots)

@@ -1,0 +1,42 @@
+// What a user of a log was shown.
+ghost use Rattle.std.specs.Prelude.{◌≡◌, [], IfOk, IsOkUnless};
+ghost use Rattle.vp_policy.specs.PolicyState.{Fits};
+ghost use Rattle.vp_audit.specs.History.{IsLegal};
+ghost use Rattle.vp_audit.specs.Worlds.{Opening};
+ghost use Rattle.vp_audit.specs.declared.error.AuditError.TheVariants.{NoMemory};
+ghost use Rattle.vp_audit.specs.Openings.{IsRight};
+ghost use Rattle.vp_audit.specs.Explanation.{log_explanation};
+
+use crate::error::AuditError;
+use crate::explaining::explain;
+use crate::lines::explanation;
+use crate::projecting::project;
+use std::alloc::Global;
+use vp_expr::Checked;
+use vp_policy::{Policy, UserId};
+use vp_text::Text;
+use vp_world::Entry;
+
+/// What a user was shown by a log of a world that opens with this design and policy, and what came to him of it: a line each, with the number of the
+/// item (docs/FORMATS.md, "What a user was shown"). Of a legal log it is refused out of memory alone (1307), of others by 1303 as well.
+pub fn explain_user(
+    alloc: Global,
+    checked: &Checked,
+    policy: &Policy,
+    log: &[Entry],
+    user: UserId,
+) -> Result<Text, AuditError>
+    requires { Fits policy.now checked.now.tree }
+    ensures text { (opening : Opening) → IsRight opening → opening.design ≡ checked.now
+        → opening.policy ≡ policy.now → IsLegal opening [] log.now
+        → IfOk result (λ text. text ≡ log_explanation opening user.0 log.now) }
+    ensures refused { (opening : Opening) → IsRight opening → opening.design ≡ checked.now
+        → opening.policy ≡ policy.now → IsLegal opening [] log.now → IsOkUnless result NoMemory }
+{
+    let Ok(view) = policy.view(alloc, checked.design(), user) else {
+        return Err(AuditError::NoMemory);
+    };
+    let projection = project(alloc, checked, policy, log, user)?;
+    let told = explain(alloc, &view, &projection)?;
+    Ok(explanation(alloc, &view, &projection, told.as_slice())?)
+}

@@ -1,0 +1,4 @@
+pub mod Chunks
+pub mod laws
+pub mod Tracked
+pub mod Exchanges

@@ -1,0 +1,4 @@
+pub mod Chunks
+pub mod Tracked
+pub mod Copies
+pub mod Exchanges

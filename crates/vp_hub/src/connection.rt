@@ -1,0 +1,56 @@
+use crate::client::Client;
+use crate::incoming::Incoming;
+use crate::opens::NamesOpening;
+use crate::pass::Pass;
+use crate::service::Service;
+use std::io::BufWriter;
+use std::net::TcpStream;
+use std::sync::Wait;
+use std::sync::atomic::{AtomicBool, Ordering};
+use std::time::Clock;
+use vp_race::Gate;
+use vp_wire::{Counted, session};
+
+/// Serves a connection to its end, and hands the pass of its session back, if one was opened.
+pub(crate) fn serve_connection<L: NamesOpening, R: Wait + Clock, G: Gate>(
+    rt: &R,
+    service: &Service<'_, L, G>,
+    stream: TcpStream,
+) {
+    match answer(rt, service, &stream) {
+        Some(pass) => {
+            let _kept = service.passes.lock(rt).keep(pass);
+        }
+        None => service.passes.lock(rt).forget(),
+    }
+    drop(stream);
+    service.connections.fetch_sub(1, Ordering::SeqCst);
+}
+
+/// Answers the lines of a connection, and gives the pass of its session, if one was opened. Where a client takes too long to be known, or
+/// reads nothing, the dialogue ends as one whose reader or writer fails.
+fn answer<L: NamesOpening, R: Wait + Clock, G: Gate>(
+    rt: &R,
+    service: &Service<'_, L, G>,
+    stream: &TcpStream,
+) -> Option<Pass<L>> {
+    let settings = service.settings;
+    stream
+        .set_write_timeout(Some(settings.reading_silence))
+        .ok()?;
+    stream.set_nodelay(true).ok()?;
+    let is_known = AtomicBool::new(false);
+    let incoming = Incoming::new(rt, stream, &is_known, settings.opening_time).ok()?;
+    let mut client = Client {
+        rt,
+        hub: &service.hub,
+        gate: service.gate,
+        stream,
+        is_known: &is_known,
+        pass: None,
+    };
+    let mut reader = Counted::new(incoming);
+    let mut writer = Counted::new(BufWriter::new(service.alloc, stream).ok()?);
+    let _ended = session(service.alloc, &mut reader, &mut writer, &mut client);
+    client.pass
+}

@@ -1,0 +1,117 @@
+ghost use Rattle.std.specs.Prelude.{◌≡◌, ◌+◌, ◌<◌, ◌^◌, List, [], IfOk};
+ghost use Rattle.vp_hub.specs.Calls.{Passed};
+ghost use Rattle.vp_hub.specs.Closing.{IsClosed};
+
+use crate::accept::{accept_all, await_all};
+use crate::background::{run_simulation, run_worker};
+use crate::close::Closed;
+use crate::desk::Desk;
+use crate::hub::Hub;
+use crate::opens::NamesOpening;
+use crate::server_error::ServerError;
+use crate::service::Service;
+use crate::settings::Settings;
+use std::alloc::Global;
+use std::marker::Brand;
+use std::net::TcpListener;
+use std::sync::Wait;
+use std::sync::atomic::Ordering;
+use std::sync::ledger::Blank;
+use std::thread;
+use std::thread::{Scope, Threads};
+use std::time::Clock;
+use vp_race::Gate;
+use vp_world::{Limits, World};
+
+/// Starts the thread of the simulation and those of the workers, and reports whether all could be started.
+fn start<
+    's,
+    'a,
+    E,
+    L: NamesOpening + Send + Sync,
+    R: Threads + Wait + Clock + Sync,
+    G: Gate + Sync,
+>(rt: &'s R, scope: &'s Scope<'s, E>, service: &'s Service<'a, L, G>) -> bool {
+    if scope.spawn(move || run_simulation(rt, service)).is_err() {
+        return false;
+    }
+    for _ in 0..service.settings.workers {
+        if scope.spawn(move || run_worker(rt, service)).is_err() {
+            return false;
+        }
+    }
+    true
+}
+
+/// Serves the connections of a listener, each in a thread, until they have ended; and reports whether the threads could be started that serve
+/// all of them.
+fn run<'a, L: NamesOpening + Send + Sync, R: Threads + Wait + Clock + Sync, G: Gate + Sync>(
+    rt: &R,
+    service: &Service<'a, L, G>,
+    listener: &TcpListener,
+) -> bool {
+    thread::scope(thread::scope_env(), rt, move |scope| {
+        let started = start(rt, scope, service);
+        if started {
+            accept_all(rt, scope, service, listener);
+            await_all(rt, service);
+        }
+        service.ending.store(true, Ordering::SeqCst);
+        started
+    })
+}
+
+/// Serves a world in which nothing has happened to the connections of a listener, and gives what is left of it; or reports that a thread
+/// can't be started (1606), or why the hub can't be closed (1401 to 1403).
+fn serve_world<L: NamesOpening + Send + Sync, R: Threads + Wait + Clock + Sync, G: Gate + Sync>(
+    rt: &R,
+    alloc: Global,
+    blank: Blank,
+    world: World,
+    settings: Settings,
+    listener: &TcpListener,
+    gate: &G,
+) -> Result<Closed, ServerError>
+    requires name { blank.name ≡ L.name }
+    requires parts { blank.parts ≡ L.parts }
+    requires room { blank.parts ≡ world.opening.limits.log + 1 }
+    requires opening { world.opening ≡ L.opening }
+    requires empty { world.log ≡ [] }
+    ensures closed { IfOk result
+        (λ closed. (passes : List Passed) × IsClosed world.opening passes closed) }
+{
+    let hub = Hub::new(alloc, Desk::<L>::new(alloc, blank, world));
+    let service = Service::new(alloc, settings, hub, gate);
+    if !run(rt, &service, listener) {
+        return Err(ServerError::NoThread);
+    }
+    let passes = service.passes.into_inner();
+    let closed = service.hub.close(passes.ended)?;
+    Ok(closed)
+}
+
+/// Serves a world in which nothing has happened to whoever connects to a listener: one thread for each connection, one that lets the
+/// simulation run, and workers that search for races. It ends after as many connections as the settings say, and gives what is left of
+/// the world, with its log. Refused where the simulation's thread or a worker's can't be started (1606), or where the hub can't be
+/// closed (1401 to 1403).
+pub fn serve<R, G>(
+    rt: &R,
+    alloc: Global,
+    world: World,
+    limits: Limits,
+    settings: Settings,
+    listener: &TcpListener,
+    gate: &G,
+) -> Result<Closed, ServerError>
+where
+    R: Threads + Wait + Clock + Sync,
+    G: Gate + Sync,
+    requires limits { world.opening.limits ≡ limits }
+    requires room { limits.log < 2 ^ 32 }
+    requires empty { world.log ≡ [] }
+    ensures closed { IfOk result
+        (λ closed. (passes : List Passed) × IsClosed world.opening passes closed) }
+{
+    let blank = Blank::new((limits.log as u64) + 1);
+    serve_world::<Brand, R, G>(rt, alloc, blank, world, settings, listener, gate)
+}

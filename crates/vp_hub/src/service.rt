@@ -1,0 +1,42 @@
+use crate::hub::Hub;
+use crate::opens::NamesOpening;
+use crate::passes::Passes;
+use crate::settings::Settings;
+use std::alloc::Global;
+use std::sync::Mutex;
+use std::sync::atomic::{AtomicBool, AtomicUsize};
+
+/// What the threads of a server share.
+#[derive(Drop)]
+pub(crate) struct Service<'a, L: NamesOpening, G> {
+    pub(crate) alloc: Global,
+    pub(crate) settings: Settings,
+    pub(crate) hub: Hub<L>,
+    /// Asked once before each call of the hub, and by each search.
+    pub(crate) gate: &'a G,
+    pub(crate) passes: Mutex<Passes<L>>,
+    /// So many connections are open.
+    pub(crate) connections: AtomicUsize,
+    /// The simulation and the workers are to end.
+    pub(crate) ending: AtomicBool,
+}
+
+impl<'a, L: NamesOpening, G> Service<'a, L, G> {
+    /// No connection is open.
+    pub(crate) fn new(
+        alloc: Global,
+        settings: Settings,
+        hub: Hub<L>,
+        gate: &'a G,
+    ) -> Service<'a, L, G> {
+        Service {
+            alloc,
+            settings,
+            hub,
+            gate,
+            passes: Mutex::new(Passes::new(alloc)),
+            connections: AtomicUsize::new(0),
+            ending: AtomicBool::new(false),
+        }
+    }
+}

@@ -1,3 +1,0 @@
-pub mod Earliest
-pub mod Twice
-pub mod Looked

@@ -1,5 +1,0 @@
-pub mod Faults
-pub mod Items
-pub mod Tables
-pub mod Refusals
-pub mod Purposes

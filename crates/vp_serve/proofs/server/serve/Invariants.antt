@@ -1,7 +1,0 @@
-use Rattle.vp_serve.proofs.server.serve.Given as goal
-
-abbrev pub ghosts-serve_world-L-NamesOpening : goal.ghosts-serve_world-L-NamesOpening
-ghosts-serve_world-L-NamesOpening g a = record { opening = a.world.opening }
-
-abbrev pub ghosts-serve_world-L-Ledger : goal.ghosts-serve_world-L-Ledger
-ghosts-serve_world-L-Ledger g a = record { name = a.blank.name; parts = a.blank.parts }

@@ -1,0 +1,4 @@
+pub mod Texts
+pub mod Lists
+pub mod Refusals
+pub mod laws
