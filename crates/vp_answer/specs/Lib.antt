@@ -1,6 +1,7 @@
 pub mod Requests
 pub mod Refusals
 pub mod Answers
+pub mod OpenSessions
 pub mod Given
 pub mod Renumbering
 pub mod laws

@@ -29,9 +29,10 @@ use Rattle.vp_world.specs.declared.event.Event.{Event}
 use Rattle.vp_world.specs.declared.event.Event.TheVariants as event
 use Rattle.vp_world.specs.Entries.{Entry}
 use Rattle.vp_world.specs.Worlds.{Opening}
-use Rattle.vp_audit.specs.Known.{known_index}
-use Rattle.vp_audit.specs.Parts.{Asks, Opens, replies_from}
-use Rattle.vp_audit.specs.Projections.{first_part, moved_numbers, number_in, projection, replies_of}
+use Rattle.vp_replay.specs.Known.{known_index}
+use Rattle.vp_replay.specs.Parts.{Asks, Opens, replies_from}
+use Rattle.vp_replay.specs.Parts.{first_part}
+use Rattle.vp_audit.specs.Projections.{moved_numbers, number_in, projection, replies_of}
 
 -- ---- objects that are known
 

@@ -19,7 +19,8 @@ use Rattle.vp_world.specs.declared.event.Event.{Event}
 use Rattle.vp_world.specs.declared.event.Event.TheVariants as event
 use Rattle.vp_world.specs.declared.error.WorldError.TheVariants as error
 use Rattle.vp_world.specs.History.{after, asked_at, change_of, changed, changed_by, closed_at, entry_of, opened_by, outcome_of_put, refusal_of, refusal_of_grantee, refusal_of_log, response_of, segments_of_put, state_asked, stepped}
-use Rattle.vp_world.specs.Worlds.{Opening, OpenSessionState, State, index_of}
+use Rattle.vp_world.specs.Worlds.{Opening, State}
+use Rattle.vp_answer.specs.OpenSessions.{OpenSessionState, index_of}
 use Rattle.vp_audit.specs.Readings.{LogReader, book_after, followed, reading_of}
 use Rattle.vp_audit.specs.laws.Cases.{outcome_changes, outcome_leaves}
 use Rattle.vp_audit.specs.laws.Sims.{Changes, advance_changes, step_changes}

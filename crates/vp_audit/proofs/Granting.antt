@@ -8,13 +8,13 @@ use Rattle.vp_policy.specs.Regrants.{regranted}
 use Rattle.vp_policy.specs.Users.{member_at, user_of}
 use Rattle.vp_policy.specs.View.{View, known_view}
 use Rattle.vp_vpi.specs.declared.races.ShownRace.{ShownRace}
-use Rattle.vp_vpi.specs.Races.{races_seen}
+use Rattle.vp_world.specs.Races.{races_seen}
 use Rattle.vp_answer.specs.declared.request.GrantChange.{GrantChange}
 use Rattle.vp_world.specs.declared.event.Event.TheVariants as event
 use Rattle.vp_world.specs.History.{after, granted_to}
 use Rattle.vp_world.specs.Worlds.{Opening, State}
-use Rattle.vp_audit.specs.Known.{known_also}
-use Rattle.vp_audit.specs.Parts.{GrantItem}
+use Rattle.vp_replay.specs.Known.{known_also}
+use Rattle.vp_replay.specs.Parts.{GrantItem}
 use Rattle.vp_audit.specs.Projections.{granted_of, known_after, moved_numbers, regrant_of, values_seen}
 use Rattle.vp_audit.specs.Readings.{Grants, LogReader, reading_of}
 

@@ -1,12 +1,8 @@
 pub mod AuditRows
 pub mod Comparing
 pub mod EntryReading
-pub mod Filling
 pub mod Following
 pub mod Granting
 pub mod LogReading
 pub mod Marks
-pub mod Moving
-pub mod PartSteps
 pub mod Promises
-pub mod Turns

@@ -11,7 +11,7 @@ use Rattle.vp_policy.specs.View.{HoldScopes, listed_marks, marked}
 use Rattle.vp_policy.proofs.Views.{listed_scopes}
 use Rattle.vp_sim.specs.States as sim
 use Rattle.vp_expr.specs.declared.change.Change.{Change}
-use Rattle.vp_audit.specs.Known.{known_also, known_index}
+use Rattle.vp_replay.specs.Known.{known_also, known_index}
 use Rattle.vp_audit.specs.Projections.{change_seen, is_followed, moved_numbers, number_in, values_seen}
 use Rattle.vp_audit.specs.Readings.{either_marked, value_of}
 

@@ -5,13 +5,13 @@ use Rattle.vp_policy.specs.View.{View, view_of}
 use Rattle.vp_world.specs.Entries.{Entry}
 use Rattle.vp_world.specs.History.{IsLegal}
 use Rattle.vp_world.specs.Worlds.{Opening}
-use Rattle.vp_audit.specs.declared.error.AuditError.{AuditError}
-use Rattle.vp_audit.specs.declared.error.AuditError.TheVariants.{NoMemory, NotOpen}
-use Rattle.vp_audit.specs.Faults.{MayRefuse}
+use Rattle.vp_replay.specs.declared.error.AuditError.{AuditError}
+use Rattle.vp_replay.specs.declared.error.AuditError.TheVariants.{NoMemory, NotOpen}
+use Rattle.vp_replay.specs.Faults.{MayRefuse}
 use Rattle.vp_audit.specs.Openings.{IsRight}
-use Rattle.vp_audit.specs.Parts.{takes_all}
+use Rattle.vp_replay.specs.Parts.{takes_all}
 use Rattle.vp_audit.specs.Projections as projections
-use Rattle.vp_audit.specs.Projections.{Projection, first_part}
+use Rattle.vp_replay.specs.Parts.{Projection, first_part}
 use Rattle.vp_audit.specs.laws.Taken.{projection_taken}
 
 -- what goes to a user of a legal log is taken up

@@ -7,20 +7,21 @@ use Rattle.vp_elab.specs.Tree.{dotted}
 use Rattle.vp_policy.specs.Users.{member_at}
 use Rattle.vp_policy.specs.View.{View, view_of}
 use Rattle.vp_expr.specs.declared.change.Change.{Change}
-use Rattle.vp_audit.specs.ShownRace.{ShownRace}
-use Rattle.vp_audit.specs.Entries.{Entry}
-use Rattle.vp_audit.specs.Worlds.{Opening}
-use Rattle.vp_audit.specs.Seen.{names_seen}
-use Rattle.vp_audit.specs.declared.explaining.Explained.{Explained}
-use Rattle.vp_audit.specs.declared.item.GrantItem.{GrantItem}
-use Rattle.vp_audit.specs.declared.item.Item.{Item}
-use Rattle.vp_audit.specs.declared.item.OwnEvent.{OwnEvent}
-use Rattle.vp_audit.specs.declared.item.Projection.{Projection}
-use Rattle.vp_audit.specs.Explained.{explained_from}
-use Rattle.vp_audit.specs.Projections.{first_part, projection}
+use Rattle.vp_vpi.specs.declared.races.ShownRace.{ShownRace}
+use Rattle.vp_world.specs.Entries.{Entry}
+use Rattle.vp_world.specs.Worlds.{Opening}
+use Rattle.vp_replay.specs.Seen.{names_seen}
+use Rattle.vp_replay.specs.declared.explaining.Explained.{Explained}
+use Rattle.vp_replay.specs.declared.item.GrantItem.{GrantItem}
+use Rattle.vp_replay.specs.declared.item.Item.{Item}
+use Rattle.vp_replay.specs.declared.item.OwnEvent.{OwnEvent}
+use Rattle.vp_replay.specs.declared.item.Projection.{Projection}
+use Rattle.vp_replay.specs.Explained.{explained_from}
+use Rattle.vp_replay.specs.Parts.{first_part}
+use Rattle.vp_audit.specs.Projections.{projection}
 use Rattle.vp_wire.specs.Lines.{line_of}
-use Rattle.vp_outline.specs.Outline as outline
-use Rattle.vp_outline.specs.Outline.{access_text, words_text}
+use Rattle.vp_replay.specs.Outline as outline
+use Rattle.vp_replay.specs.Outline.{access_text, words_text}
 
 -- the line for what came with the item of a number: the number, and these words
 abbrev pub item_line : (number : ℕ) → List (List ℕ) → List ℕ

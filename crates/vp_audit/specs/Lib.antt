@@ -1,15 +1,6 @@
-pub use Rattle.vp_view.specs.Seen
-pub use Rattle.vp_vpi.specs.declared.races.ShownRace
-pub use Rattle.vp_world.specs.Entries
-pub use Rattle.vp_world.specs.History
-pub use Rattle.vp_world.specs.Worlds
 pub mod Audits
-pub mod Explained
 pub mod Explanation
-pub mod Faults
-pub mod Known
 pub mod Openings
-pub mod Parts
 pub mod Projections
 pub mod Readings
 pub mod laws

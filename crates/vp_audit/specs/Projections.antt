@@ -14,7 +14,7 @@ use Rattle.vp_sim.specs.States as sim
 use Rattle.vp_expr.specs.declared.change.Change.{Change}
 use Rattle.vp_vpi.specs.declared.races.ShownRace.{ShownRace}
 use Rattle.vp_vpi.specs.Observers.{is_readable, kind_at}
-use Rattle.vp_vpi.specs.Races.{is_shown, race_seen, races_seen}
+use Rattle.vp_world.specs.Races.{is_shown, race_seen, races_seen}
 use Rattle.vp_answer.specs.declared.request.GrantChange.{GrantChange}
 use Rattle.vp_answer.specs.declared.request.SessionId.{SessionId}
 use Rattle.vp_answer.specs.declared.reply.Reply.{Reply}
@@ -24,9 +24,9 @@ use Rattle.vp_world.specs.declared.event.Event.{Event}
 use Rattle.vp_world.specs.declared.event.Event.TheVariants as event
 use Rattle.vp_world.specs.History.{after}
 use Rattle.vp_world.specs.Worlds.{Opening, State, start}
-use Rattle.vp_audit.specs.Known.{known_also, known_index}
-pub use Rattle.vp_audit.specs.declared.item.Projection.{Projection}
-use Rattle.vp_audit.specs.Parts.{Asks, Closes, GrantItem, Item, Opens, OwnEvent, Part}
+use Rattle.vp_replay.specs.Known.{known_also, known_index}
+pub use Rattle.vp_replay.specs.declared.item.Projection.{Projection}
+use Rattle.vp_replay.specs.Parts.{Asks, Closes, GrantItem, Item, Opens, OwnEvent, Part}
 
 -- ---- numbers
 
@@ -154,10 +154,6 @@ projection opening u log = record {
   values = values_seen (sim.start opening.design) (member_at opening.policy.members u) (known_at_first opening u);
   items = items_from opening u (start opening) (known_at_first opening u) log;
 }
-
--- the part of a world in which nothing has happened, by its view and the values
-abbrev pub first_part : View → List (Option (List Bit)) → Part
-first_part v values = record { view = v; opens = 0; sessions = []; values = values; time = 0; finished = false; races = [] }
 
 -- an entry is of a user's own event
 abbrev pub is_own : (user : ℕ) → Entry → Bool

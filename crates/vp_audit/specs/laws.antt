@@ -1,17 +1,10 @@
-pub mod Tests
-pub mod Names
-pub mod Known
-pub mod Denials
-pub mod Looks
 pub mod Alike
 pub mod Sims
-pub mod Sessions
 pub mod After
 pub mod Events
 pub mod Cases
 pub mod Grants
 pub mod Moved
-pub mod Within
 pub mod Promise
 pub mod Openings
 pub mod Logs

@@ -4,18 +4,18 @@ ghost use Rattle.vp_policy.specs.PolicyState.{Fits};
 ghost use Rattle.vp_world.specs.Entries.{reply_in};
 ghost use Rattle.vp_world.specs.History.{IsLegal};
 ghost use Rattle.vp_world.specs.Worlds.{Opening};
-ghost use Rattle.vp_audit.specs.declared.error.AuditError.TheVariants.{NoMemory};
+ghost use Rattle.vp_replay.specs.declared.error.AuditError.TheVariants.{NoMemory};
 ghost use Rattle.vp_audit.specs.Audits.{IsAudit};
 ghost use Rattle.vp_audit.specs.Openings.{IsRight};
 ghost use Rattle.vp_audit.specs.Projections.{is_own, replies_of};
 
-use crate::error::AuditError;
 use crate::projecting::project;
-use crate::replaying::replay;
+use crate::promise::replay;
 use std::alloc::Global;
 use vp_answer::Reply;
 use vp_expr::Checked;
 use vp_policy::{Policy, UserId};
+use vp_replay::AuditError;
 use vp_text::Same;
 use vp_world::{Entry, LoggedEvent};
 

@@ -1,19 +1,16 @@
 // The lines of an explanation.
 ghost use Rattle.std.specs.Prelude.{◌≡◌, ◌++◌, [], ◌∷◌, codes, decimal, string_bytes, IfOk, OnOk};
 ghost use Rattle.std.specs.Option.{option_map_or};
-ghost use Rattle.vp_outline.specs.Outline.{words_text};
+ghost use Rattle.vp_replay.specs.Outline.{words_text};
 ghost use Rattle.vp_wire.specs.Lines.{line_of};
 ghost use Rattle.vp_audit.specs.Explanation.{change_line, explanation_of, finish_line, grant_line, item_lines, origin_words, own_line, race_line, time_line, told_after, told_line, view_after};
 
-use crate::explaining::Explained;
-use crate::item::{GrantItem, Item, Projection};
 use std::alloc::{AllocError, Global};
 use vp_answer::Reply;
 use vp_expr::Change;
-use vp_outline::{push_access, push_word};
 use vp_policy::View;
+use vp_replay::{Explained, GrantItem, Item, Projection, full_name, push_access, push_word};
 use vp_text::Text;
-use vp_view::full_name;
 use vp_vpi::ShownRace;
 use vp_wire::reply_text;
 

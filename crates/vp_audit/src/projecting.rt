@@ -3,16 +3,15 @@ ghost use Rattle.std.specs.Prelude.{◌≡◌, ℕ, [], IfOk, IsOkUnless};
 ghost use Rattle.vp_policy.specs.PolicyState.{Fits};
 ghost use Rattle.vp_world.specs.History.{IsLegal};
 ghost use Rattle.vp_world.specs.Worlds.{Opening, start};
-ghost use Rattle.vp_audit.specs.declared.error.AuditError.TheVariants.{NoMemory};
+ghost use Rattle.vp_replay.specs.declared.error.AuditError.TheVariants.{NoMemory};
 ghost use Rattle.vp_audit.specs.Projections.{known_at_first, projection};
 ghost use Rattle.vp_audit.specs.Readings.{reading_of};
 
-use crate::error::AuditError;
-use crate::item::Projection;
 use crate::reading::LogReader;
 use std::alloc::Global;
 use vp_expr::Checked;
 use vp_policy::{Policy, UserId};
+use vp_replay::{AuditError, Projection};
 use vp_text::Sequence;
 use vp_world::Entry;
 

@@ -12,13 +12,11 @@ ghost use Rattle.vp_world.specs.declared.event.Event.{Event};
 ghost use Rattle.vp_world.specs.declared.event.Event.TheVariants as event;
 ghost use Rattle.vp_world.specs.History.{after, refusal_of};
 ghost use Rattle.vp_world.specs.Worlds.{Opening, State, start};
-ghost use Rattle.vp_audit.specs.declared.error.AuditError.TheVariants.{NoMemory};
-ghost use Rattle.vp_audit.specs.Known.{known_also};
+ghost use Rattle.vp_replay.specs.declared.error.AuditError.TheVariants.{NoMemory};
+ghost use Rattle.vp_replay.specs.Known.{known_also};
 ghost use Rattle.vp_audit.specs.Projections.{change_seen, granted_of, is_followed, item_if, known_at_first, moved_numbers, other_flag, other_number, own_of, race_of_event, values_seen};
 ghost use Rattle.vp_audit.specs.Readings.{Continues, Grants, Reads, either_marked, followed, reading_of, value_of};
 
-use crate::error::AuditError;
-use crate::item::{GrantItem, Item, OwnEvent};
 use std::alloc::{AllocError, Global};
 use std::marker::Model;
 use vp_answer::{GrantChange, SessionId};
@@ -28,9 +26,10 @@ use vp_expr::{Change, Checked, Values};
 use vp_policy::{Policy, PolicyError, UserId};
 use vp_pragma::Right;
 use vp_race::Finding;
+use vp_replay::{AuditError, GrantItem, Item, OwnEvent};
 use vp_text::{Sequence, Shared};
-use vp_vpi::{ShownRace, is_race_shown, seen_race, seen_races};
-use vp_world::{Entry, LoggedEvent};
+use vp_vpi::ShownRace;
+use vp_world::{Entry, LoggedEvent, is_race_shown, seen_race, seen_races};
 
 /// A log that is read for one user. A contract sees what is kept of the world's state, and which objects he knows.
 #[derive(Drop)]

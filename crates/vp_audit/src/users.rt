@@ -1,19 +1,19 @@
 // What a user of a log was shown.
 ghost use Rattle.std.specs.Prelude.{◌≡◌, [], IfOk, IsOkUnless};
 ghost use Rattle.vp_policy.specs.PolicyState.{Fits};
-ghost use Rattle.vp_audit.specs.History.{IsLegal};
-ghost use Rattle.vp_audit.specs.Worlds.{Opening};
-ghost use Rattle.vp_audit.specs.declared.error.AuditError.TheVariants.{NoMemory};
+ghost use Rattle.vp_world.specs.History.{IsLegal};
+ghost use Rattle.vp_world.specs.Worlds.{Opening};
+ghost use Rattle.vp_replay.specs.declared.error.AuditError.TheVariants.{NoMemory};
 ghost use Rattle.vp_audit.specs.Openings.{IsRight};
 ghost use Rattle.vp_audit.specs.Explanation.{log_explanation};
 
-use crate::error::AuditError;
-use crate::explaining::explain;
 use crate::lines::explanation;
 use crate::projecting::project;
+use crate::promise::explain;
 use std::alloc::Global;
 use vp_expr::Checked;
 use vp_policy::{Policy, UserId};
+use vp_replay::AuditError;
 use vp_text::Text;
 use vp_world::Entry;
 

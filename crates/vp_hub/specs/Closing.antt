@@ -5,7 +5,8 @@ use Rattle.vp_elab.specs.Tree.{below}
 use Rattle.vp_answer.specs.declared.request.SessionId.{SessionId}
 use Rattle.vp_world.specs.Entries.{Entry}
 use Rattle.vp_world.specs.History.{IsLegal}
-use Rattle.vp_world.specs.Worlds.{Opening, same_session}
+use Rattle.vp_world.specs.Worlds.{Opening}
+use Rattle.vp_answer.specs.OpenSessions.{same_session}
 use Rattle.vp_hub.specs.declared.close.Closed.{Closed}
 use Rattle.vp_hub.specs.Calls.{Passed, Stands, session_entries, session_in}
 

@@ -1,7 +1,7 @@
 ghost use Rattle.std.specs.Prelude.{◌≡◌, ◌≢◌, All, AllPairs, IfOk, OnOk, [], length, map, sum_by, true};
 ghost use Rattle.vp_world.specs.Entries.{event_in, reply_in};
 ghost use Rattle.vp_world.specs.History.{IsLegal};
-ghost use Rattle.vp_world.specs.Worlds.{same_session};
+ghost use Rattle.vp_answer.specs.OpenSessions.{same_session};
 ghost use Rattle.vp_hub.specs.Calls.{Passed, Stands, is_of_session, session_entries, session_in};
 ghost use Rattle.vp_hub.specs.Closing.{HasAll, IsClosed, is_own, entry_indexes};
 

@@ -5,7 +5,7 @@ use Rattle.vp_policy.specs.declared.error.PolicyError.TheVariants as policy_erro
 use Rattle.vp_policy.specs.File.{PolicyFile, file_of}
 use Rattle.vp_policy.specs.Users.{Member, member_at, user_of}
 use Rattle.vp_policy.specs.View.{view_of}
-use Rattle.vp_outline.specs.Outline.{outline_of}
+use Rattle.vp_replay.specs.Outline.{outline_of}
 use Rattle.vp_script.specs.declared.error.ServeFault.{ServeFault}
 use Rattle.vp_script.specs.declared.error.ServeFault.TheVariants as fault
 use Rattle.vp_design.specs.Designs.{IsDesignOf, text_limit}

@@ -9,8 +9,8 @@ use crate::error::ServeFault;
 use crate::script::{checked, policy_of};
 use std::alloc::Global;
 use vp_elab::Design;
-use vp_outline::outline;
 use vp_policy::Policy;
+use vp_replay::outline;
 use vp_text::Text;
 
 /// Reads a design, and nothing more; or reports its first fault, as a run does.

@@ -1,4 +1,4 @@
 pub mod Handles
 pub mod Iterations
 pub mod Scopes
-pub mod Telling
+pub mod RaceLists

@@ -10,8 +10,6 @@ mod property;
 mod put;
 mod races;
 mod session;
-mod shown_races;
-mod user_observer;
 
 pub use error::VpiError;
 pub use iteration::{Iteration, ListedObject, Listing, SharedListing};
@@ -20,7 +18,5 @@ pub use observer::{Found, Observe};
 pub use property::{NumberProperty, PutValue, TextProperty, VectorWord};
 pub use races::{RaceDetails, RaceLine, ShownRace};
 pub use session::{HANDLE_LIMIT, Session};
-pub use shown_races::{is_race_shown, seen_race, seen_races};
-pub use user_observer::UserObserver;
 pub use vp_policy::{Access, DenialText, UserId};
 pub use vp_text::Shared;

@@ -29,7 +29,8 @@ use Rattle.vp_world.specs.Given.{Gives, observer_in}
 use Rattle.vp_world.specs.History.{asked, asked_at, asked_in, change_of, changed_by, changed_in, noticed, outcome_of_put, raised, segments_of_put, state_asked, stepped, with_state}
 use Rattle.vp_world.specs.Shown.{session_shown, shown}
 use Rattle.vp_answer.specs.laws.Puts.{put_only}
-use Rattle.vp_world.specs.Worlds.{OpenSessionState, WorldState, State}
+use Rattle.vp_answer.specs.OpenSessions.{OpenSessionState}
+use Rattle.vp_world.specs.Worlds.{WorldState, State}
 
 -- the session of an index, as it is shown
 session_found : (sessions : List OpenSession) (index : ℕ) (session : OpenSession) → index < length sessions → session ≡ slice_index_or sessions index session → slice_get (map session_shown sessions) index ≡ Some (session_shown session)

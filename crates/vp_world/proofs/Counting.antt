@@ -14,7 +14,8 @@ use Rattle.vp_world.specs.declared.event.Event.TheVariants as event
 use Rattle.vp_answer.specs.declared.request.Request.{Request}
 use Rattle.vp_world.specs.Entries.{Entry}
 use Rattle.vp_world.specs.History.{after, asked_at, closed_at, granted_to, opened_by, outcome_of_put, raised, response_of, segments_of_put, state_asked, state_after, stepped}
-use Rattle.vp_world.specs.Worlds.{Opening, OpenSessionState, State, index_of, start}
+use Rattle.vp_world.specs.Worlds.{Opening, State, start}
+use Rattle.vp_answer.specs.OpenSessions.{OpenSessionState, index_of}
 
 -- at most one segment more is closed
 abbrev ClosesOne : Segments → Segments → Type 0

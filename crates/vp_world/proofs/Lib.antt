@@ -1,4 +1,4 @@
-pub mod Lists
+pub mod ShownRaces
 pub mod Designs
 pub mod Counting
 pub mod Standings

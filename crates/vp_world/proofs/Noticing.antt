@@ -5,7 +5,7 @@ use Rattle.vp_expr.specs.declared.change.Change.{Change}
 use Rattle.vp_world.specs.declared.session.OpenSession.{OpenSession}
 use Rattle.vp_world.specs.History.{noticed, retired_for}
 use Rattle.vp_world.specs.Shown.{retired_open, session_shown, notified_session}
-use Rattle.vp_world.specs.Worlds.{OpenSessionState}
+use Rattle.vp_answer.specs.OpenSessions.{OpenSessionState}
 
 -- no change is reported
 pub noticed_none : (time : ℕ) (sessions : List OpenSessionState) → noticed None time sessions ≡ sessions

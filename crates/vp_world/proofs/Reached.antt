@@ -18,7 +18,8 @@ use Rattle.vp_answer.specs.declared.request.Request.{Request}
 use Rattle.vp_world.specs.Entries.{Entry}
 use Rattle.vp_world.specs.Events.{IsWellFormed}
 use Rattle.vp_world.specs.History.{IsLegal, IsReached, after, asked_at, book_refusal, closed_at, granted_to, is_log_full, opened_by, refusal_after, refusal_of, refusal_of_booking, state_asked, state_after, stepped}
-use Rattle.vp_world.specs.Worlds.{Opening, OpenSessionState, State, index_of}
+use Rattle.vp_world.specs.Worlds.{Opening, State}
+use Rattle.vp_answer.specs.OpenSessions.{OpenSessionState, index_of}
 use Rattle.vp_world.proofs.Logs.{state_more}
 
 -- ---- what books nothing

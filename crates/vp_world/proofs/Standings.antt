@@ -15,8 +15,9 @@ use Rattle.vp_world.specs.declared.limits.Limits.{Limits}
 use Rattle.vp_world.specs.declared.session.OpenSession.{OpenSession}
 use Rattle.vp_world.specs.History.{granted_to, next_session, opened_by, under_policy, with_state}
 use Rattle.vp_world.specs.Shown.{retired_open, session_shown, shown}
-use Rattle.vp_world.specs.Worlds.{OpenSessionState, WorldState, State, start}
-use Rattle.vp_world.proofs.Lists.{map-remove, replicate_is}
+use Rattle.vp_answer.specs.OpenSessions.{OpenSessionState}
+use Rattle.vp_world.specs.Worlds.{WorldState, State, start}
+use Rattle.vp_answer.proofs.Lists.{map-remove, replicate_is}
 use Rattle.vp_world.proofs.Noticing.{retired_shown}
 
 -- a state with this simulation

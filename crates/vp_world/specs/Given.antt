@@ -6,7 +6,7 @@ use Rattle.vp_race.specs.Booking.{BookState}
 use Rattle.vp_race.specs.Recording.{Recorded}
 use Rattle.vp_sim.specs.States as sim
 use Rattle.vp_vpi.specs.Observers.{Observer}
-use Rattle.vp_vpi.specs.Races.{observer_with}
+use Rattle.vp_world.specs.Races.{observer_with}
 use Rattle.vp_vpi.specs.SessionStates.{SessionState}
 use Rattle.vp_answer.specs.declared.reply.Reply.TheVariants as reply
 use Rattle.vp_answer.specs.Answers.{Response}

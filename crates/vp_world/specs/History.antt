@@ -15,7 +15,7 @@ use Rattle.vp_race.specs.Same.{same_run}
 use Rattle.vp_race.specs.Segments.{IsRaceOf, Run, FindingState}
 use Rattle.vp_sim.specs.States as sim
 use Rattle.vp_vpi.specs.Observers.{Observer, is_watch_denied}
-use Rattle.vp_vpi.specs.Races.{observer_with}
+use Rattle.vp_world.specs.Races.{observer_with}
 use Rattle.vp_vpi.specs.SessionStates.{SessionState, new_session_state, retired, with_due}
 use Rattle.vp_world.specs.Entries.{Entry}
 use Rattle.vp_answer.specs.declared.request.GrantChange.{GrantChange}
@@ -29,7 +29,8 @@ use Rattle.vp_answer.specs.declared.reply.Refusal.TheVariants as refusal
 use Rattle.vp_answer.specs.declared.reply.Reply.{Reply}
 use Rattle.vp_answer.specs.declared.reply.Reply.TheVariants as reply
 use Rattle.vp_world.specs.Events.{IsWellFormed}
-use Rattle.vp_world.specs.Worlds.{WorldLog, Opening, OpenSessionState, WorldState, State, index_of, start}
+use Rattle.vp_world.specs.Worlds.{WorldLog, Opening, WorldState, State, start}
+use Rattle.vp_answer.specs.OpenSessions.{OpenSessionState, index_of}
 use Rattle.vp_answer.specs.Answers.{Response, respond}
 
 -- ---- refusals

@@ -9,6 +9,8 @@ pub mod Faults
 pub mod Refusals
 pub mod Entries
 pub mod Worlds
+pub mod UserObservers
+pub mod Races
 pub mod History
 pub mod Shown
 pub mod Marks

@@ -9,7 +9,8 @@ use Rattle.vp_vpi.specs.SessionStates.{retired, with_due}
 use Rattle.vp_expr.specs.declared.change.Change.{Change}
 use Rattle.vp_world.specs.declared.limits.Limits.{Limits}
 use Rattle.vp_world.specs.declared.session.OpenSession.{OpenSession}
-use Rattle.vp_world.specs.Worlds.{OpenSessionState, WorldState}
+use Rattle.vp_answer.specs.OpenSessions.{OpenSessionState}
+use Rattle.vp_world.specs.Worlds.{WorldState}
 
 -- an open session
 abbrev pub session_shown : OpenSession → OpenSessionState

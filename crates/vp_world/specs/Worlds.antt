@@ -1,14 +1,12 @@
 -- A world: how it begins, and its state.
-use Rattle.std.specs.Prelude.{ℕ, ◌==◌, ◌&&◌, Bool, List, [], map, Option, None}
-use Rattle.std.specs.List.{position}
+use Rattle.std.specs.Prelude.{ℕ, List, [], map, Option, None}
 use Rattle.vp_elab.specs.Built.{Elaborated}
 use Rattle.vp_policy.specs.PolicyState.{PolicyState}
 use Rattle.vp_race.specs.Recording.{Segments, first_segments}
 use Rattle.vp_race.specs.Segments.{FindingState}
 use Rattle.vp_sim.specs.States as sim
-use Rattle.vp_vpi.specs.SessionStates.{SessionState}
+use Rattle.vp_answer.specs.OpenSessions.{OpenSessionState}
 use Rattle.vp_world.specs.Entries.{Entry}
-use Rattle.vp_answer.specs.declared.request.SessionId.{SessionId}
 use Rattle.vp_world.specs.declared.limits.Limits.{Limits}
 
 -- how a world begins: a design, the policy with which it opens, and its limits
@@ -16,11 +14,6 @@ pub record Opening : Type 0 where
   pub design : Elaborated
   pub policy : PolicyState
   pub limits : Limits
-
--- an open session: its name; its user and his handles
-pub record OpenSessionState : Type 0 where
-  pub id : SessionId
-  pub session_state : SessionState
 
 -- the state of a world: the state of its simulation, the segments of its run, the races in its book, the policy in force, its open sessions, how
 -- often each user has opened one, and the goal, the time until which the simulation may run, if there is one (profile)
@@ -42,14 +35,6 @@ pub record WorldState : Type 0 where
 pub record WorldLog : Type 0 where
   pub opening : Opening
   pub log : List Entry
-
--- two sessions' names are the same
-abbrev pub same_session : SessionId → SessionId → Bool
-same_session a b = (a.user.0 == b.user.0) && (a.opens == b.opens)
-
--- where the open session of a name stands among the open sessions; none where it is not open
-abbrev pub index_of : List OpenSessionState → SessionId → Option ℕ
-index_of sessions id = position (λ s. same_session s.id id) sessions
 
 -- a state in which nothing has happened: the opening policy is in force
 abbrev pub start : Opening → State

@@ -8,6 +8,8 @@ mod limits;
 mod live_world;
 mod putting;
 mod session;
+mod shown_races;
+mod user_observer;
 mod watching;
 mod world;
 
@@ -15,4 +17,6 @@ pub use entry::{Asked, Entry, LoggedEvent, Login};
 pub use error::WorldError;
 pub use event::Event;
 pub use limits::Limits;
+pub use shown_races::{is_race_shown, seen_race, seen_races};
+pub use user_observer::UserObserver;
 pub use world::World;

@@ -10,7 +10,8 @@ ghost use Rattle.vp_world.specs.declared.error.WorldError.TheVariants as world_e
 ghost use Rattle.vp_answer.specs.declared.reply.Reply.TheVariants as reply;
 ghost use Rattle.vp_answer.specs.Requests.{IsAsked};
 ghost use Rattle.vp_world.specs.History.{asked_at, asked_in, book_refusal, change_of, changed_in, closed_at, granted_to, is_past_goal, is_full, is_next_past_goal, later, next_session, raised, opened_by, refusal_in, refusal_of_job, refusal_of_log, refusal_of_outcome, refusal_of_session, refusal_of_step, advance_refusal, step_refusal, stepped, with_booked, with_job_taken, with_state};
-ghost use Rattle.vp_world.specs.Worlds.{index_of, start};
+ghost use Rattle.vp_answer.specs.OpenSessions.{index_of};
+ghost use Rattle.vp_world.specs.Worlds.{start};
 
 use crate::error::WorldError;
 use crate::limits::Limits;

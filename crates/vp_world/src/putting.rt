@@ -10,13 +10,14 @@ ghost use Rattle.vp_world.specs.Given.{Gives, observer_in};
 ghost use Rattle.vp_world.specs.History.{outcome_of_put, segments_of_put};
 
 use crate::error::WorldError;
+use crate::user_observer::UserObserver;
 use vp_answer::{Reply, Request, respond};
 use vp_bits::Bits;
 use vp_elab::ObjectId;
 use vp_expr::Change;
 use vp_policy::Policy;
 use vp_race::{Book, Recording};
-use vp_vpi::{Session, UserObserver};
+use vp_vpi::Session;
 
 /// What a request is answered, and what it changed.
 #[derive(Drop)]

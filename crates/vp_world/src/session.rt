@@ -1,6 +1,6 @@
 ghost use Rattle.std.specs.Prelude.{◌≡◌, ◌<◌, length, map, Some, IfSome};
 ghost use Rattle.vp_world.specs.Shown.{retired_open, session_shown, notified_session};
-ghost use Rattle.vp_world.specs.Worlds.{index_of, same_session};
+ghost use Rattle.vp_answer.specs.OpenSessions.{index_of, same_session};
 
 use vp_answer::SessionId;
 use vp_expr::Change;

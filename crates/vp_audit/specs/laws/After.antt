@@ -30,14 +30,14 @@ use Rattle.vp_answer.specs.declared.reply.Reply.TheVariants as reply
 use Rattle.vp_answer.specs.Answers.{Response, freed, made, only_told, putting, refused, respond, response_by, scanned, value_in, watching}
 use Rattle.vp_answer.specs.Renumbering as under
 use Rattle.vp_answer.specs.laws.Renumbering.{due_under}
-use Rattle.vp_audit.specs.Known.{known_index}
-use Rattle.vp_audit.specs.Parts.{values_after}
+use Rattle.vp_replay.specs.Known.{known_index}
+use Rattle.vp_replay.specs.Parts.{values_after}
 use Rattle.vp_audit.specs.Projections.{change_seen, is_followed, number_in}
-use Rattle.vp_view.specs.Seen.{denied_seen, kind_seen, observer_seen}
+use Rattle.vp_replay.specs.Seen.{denied_seen, kind_seen, observer_seen}
 use Rattle.vp_audit.specs.laws.Alike.{AreValues}
-use Rattle.vp_audit.specs.laws.Known.{by_index}
-use Rattle.vp_audit.specs.laws.Looks.{filter_mapped}
-use Rattle.vp_audit.specs.laws.Names.{filter_all}
+use Rattle.vp_replay.specs.laws.Known.{by_index}
+use Rattle.vp_replay.specs.laws.Looks.{filter_mapped}
+use Rattle.vp_replay.specs.laws.Names.{filter_all}
 use Rattle.vp_audit.specs.laws.Sims.{IsWithin}
 
 -- ---- numbers

@@ -15,15 +15,16 @@ use Rattle.vp_policy.specs.View.{seen_node, known_view}
 use Rattle.vp_sim.specs.States.{State}
 use Rattle.vp_race.specs.Segments.{FindingState}
 use Rattle.vp_vpi.specs.Calls.{is_module}
-use Rattle.vp_vpi.specs.Observers.{value_read, is_readable, kind_at, line_at, width_at}
-use Rattle.vp_vpi.specs.Races.{observer_with, races_seen}
+use Rattle.vp_world.specs.UserObservers.{value_read}
+use Rattle.vp_vpi.specs.Observers.{is_readable, kind_at, line_at, width_at}
+use Rattle.vp_world.specs.Races.{observer_with, races_seen}
 use Rattle.vp_answer.specs.Renumbering.{IsOpen, IsSeenAs}
-use Rattle.vp_audit.specs.Known.{known_index}
-use Rattle.vp_view.specs.Seen.{denied_seen, kind_seen, last_name, names_seen, observer_seen, value_seen}
-use Rattle.vp_audit.specs.laws.Denials.{AllInEnvelopes, denied_seen_at, node_seen}
-use Rattle.vp_audit.specs.laws.Known.{by_index}
-use Rattle.vp_audit.specs.laws.Looks.{AreKnown, Stands, closed_is, last_same, listed_in_is, named_is, names_are}
-use Rattle.vp_audit.specs.laws.Names.{Differ, keys}
+use Rattle.vp_replay.specs.Known.{known_index}
+use Rattle.vp_replay.specs.Seen.{denied_seen, kind_seen, last_name, names_seen, observer_seen, value_seen}
+use Rattle.vp_replay.specs.laws.Denials.{AllInEnvelopes, denied_seen_at, node_seen}
+use Rattle.vp_replay.specs.laws.Known.{by_index}
+use Rattle.vp_replay.specs.laws.Looks.{AreKnown, Stands, closed_is, last_same, listed_in_is, named_is, names_are}
+use Rattle.vp_replay.specs.laws.Names.{Differ, keys}
 
 -- the values that are known are those of all objects, of each that may be read
 abbrev pub AreValues : Elaborated → (all : List (List Bit)) → Member → List Bool → List (Option (List Bit)) → Type 0

@@ -17,7 +17,7 @@ use Rattle.vp_race.specs.Recording.{Segments}
 use Rattle.vp_race.specs.Segments.{FindingState}
 use Rattle.vp_expr.specs.declared.change.Change.{Change}
 use Rattle.vp_vpi.specs.declared.races.ShownRace.{ShownRace}
-use Rattle.vp_vpi.specs.Races.{is_shown, observer_with, race_seen, races_seen}
+use Rattle.vp_world.specs.Races.{is_shown, observer_with, race_seen, races_seen}
 use Rattle.vp_vpi.specs.SessionStates.{SessionState, new_session_state}
 use Rattle.vp_answer.specs.declared.request.Request.{Request}
 use Rattle.vp_answer.specs.declared.request.SessionId.{SessionId}
@@ -28,18 +28,20 @@ use Rattle.vp_answer.specs.Answers.{Response, respond}
 use Rattle.vp_answer.specs.Renumbering as under
 use Rattle.vp_answer.specs.laws.Renumbering.{respond_under}
 use Rattle.vp_world.specs.History.{observer_at, asked, asked_at, change_of, changed_by, closed_at, next_session, opened_by, outcome_of_put, raised, response_of, segments_of_put, state_asked, stepped, with_booked, with_notice, with_response}
-use Rattle.vp_world.specs.Worlds.{OpenSessionState, State, index_of, same_session}
-use Rattle.vp_audit.specs.Parts.{Asks, Closes, Opens, OwnEvent, Part, observer_of_part, opens_after, races_after, reply_of, response_in, sessions_after, with_answer}
+use Rattle.vp_answer.specs.OpenSessions.{OpenSessionState, index_of, same_session}
+use Rattle.vp_world.specs.Worlds.{State}
+use Rattle.vp_replay.specs.Parts.{Asks, Closes, Opens, OwnEvent, Part, observer_of_part, opens_after, races_after, reply_of, response_in, sessions_after, with_answer}
 use Rattle.vp_audit.specs.Projections.{own_if}
-use Rattle.vp_view.specs.Seen.{observer_seen}
+use Rattle.vp_replay.specs.Seen.{observer_seen}
 use Rattle.vp_audit.specs.laws.Alike.{IsKnown, seen_as}
 use Rattle.vp_audit.specs.laws.After.{AreWatched, watched_kept}
-use Rattle.vp_audit.specs.laws.Events.{AreSessions, IsPartOf, after_is, is_of, map_same, part_following, same_number, session_under, stepped_is}
-use Rattle.vp_audit.specs.laws.Known.{by_index}
-use Rattle.vp_audit.specs.laws.Looks.{first_passes}
-use Rattle.vp_audit.specs.laws.Sessions.{apart_remove, apart_set, stands_from, user_kept}
+use Rattle.vp_answer.proofs.Lists.{map_same}
+use Rattle.vp_audit.specs.laws.Events.{AreSessions, IsPartOf, after_is, is_of, part_following, same_number, session_under, stepped_is}
+use Rattle.vp_replay.specs.laws.Known.{by_index}
+use Rattle.vp_replay.specs.laws.Looks.{first_passes}
+use Rattle.vp_replay.specs.laws.Sessions.{apart_remove, apart_set, stands_from, user_kept}
 use Rattle.vp_audit.specs.laws.Sims.{Changes, put_changes}
-use Rattle.vp_audit.specs.laws.Tests.{both_first}
+use Rattle.vp_replay.specs.laws.Tests.{both_first}
 
 -- ---- lists
 

@@ -16,16 +16,17 @@ use Rattle.vp_sim.specs.laws.Designs.{Leaves}
 use Rattle.vp_expr.specs.declared.change.Change.{Change}
 use Rattle.vp_expr.specs.Changes.{values_with}
 use Rattle.vp_vpi.specs.declared.races.ShownRace.{ShownRace}
-use Rattle.vp_vpi.specs.Races.{races_seen}
+use Rattle.vp_world.specs.Races.{races_seen}
 use Rattle.vp_answer.specs.Renumbering as under
 use Rattle.vp_world.specs.History.{change_of, noticed, stepped, with_notice}
-use Rattle.vp_world.specs.Worlds.{OpenSessionState, State}
-use Rattle.vp_audit.specs.Parts.{Part, session_notified, values_after}
+use Rattle.vp_answer.specs.OpenSessions.{OpenSessionState}
+use Rattle.vp_world.specs.Worlds.{State}
+use Rattle.vp_replay.specs.Parts.{Part, session_notified, values_after}
 use Rattle.vp_audit.specs.Projections.{change_seen, other_flag, other_number}
 use Rattle.vp_audit.specs.laws.Alike.{IsKnown}
 use Rattle.vp_audit.specs.laws.After.{AreWatched, due_same, values_kept, watched_due}
-use Rattle.vp_audit.specs.laws.Denials.{denied_seen_at}
-use Rattle.vp_audit.specs.laws.Known.{by_index}
+use Rattle.vp_replay.specs.laws.Denials.{denied_seen_at}
+use Rattle.vp_replay.specs.laws.Known.{by_index}
 use Rattle.vp_audit.specs.laws.Sims.{Changes, IsWithin}
 
 -- a session is one of a user
@@ -69,11 +70,6 @@ pub record IsPartOf (design : Elaborated) (u : ℕ) (s : State) (known : List Bo
 -- what holds of each
 pub map_all : {X : Type 0} (P Q : X → Type 0) → ((x : X) → P x → Q x) → (xs : List X) → All P xs → All Q xs
 map_all P Q f xs h k d l = f (slice_index_or xs k d) (h k d l)
-
--- a form that leaves each as it is leaves all
-pub map_same : {X : Type 0} (f : X → X) → ((x : X) → f x ≡ x) → (xs : List X) → map f xs ≡ xs
-map_same f h [] = refl
-map_same f h (x ∷ xs) = ap (λ y. y ∷ map f xs) (h x) ∙ ap (λ ys. x ∷ ys) (map_same f h xs)
 
 -- two forms that agree where something holds
 pub map_alike : {X Y : Type 0} (P : X → Type 0) (f g : X → Y) → ((x : X) → P x → f x ≡ g x) → (xs : List X) → All P xs → map f xs ≡ map g xs

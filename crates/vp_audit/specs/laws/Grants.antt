@@ -22,24 +22,26 @@ use Rattle.vp_notify.specs.declared.registry.Callback.{Callback}
 use Rattle.vp_notify.specs.declared.notice.Notice.{Notice}
 use Rattle.vp_sim.specs.States as sim
 use Rattle.vp_vpi.specs.Observers.{is_readable, is_watch_denied, kind_at}
-use Rattle.vp_vpi.specs.Races.{races_seen}
+use Rattle.vp_world.specs.Races.{races_seen}
 use Rattle.vp_vpi.specs.SessionStates.{SessionState, retired}
 use Rattle.vp_answer.specs.declared.request.GrantChange.{GrantChange}
 use Rattle.vp_answer.specs.Renumbering as under
 use Rattle.vp_answer.specs.laws.Renumbering.{retired_under}
 use Rattle.vp_world.specs.History.{granted_to, retired_for}
-use Rattle.vp_world.specs.Worlds.{OpenSessionState, State}
-use Rattle.vp_audit.specs.Known.{known_also, known_index}
+use Rattle.vp_answer.specs.OpenSessions.{OpenSessionState}
+use Rattle.vp_world.specs.Worlds.{State}
+use Rattle.vp_replay.specs.Known.{known_also, known_index}
 use Rattle.vp_notify.specs.Renumbered.{moved_callback, moved_notice}
 use Rattle.vp_vpi.specs.Renumbered.{moved_handle, moved_session_state}
-use Rattle.vp_audit.specs.Parts.{Part, granted_session, moved_to, part_granted, session_notified}
+use Rattle.vp_replay.specs.Parts.{Part, granted_session, moved_to, part_granted, session_notified}
 use Rattle.vp_audit.specs.Projections.{granted_of, moved_numbers, number_in, values_seen}
-use Rattle.vp_view.specs.Seen.{denied_seen, kind_seen}
+use Rattle.vp_replay.specs.Seen.{denied_seen, kind_seen}
 use Rattle.vp_audit.specs.laws.Alike.{AreValues, IsKnown}
 use Rattle.vp_audit.specs.laws.After.{AreWatched, number_index}
-use Rattle.vp_audit.specs.laws.Denials.{denied_seen_at, node_seen}
-use Rattle.vp_audit.specs.laws.Events.{AllWatched, AreNamed, AreSessions, IsPartOf, filter_form, is_of, map_alike, map_all, map_same, map_twice, part_following, same_number, session_under}
-use Rattle.vp_audit.specs.laws.Known.{by_index}
+use Rattle.vp_replay.specs.laws.Denials.{denied_seen_at, node_seen}
+use Rattle.vp_answer.proofs.Lists.{map_same}
+use Rattle.vp_audit.specs.laws.Events.{AllWatched, AreNamed, AreSessions, IsPartOf, filter_form, is_of, map_alike, map_all, map_twice, part_following, same_number, session_under}
+use Rattle.vp_replay.specs.laws.Known.{by_index}
 
 -- ---- lists
 

@@ -21,11 +21,12 @@ use Rattle.vp_policy.specs.View.{seen_node, view_of, marked}
 use Rattle.vp_sim.specs.States as sim
 use Rattle.vp_world.specs.Worlds.{Opening, start}
 use Rattle.vp_audit.specs.Openings.{IsRight}
-use Rattle.vp_audit.specs.Projections.{first_part, known_at_first, values_seen}
-use Rattle.vp_audit.specs.laws.Denials.{AllInEnvelopes, denied_seen_at}
+use Rattle.vp_replay.specs.Parts.{first_part}
+use Rattle.vp_audit.specs.Projections.{known_at_first, values_seen}
+use Rattle.vp_replay.specs.laws.Denials.{AllInEnvelopes, denied_seen_at}
 use Rattle.vp_audit.specs.laws.Events.{IsPartOf}
 use Rattle.vp_audit.specs.laws.Grants.{values_are}
-use Rattle.vp_audit.specs.laws.Names.{Differ, keys, names_differ}
+use Rattle.vp_replay.specs.laws.Names.{Differ, keys, names_differ}
 
 -- ---- envelopes
 

@@ -22,20 +22,23 @@ use Rattle.vp_world.specs.declared.event.Event.{Event}
 use Rattle.vp_world.specs.declared.event.Event.TheVariants as event
 use Rattle.vp_world.specs.declared.error.WorldError.TheVariants as error
 use Rattle.vp_world.specs.History.{IsLegal, after, entry_of, is_full, is_log_full, next_session, refusal_of, refusal_of_log, refusal_of_open, refusal_of_session, state_after}
-use Rattle.vp_world.specs.Worlds.{Opening, OpenSessionState, State, index_of, start}
-use Rattle.vp_view.specs.Seen.{denied_seen}
-use Rattle.vp_audit.specs.Known.{known_also}
+use Rattle.vp_world.specs.Worlds.{Opening, State, start}
+use Rattle.vp_answer.specs.OpenSessions.{OpenSessionState, index_of}
+use Rattle.vp_replay.specs.Seen.{denied_seen}
+use Rattle.vp_replay.specs.Known.{known_also}
 use Rattle.vp_audit.specs.Openings.{IsRight}
-use Rattle.vp_audit.specs.Parts.{Asks, Closes, GrantItem, Item, Opens, OwnEvent, Part, observer_of_part, granted_session, is_session_within, moved_to, part_after, part_after_entry, part_granted, response_in, session_notified, sessions_after, takes, takes_all, takes_by, with_answer}
-use Rattle.vp_audit.specs.Projections.{first_part, granted_of, item_if, item_of, items_from, known_at_first, known_after, opened_by_reply, own_if, projection, regrant_of}
+use Rattle.vp_replay.specs.Parts.{Asks, Closes, GrantItem, Item, Opens, OwnEvent, Part, observer_of_part, granted_session, is_session_within, moved_to, part_after, part_after_entry, part_granted, response_in, session_notified, sessions_after, takes, takes_all, takes_by, with_answer}
+use Rattle.vp_replay.specs.Parts.{first_part}
+use Rattle.vp_audit.specs.Projections.{granted_of, item_if, item_of, items_from, known_at_first, known_after, opened_by_reply, own_if, projection, regrant_of}
 use Rattle.vp_audit.specs.laws.Cases.{part_stands}
-use Rattle.vp_audit.specs.laws.Events.{IsPartOf, map_same, same_number}
+use Rattle.vp_answer.proofs.Lists.{map_same}
+use Rattle.vp_audit.specs.laws.Events.{IsPartOf, same_number}
 use Rattle.vp_audit.specs.laws.Grants.{marked_count, now_long}
 use Rattle.vp_audit.specs.laws.Moved.{moved_length, moved_rise, moved_within}
 use Rattle.vp_audit.specs.laws.Openings.{first_is}
 use Rattle.vp_audit.specs.laws.Promise.{event_follows, item_at}
-use Rattle.vp_audit.specs.laws.Tests.{all_at, all_join, all_mapped, all_removed, all_set, both}
-use Rattle.vp_audit.specs.laws.Within.{moved_to_within, respond_within, session_state_due, session_state_moved_within, session_state_retired, seen_within}
+use Rattle.vp_replay.specs.laws.Tests.{all_at, all_join, all_mapped, all_removed, all_set, both}
+use Rattle.vp_replay.specs.laws.Within.{moved_to_within, respond_within, session_state_due, session_state_moved_within, session_state_retired, seen_within}
 
 -- ---- the objects of a part's sessions
 

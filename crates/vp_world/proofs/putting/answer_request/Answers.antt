@@ -3,7 +3,7 @@ use Rattle.std.specs.Prelude.{OnErr}
 use Rattle.vp_policy.specs.Users.{member_at}
 use Rattle.vp_sim.specs.States as sim
 use Rattle.vp_vpi.specs.Observers.{Observer}
-use Rattle.vp_vpi.specs.Races.{observer_with}
+use Rattle.vp_world.specs.Races.{observer_with}
 use Rattle.vp_answer.specs.Answers.{respond}
 use Rattle.vp_answer.specs.Given.{IsGiven}
 use Rattle.vp_world.specs.Given.{observer_in}

@@ -3,7 +3,7 @@ use Rattle.std.proofs.lemmas.List.Edits.{map_over_more}
 use Rattle.vp_vpi.specs.SessionStates.{SessionState}
 use Rattle.vp_world.specs.declared.session.OpenSession.{OpenSession}
 use Rattle.vp_world.specs.Shown.{notified_session}
-use Rattle.vp_world.proofs.Lists.{map_over_all}
+use Rattle.vp_answer.proofs.Lists.{map_over_all}
 use Rattle.vp_world.proofs.session.notify_sessions.Goals as goal
 
 pub loop-opened-preserved : goal.loop-opened-preserved

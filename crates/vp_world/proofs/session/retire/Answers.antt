@@ -2,7 +2,7 @@ use Rattle.std.proofs.Common.{◌∙◌, ap, slice_set, sym}
 use Rattle.std.proofs.lemmas.List.Edits.{map_over_more}
 use Rattle.vp_world.specs.declared.session.OpenSession.{OpenSession}
 use Rattle.vp_world.specs.Shown.{retired_open}
-use Rattle.vp_world.proofs.Lists.{map_over_all}
+use Rattle.vp_answer.proofs.Lists.{map_over_all}
 use Rattle.vp_world.proofs.session.retire.Goals as goal
 
 pub loop-opened-preserved : goal.loop-opened-preserved

@@ -1,7 +1,7 @@
 use Rattle.std.proofs.Common.{map, sym}
 use Rattle.std.proofs.lemmas.Iterator.Adapters.{position_from-zero}
 use Rattle.vp_world.specs.Shown.{session_shown}
-use Rattle.vp_world.specs.Worlds.{same_session}
+use Rattle.vp_answer.specs.OpenSessions.{same_session}
 use Rattle.vp_world.proofs.session.session_index.Goals as goal
 
 pub loop-index-init : goal.loop-index-init

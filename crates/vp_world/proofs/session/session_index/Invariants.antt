@@ -1,7 +1,7 @@
 use Rattle.std.proofs.Common.{◌≡◌, drop, map}
 use Rattle.std.specs.List.{position_from}
 use Rattle.vp_world.specs.Shown.{session_shown}
-use Rattle.vp_world.specs.Worlds.{index_of, same_session}
+use Rattle.vp_answer.specs.OpenSessions.{index_of, same_session}
 use Rattle.vp_world.proofs.session.session_index.Given as goal
 
 -- what is left has the session where all have it

@@ -2,7 +2,7 @@ use Rattle.std.proofs.Common.{◌≡◌, ◌∙◌, ap, sym}
 use Rattle.vp_policy.specs.SeenObjects.{numbers_from}
 use Rattle.vp_policy.specs.Users.{member_at}
 use Rattle.vp_policy.specs.View.{known_view}
-use Rattle.vp_vpi.specs.Races.{races_seen}
+use Rattle.vp_world.specs.Races.{races_seen}
 use Rattle.vp_audit.specs.Projections.{moved_numbers, values_seen}
 use Rattle.vp_audit.specs.Readings.{LogReader}
 use Rattle.vp_audit.proofs.Granting.{granted_is}

@@ -3,7 +3,7 @@ use Rattle.vp_elab.specs.Tree.{Tree}
 use Rattle.vp_policy.specs.SeenObjects.{numbers_from}
 use Rattle.vp_policy.specs.Users.{Member, member_at}
 use Rattle.vp_policy.specs.View.{HoldScopes}
-use Rattle.vp_audit.specs.Known.{known_also}
+use Rattle.vp_replay.specs.Known.{known_also}
 use Rattle.vp_audit.specs.Readings.{LogReader, either_marked}
 use Rattle.vp_audit.proofs.Marks.{learned_is, learned_long, learned_scopes}
 use Rattle.vp_audit.proofs.reading.LogReader.learn.Goals as goal

@@ -6,7 +6,8 @@ use Rattle.vp_world.specs.Entries.{Entry}
 use Rattle.vp_world.specs.declared.event.Event.{Event}
 use Rattle.vp_world.specs.declared.event.Event.TheVariants as event
 use Rattle.vp_world.specs.History.{after, answer, asked, asked_at, asked_in, changed, changed_by, changed_in, entry_of, refusal_after, state_after, with_state}
-use Rattle.vp_world.specs.Worlds.{WorldState, index_of}
+use Rattle.vp_world.specs.Worlds.{WorldState}
+use Rattle.vp_answer.specs.OpenSessions.{index_of}
 use Rattle.vp_world.proofs.Logs.{entry_is, keeps_more, seen_more}
 use Rattle.vp_world.proofs.world.World.apply_ask.Goals as goal
 

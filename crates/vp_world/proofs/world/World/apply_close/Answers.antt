@@ -3,7 +3,7 @@ use Rattle.vp_world.specs.Entries.{Entry}
 use Rattle.vp_world.specs.declared.event.Event.TheVariants as event
 use Rattle.vp_answer.specs.declared.reply.Reply.TheVariants as reply
 use Rattle.vp_world.specs.History.{closed_at, refusal_after, state_after, with_state}
-use Rattle.vp_world.specs.Worlds.{index_of}
+use Rattle.vp_answer.specs.OpenSessions.{index_of}
 use Rattle.vp_world.proofs.Logs.{entry_is, keeps_more}
 use Rattle.vp_world.proofs.world.World.apply_close.Goals as goal
 

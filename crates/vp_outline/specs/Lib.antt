@@ -1,2 +1,0 @@
-pub mod Outline
-pub mod Objects

@@ -1,0 +1,13 @@
+pub mod Paths
+pub mod Missing
+pub mod NamedSteps
+pub mod Numbers
+pub mod Walks
+pub mod FullNames
+pub mod EachObject
+pub mod Writing
+pub mod OutlineRows
+pub mod Filling
+pub mod Moving
+pub mod PartSteps
+pub mod Turns

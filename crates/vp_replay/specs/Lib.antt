@@ -1,0 +1,9 @@
+pub mod Seen
+pub mod Objects
+pub mod Outline
+pub mod OutlinedObjects
+pub mod Explained
+pub mod Faults
+pub mod Known
+pub mod Parts
+pub mod laws

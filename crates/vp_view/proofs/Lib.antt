@@ -1,7 +1,0 @@
-pub mod Paths
-pub mod Missing
-pub mod NamedSteps
-pub mod Numbers
-pub mod Walks
-pub mod FullNames
-pub mod EachObject

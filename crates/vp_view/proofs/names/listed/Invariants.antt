@@ -1,7 +1,0 @@
-use Rattle.std.proofs.Common.{◌≡◌, map}
-use Rattle.vp_view.proofs.Numbers.{listed_below}
-use Rattle.vp_view.proofs.names.listed.Given as goal
-
--- the numbers so far
-abbrev pub invariant-loop-number : goal.invariant-loop-number
-invariant-loop-number l = map (λ o. o.0) l.ids.items ≡ listed_below l.view l.scope l.number
