@@ -1,13 +1,16 @@
 #!/bin/sh
 # How fast the operations of vp_bits are: each beside the same on a pair of words in plain Rust, in one run.
-# Wants rustc. The program bench/bits/main.txt is proved and built in a folder that is removed, beside a copy of vp_bits.
+# Wants rustc. The program bench/bits/main.txt is proved and built in a folder that is removed, beside copies of vp_text and vp_bits.
 set -eu
 top=$(cd "$(dirname "$0")/.." && pwd)
 work=$(mktemp -d)
 trap 'rm -rf "$work"' EXIT
-mkdir -p "$work/crates/bits_speed/src" "$work/crates/bits_speed/specs" "$work/crates/bits_speed/proofs" "$work/crates/vp_bits"
-printf 'vp_bits: thiserror\nbits_speed: vp_bits\n' > "$work/crates.txt"
-for part in src specs proofs; do cp -R "$top/crates/vp_bits/$part" "$work/crates/vp_bits/"; done
+mkdir -p "$work/crates/bits_speed/src" "$work/crates/bits_speed/specs" "$work/crates/bits_speed/proofs"
+printf 'vp_text:\nvp_bits: vp_text thiserror\nbits_speed: vp_bits\n' > "$work/crates.txt"
+for crate in vp_text vp_bits; do
+    mkdir "$work/crates/$crate"
+    for part in src specs proofs; do cp -R "$top/crates/$crate/$part" "$work/crates/$crate/"; done
+done
 cp "$top/bench/bits/main.txt" "$work/crates/bits_speed/src/main.rt"
 touch "$work/crates/bits_speed/specs/Lib.antt" "$work/crates/bits_speed/proofs/Lib.antt"
 (cd "$work/crates/bits_speed" && rt run --jobs 1 > "$work/first" 2> "$work/log") || { cat "$work/log"; exit 1; }

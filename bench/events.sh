@@ -11,7 +11,7 @@ until=${1:-20000}
 scripts_until "$until"
 if [ "${2:-}" = recorded ]; then
     . "$top/bench/programs.sh"
-    build_program world_speed "$top/bench/world/main.txt" "time 0" vp_lex vp_list vp_policy vp_answer vp_world vp_design
+    build_program world_speed "$top/bench/world/main.txt" "time 0" vp_text vp_lex vp_policy vp_answer vp_world vp_design
     still() { "$work/world_speed" 0 < "$work/$1.v"; }
     run() { "$work/world_speed" "$until" < "$work/$1.v"; }
     ending="time $until"

@@ -8,7 +8,7 @@ top=$(cd "$(dirname "$0")/.." && pwd)
 . "$top/bench/programs.sh"
 . "$top/bench/designs.sh"
 units=${1:-2000}
-build_program world_speed "$top/bench/world/main.txt" "time 0" vp_lex vp_list vp_policy vp_answer vp_world vp_design
+build_program world_speed "$top/bench/world/main.txt" "time 0" vp_text vp_lex vp_policy vp_answer vp_world vp_design
 one_user='{"users":[{"name":"ann","token":"t1","open":"race","run":true}]}'
 
 # Writes a design, which ends here.

@@ -6,7 +6,7 @@ top=$(cd "$(dirname "$0")/.." && pwd)
 . "$top/bench/common.sh"
 . "$top/bench/programs.sh"
 units=${1:-8000}
-build_program watch_speed "$top/bench/watch/main.txt" "time 1" vp_list vp_lex vp_policy vp_answer vp_world vp_design
+build_program watch_speed "$top/bench/watch/main.txt" "time 1" vp_text vp_lex vp_policy vp_answer vp_world vp_design
 
 # The instructions of a time unit with so many sessions and callbacks.
 cost() {

@@ -1,4 +1,4 @@
--- What comes of a request that a session refuses.
+-- What comes of a query that a session refuses.
 use Rattle.std.proofs.Common.{◌≡◌, ◌≢◌, Result, Ok, Err, inl, inr, sym, ap, subst}
 use Rattle.std.specs.Prelude.{IfOk, OnOk}
 use Rattle.vp_vpi.specs.declared.error.VpiError.{VpiError}
@@ -45,7 +45,7 @@ refusal_given_by session_state new given due e a same told answer reason =
     subst (λ response. IsGiven response new a) (sym (refusal_given session_state given due e told reason))
     (plain_given session_state new (refused e) a same answer)
 
--- the answer to a request that a session refuses is given by the refusal
+-- the answer to a query that a session refuses is given by the refusal
 pub refusal_gives :
     {A X : Type 0} (session_state new : SessionState) (given : A → Response) (due : Result A VpiError) (e : VpiError) (r : Result Answer X)
     → new ≡ session_state → Explains due e → IfOk r (λ a. a ≡ plain (refused e)) → OnOk r (e ≢ vpi.NoMemory)

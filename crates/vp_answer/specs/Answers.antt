@@ -1,4 +1,4 @@
--- What comes of a session's request.
+-- What comes of a session's query.
 use Rattle.std.specs.Prelude.{ℕ, ◌+◌, if◌then◌else◌, List, Option, Some, None, Result, Ok, Err}
 use Rattle.vp_bits.specs.declared.bit.Bit.{Bit}
 use Rattle.vp_notify.specs.Registry.{has_number}
@@ -7,15 +7,15 @@ use Rattle.vp_vpi.specs.declared.error.VpiError.TheVariants as vpi
 use Rattle.vp_vpi.specs.Calls.{Iterated, handle_of, iterated, lines_of, number_of, or_refusal, put_of, race_of, same_of, text_of, value_of, watched_of}
 use Rattle.vp_vpi.specs.Observers.{Observer}
 use Rattle.vp_vpi.specs.SessionStates.{SessionState, drained, next_handle, object_of, polled, with_callback, with_handle, with_handles, without_callback, without_handle}
-use Rattle.vp_answer.specs.declared.request.Request.{Request}
-use Rattle.vp_answer.specs.declared.request.Request.TheVariants as request
-use Rattle.vp_answer.specs.declared.request.ValueFormat.{ValueFormat}
-use Rattle.vp_answer.specs.declared.request.ValueFormat.TheVariants as format
+use Rattle.vp_answer.specs.declared.query.Query.{Query}
+use Rattle.vp_answer.specs.declared.query.Query.TheVariants as query
+use Rattle.vp_answer.specs.declared.query.ValueFormat.{ValueFormat}
+use Rattle.vp_answer.specs.declared.query.ValueFormat.TheVariants as format
 use Rattle.vp_answer.specs.declared.reply.Refusal.TheVariants as refusal
 use Rattle.vp_answer.specs.declared.reply.Reply.{Reply}
 use Rattle.vp_answer.specs.declared.reply.Reply.TheVariants as reply
 
--- what comes of a request: its reply, the session after it, the goal that it sets, if it sets one, and the value that it puts on
+-- what comes of a query: its reply, the session after it, the goal that it sets, if it sets one, and the value that it puts on
 -- an object, if it puts one
 pub record Response : Type 0 where
   pub reply : Reply
@@ -27,7 +27,7 @@ pub record Response : Type 0 where
 abbrev pub only_told : SessionState → Reply → Response
 only_told session_state r = record { reply = r; session_state = session_state; goal = None; put = None }
 
--- the reply to a request that a session refused: a denial is reported in words (profile)
+-- the reply to a query that a session refused: a denial is reported in words (profile)
 abbrev pub refused : VpiError → Reply
 refused (vpi.Denied words) = reply.Denied words
 refused vpi.BadHandle = reply.Error refusal.BadHandle
@@ -81,7 +81,7 @@ watching session_state object = record {
   put = None;
 }
 
--- what comes of a request to remove the callback of a number, where there is one, and where there is none
+-- what comes of a query to remove the callback of a number, where there is one, and where there is none
 abbrev pub unwatch_response : SessionState → (callback : ℕ) → Response
 unwatch_response session_state callback =
     if has_number session_state.registry callback
@@ -101,7 +101,7 @@ abbrev pub value_in : ValueFormat → List Bit → Reply
 value_in format.Binary bits = reply.Value bits
 value_in format.Vector bits = reply.Vector bits
 
--- what comes of a request to let the design run until a time, where the user may, and where he may not
+-- what comes of a query to let the design run until a time, where the user may, and where he may not
 abbrev pub run_response : Observer → SessionState → (until : ℕ) → Response
 run_response observation session_state until = record {
   reply = if observation.may_run then reply.Done else reply.RunDenied;
@@ -110,27 +110,23 @@ run_response observation session_state until = record {
   put = None;
 }
 
--- what comes of a request of a session that looks things up so: openings, closings and changes of grants are no requests of a session
--- (profile)
-abbrev pub respond : Observer → SessionState → Request → Response
-respond observation session_state (request.Open user token) = only_told session_state (reply.Error refusal.NotOpen)
-respond observation session_state request.Close = only_told session_state (reply.Error refusal.NotOpen)
-respond observation session_state (request.Grant change) = only_told session_state (reply.Error refusal.NotOpen)
-respond observation session_state (request.Handle name scope) = response_by session_state (made session_state) (handle_of observation session_state.handles scope name)
-respond observation session_state (request.Iterate k scope) = response_by session_state (scanned session_state) (iterated observation session_state.handles k scope)
-respond observation session_state (request.Get handle p) = reply_with session_state reply.Number (number_of observation p (object_of session_state.handles handle))
-respond observation session_state (request.GetStr handle p) = reply_with session_state reply.Text (text_of observation p (object_of session_state.handles handle))
-respond observation session_state (request.Value handle f) = reply_with session_state (value_in f) (value_of observation (object_of session_state.handles handle))
-respond observation session_state (request.Put handle v) = response_by session_state (putting session_state) (put_of observation v (object_of session_state.handles handle))
-respond observation session_state (request.Compare a b) =
+-- what comes of a query of a session that looks things up so (profile)
+abbrev pub respond : Observer → SessionState → Query → Response
+respond observation session_state (query.Handle name scope) = response_by session_state (made session_state) (handle_of observation session_state.handles scope name)
+respond observation session_state (query.Iterate k scope) = response_by session_state (scanned session_state) (iterated observation session_state.handles k scope)
+respond observation session_state (query.Get handle p) = reply_with session_state reply.Number (number_of observation p (object_of session_state.handles handle))
+respond observation session_state (query.GetStr handle p) = reply_with session_state reply.Text (text_of observation p (object_of session_state.handles handle))
+respond observation session_state (query.Value handle f) = reply_with session_state (value_in f) (value_of observation (object_of session_state.handles handle))
+respond observation session_state (query.Put handle v) = response_by session_state (putting session_state) (put_of observation v (object_of session_state.handles handle))
+respond observation session_state (query.Compare a b) =
     reply_with session_state reply.Same (same_of (object_of session_state.handles a) (object_of session_state.handles b))
-respond observation session_state (request.Free handle) =
+respond observation session_state (query.Free handle) =
     response_by session_state (λ o. freed session_state handle) (or_refusal (object_of session_state.handles handle) vpi.BadHandle)
-respond observation session_state (request.Watch handle) =
+respond observation session_state (query.Watch handle) =
     response_by session_state (watching session_state) (watched_of observation session_state.registry (object_of session_state.handles handle))
-respond observation session_state (request.Unwatch callback) = unwatch_response session_state callback
-respond observation session_state request.Poll = polling session_state
-respond observation session_state (request.Races from) = only_told session_state (reply.Races (lines_of observation from))
-respond observation session_state (request.Race number) = reply_with session_state reply.Race (race_of observation number)
-respond observation session_state (request.Run until) = run_response observation session_state until
-respond observation session_state request.Time = only_told session_state (reply.Time observation.time observation.finished)
+respond observation session_state (query.Unwatch callback) = unwatch_response session_state callback
+respond observation session_state query.Poll = polling session_state
+respond observation session_state (query.Races from) = only_told session_state (reply.Races (lines_of observation from))
+respond observation session_state (query.Race number) = reply_with session_state reply.Race (race_of observation number)
+respond observation session_state (query.Run until) = run_response observation session_state until
+respond observation session_state query.Time = only_told session_state (reply.Time observation.time observation.finished)

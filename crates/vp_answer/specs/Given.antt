@@ -1,4 +1,4 @@
--- What a request is answered.
+-- What a query is answered.
 use Rattle.std.specs.Prelude.{◌≡◌, ℕ, List, Option, None, option_map}
 use Rattle.vp_bits.specs.declared.bit.Bit.{Bit}
 use Rattle.vp_elab.specs.declared.object.ObjectId.{ObjectId}
@@ -15,7 +15,7 @@ plain r = record { reply = r; entry_reply = r; goal = None; put = None }
 abbrev pub put_shown : Option (ObjectId × List Bit) → Option (ℕ × List Bit)
 put_shown put = option_map (λ p. (p.0.0, p.1)) put
 
--- an answer is what comes of a request: its reply, for the session and for the log, the goal that it sets, and its put; and this is the
+-- an answer is what comes of a query: its reply, for the session and for the log, the goal that it sets, and its put; and this is the
 -- session after it
 pub record IsGiven (given : Response) (session : SessionState) (a : Answer) : Type 0 where
   pub gives_reply : a.reply ≡ given.reply

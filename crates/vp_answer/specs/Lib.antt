@@ -1,4 +1,3 @@
-pub mod Requests
 pub mod Refusals
 pub mod Answers
 pub mod OpenSessions

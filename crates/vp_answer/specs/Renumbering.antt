@@ -61,7 +61,7 @@ answer f (Err e) = Err e
 abbrev pub put : Renumbering → ℕ × List Bit → ℕ × List Bit
 put n p = (n.number p.0, p.1)
 
--- what comes of a request: the reply is the same, since it reports no object's number
+-- what comes of a query: the reply is the same, since it reports no object's number
 abbrev pub response : Renumbering → Response → Response
 response n g = record g { session_state = session_state n g.session_state; put = option_map (put n) g.put }
 

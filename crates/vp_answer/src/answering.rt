@@ -1,22 +1,21 @@
-// What a session's request is answered, and what comes of it (docs/FORMATS.md, "Lines").
+// What a session's query is answered, and what comes of it (docs/FORMATS.md, "Lines").
 ghost use Rattle.std.specs.Prelude.{◌≡◌, ◌≢◌, length, IfOk, IsTrue, OnErr, OnOk};
 ghost use Rattle.vp_vpi.specs.declared.error.VpiError.TheVariants as vpi_error;
 ghost use Rattle.vp_vpi.specs.Observers.{Observer};
 ghost use Rattle.vp_vpi.specs.SessionStates.{SessionState, has_room, with_handles};
-ghost use Rattle.vp_answer.specs.declared.request.Request.TheVariants as request;
+ghost use Rattle.vp_answer.specs.declared.query.Query.TheVariants as query;
 ghost use Rattle.vp_answer.specs.declared.reply.Reply.TheVariants as reply;
 ghost use Rattle.vp_answer.specs.Answers.{refused, respond, value_in};
-ghost use Rattle.vp_answer.specs.Requests.{IsAsked};
 ghost use Rattle.vp_answer.specs.Given.{IsGiven, plain};
 
+use crate::query::{Query, ValueFormat};
 use crate::reply::{Refusal, Reply};
-use crate::request::{Request, ValueFormat};
 use std::alloc::AllocError;
 use vp_bits::Bits;
 use vp_elab::{Kind, ObjectId};
 use vp_vpi::{Iteration, NumberProperty, Observe, PutValue, Session, TextProperty, VpiError};
 
-/// What a request is answered.
+/// What a query is answered.
 #[derive(Drop)]
 pub struct Answer {
     /// The reply, for the session.
@@ -42,7 +41,7 @@ fn plain(reply: Reply) -> Result<Answer, AllocError>
     })
 }
 
-/// The reply to a request that a session refused; out of memory stays so.
+/// The reply to a query that a session refused; out of memory stays so.
 fn refusal_reply(error: VpiError) -> Result<Reply, AllocError>
     ensures reply { IfOk result (λ reply. reply ≡ refused error) }
     ensures reason { OnOk result (error ≢ vpi_error.NoMemory) }
@@ -62,7 +61,7 @@ fn refusal_reply(error: VpiError) -> Result<Reply, AllocError>
     })
 }
 
-/// The answer to a request that a session refused; out of memory stays so.
+/// The answer to a query that a session refused; out of memory stays so.
 fn refusal(error: VpiError) -> Result<Answer, AllocError>
     ensures answer { IfOk result (λ a. a ≡ plain (refused error)) }
     ensures reason { OnOk result (error ≢ vpi_error.NoMemory) }
@@ -80,7 +79,7 @@ fn handle<E: Observe>(
 ) -> Result<Answer, AllocError>
     requires { E.is_sound observation.now }
     ensures given { IfOk result (IsGiven (respond (E.observer observation.now) session.old
-        (request.Handle name.now scope)) session.new) }
+        (query.Handle name.now scope)) session.new) }
     ensures unchanged { OnErr result (session.new ≡ session.old) }
 {
     match session.handle_by_name(observation, scope, name) {
@@ -116,7 +115,7 @@ fn iterate<E: Observe>(
 ) -> Result<Answer, AllocError>
     requires { E.is_sound observation.now }
     ensures given { IfOk result (IsGiven (respond (E.observer observation.now) session.old
-        (request.Iterate kind scope)) session.new) }
+        (query.Iterate kind scope)) session.new) }
     ensures unchanged { OnErr result (session.new ≡ session.old) }
 {
     match session.iterate(observation, kind, scope) {
@@ -134,7 +133,7 @@ fn get<E: Observe>(
 ) -> Result<Answer, AllocError>
     requires { E.is_sound observation.now }
     ensures { IfOk result (IsGiven (respond (E.observer observation.now) session.now
-        (request.Get handle property)) session.now) }
+        (query.Get handle property)) session.now) }
 {
     match session.get(observation, handle, property) {
         Ok(number) => plain(Reply::Number(number)),
@@ -151,7 +150,7 @@ fn get_str<E: Observe>(
 ) -> Result<Answer, AllocError>
     requires { E.is_sound observation.now }
     ensures { IfOk result (IsGiven (respond (E.observer observation.now) session.now
-        (request.GetStr handle property)) session.now) }
+        (query.GetStr handle property)) session.now) }
 {
     match session.get_str(observation, handle, property) {
         Ok(text) => plain(Reply::Text(text)),
@@ -178,7 +177,7 @@ fn value<E: Observe>(
 ) -> Result<Answer, AllocError>
     requires { E.is_sound observation.now }
     ensures { IfOk result (IsGiven (respond (E.observer observation.now) session.now
-        (request.Value handle format)) session.now) }
+        (query.Value handle format)) session.now) }
 {
     match session.get_value(observation, handle) {
         Ok(bits) => plain(value_in(format, bits)),
@@ -195,7 +194,7 @@ fn put<E: Observe>(
 ) -> Result<Answer, AllocError>
     requires { E.is_sound observation.now }
     ensures { IfOk result (IsGiven (respond (E.observer observation.now) session.now
-        (request.Put handle value.now)) session.now) }
+        (query.Put handle value.now)) session.now) }
 {
     match session.put_value(observation, handle, value) {
         Ok(put) => Ok(Answer {
@@ -211,7 +210,7 @@ fn put<E: Observe>(
 /// Reports whether two handles are of one object.
 fn compare(session: &Session, first: u32, second: u32) -> Result<Answer, AllocError>
     ensures { (observation : Observer) → IfOk result (IsGiven (respond observation session.now
-        (request.Compare first second)) session.now) }
+        (query.Compare first second)) session.now) }
 {
     match session.compare_objects(first, second) {
         Ok(same) => plain(Reply::Same(same)),
@@ -222,7 +221,7 @@ fn compare(session: &Session, first: u32, second: u32) -> Result<Answer, AllocEr
 /// Frees a handle.
 fn free(session: &mut Session, handle: u32) -> Result<Answer, AllocError>
     ensures given { (observation : Observer) → IfOk result (IsGiven (respond observation session.old
-        (request.Free handle)) session.new) }
+        (query.Free handle)) session.new) }
     ensures unchanged { OnErr result (session.new ≡ session.old) }
 {
     match session.free_object(handle) {
@@ -244,7 +243,7 @@ fn watch<E: Observe>(
 ) -> Result<Answer, AllocError>
     requires { E.is_sound observation.now }
     ensures given { IfOk result (IsGiven (respond (E.observer observation.now) session.old
-        (request.Watch handle)) session.new) }
+        (query.Watch handle)) session.new) }
     ensures unchanged { OnErr result (session.new ≡ session.old) }
 {
     match session.register_cb(observation, handle) {
@@ -261,7 +260,7 @@ fn watch<E: Observe>(
 /// Removes a callback.
 fn unwatch(session: &mut Session, callback: u32) -> Result<Answer, AllocError>
     ensures given { (observation : Observer) → IfOk result (IsGiven (respond observation session.old
-        (request.Unwatch callback)) session.new) }
+        (query.Unwatch callback)) session.new) }
     ensures unchanged { OnErr result (session.new ≡ session.old) }
 {
     match session.remove_cb(callback) {
@@ -278,7 +277,7 @@ fn unwatch(session: &mut Session, callback: u32) -> Result<Answer, AllocError>
 /// Reports the notices that wait, which wait no more.
 fn poll(session: &mut Session) -> Result<Answer, AllocError>
     ensures given { (observation : Observer) → IfOk result (IsGiven (respond observation session.old
-        request.Poll) session.new) }
+        query.Poll) session.new) }
     ensures unchanged { OnErr result (session.new ≡ session.old) }
 {
     let Ok(notices) = session.poll() else {
@@ -293,7 +292,7 @@ fn poll(session: &mut Session) -> Result<Answer, AllocError>
 fn races<E: Observe>(session: &Session, observation: &E, from: u64) -> Result<Answer, AllocError>
     requires { E.is_sound observation.now }
     ensures { IfOk result (IsGiven (respond (E.observer observation.now) session.now
-        (request.Races from)) session.now) }
+        (query.Races from)) session.now) }
 {
     match session.races(observation, from) {
         Ok(races) => plain(Reply::Races(races)),
@@ -305,7 +304,7 @@ fn races<E: Observe>(session: &Session, observation: &E, from: u64) -> Result<An
 fn race<E: Observe>(session: &Session, observation: &E, number: u64) -> Result<Answer, AllocError>
     requires { E.is_sound observation.now }
     ensures { IfOk result (IsGiven (respond (E.observer observation.now) session.now
-        (request.Race number)) session.now) }
+        (query.Race number)) session.now) }
 {
     match session.race(observation, number) {
         Ok(race) => plain(Reply::Race(race)),
@@ -317,7 +316,7 @@ fn race<E: Observe>(session: &Session, observation: &E, number: u64) -> Result<A
 fn let_run<E: Observe>(observation: &E, until: u64) -> Answer
     requires { E.is_sound observation.now }
     ensures { (session_state : SessionState)
-        → IsGiven (respond (E.observer observation.now) session_state (request.Run until)) session_state result }
+        → IsGiven (respond (E.observer observation.now) session_state (query.Run until)) session_state result }
 {
     if observation.may_run() {
         Answer {
@@ -340,7 +339,7 @@ fn let_run<E: Observe>(observation: &E, until: u64) -> Answer
 fn time<E: Observe>(observation: &E) -> Answer
     requires { E.is_sound observation.now }
     ensures { (session_state : SessionState)
-        → IsGiven (respond (E.observer observation.now) session_state request.Time) session_state result }
+        → IsGiven (respond (E.observer observation.now) session_state query.Time) session_state result }
 {
     let time = observation.time();
     let finished = observation.finished();
@@ -352,34 +351,32 @@ fn time<E: Observe>(observation: &E) -> Answer
     }
 }
 
-/// What a session's request is answered, by what it can look up; or out of memory, which leaves the session as it was.
+/// What a session's query is answered, by what it can look up; or out of memory, which leaves the session as it was.
 pub fn respond<E: Observe>(
     session: &mut Session,
     observation: &E,
-    request: &Request,
+    query: &Query,
 ) -> Result<Answer, AllocError>
-    requires asked { IsAsked request.now }
-    requires sound { E.is_sound observation.now }
+    requires { E.is_sound observation.now }
     ensures given { IfOk result
-        (IsGiven (respond (E.observer observation.now) session.old request.now) session.new) }
+        (IsGiven (respond (E.observer observation.now) session.old query.now) session.new) }
     ensures unchanged { OnErr result (session.new ≡ session.old) }
 {
-    match request {
-        Request::Handle { name, scope } => handle(session, observation, name.as_str(), *scope),
-        Request::Iterate { kind, scope } => iterate(session, observation, *kind, *scope),
-        Request::Get { handle, property } => get(session, observation, *handle, *property),
-        Request::GetStr { handle, property } => get_str(session, observation, *handle, *property),
-        Request::Value { handle, format } => value(session, observation, *handle, *format),
-        Request::Put { handle, value } => put(session, observation, *handle, value),
-        Request::Compare { first, second } => compare(session, *first, *second),
-        Request::Free { handle } => free(session, *handle),
-        Request::Watch { handle } => watch(session, observation, *handle),
-        Request::Unwatch { callback } => unwatch(session, *callback),
-        Request::Poll => poll(session),
-        Request::Races { from } => races(session, observation, *from),
-        Request::Race { number } => race(session, observation, *number),
-        Request::Run { until } => Ok(let_run(observation, *until)),
-        Request::Time => Ok(time(observation)),
-        Request::Open { .. } | Request::Close | Request::Grant(_) => unreachable!(),
+    match query {
+        Query::Handle { name, scope } => handle(session, observation, name.as_str(), *scope),
+        Query::Iterate { kind, scope } => iterate(session, observation, *kind, *scope),
+        Query::Get { handle, property } => get(session, observation, *handle, *property),
+        Query::GetStr { handle, property } => get_str(session, observation, *handle, *property),
+        Query::Value { handle, format } => value(session, observation, *handle, *format),
+        Query::Put { handle, value } => put(session, observation, *handle, value),
+        Query::Compare { first, second } => compare(session, *first, *second),
+        Query::Free { handle } => free(session, *handle),
+        Query::Watch { handle } => watch(session, observation, *handle),
+        Query::Unwatch { callback } => unwatch(session, *callback),
+        Query::Poll => poll(session),
+        Query::Races { from } => races(session, observation, *from),
+        Query::Race { number } => race(session, observation, *number),
+        Query::Run { until } => Ok(let_run(observation, *until)),
+        Query::Time => Ok(time(observation)),
     }
 }

@@ -1,11 +1,8 @@
-// Requests and replies are compared by their contents.
-ghost use Rattle.std.specs.Prelude.{◌≡◌, true};
-
+// Queries, changes of grants and replies are compared by their contents.
+use crate::query::Query;
 use crate::reply::Reply;
-use crate::request::{GrantChange, Request, ValueFormat};
-use vp_elab::Kind;
-use vp_text::{Same, Text};
-use vp_vpi::{NumberProperty, PutValue, TextProperty};
+use crate::request::GrantChange;
+use vp_text::Same;
 
 impl Same for Reply {
     fn is_same(&self, other: &Reply) -> bool {
@@ -48,144 +45,69 @@ impl Same for GrantChange {
     }
 }
 
-impl Same for Request {
-    fn is_same(&self, other: &Request) -> bool {
+impl Same for Query {
+    fn is_same(&self, other: &Query) -> bool {
         match (self, other) {
-            (Request::Open { user, token }, _) => is_open(other, user, token),
-            (Request::Close, Request::Close) => true,
-            (Request::Grant(first), Request::Grant(second)) => first.is_same(second),
-            (Request::Handle { name, scope }, _) => is_handle(other, name, *scope),
-            (Request::Iterate { kind, scope }, _) => is_iterate(other, *kind, *scope),
-            (Request::Get { handle, property }, _) => is_get(other, *handle, *property),
-            (Request::GetStr { handle, property }, _) => is_get_str(other, *handle, *property),
-            (Request::Value { handle, format }, _) => is_value(other, *handle, *format),
-            (Request::Put { handle, value }, _) => is_put(other, *handle, value),
-            (Request::Compare { first, second }, _) => is_compare(other, *first, *second),
-            (Request::Free { handle: first }, Request::Free { handle: second }) => first == second,
-            (Request::Watch { handle: first }, Request::Watch { handle: second }) => {
-                first == second
+            (
+                Query::Handle { name, scope },
+                Query::Handle {
+                    name: second,
+                    scope: second_scope,
+                },
+            ) => name.is_same(second) && *scope == *second_scope,
+            (
+                Query::Iterate { kind, scope },
+                Query::Iterate {
+                    kind: second,
+                    scope: second_scope,
+                },
+            ) => *kind == *second && *scope == *second_scope,
+            (
+                Query::Get { handle, property },
+                Query::Get {
+                    handle: second,
+                    property: second_property,
+                },
+            ) => handle == second && *property == *second_property,
+            (
+                Query::GetStr { handle, property },
+                Query::GetStr {
+                    handle: second,
+                    property: second_property,
+                },
+            ) => handle == second && *property == *second_property,
+            (
+                Query::Value { handle, format },
+                Query::Value {
+                    handle: second,
+                    format: second_format,
+                },
+            ) => handle == second && *format == *second_format,
+            (
+                Query::Put { handle, value },
+                Query::Put {
+                    handle: second,
+                    value: second_value,
+                },
+            ) => handle == second && value.is_same(second_value),
+            (
+                Query::Compare { first, second },
+                Query::Compare {
+                    first: other_first,
+                    second: other_second,
+                },
+            ) => first == other_first && second == other_second,
+            (Query::Free { handle }, Query::Free { handle: second }) => handle == second,
+            (Query::Watch { handle }, Query::Watch { handle: second }) => handle == second,
+            (Query::Unwatch { callback }, Query::Unwatch { callback: second }) => {
+                callback == second
             }
-            (Request::Unwatch { callback: first }, Request::Unwatch { callback: second }) => {
-                first == second
-            }
-            (Request::Poll, Request::Poll) => true,
-            (Request::Races { from: first }, Request::Races { from: second }) => first == second,
-            (Request::Race { number: first }, Request::Race { number: second }) => first == second,
-            (Request::Run { until: first }, Request::Run { until: second }) => first == second,
-            (Request::Time, Request::Time) => true,
+            (Query::Poll, Query::Poll) => true,
+            (Query::Races { from }, Query::Races { from: second }) => from == second,
+            (Query::Race { number }, Query::Race { number: second }) => number == second,
+            (Query::Run { until }, Query::Run { until: second }) => until == second,
+            (Query::Time, Query::Time) => true,
             _ => false,
         }
-    }
-}
-
-/// A request is to open a session for this user by this token.
-fn is_open(request: &Request, user: &Text, token: &Text) -> bool
-    ensures same { result ≡ true → request.now ≡ Request.Open user.now token.now }
-    ensures differs { request.now ≡ Request.Open user.now token.now → result ≡ true }
-{
-    match request {
-        Request::Open {
-            user: own_user,
-            token: own_token,
-        } => own_user.is_same(user) && own_token.is_same(token),
-        _ => false,
-    }
-}
-
-/// A request is for a handle of the object of this name in this scope.
-fn is_handle(request: &Request, name: &Text, scope: Option<u32>) -> bool
-    ensures same { result ≡ true → request.now ≡ Request.Handle name.now scope }
-    ensures differs { request.now ≡ Request.Handle name.now scope → result ≡ true }
-{
-    match request {
-        Request::Handle {
-            name: own_name,
-            scope: own_scope,
-        } => own_name.is_same(name) && *own_scope == scope,
-        _ => false,
-    }
-}
-
-/// A request is for handles of the objects of this kind in this scope.
-fn is_iterate(request: &Request, kind: Kind, scope: Option<u32>) -> bool
-    ensures same { result ≡ true → request.now ≡ Request.Iterate kind scope }
-    ensures differs { request.now ≡ Request.Iterate kind scope → result ≡ true }
-{
-    match request {
-        Request::Iterate {
-            kind: own_kind,
-            scope: own_scope,
-        } => *own_kind == kind && *own_scope == scope,
-        _ => false,
-    }
-}
-
-/// A request is for this number of this handle's object.
-fn is_get(request: &Request, handle: u32, property: NumberProperty) -> bool
-    ensures same { result ≡ true → request.now ≡ Request.Get handle property }
-    ensures differs { request.now ≡ Request.Get handle property → result ≡ true }
-{
-    match request {
-        Request::Get {
-            handle: own_handle,
-            property: own_property,
-        } => *own_handle == handle && *own_property == property,
-        _ => false,
-    }
-}
-
-/// A request is for this text of this handle's object.
-fn is_get_str(request: &Request, handle: u32, property: TextProperty) -> bool
-    ensures same { result ≡ true → request.now ≡ Request.GetStr handle property }
-    ensures differs { request.now ≡ Request.GetStr handle property → result ≡ true }
-{
-    match request {
-        Request::GetStr {
-            handle: own_handle,
-            property: own_property,
-        } => *own_handle == handle && *own_property == property,
-        _ => false,
-    }
-}
-
-/// A request is for the value of this handle's object, in this format.
-fn is_value(request: &Request, handle: u32, format: ValueFormat) -> bool
-    ensures same { result ≡ true → request.now ≡ Request.Value handle format }
-    ensures differs { request.now ≡ Request.Value handle format → result ≡ true }
-{
-    match request {
-        Request::Value {
-            handle: own_handle,
-            format: own_format,
-        } => *own_handle == handle && *own_format == format,
-        _ => false,
-    }
-}
-
-/// A request is to give this handle's object this value.
-fn is_put(request: &Request, handle: u32, value: &PutValue) -> bool
-    ensures same { result ≡ true → request.now ≡ Request.Put handle value.now }
-    ensures differs { request.now ≡ Request.Put handle value.now → result ≡ true }
-{
-    match request {
-        Request::Put {
-            handle: own_handle,
-            value: own_value,
-        } => *own_handle == handle && own_value.is_same(value),
-        _ => false,
-    }
-}
-
-/// A request is whether these two handles are of one object.
-fn is_compare(request: &Request, first: u32, second: u32) -> bool
-    ensures same { result ≡ true → request.now ≡ Request.Compare first second }
-    ensures differs { request.now ≡ Request.Compare first second → result ≡ true }
-{
-    match request {
-        Request::Compare {
-            first: own_first,
-            second: own_second,
-        } => *own_first == first && *own_second == second,
-        _ => false,
     }
 }

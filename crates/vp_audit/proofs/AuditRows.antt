@@ -21,8 +21,8 @@ use Rattle.vp_policy.specs.View.{SeenNode, view_of, marked}
 use Rattle.vp_expr.specs.declared.change.Change.{Change}
 use Rattle.vp_vpi.specs.declared.property.PutValue.TheVariants.{Digits}
 use Rattle.vp_answer.specs.declared.request.SessionId.{SessionId}
-use Rattle.vp_answer.specs.declared.request.Request.TheVariants as request
-use Rattle.vp_answer.specs.declared.request.ValueFormat.TheVariants as format
+use Rattle.vp_answer.specs.declared.query.Query.TheVariants as query
+use Rattle.vp_answer.specs.declared.query.ValueFormat.TheVariants as format
 use Rattle.vp_answer.specs.declared.reply.Reply.{Reply}
 use Rattle.vp_answer.specs.declared.reply.Reply.TheVariants as reply
 use Rattle.vp_world.specs.declared.event.Event.{Event}
@@ -140,14 +140,14 @@ abbrev change_of : ℕ → Change
 change_of object = record { object = record { 0 = object }; value = One ∷ [] }
 
 abbrev handle : SessionId → List ℕ → Event
-handle id name = event.Ask id (request.Handle name None)
+handle id name = event.Ask id (query.Handle name None)
 
 abbrev read : ℕ → Event
-read h = event.Ask of_ann (request.Value h format.Binary)
+read h = event.Ask of_ann (query.Value h format.Binary)
 
 -- bob puts one into the object of a number, by his handle
 abbrev put : ℕ → ℕ → Entry
-put h object = record (entry (event.Ask of_bob (request.Put h (Digits (codes "1")))) reply.Done) { change = Some (change_of object) }
+put h object = record (entry (event.Ask of_bob (query.Put h (Digits (codes "1")))) reply.Done) { change = Some (change_of object) }
 
 abbrev ann_asks : List Entry
 ann_asks = entry (event.Open (codes "ann") (codes "t1")) (reply.Opened of_ann) ∷ entry (handle of_ann (codes "top.a")) (reply.Handle 1) ∷ entry (handle of_ann (codes "top.k")) hidden ∷ []
@@ -176,11 +176,11 @@ values_at_first = refl
 -- her own events, one item for the put that she may read, none for all else that bob does, and one for her grant
 own_events :
     map (λ i. i.own_event) (projection opening 0 log).items
-    ≡ Some (Opens of_ann) ∷ Some (Asks of_ann (request.Handle (codes "top.a") None)) ∷ Some (Asks of_ann (request.Handle (codes "top.k") None))
+    ≡ Some (Opens of_ann) ∷ Some (Asks of_ann (query.Handle (codes "top.a") None)) ∷ Some (Asks of_ann (query.Handle (codes "top.k") None))
     ∷ None
-    ∷ Some (Asks of_ann (request.Value 1 format.Binary))
+    ∷ Some (Asks of_ann (query.Value 1 format.Binary))
     ∷ None
-    ∷ Some (Asks of_ann (request.Handle (codes "top.k") None)) ∷ Some (Asks of_ann (request.Value 2 format.Binary)) ∷ []
+    ∷ Some (Asks of_ann (query.Handle (codes "top.k") None)) ∷ Some (Asks of_ann (query.Value 2 format.Binary)) ∷ []
 unfolding digits is_utf8 chars encode sizes_in tables_of effect_at
 own_events = refl
 

@@ -36,7 +36,7 @@ no_grant (happening.Book finding) other = tt
 -- then none of his is changed
 no_regrant : (u : ℕ) (policy : PolicyState) (e : Event) → IsNoGrant e → regrant_of u policy e ≡ None
 no_regrant u policy (event.Open name token) n = refl
-no_regrant u policy (event.Ask id request) n = refl
+no_regrant u policy (event.Ask id query) n = refl
 no_regrant u policy (event.Close id) n = refl
 no_regrant u policy (event.Grant change) n = absurd n
 no_regrant u policy (event.Step k) n = refl

@@ -14,7 +14,7 @@ use Rattle.vp_bits.specs.declared.bit.Bit.{Bit}
 use Rattle.vp_expr.specs.declared.change.Change.{Change}
 use Rattle.vp_expr.specs.Changes.{values_with}
 use Rattle.vp_answer.specs.declared.request.GrantChange.{GrantChange}
-use Rattle.vp_answer.specs.declared.request.Request.{Request}
+use Rattle.vp_answer.specs.declared.query.Query.{Query}
 use Rattle.vp_world.specs.declared.event.Event.{Event}
 use Rattle.vp_world.specs.declared.event.Event.TheVariants as event
 use Rattle.vp_world.specs.declared.error.WorldError.TheVariants as error
@@ -48,14 +48,14 @@ opens : (s : State) (user : Option ℕ) → Stays s (option_map_or (opened_by s)
 opens s None = nothing s
 opens s (Some u) = record { design = refl; values = refl; policy = refl; booked = refl }
 
--- a request
-asks : (s : State) (index : ℕ) (session : Option OpenSessionState) (r : Request) → Stays s (state_asked s index session r) (changed_by s session r) s.book
+-- a query
+asks : (s : State) (index : ℕ) (session : Option OpenSessionState) (r : Query) → Stays s (state_asked s index session r) (changed_by s session r) s.book
 asks s index None r = nothing s
 asks s index (Some session) r =
     let given = response_of s session.session_state r in
     does s _ refl refl refl (segments_of_put s.segments given.put) (outcome_of_put s.run given.put) (outcome_leaves s.run given.put) (outcome_changes s.run given.put)
 
-asks_at : (s : State) (index : Option ℕ) (r : Request) → Stays s (asked_at s index r) (changed_by s (option_and_then (slice_get s.sessions) index) r) s.book
+asks_at : (s : State) (index : Option ℕ) (r : Query) → Stays s (asked_at s index r) (changed_by s (option_and_then (slice_get s.sessions) index) r) s.book
 asks_at s None r = nothing s
 asks_at s (Some index) r = asks s index (slice_get s.sessions index) r
 
@@ -72,7 +72,7 @@ IsNoGrant e = Unit {0}
 -- after each of them
 pub stays : (opening : Opening) (s : State) (e : Event) → IsNoGrant e → Stays s (after opening s e) (changed s e) (book_after s.book e)
 stays opening s (event.Open name token) n = opens s (login_of s.policy.members name token)
-stays opening s (event.Ask id request) n = asks_at s (index_of s.sessions id) request
+stays opening s (event.Ask id query) n = asks_at s (index_of s.sessions id) query
 stays opening s (event.Close id) n = closes s (index_of s.sessions id)
 stays opening s (event.Grant change) n = absurd n
 stays opening s (event.Step k) n = does s s refl refl refl (with_step s.segments k) (sim.step s.run k) (step_leaves s.run k) (step_changes s.run k)

@@ -76,7 +76,7 @@ opened_by_reply u r = None
 -- an event, if it is a user's own
 abbrev pub own_of : (user : ℕ) → Event → Reply → Option OwnEvent
 own_of u (event.Open name token) r = opened_by_reply u r
-own_of u (event.Ask id request) r = own_if u id (Asks id request)
+own_of u (event.Ask id query) r = own_if u id (Asks id query)
 own_of u (event.Close id) r = own_if u id (Closes id)
 own_of u (event.Grant change) r = None
 own_of u (event.Step k) r = None

@@ -272,8 +272,8 @@ impl<'a> LogReader<'a> {
             }
             LoggedEvent::Ask { asked, .. } | LoggedEvent::Put { asked, .. }
                 if self.is_his(asked.session) => {
-                let request = asked.request.try_clone(self.alloc)?;
-                Ok(Some(OwnEvent::Asks(asked.session, request)))
+                let query = asked.query.try_clone(self.alloc)?;
+                Ok(Some(OwnEvent::Asks(asked.session, query)))
             }
             LoggedEvent::Close { session } if self.is_his(*session) => {
                 Ok(Some(OwnEvent::Closes(*session)))

@@ -3,8 +3,8 @@ use Rattle.std.proofs.Common.{◌≡◌, ◌∙◌, ◌<◌, ℕ, List, [], ◌�
 use Rattle.std.specs.Prelude.{IfSome}
 use Rattle.vp_answer.specs.declared.reply.Reply.{Reply}
 use Rattle.vp_answer.specs.declared.reply.Reply.TheVariants as reply
-use Rattle.vp_answer.specs.declared.request.Request.{Request}
-use Rattle.vp_answer.specs.declared.request.Request.TheVariants as request
+use Rattle.vp_hub.specs.declared.receipt.SessionRequest.{SessionRequest}
+use Rattle.vp_hub.specs.declared.receipt.SessionRequest.TheVariants as request
 use Rattle.vp_world.specs.declared.event.Event.{Event}
 use Rattle.vp_world.specs.declared.event.Event.TheVariants as event
 use Rattle.vp_world.specs.Entries.{Entry}
@@ -25,7 +25,7 @@ last_earlier log p stood =
     (call_within log stood.0.index _ stood.2)
 
 -- a call that is made is received
-pub received : (opening : Opening) (d next : Desked) (p q : Passed) (r : Request) → LastStands d.world.log p → IsMade d p r next q → IsLegal opening [] next.world.log → IsReceived opening p r (answered_by d.world (event_of p.session r)) q
+pub received : (opening : Opening) (d next : Desked) (p q : Passed) (r : SessionRequest) → LastStands d.world.log p → IsMade d p r next q → IsLegal opening [] next.world.log → IsReceived opening p r (answered_by d.world (event_of p.session r)) q
 received opening d next p q r stood made legal =
     let w = d.world in
     let happens : Event = event_of p.session r in
@@ -45,7 +45,7 @@ received opening d next p q r stood made legal =
     }
 
 -- what a call comes to
-pub answered : (opening : Opening) (d next : Desked) (p q : Passed) (r : Request) (result : Result Reply HubError) → Calls d p r result next q → IsLegal opening [] next.world.log → IsAnswered opening p r result q
+pub answered : (opening : Opening) (d next : Desked) (p q : Passed) (r : SessionRequest) (result : Result Reply HubError) → Calls d p r result next q → IsLegal opening [] next.world.log → IsAnswered opening p r result q
 answered opening d next p q r (Ok a) calls legal = record {
   made = subst (λ (x : Reply). IsReceived opening p r x q) (sym calls.answer) (received opening d next p q r calls.stood calls.made legal);
   refused = tt;
@@ -65,7 +65,7 @@ pub opened : (opening : Opening) (d next : Desked) (p : Passed) (user token : Li
 opened opening d next p user token desk told receipts share legal =
     let w = d.world in
     let happens : Event = event.Open user token in
-    let r : Request = request.Open user token in
+    let r : SessionRequest = request.Open user token in
     let e : Entry = entry_of w.opening (state_after w.opening w.log) happens in
     let added : next.world.log ≡ w.log ++ e ∷ [] = ap (λ (x : WorldLog). x.log) desk.0 in
     record {

@@ -2,25 +2,20 @@
 use Rattle.std.specs.Prelude.{◌≡◌, ◌<◌, ℕ, ◌+◌, ◌-◌, All, Bool, true, false, List, [], ◌∷◌, ◌++◌, count_by, length, slice_get, Option, Some, None, option_map}
 use Rattle.vp_answer.specs.declared.reply.Reply.{Reply}
 use Rattle.vp_answer.specs.declared.reply.Reply.TheVariants as reply
-use Rattle.vp_answer.specs.declared.request.Request.{Request}
-use Rattle.vp_answer.specs.declared.request.Request.TheVariants as request
+use Rattle.vp_hub.specs.declared.receipt.SessionRequest.{SessionRequest}
+use Rattle.vp_hub.specs.declared.receipt.SessionRequest.TheVariants as request
+use Rattle.vp_answer.specs.declared.request.Call.TheVariants as call
 use Rattle.vp_answer.specs.declared.request.SessionId.{SessionId}
 use Rattle.vp_world.specs.declared.event.Event.{Event}
 use Rattle.vp_world.specs.declared.event.Event.TheVariants as event
 use Rattle.vp_world.specs.Entries.{Entry}
 use Rattle.vp_hub.specs.declared.receipt.Receipt.{Receipt}
 
--- a request with which a session calls: neither an opening nor a change of a grant
-abbrev pub IsCall : Request → Type 0
-IsCall (request.Open user token) = ⊥
-IsCall (request.Grant change) = ⊥
-IsCall r = Unit {0}
-
 -- the event of a request of a session
-abbrev pub event_of : SessionId → Request → Event
+abbrev pub event_of : SessionId → SessionRequest → Event
 event_of id (request.Open user token) = event.Open user token
-event_of id request.Close = event.Close id
-event_of id r = event.Ask id r
+event_of id (request.Call (call.Query query)) = event.Ask id query
+event_of id (request.Call call.Close) = event.Close id
 
 -- an event is of a session: it opens one, asks in it or closes it
 abbrev pub is_of_session : Event → Bool

@@ -1,13 +1,15 @@
 -- What the client of a connection is answered.
-use Rattle.std.specs.Prelude.{◌≡◌, ◌⊎◌, Option, Some, None, Result, Ok, Err}
+use Rattle.std.specs.Prelude.{◌≡◌, ◌⊎◌, ℕ, List, Option, Some, None, Result, Ok, Err}
 use Rattle.vp_answer.specs.declared.reply.Refusal.{Refusal}
 use Rattle.vp_answer.specs.declared.reply.Reply.{Reply}
 use Rattle.vp_answer.specs.declared.reply.Reply.TheVariants as reply
+use Rattle.vp_answer.specs.declared.request.Call.{Call}
 use Rattle.vp_answer.specs.declared.request.Request.{Request}
 use Rattle.vp_answer.specs.declared.request.Request.TheVariants as request
 use Rattle.vp_hub.specs.Faults.{refusal_of}
-use Rattle.vp_hub.specs.Worlds.{Opening}
+use Rattle.vp_world.specs.Worlds.{Opening}
 use Rattle.vp_hub.specs.declared.error.HubError.{HubError}
+use Rattle.vp_hub.specs.declared.receipt.SessionRequest.TheVariants as session_request
 use Rattle.vp_hub.specs.Calls.{Passed}
 use Rattle.vp_hub.specs.Hubs.{IsAnswered, IsOpened}
 
@@ -20,24 +22,26 @@ reply_of (Err e) = reply.Error (refusal_of e)
 abbrev pub IsRefused : (before : Option Passed) → Reply → (after : Option Passed) → Type 0
 IsRefused before answer after = (after ≡ before) × (e : Refusal) × (answer ≡ reply.Error e)
 
--- a connection's session is opened, as the hub opens it; or that is refused, as it is where the connection has one
-abbrev pub IsOpening : Opening → (before : Option Passed) → Request → Reply → (after : Option Passed) → Type 0
-IsOpening opening (Some p) r answer after = IsRefused (Some p) answer after
-IsOpening opening None r answer after =
-    ((p : Passed) × (after ≡ Some p) × (answer ≡ reply.Opened p.session) × IsOpened opening r p) ⊎ IsRefused None answer after
+-- a connection's session is opened by this name and token, as the hub opens it; or that is refused, as it is where the connection has one
+abbrev pub IsOpening : Opening → (before : Option Passed) → (user token : List ℕ) → Reply → (after : Option Passed) → Type 0
+IsOpening opening (Some p) user token answer after = IsRefused (Some p) answer after
+IsOpening opening None user token answer after =
+    ((p : Passed) × (after ≡ Some p) × (answer ≡ reply.Opened p.session) × IsOpened opening (session_request.Open user token) p)
+    ⊎ IsRefused None answer after
 
 -- a grant is changed, or that is refused; a session stays as it was
 abbrev pub IsGranted : (before : Option Passed) → Reply → (after : Option Passed) → Type 0
 IsGranted before answer after = ((after ≡ before) × (answer ≡ reply.Done)) ⊎ IsRefused before answer after
 
--- a request of a session is answered as the hub answers it; without a session it is refused
-abbrev pub IsAsked : Opening → (before : Option Passed) → Request → Reply → (after : Option Passed) → Type 0
-IsAsked opening None r answer after = IsRefused None answer after
-IsAsked opening (Some p) r answer after =
-    (q : Passed) × (after ≡ Some q) × (result : Result Reply HubError) × (answer ≡ reply_of result) × IsAnswered opening p r result q
+-- a call of a session is answered as the hub answers it; without a session it is refused
+abbrev pub IsAnsweredTo : Opening → (before : Option Passed) → Call → Reply → (after : Option Passed) → Type 0
+IsAnsweredTo opening None call answer after = IsRefused None answer after
+IsAnsweredTo opening (Some p) call answer after =
+    (q : Passed) × (after ≡ Some q) × (result : Result Reply HubError) × (answer ≡ reply_of result)
+    × IsAnswered opening p (session_request.Call call) result q
 
 -- a client is answered: what becomes of its session
 abbrev pub Answers : Opening → (before : Option Passed) → Request → Reply → (after : Option Passed) → Type 0
-Answers opening before (request.Open user token) answer after = IsOpening opening before (request.Open user token) answer after
+Answers opening before (request.Open user token) answer after = IsOpening opening before user token answer after
 Answers opening before (request.Grant change) answer after = IsGranted before answer after
-Answers opening before r answer after = IsAsked opening before r answer after
+Answers opening before (request.Call call) answer after = IsAnsweredTo opening before call answer after

@@ -1,7 +1,7 @@
 -- What stands behind the lock of a hub.
 use Rattle.std.specs.Prelude.{◌≡◌, ◌≢◌, ◌⊎◌, ◌<◌, ℕ, ◌+◌, IfErr, IfOk, OnOk, length, Option, None, option_map, Result}
 use Rattle.vp_answer.specs.declared.reply.Reply.{Reply}
-use Rattle.vp_answer.specs.declared.request.Request.{Request}
+use Rattle.vp_hub.specs.declared.receipt.SessionRequest.{SessionRequest}
 use Rattle.vp_text.specs.Refusals.{MayExplain}
 use Rattle.vp_world.specs.declared.event.Event.{Event}
 use Rattle.vp_world.specs.declared.event.Event.TheVariants as event
@@ -47,7 +47,7 @@ abbrev pub with_pass : Desked → Event → Desked → Type 0
 with_pass d e next = (next.world ≡ with_entry d.world e) × (next.total ≡ d.total + 1) × (next.parts + 1 ≡ d.parts)
 
 -- the receipt of a request that a desk accepts
-abbrev pub receipt_of : Desked → Event → Request → Receipt
+abbrev pub receipt_of : Desked → Event → SessionRequest → Receipt
 receipt_of d e r = record { index = length d.world.log; request = r; reply = answered_by d.world e }
 
 -- why a desk's world refuses an event, if it does
@@ -59,7 +59,7 @@ abbrev pub out_of_memory : HubError
 out_of_memory = hub_error.World world_error.NoMemory
 
 -- a call of a pass is made: the world accepts its event, the desk has the entry and the pass the receipt
-pub record IsMade (d : Desked) (p : Passed) (r : Request) (next : Desked) (q : Passed) : Type 0 where
+pub record IsMade (d : Desked) (p : Passed) (r : SessionRequest) (next : Desked) (q : Passed) : Type 0 where
   pub accepted : refused_by d.world (event_of p.session r) ≡ None
   pub desk : next ≡ with_call d (event_of p.session r)
   pub pass : q ≡ with_receipt p (receipt_of d (event_of p.session r) r)
@@ -67,7 +67,7 @@ pub record IsMade (d : Desked) (p : Passed) (r : Request) (next : Desked) (q : P
 -- what a request of a pass comes to at a desk: it is made and answered; or it is refused, which leaves desk and pass as they were: as a
 -- receipt (1401) exactly where the pass's last one does not stand in the log, else by the world's first reason (1403), or, at any time,
 -- when out of memory. Where the reply can't be shared between the pass and the caller, out of memory is reported of a call that was made
-pub record Calls (d : Desked) (p : Passed) (r : Request) (result : Result Reply HubError) (next : Desked) (q : Passed) : Type 0 where
+pub record Calls (d : Desked) (p : Passed) (r : SessionRequest) (result : Result Reply HubError) (next : Desked) (q : Passed) : Type 0 where
   pub stood : OnOk result (LastStands d.world.log p)
   pub made : OnOk result (IsMade d p r next q)
   pub answer : IfOk result (λ a. a ≡ answered_by d.world (event_of p.session r))

@@ -1,5 +1,3 @@
-pub use Rattle.vp_world.specs.Refusals
-pub use Rattle.vp_world.specs.Worlds
 pub mod Faults
 pub mod Openings
 pub mod Calls

@@ -1,8 +1,6 @@
 ghost use Rattle.std.specs.Prelude.{◌≡◌, ◌⊎◌, Some, None, IfErr, IfOk, IfNone, IfSome};
 ghost use Rattle.vp_answer.specs.declared.reply.Reply.TheVariants as replies;
-ghost use Rattle.vp_answer.specs.declared.request.Request.TheVariants as requests;
-ghost use Rattle.vp_hub.specs.Calls.{IsCall};
-ghost use Rattle.vp_hub.specs.Clients.{Answers, IsAsked, IsGranted, IsOpening};
+ghost use Rattle.vp_hub.specs.Clients.{Answers, IsAnsweredTo, IsGranted, IsOpening};
 
 use crate::hub::Hub;
 use crate::opens::NamesOpening;
@@ -10,7 +8,7 @@ use crate::pass::Pass;
 use std::net::TcpStream;
 use std::sync::Wait;
 use std::sync::atomic::{AtomicBool, Ordering};
-use vp_answer::{GrantChange, Refusal, Reply, Request};
+use vp_answer::{Call, GrantChange, Refusal, Reply, Request};
 use vp_race::Gate;
 use vp_text::Text;
 use vp_wire::Caller;
@@ -36,7 +34,7 @@ impl<'a, L: NamesOpening, R: Wait, G: Gate> Client<'a, L, R, G> {
 
     /// Opens the connection's session; refused where it has one, or by the hub.
     fn open(&mut self, user: Text, token: Text) -> Reply
-        ensures { IsOpening L.opening self.old.pass (requests.Open user token) result self.new.pass }
+        ensures { IsOpening L.opening self.old.pass user token result self.new.pass }
     {
         if self.pass.is_some() {
             return Reply::Error(Refusal::SessionsFull);
@@ -65,15 +63,14 @@ impl<'a, L: NamesOpening, R: Wait, G: Gate> Client<'a, L, R, G> {
         }
     }
 
-    /// Answers a request of the session, if there is one.
-    fn ask(&mut self, request: Request) -> Reply
-        requires { IsCall request }
-        ensures { IsAsked L.opening self.old.pass request result self.new.pass }
+    /// Answers a call of the session, if there is one.
+    fn call_hub(&mut self, call: Call) -> Reply
+        ensures { IsAnsweredTo L.opening self.old.pass call result self.new.pass }
     {
         let Some(pass) = self.pass.take() else {
             return Reply::Error(Refusal::NotOpen);
         };
-        let (pass, answer) = self.hub.call(self.rt, pass, request);
+        let (pass, answer) = self.hub.call(self.rt, pass, call);
         self.pass = Some(pass);
         match answer {
             Ok(reply) => reply,
@@ -92,7 +89,7 @@ impl<'a, L: NamesOpening, R: Wait, G: Gate> Caller for Client<'a, L, R, G> {
         match request {
             Request::Open { user, token } => self.open(user, token),
             Request::Grant(change) => self.grant(change),
-            request => self.ask(request),
+            Request::Call(call) => self.call_hub(call),
         }
     }
 }

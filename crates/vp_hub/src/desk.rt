@@ -2,25 +2,25 @@ ghost use Rattle.std.specs.Prelude.{◌≡◌, ◌<◌, ◌+◌, ◌++◌, ◌�
 ghost use Rattle.std.specs.Prelude.{IfSome};
 ghost use Rattle.std.specs.Arc.{arc_value};
 ghost use Rattle.vp_answer.specs.declared.reply.Reply.TheVariants as replies;
-ghost use Rattle.vp_answer.specs.declared.request.Request.TheVariants as requests;
+ghost use Rattle.vp_hub.specs.declared.receipt.SessionRequest.TheVariants as requests;
 ghost use Rattle.vp_text.specs.Refusals.{Explains, MayExplain};
 ghost use Rattle.vp_world.specs.declared.event.Event.TheVariants as event;
 ghost use Rattle.vp_world.specs.declared.error.WorldError.TheVariants.{NoMemory};
 ghost use Rattle.vp_world.specs.Events.{IsWellFormed};
 ghost use Rattle.vp_world.specs.History.{IsLegal, answered_by, refused_by};
-ghost use Rattle.vp_hub.specs.Calls.{IsCall, is_of_session, session_entries};
+ghost use Rattle.vp_hub.specs.Calls.{is_of_session, session_entries};
 ghost use Rattle.vp_hub.specs.Desks.{Calls, IsOther, receipt_of, refusal_of, out_of_memory, with_call, with_event, with_pass};
 
 use crate::entries::event_of;
 use crate::error::HubError;
 use crate::opens::NamesOpening;
 use crate::pass::Pass;
-use crate::receipt::Receipt;
+use crate::receipt::{Receipt, SessionRequest};
 use std::alloc::{AllocError, Global};
 use std::marker::Model;
 use std::sync::Arc;
 use std::sync::ledger::{Blank, Book, Share};
-use vp_answer::{Reply, Request};
+use vp_answer::{Call, Reply};
 use vp_race::{Finding, Segment, SimError};
 use vp_text::{Shared, Text};
 use vp_world::{Entry, Event, World, WorldError};
@@ -51,31 +51,27 @@ impl<L: NamesOpening> Model for Desk<L> {
     ghost invariant = { λ d. IsDesk L.opening d.world d.calls.total d.rest.parts d.rest.amount };
 }
 
-/// Makes room for one receipt more, and copies its request. Takes memory.
-fn ready(
-    alloc: Global,
-    receipts: &mut Vec<Receipt>,
-    request: &Request,
-) -> Result<Request, AllocError>
+/// Makes room for one receipt more, and copies its call. Takes memory.
+fn ready(alloc: Global, receipts: &mut Vec<Receipt>, call: &Call) -> Result<Call, AllocError>
     ensures same { receipts.new.items ≡ receipts.old.items }
     ensures room { OnOk result (vec_len receipts.new < vec_capacity receipts.new) }
-    ensures copy { IfOk result (λ copy. copy ≡ request.now) }
+    ensures copy { IfOk result (λ copy. copy ≡ call.now) }
 {
     receipts.reserve(1)?;
-    request.try_clone(alloc)
+    call.try_clone(alloc)
 }
 
 /// Adds the receipt of a call to those for which there is room, and shares its reply; or reports out of memory, where it can't be shared.
 fn receive(
     receipts: &mut Vec<Receipt>,
     index: usize,
-    request: Request,
+    call: Call,
     reply: Reply,
 ) -> Result<Reply, HubError>
     requires { vec_len receipts.old < vec_capacity receipts.old }
     ensures receipts { receipts.new.items ≡ receipts.old.items ++ record {
       index = index;
-      request = request;
+      request = requests.Call call;
       reply = reply;
     } ∷ [] }
     ensures reply { IfOk result (λ told. told ≡ reply) }
@@ -84,17 +80,17 @@ fn receive(
     let told = reply.try_clone();
     receipts.push_reserved(Receipt {
         index,
-        request,
+        request: SessionRequest::Call(call),
         reply,
     });
     Ok(told?)
 }
 
 /// The request that opens a session. Takes memory.
-fn open_request(alloc: Global, user: &Text, token: &Text) -> Result<Request, AllocError>
+fn open_request(alloc: Global, user: &Text, token: &Text) -> Result<SessionRequest, AllocError>
     ensures { IfOk result (λ request. request ≡ requests.Open user.now token.now) }
 {
-    Ok(Request::Open {
+    Ok(SessionRequest::Open {
         user: Text::copy(alloc, user.as_str())?,
         token: Text::copy(alloc, token.as_str())?,
     })
@@ -190,36 +186,34 @@ impl<L: NamesOpening> Desk<L> {
         })
     }
 
-    /// Answers a request of a session, and gives its pass back, with the receipt of the call. Refused where the pass's last receipt
+    /// Answers a call of a session, and gives its pass back, with the receipt of the call. Refused where the pass's last receipt
     /// does not stand in the log (1401), else by the world (1403: 1303, 1304), or out of memory: then desk and pass are as they
     /// were. But where the reply can't be shared between the pass and the caller, out of memory is reported of a call that was made.
-    pub fn call(&mut self, pass: Pass<L>, request: Request) -> (Pass<L>, Result<Reply, HubError>)
-        requires { IsCall request }
-        ensures called { Calls self.old pass request result.1 self.new result.0 }
+    pub fn call(&mut self, pass: Pass<L>, call: Call) -> (Pass<L>, Result<Reply, HubError>)
+        ensures called { Calls self.old pass (requests.Call call) result.1 self.new result.0 }
         ensures legal { IsLegal L.opening [] self.new.world.log }
     {
         let mut pass = pass;
-        let answer = self.answer(&mut pass, request);
+        let answer = self.answer(&mut pass, call);
         // Read, so that the check knows that it is legal.
         let _log = self.log();
         (pass, answer)
     }
 
     /// The same of a pass that is lent.
-    fn answer(&mut self, pass: &mut Pass<L>, request: Request) -> Result<Reply, HubError>
-        requires { IsCall request }
-        ensures { Calls self.old pass.old request result self.new pass.new }
+    fn answer(&mut self, pass: &mut Pass<L>, call: Call) -> Result<Reply, HubError>
+        ensures { Calls self.old pass.old (requests.Call call) result self.new pass.new }
     {
         if !pass.stands_in(self.log()) {
-            drop(request);
+            drop(call);
             return Err(HubError::Receipt);
         }
-        let Ok(asked) = ready(self.alloc, &mut pass.receipts, &request) else {
-            drop(request);
+        let Ok(asked) = ready(self.alloc, &mut pass.receipts, &call) else {
+            drop(call);
             return Err(HubError::World(WorldError::NoMemory));
         };
         let index = self.world.log().len();
-        let event = event_of(pass.session, request);
+        let event = event_of(pass.session, call);
         match self.count(&mut pass.share, event) {
             Ok(reply) => receive(&mut pass.receipts, index, asked, reply),
             Err(error) => {

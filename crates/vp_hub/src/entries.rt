@@ -3,55 +3,57 @@ ghost use Rattle.std.specs.Prelude.{◌≡◌, true};
 ghost use Rattle.std.specs.Arc.{arc_value};
 ghost use Rattle.vp_elab.specs.Built.{Elaborated};
 ghost use Rattle.vp_answer.specs.declared.reply.Reply.{Reply};
-ghost use Rattle.vp_answer.specs.declared.request.Request.TheVariants as requests;
+ghost use Rattle.vp_hub.specs.declared.receipt.SessionRequest.TheVariants as requests;
 ghost use Rattle.vp_answer.specs.declared.reply.Reply.TheVariants as replies;
 ghost use Rattle.vp_world.specs.declared.event.Event.TheVariants as event;
 ghost use Rattle.vp_world.specs.Entries.{event_in, reply_in};
 ghost use Rattle.vp_world.specs.Events.{IsWellFormed};
-ghost use Rattle.vp_hub.specs.Calls.{IsCall, Stands, event_of, is_of_session, session_in};
+ghost use Rattle.vp_hub.specs.Calls.{Stands, event_of, is_of_session, session_in};
 
-use crate::receipt::Receipt;
-use vp_answer::{Reply, Request, SessionId};
+use crate::receipt::{Receipt, SessionRequest};
+use vp_answer::{Call, Reply, SessionId};
 use vp_text::Same;
 use vp_world::{Asked, Entry, Event, LoggedEvent, Login};
 
-/// The event of a request with which a session calls.
-pub fn event_of(session: SessionId, request: Request) -> Event
-    requires { IsCall request }
-    ensures event { result ≡ event_of session request }
+/// The event of a session's call.
+pub fn event_of(session: SessionId, call: Call) -> Event
+    ensures event { result ≡ event_of session (requests.Call call) }
     ensures well_formed { (design : Elaborated) → IsWellFormed design result }
     ensures session { (reply : Reply) → session_in result reply ≡ Some session }
     ensures counted { is_of_session result ≡ true }
 {
-    match request {
-        Request::Close => Event::Close { session },
-        request => Event::Ask { session, request },
+    match call {
+        Call::Query(query) => Event::Ask { session, query },
+        Call::Close => Event::Close { session },
     }
 }
 
 /// A request is the opening by this name and token.
-fn is_login(login: &Login, request: &Request) -> bool
+fn is_login(login: &Login, request: &SessionRequest) -> bool
     ensures same { result ≡ true
         → request.now ≡ requests.Open login.now.user login.now.token }
     ensures differs { request.now ≡ requests.Open login.now.user login.now.token
         → result ≡ true }
 {
     match request {
-        Request::Open { user, token } => login.user.is_same(user) && login.token.is_same(token),
+        SessionRequest::Open { user, token } => login.user.is_same(user)
+            && login.token.is_same(token),
         _ => false,
     }
 }
 
 /// What is asked is this request of this session.
-fn is_asked(asked: &Asked, session: SessionId, request: &Request) -> bool
+fn is_asked(asked: &Asked, session: SessionId, request: &SessionRequest) -> bool
     ensures same { result ≡ true
-        → event.Ask asked.now.session asked.now.request ≡ event_of session request.now }
-    ensures differs { event.Ask asked.now.session asked.now.request ≡ event_of session request.now
+        → event.Ask asked.now.session asked.now.query ≡ event_of session request.now }
+    ensures differs { event.Ask asked.now.session asked.now.query ≡ event_of session request.now
         → result ≡ true }
 {
     match request {
-        Request::Open { .. } | Request::Close => false,
-        _ => asked.session == session && asked.request.is_same(request),
+        SessionRequest::Call(Call::Query(query)) => {
+            asked.session == session && asked.query.is_same(query)
+        }
+        _ => false,
     }
 }
 
@@ -67,7 +69,12 @@ fn is_opened(reply: &Reply, session: SessionId) -> bool
 }
 
 /// What happened is an event of a session's request, with this reply.
-fn is_call(happening: &LoggedEvent, session: SessionId, request: &Request, reply: &Reply) -> bool
+fn is_call(
+    happening: &LoggedEvent,
+    session: SessionId,
+    request: &SessionRequest,
+    reply: &Reply,
+) -> bool
     ensures event { result ≡ true → event_in happening.now ≡ event_of session request.now }
     ensures reply { result ≡ true → reply_in happening.now ≡ reply.now }
     ensures differs { event_in happening.now ≡ event_of session request.now
@@ -85,7 +92,9 @@ fn is_call(happening: &LoggedEvent, session: SessionId, request: &Request, reply
             is_asked(asked, session, request) && matches!(reply, Reply::Done)
         }
         LoggedEvent::Close { session: closed } => {
-            *closed == session && matches!(request, Request::Close) && matches!(reply, Reply::Done)
+            *closed == session
+                && matches!(request, SessionRequest::Call(Call::Close))
+                && matches!(reply, Reply::Done)
         }
         _ => false,
     }

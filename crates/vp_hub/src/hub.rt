@@ -2,8 +2,7 @@ ghost use Rattle.std.specs.Prelude.{◌≡◌, ◌≤◌, ◌<◌, ◌∷◌, []
 ghost use Rattle.std.specs.Arc.{arc_value};
 ghost use Rattle.std.specs.List.{All};
 ghost use Rattle.vp_answer.specs.declared.reply.Reply.TheVariants as replies;
-ghost use Rattle.vp_answer.specs.declared.request.Request.TheVariants as requests;
-ghost use Rattle.vp_hub.specs.Calls.{IsCall};
+ghost use Rattle.vp_hub.specs.declared.receipt.SessionRequest.TheVariants as requests;
 ghost use Rattle.vp_hub.specs.Closing.{IsClosed};
 ghost use Rattle.vp_hub.specs.Hubs.{IsAnswered, IsOpened};
 
@@ -15,7 +14,7 @@ use crate::pass::Pass;
 use std::alloc::Global;
 use std::collections::VecDeque;
 use std::sync::{Arc, Mutex, Wait};
-use vp_answer::{GrantChange, Reply, Request};
+use vp_answer::{Call, GrantChange, Reply};
 use vp_race::{Finding, Gate, Segment, search};
 use vp_text::Text;
 use vp_world::{Event, WorldError};
@@ -72,17 +71,16 @@ impl<L: NamesOpening> Hub<L> {
         Ok(pass)
     }
 
-    /// Answers a request of a session, and gives its pass back, with the receipt of the call; else what `Desk::call` is refused by.
+    /// Answers a call of a session, and gives its pass back, with the receipt of the call; else what `Desk::call` is refused by.
     pub fn call<R: Wait>(
         &self,
         rt: &R,
         pass: Pass<L>,
-        request: Request,
+        call: Call,
     ) -> (Pass<L>, Result<Reply, HubError>)
-        requires { IsCall request }
-        ensures { IsAnswered L.opening pass request result.1 result.0 }
+        ensures { IsAnswered L.opening pass (requests.Call call) result.1 result.0 }
     {
-        self.desk.lock(rt).call(pass, request)
+        self.desk.lock(rt).call(pass, call)
     }
 
     /// Changes a user's grant for an envelope; else the world's refusal (1403: 1310, 1311, 1312, 1304, 1307).

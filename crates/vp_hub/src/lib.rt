@@ -27,7 +27,7 @@ pub use error::HubError;
 pub use hub::{Hub, Ran, Worked};
 pub use opens::NamesOpening;
 pub use pass::Pass;
-pub use receipt::Receipt;
+pub use receipt::{Receipt, SessionRequest};
 pub use server::serve;
 pub use server_error::ServerError;
 pub use settings::Settings;

@@ -20,7 +20,7 @@ pub fn event_of(alloc: Global, happening: &LoggedEvent) -> Result<Event, AllocEr
         },
         LoggedEvent::Ask { asked, .. } | LoggedEvent::Put { asked, .. } => Event::Ask {
             session: asked.session,
-            request: asked.request.try_clone(alloc)?,
+            query: asked.query.try_clone(alloc)?,
         },
         LoggedEvent::Close { session } => Event::Close { session: *session },
         LoggedEvent::Grant { change } => Event::Grant((**change).try_clone(alloc)?),

@@ -11,7 +11,7 @@ use crate::operator::Order;
 use crate::texts::world_of;
 use std::alloc::{AllocError, Global};
 use std::sync::Arc;
-use vp_answer::{Reply, Request, SessionId};
+use vp_answer::{Query, Reply, SessionId};
 use vp_expr::Checked;
 use vp_policy::UserId;
 use vp_text::Text;
@@ -95,7 +95,7 @@ fn short_log(alloc: Global, reply: Reply, time: u64) -> Result<Vec<Entry>, Alloc
         alloc,
         Asked {
             session,
-            request: Request::Time,
+            query: Query::Time,
         },
     )?;
     let mut log = Vec::new(alloc);

@@ -6,7 +6,7 @@ use Rattle.vp_bits.specs.declared.bit.Bit.{Bit}
 use Rattle.vp_policy.specs.View.{View}
 use Rattle.vp_expr.specs.declared.change.Change.{Change}
 use Rattle.vp_vpi.specs.declared.races.ShownRace.{ShownRace}
-use Rattle.vp_answer.specs.declared.request.Request.{Request}
+use Rattle.vp_answer.specs.declared.query.Query.{Query}
 use Rattle.vp_answer.specs.declared.request.SessionId.{SessionId}
 use Rattle.vp_answer.specs.declared.reply.Refusal.TheVariants as refusal
 use Rattle.vp_answer.specs.declared.reply.Reply.TheVariants as reply
@@ -22,8 +22,8 @@ at_index [] i x within is = absurd (omega arith)
 at_index (y ∷ xs) zero x within is = ap Some (sym is)
 at_index (y ∷ xs) (suc i) x within is = at_index xs i x (omega arith) is
 
-module _ (p : Part) (id : SessionId) (r : Request) (index : ℕ) (session : OpenSessionState) (at : index_of p.sessions id ≡ Some index) (there : slice_get p.sessions index ≡ Some session) where
-  -- the reply to a request is that of its session
+module _ (p : Part) (id : SessionId) (r : Query) (index : ℕ) (session : OpenSessionState) (at : index_of p.sessions id ≡ Some index) (there : slice_get p.sessions index ≡ Some session) where
+  -- the reply to a query is that of its session
   pub asked_reply : reply_of p (Asks id r) ≡ (respond (observer_of_part p) session.session_state r).reply
   asked_reply =
       ap (λ n. option_map_or (λ (g : Response). g.reply) (response_in p (option_and_then (slice_get p.sessions) n) r) (reply.Error refusal.NotOpen)) at

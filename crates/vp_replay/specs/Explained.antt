@@ -3,7 +3,7 @@ use Rattle.std.specs.Prelude.{ℕ, ◌+◌, Bool, false, true, if◌then◌else�
 use Rattle.std.specs.List.{cons_option}
 use Rattle.vp_expr.specs.declared.change.Change.{Change}
 use Rattle.vp_vpi.specs.SessionStates.{object_of}
-use Rattle.vp_answer.specs.declared.request.Request.TheVariants as request
+use Rattle.vp_answer.specs.declared.query.Query.TheVariants as query
 use Rattle.vp_answer.specs.declared.reply.Reply.{Reply}
 use Rattle.vp_answer.specs.declared.reply.Reply.TheVariants as reply
 pub use Rattle.vp_replay.specs.declared.explaining.Explained.{Explained}
@@ -17,7 +17,7 @@ brought_by number brought None None = brought
 
 -- the object whose value an event of his own asks
 abbrev pub value_asked : Part → OwnEvent → Option ℕ
-value_asked p (Asks id (request.Value handle f)) = option_and_then (λ t. object_of t.session_state.handles handle) (session_in p id)
+value_asked p (Asks id (query.Value handle f)) = option_and_then (λ t. object_of t.session_state.handles handle) (session_in p id)
 value_asked p own_event = None
 
 -- a reply is a value

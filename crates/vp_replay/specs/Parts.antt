@@ -11,7 +11,7 @@ use Rattle.vp_vpi.specs.declared.races.ShownRace.{ShownRace}
 use Rattle.vp_vpi.specs.Observers.{Observer}
 use Rattle.vp_vpi.specs.Renumbered.{is_session_state_within, moved_session_state}
 use Rattle.vp_vpi.specs.SessionStates.{new_session_state, retired, with_due}
-use Rattle.vp_answer.specs.declared.request.Request.{Request}
+use Rattle.vp_answer.specs.declared.query.Query.{Query}
 use Rattle.vp_answer.specs.declared.request.SessionId.{SessionId}
 use Rattle.vp_answer.specs.declared.reply.Refusal.TheVariants as refusal
 use Rattle.vp_answer.specs.declared.reply.Reply.{Reply}
@@ -60,8 +60,8 @@ moved_to moved count k = if nat_lt k (length moved) then slice_index_or moved k 
 
 -- ---- what comes of an item
 
--- what comes of a request of the session at an index of a part; none where no session is
-abbrev pub response_in : Part → Option OpenSessionState → Request → Option Response
+-- what comes of a query of the session at an index of a part; none where no session is
+abbrev pub response_in : Part → Option OpenSessionState → Query → Option Response
 response_in p session r = option_map (λ (t : OpenSessionState). respond (observer_of_part p) t.session_state r) session
 
 -- the session of a name, if it is open

@@ -1,5 +1,5 @@
 // What of a log goes to a user.
-use vp_answer::{Request, SessionId};
+use vp_answer::{Query, SessionId};
 use vp_bits::Bits;
 use vp_expr::Change;
 use vp_policy::{Access, View};
@@ -12,7 +12,7 @@ pub enum OwnEvent {
     /// He opened this session.
     Opens(SessionId),
     /// A session of his asked.
-    Asks(SessionId, Request),
+    Asks(SessionId, Query),
     /// A session of his was closed.
     Closes(SessionId),
 }

@@ -15,7 +15,7 @@ use crate::part_session::{PartSession, are_within, grant_all, notify_all, sessio
 use crate::watching::watch_rights;
 use std::alloc::{AllocError, Global};
 use std::marker::Model;
-use vp_answer::{Reply, Request, SessionId};
+use vp_answer::{Query, Reply, SessionId};
 use vp_bits::Bits;
 use vp_elab::ObjectId;
 use vp_expr::Change;
@@ -123,11 +123,11 @@ impl<'a> Part<'a> {
     }
 
     /// A session of his asks.
-    fn ask(&mut self, id: SessionId, request: &Request) -> Result<Reply, AuditError>
-        ensures reply { IfOk result (λ reply. reply ≡ reply_of self.old (own_event.Asks id request.now)) }
-        ensures after { OnOk result (self.new ≡ with_own self.old (own_event.Asks id request.now)) }
-        ensures accepted { OnOk result (takes_own self.old (own_event.Asks id request.now) ≡ true) }
-        ensures refused { IfErr result (MayRefuse (takes_own self.old (own_event.Asks id request.now))) }
+    fn ask(&mut self, id: SessionId, query: &Query) -> Result<Reply, AuditError>
+        ensures reply { IfOk result (λ reply. reply ≡ reply_of self.old (own_event.Asks id query.now)) }
+        ensures after { OnOk result (self.new ≡ with_own self.old (own_event.Asks id query.now)) }
+        ensures accepted { OnOk result (takes_own self.old (own_event.Asks id query.now) ≡ true) }
+        ensures refused { IfErr result (MayRefuse (takes_own self.old (own_event.Asks id query.now))) }
     {
         let Some(index) = session_index(&self.sessions, id) else {
             return Err(AuditError::NotOpen);
@@ -139,7 +139,7 @@ impl<'a> Part<'a> {
             self.finished,
             &self.races,
         );
-        let reply = self.sessions[index].ask(&observation, request)?;
+        let reply = self.sessions[index].ask(&observation, query)?;
         Ok(reply)
     }
 
@@ -166,7 +166,7 @@ impl<'a> Part<'a> {
     {
         match own_event {
             OwnEvent::Opens(id) => self.open(*id),
-            OwnEvent::Asks(id, request) => self.ask(*id, request),
+            OwnEvent::Asks(id, query) => self.ask(*id, query),
             OwnEvent::Closes(id) => self.close(*id),
         }
     }
@@ -201,7 +201,7 @@ impl<'a> Part<'a> {
     pub fn value_asked(&self, own_event: &OwnEvent) -> Option<ObjectId>
         ensures { option_map (λ o. o.0) result ≡ value_asked self.now own_event.now }
     {
-        let OwnEvent::Asks(id, Request::Value { handle, .. }) = own_event else {
+        let OwnEvent::Asks(id, Query::Value { handle, .. }) = own_event else {
             return None;
         };
         let index = session_index(&self.sessions, *id)?;

@@ -12,7 +12,7 @@ ghost use Rattle.vp_replay.specs.Parts.{is_session_within, moved_session, sessio
 use crate::error::AuditError;
 use std::alloc::Global;
 use std::marker::Model;
-use vp_answer::{Refusal, Reply, Request, SessionId, respond};
+use vp_answer::{Query, Reply, SessionId, respond};
 use vp_elab::ObjectId;
 use vp_expr::Change;
 use vp_pragma::Rights;
@@ -52,30 +52,19 @@ impl PartSession {
         self.id.user.0 == id.user.0 && self.id.opens == id.opens
     }
 
-    /// Answers a request by what its user can look up; or out of memory (1307).
-    pub fn ask<E: Observe>(
-        &mut self,
-        observation: &E,
-        request: &Request,
-    ) -> Result<Reply, AuditError>
+    /// Answers a query by what its user can look up; or out of memory (1307).
+    pub fn ask<E: Observe>(&mut self, observation: &E, query: &Query) -> Result<Reply, AuditError>
         requires { E.is_sound observation.now }
         ensures reply { IfOk result (λ reply. reply
-            ≡ (respond (E.observer observation.now) self.old.session_state request.now).reply) }
+            ≡ (respond (E.observer observation.now) self.old.session_state query.now).reply) }
         ensures after { OnOk result (self.new ≡ record {
           id = self.old.id;
-          session_state = (respond (E.observer observation.now) self.old.session_state request.now).session_state;
+          session_state = (respond (E.observer observation.now) self.old.session_state query.now).session_state;
         }) }
         ensures refused { IsOkUnless result NoMemory }
     {
-        match request {
-            Request::Open { .. } | Request::Close | Request::Grant(_) => {
-                Ok(Reply::Error(Refusal::NotOpen))
-            }
-            _ => {
-                let answer = respond(&mut self.session, observation, request)?;
-                Ok(answer.reply)
-            }
-        }
+        let answer = respond(&mut self.session, observation, query)?;
+        Ok(answer.reply)
     }
 
     /// The object of a handle; none where the number is no handle, or it was freed.

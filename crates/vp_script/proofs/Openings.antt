@@ -2,6 +2,7 @@
 use Rattle.std.proofs.Common.{◌≡◌, ◌∙◌, ℕ, zero, suc, Bool, List, [], ◌∷◌, Option, Some, None, refl, subst, inl, inr, ap}
 use Rattle.std.specs.Prelude.{is_none}
 use Rattle.vp_race.specs.Segments.{FindingState}
+use Rattle.vp_answer.specs.declared.request.Call.TheVariants as call
 use Rattle.vp_answer.specs.declared.request.Request.{Request}
 use Rattle.vp_answer.specs.declared.request.Request.TheVariants as request
 use Rattle.vp_answer.specs.declared.reply.Reply.{Reply}
@@ -67,7 +68,7 @@ module _ (out_of_memory : Bool) where
 
   close_keeps : (stage : Stage) (c d : Script) → Closes (Serves out_of_memory) stage c d → d.world.opening ≡ c.world.opening
   close_keeps Before c d same = ap (λ (s : Script). s.world.opening) same
-  close_keeps Open c d (reply, served) = serves_keeps out_of_memory c d request.Close reply served
+  close_keeps Open c d (reply, served) = serves_keeps out_of_memory c d (request.Call call.Close) reply served
   close_keeps Closed c d same = ap (λ (s : Script). s.world.opening) same
 
 -- after a script over an input the world is still one that began so

@@ -13,6 +13,7 @@ use Rattle.vp_race.specs.Segments.{FindingState}
 use Rattle.vp_sim.specs.declared.error.SimError.TheVariants.{Idle}
 use Rattle.vp_world.specs.declared.event.Event.{Event}
 use Rattle.vp_world.specs.declared.event.Event.TheVariants as event
+use Rattle.vp_answer.specs.declared.request.Call.TheVariants as call
 use Rattle.vp_answer.specs.declared.request.Request.{Request}
 use Rattle.vp_answer.specs.declared.request.Request.TheVariants as request
 use Rattle.vp_answer.specs.declared.request.SessionId.{SessionId}
@@ -117,9 +118,9 @@ pub record Script : Type 0 where
 abbrev pub event_of : Option SessionId → Request → Option Event
 event_of session (request.Open user token) = Some (event.Open user token)
 event_of session (request.Grant change) = Some (event.Grant change)
-event_of None r = None
-event_of (Some id) request.Close = Some (event.Close id)
-event_of (Some id) r = Some (event.Ask id r)
+event_of None (request.Call c) = None
+event_of (Some id) (request.Call (call.Query query)) = Some (event.Ask id query)
+event_of (Some id) (request.Call call.Close) = Some (event.Close id)
 
 -- the session of a script after a reply
 abbrev pub session_after : Option SessionId → Reply → Option SessionId

@@ -14,7 +14,7 @@ ghost use Rattle.vp_world.specs.History.{Applies, IsLegal, refused_by, state_aft
 use std::alloc::{AllocError, Global};
 use std::collections::VecDeque;
 use std::sync::Arc;
-use vp_answer::{Refusal, Reply, Request, SessionId};
+use vp_answer::{Call, Refusal, Reply, Request, SessionId};
 use vp_race::{Finding, OpenGate, Segment, search};
 use vp_sim::SimError;
 use vp_text::Shared;
@@ -36,8 +36,8 @@ fn event_of(session: Option<SessionId>, request: Request) -> Option<Event>
         (Request::Open { user, token }, _) => Some(Event::Open { user, token }),
         (Request::Grant(change), _) => Some(Event::Grant(change)),
         (_, None) => None,
-        (Request::Close, Some(session)) => Some(Event::Close { session }),
-        (request, Some(session)) => Some(Event::Ask { session, request }),
+        (Request::Call(Call::Query(query)), Some(session)) => Some(Event::Ask { session, query }),
+        (Request::Call(Call::Close), Some(session)) => Some(Event::Close { session }),
     }
 }
 

@@ -2,6 +2,8 @@
 use Rattle.std.proofs.Common.{◌≡◌, [], ◌∷◌, refl}
 use Rattle.std.specs.Prelude.{codes}
 use Rattle.vp_pragma.specs.Rights.{nothing}
+use Rattle.vp_answer.specs.declared.query.Query.TheVariants as query
+use Rattle.vp_answer.specs.declared.request.Call.TheVariants as call
 use Rattle.vp_answer.specs.declared.request.Request.TheVariants as request
 use Rattle.vp_answer.specs.declared.reply.Refusal.TheVariants as refusal
 use Rattle.vp_answer.specs.declared.reply.Reply.TheVariants as reply
@@ -21,7 +23,7 @@ empty_line = refl
 no_line : lines_of [] ≡ []
 no_line = refl
 
-before_open : turn_of_request Before request.Time ≡ Tells (codes "not open")
+before_open : turn_of_request Before (request.Call (call.Query query.Time)) ≡ Tells (codes "not open")
 before_open = refl
 
 opened_once : turn_of_request Open (request.Open (codes "ann") (codes "t1")) ≡ Tells (codes "bad request")
@@ -38,7 +40,7 @@ granted_before_open : stage_after Before grants reply.Done ≡ Before
 granted_before_open = refl
 
 -- after a close the caller is asked, and says that no session is open
-after_close : turn_of_request Closed request.Time ≡ Calls request.Time
+after_close : turn_of_request Closed (request.Call (call.Query query.Time)) ≡ Calls (request.Call (call.Query query.Time))
 after_close = refl
 
 refused_open : stage_after Before (request.Open (codes "ann") (codes "t2")) (reply.Error refusal.BadToken) ≡ Before
@@ -51,7 +53,7 @@ opened_open = refl
 done_open : stage_after Before (request.Open (codes "ann") (codes "t1")) reply.Done ≡ Open
 done_open = refl
 
-done_close : stage_after Open request.Close reply.Done ≡ Closed
+done_close : stage_after Open (request.Call call.Close) reply.Done ≡ Closed
 done_close = refl
 
 -- a line that was only begun is no whole line

@@ -8,8 +8,10 @@ use Rattle.vp_bits.specs.declared.bit.Bit.TheVariants.{Zero, One, Unknown, HighI
 use Rattle.vp_pragma.specs.declared.rights.Right.TheVariants as right
 use Rattle.vp_pragma.specs.Rights.{RightSet, nothing, with_right}
 use Rattle.vp_policy.specs.declared.denial.ShownBarrier.TheVariants as by
+use Rattle.vp_answer.specs.declared.query.Query.TheVariants as query
+use Rattle.vp_answer.specs.declared.request.Call.TheVariants as call
 use Rattle.vp_answer.specs.declared.request.Request.TheVariants as request
-use Rattle.vp_answer.specs.declared.request.ValueFormat.TheVariants as format
+use Rattle.vp_answer.specs.declared.query.ValueFormat.TheVariants as format
 use Rattle.vp_answer.specs.declared.reply.Refusal.TheVariants as refusal
 use Rattle.vp_answer.specs.declared.reply.Reply.TheVariants as reply
 use Rattle.vp_wire.specs.Lines.{line_of, meaning_of, NotJson, NotRequest, Asks}
@@ -52,19 +54,19 @@ no_such_name : line_of (reply.Error refusal.NoSuchName) ≡ codes "{\"error\":\"
 unfolding serde_json_on_literals
 no_such_name = refl
 
-asks_handle : meaning_of (codes "{\"op\":\"handle\",\"name\":\"top.a\"}") ≡ Asks (request.Handle (codes "top.a") None)
+asks_handle : meaning_of (codes "{\"op\":\"handle\",\"name\":\"top.a\"}") ≡ Asks (request.Call (call.Query (query.Handle (codes "top.a") None)))
 unfolding serde_json_on_literals is_utf8 chars
 asks_handle = refl
 
-asks_value : meaning_of (codes "{\"h\":1,\"op\":\"value\"}") ≡ Asks (request.Value 1 format.Binary)
+asks_value : meaning_of (codes "{\"h\":1,\"op\":\"value\"}") ≡ Asks (request.Call (call.Query (query.Value 1 format.Binary)))
 unfolding serde_json_on_literals is_utf8 chars
 asks_value = refl
 
-asks_watch : meaning_of (codes "{\"op\":\"watch\",\"h\":2}") ≡ Asks (request.Watch 2)
+asks_watch : meaning_of (codes "{\"op\":\"watch\",\"h\":2}") ≡ Asks (request.Call (call.Query (query.Watch 2)))
 unfolding serde_json_on_literals is_utf8 chars
 asks_watch = refl
 
-asks_poll : meaning_of (codes "{\"op\":\"poll\"}") ≡ Asks request.Poll
+asks_poll : meaning_of (codes "{\"op\":\"poll\"}") ≡ Asks (request.Call (call.Query query.Poll))
 unfolding serde_json_on_literals is_utf8 chars
 asks_poll = refl
 

@@ -5,6 +5,7 @@ use Rattle.std.specs.Io.KnownBytes.{Appends, Consumes, IsAtEnd}
 use Rattle.vp_text.specs.Texts.{parts}
 use Rattle.serde_json.specs.Data.{string}
 use Rattle.serde_json.specs.Written.{compact_text}
+use Rattle.vp_answer.specs.declared.request.Call.TheVariants as call
 use Rattle.vp_answer.specs.declared.request.Request.{Request}
 use Rattle.vp_answer.specs.declared.request.Request.TheVariants as request
 use Rattle.vp_answer.specs.declared.reply.Reply.{Reply}
@@ -92,7 +93,7 @@ error_line text = compact_text (only (codes "error") (string text)) ++ 10 ∷ []
 abbrev pub stage_after : Stage → Request → Reply → Stage
 stage_after stage (request.Open user token) (reply.Opened session) = Open
 stage_after stage (request.Open user token) reply.Done = Open
-stage_after stage request.Close reply.Done = Closed
+stage_after stage (request.Call call.Close) reply.Done = Closed
 stage_after stage r answer = stage
 
 -- ---- a dialogue with a caller
@@ -130,7 +131,7 @@ AnswersAll {C} calls (line ∷ lines) p (reply_line ∷ more) q =
 -- at the end of a dialogue an open session is closed, and that reply is not reported
 abbrev pub Closes : {C : Type 0} → (C → Request → Reply → C → Type 0) → Stage → C → C → Type 0
 Closes calls Before c d = d ≡ c
-Closes calls Open c d = (reply : Reply) × calls c request.Close reply d
+Closes calls Open c d = (reply : Reply) × calls c (request.Call call.Close) reply d
 Closes calls Closed c d = d ≡ c
 
 -- ---- a dialogue over a reader and a writer

@@ -29,8 +29,11 @@ use Rattle.vp_vpi.specs.declared.property.PutValue.TheVariants as put
 use Rattle.vp_vpi.specs.declared.races.RaceLine.{RaceLine}
 use Rattle.vp_vpi.specs.declared.races.RaceDetails.{RaceDetails}
 use Rattle.vp_vpi.specs.SessionStates.{Polled}
-use Rattle.vp_answer.specs.declared.request.ValueFormat.{ValueFormat}
-use Rattle.vp_answer.specs.declared.request.ValueFormat.TheVariants as format
+use Rattle.vp_answer.specs.declared.query.ValueFormat.{ValueFormat}
+use Rattle.vp_answer.specs.declared.query.ValueFormat.TheVariants as format
+use Rattle.vp_answer.specs.declared.query.Query.{Query}
+use Rattle.vp_answer.specs.declared.query.Query.TheVariants as query
+use Rattle.vp_answer.specs.declared.request.Call.TheVariants as call
 use Rattle.vp_answer.specs.declared.request.Request.{Request}
 use Rattle.vp_answer.specs.declared.request.Request.TheVariants as request
 use Rattle.vp_answer.specs.declared.reply.Refusal.{Refusal}
@@ -243,12 +246,12 @@ time_at key d =
     option_and_then (λ n. if nat_lt n (2 ^ 62) then Some n else None)
     (long_at key d)
 
--- a request, of an object with exactly these keys beside op
-abbrev pub of_keys : List (List ℕ) → Data → Option Request → Option Request
+-- what is asked, of an object with exactly these keys beside op
+abbrev pub of_keys : {X : Type 0} → List (List ℕ) → Data → Option X → Option X
 of_keys keys d r = if has_keys keys (codes "op" ∷ []) d then r else None
 
 -- the same of an object that may have one key more
-abbrev pub of_keys_or : List (List ℕ) → List ℕ → Data → Option Request → Option Request
+abbrev pub of_keys_or : {X : Type 0} → List (List ℕ) → List ℕ → Data → Option X → Option X
 of_keys_or keys other d r = if has_keys keys (codes "op" ∷ other ∷ []) d then r else None
 
 -- the request to open a session
@@ -259,7 +262,7 @@ open_request d =
 
 -- the request to close a session
 abbrev pub close_request : Data → Option Request
-close_request d = of_keys [] d (Some request.Close)
+close_request d = of_keys [] d (Some (request.Call call.Close))
 
 -- the rights under a key: none for the empty text, else those of an access string
 abbrev pub access_at : List ℕ → Data → Option RightSet
@@ -277,17 +280,17 @@ grant_request d =
     (option_and_then (λ token. option_and_then (λ user. option_and_then (λ envelope. option_map (grant_of_words token user envelope)
     (access_at (codes "access") d)) (number_at (codes "envelope") d)) (text_at (codes "user") d)) (text_at (codes "token") d))
 
--- the request of a handle
-abbrev pub handle_request : Data → Option Request
-handle_request d =
+-- the query of a handle
+abbrev pub handle_query : Data → Option Query
+handle_query d =
     of_keys_or (codes "name" ∷ []) (codes "scope") d
-    (option_and_then (λ name. option_map (request.Handle name) (number_if (codes "scope") d)) (text_at (codes "name") d))
+    (option_and_then (λ name. option_map (query.Handle name) (number_if (codes "scope") d)) (text_at (codes "name") d))
 
--- the request of an iteration
-abbrev pub iterate_request : Data → Option Request
-iterate_request d =
+-- the query of an iteration
+abbrev pub iterate_query : Data → Option Query
+iterate_query d =
     of_keys_or (codes "kind" ∷ []) (codes "h") d
-    (option_and_then (λ k. option_map (request.Iterate k) (number_if (codes "h") d))
+    (option_and_then (λ k. option_map (query.Iterate k) (number_if (codes "h") d))
     (option_and_then kind_of_name (text_at (codes "kind") d)))
 
 -- the number of an object that a word names (profile)
@@ -297,11 +300,11 @@ number_property word =
     else (if bytes_eq word (codes "line") then Some property.Line
     else None)
 
--- the request of a number of an object
-abbrev pub get_request : Data → Option Request
-get_request d =
+-- the query of a number of an object
+abbrev pub get_query : Data → Option Query
+get_query d =
     of_keys (codes "h" ∷ codes "prop" ∷ []) d
-    (option_and_then (λ handle. option_map (request.Get handle) (option_and_then number_property (text_at (codes "prop") d)))
+    (option_and_then (λ handle. option_map (query.Get handle) (option_and_then number_property (text_at (codes "prop") d)))
     (number_at (codes "h") d))
 
 -- the text of an object that a word names (profile)
@@ -313,11 +316,11 @@ text_property word =
     else (if bytes_eq word (codes "def_name") then Some text.DefinitionName
     else None)))
 
--- the request of a text of an object
-abbrev pub get_str_request : Data → Option Request
-get_str_request d =
+-- the query of a text of an object
+abbrev pub get_str_query : Data → Option Query
+get_str_query d =
     of_keys (codes "h" ∷ codes "prop" ∷ []) d
-    (option_and_then (λ handle. option_map (request.GetStr handle) (option_and_then text_property (text_at (codes "prop") d)))
+    (option_and_then (λ handle. option_map (query.GetStr handle) (option_and_then text_property (text_at (codes "prop") d)))
     (number_at (codes "h") d))
 
 -- the format of values that a word names (profile)
@@ -332,11 +335,11 @@ abbrev pub format_at : Data → Option ValueFormat
 format_at d =
     if is_some (get (codes "format") d) then option_and_then format_of (text_at (codes "format") d) else Some format.Binary
 
--- the request of a value
-abbrev pub value_request : Data → Option Request
-value_request d =
+-- the query of a value
+abbrev pub value_query : Data → Option Query
+value_query d =
     of_keys_or (codes "h" ∷ []) (codes "format") d
-    (option_and_then (λ handle. option_map (request.Value handle) (format_at d)) (number_at (codes "h") d))
+    (option_and_then (λ handle. option_map (query.Value handle) (format_at d)) (number_at (codes "h") d))
 
 -- the number of 32 bits at an index of an array
 abbrev pub number_in : ℕ → Data → Option ℕ
@@ -355,84 +358,84 @@ word_in d =
 abbrev pub words_at : List ℕ → Data → Option (List VectorWord)
 words_at key d = option_and_then (each_of word_in) (option_and_then as_array (get key d))
 
--- the request of a put by digits
-abbrev pub digits_request : Data → Option Request
-digits_request d =
+-- the query of a put by digits
+abbrev pub digits_query : Data → Option Query
+digits_query d =
     of_keys (codes "h" ∷ codes "value" ∷ []) d
-    (option_and_then (λ handle. option_map (λ t. request.Put handle (put.Digits t)) (text_at (codes "value") d))
+    (option_and_then (λ handle. option_map (λ t. query.Put handle (put.Digits t)) (text_at (codes "value") d))
     (number_at (codes "h") d))
 
--- the request of a put by words
-abbrev pub vector_request : Data → Option Request
-vector_request d =
+-- the query of a put by words
+abbrev pub vector_query : Data → Option Query
+vector_query d =
     of_keys (codes "h" ∷ codes "vector" ∷ []) d
-    (option_and_then (λ handle. option_map (λ ws. request.Put handle (put.Words ws)) (words_at (codes "vector") d))
+    (option_and_then (λ handle. option_map (λ ws. query.Put handle (put.Words ws)) (words_at (codes "vector") d))
     (number_at (codes "h") d))
 
--- the request of a put: by digits, or else by words
-abbrev pub put_request : Data → Option Request
-put_request d = if is_some (get (codes "value") d) then digits_request d else vector_request d
+-- the query of a put: by digits, or else by words
+abbrev pub put_query : Data → Option Query
+put_query d = if is_some (get (codes "value") d) then digits_query d else vector_query d
 
--- the request to compare two handles
-abbrev pub compare_request : Data → Option Request
-compare_request d =
+-- the query to compare two handles
+abbrev pub compare_query : Data → Option Query
+compare_query d =
     of_keys (codes "a" ∷ codes "b" ∷ []) d
-    (option_and_then (λ a. option_map (request.Compare a) (number_at (codes "b") d)) (number_at (codes "a") d))
+    (option_and_then (λ a. option_map (query.Compare a) (number_at (codes "b") d)) (number_at (codes "a") d))
 
--- the request to free a handle
-abbrev pub free_request : Data → Option Request
-free_request d = of_keys (codes "h" ∷ []) d (option_map request.Free (number_at (codes "h") d))
+-- the query to free a handle
+abbrev pub free_query : Data → Option Query
+free_query d = of_keys (codes "h" ∷ []) d (option_map query.Free (number_at (codes "h") d))
 
--- the request to be notified of an object's changes
-abbrev pub watch_request : Data → Option Request
-watch_request d = of_keys (codes "h" ∷ []) d (option_map request.Watch (number_at (codes "h") d))
+-- the query to be notified of an object's changes
+abbrev pub watch_query : Data → Option Query
+watch_query d = of_keys (codes "h" ∷ []) d (option_map query.Watch (number_at (codes "h") d))
 
--- the request not to be notified by a callback any more
-abbrev pub unwatch_request : Data → Option Request
-unwatch_request d = of_keys (codes "cb" ∷ []) d (option_map request.Unwatch (number_at (codes "cb") d))
+-- the query not to be notified by a callback any more
+abbrev pub unwatch_query : Data → Option Query
+unwatch_query d = of_keys (codes "cb" ∷ []) d (option_map query.Unwatch (number_at (codes "cb") d))
 
--- the request of what was to be reported
-abbrev pub poll_request : Data → Option Request
-poll_request d = of_keys [] d (Some request.Poll)
+-- the query of what was to be reported
+abbrev pub poll_query : Data → Option Query
+poll_query d = of_keys [] d (Some query.Poll)
 
 -- the number of 64 bits under a key, by default 1
 abbrev pub from_at : List ℕ → Data → Option ℕ
 from_at key d = if is_some (get key d) then long_at key d else Some 1
 
--- the request of the races that are shown
-abbrev pub races_request : Data → Option Request
-races_request d = of_keys_or [] (codes "from") d (option_map request.Races (from_at (codes "from") d))
+-- the query of the races that are shown
+abbrev pub races_query : Data → Option Query
+races_query d = of_keys_or [] (codes "from") d (option_map query.Races (from_at (codes "from") d))
 
--- the request of a race that is shown
-abbrev pub race_request : Data → Option Request
-race_request d = of_keys (codes "no" ∷ []) d (option_map request.Race (long_at (codes "no") d))
+-- the query of a race that is shown
+abbrev pub race_query : Data → Option Query
+race_query d = of_keys (codes "no" ∷ []) d (option_map query.Race (long_at (codes "no") d))
 
--- the request to let the design run
-abbrev pub run_request : Data → Option Request
-run_request d = of_keys (codes "until" ∷ []) d (option_map request.Run (time_at (codes "until") d))
+-- the query to let the design run
+abbrev pub run_query : Data → Option Query
+run_query d = of_keys (codes "until" ∷ []) d (option_map query.Run (time_at (codes "until") d))
 
--- the request of the time
-abbrev pub time_request : Data → Option Request
-time_request d = of_keys [] d (Some request.Time)
+-- the query of the time
+abbrev pub time_query : Data → Option Query
+time_query d = of_keys [] d (Some query.Time)
 
--- the request of an op that an open session asks (profile)
-abbrev pub asked_of_op : List ℕ → Data → Option Request
-asked_of_op op d =
-    if bytes_eq op (codes "handle") then handle_request d
-    else (if bytes_eq op (codes "iterate") then iterate_request d
-    else (if bytes_eq op (codes "get") then get_request d
-    else (if bytes_eq op (codes "get_str") then get_str_request d
-    else (if bytes_eq op (codes "value") then value_request d
-    else (if bytes_eq op (codes "put") then put_request d
-    else (if bytes_eq op (codes "compare") then compare_request d
-    else (if bytes_eq op (codes "free") then free_request d
-    else (if bytes_eq op (codes "watch") then watch_request d
-    else (if bytes_eq op (codes "unwatch") then unwatch_request d
-    else (if bytes_eq op (codes "poll") then poll_request d
-    else (if bytes_eq op (codes "races") then races_request d
-    else (if bytes_eq op (codes "race") then race_request d
-    else (if bytes_eq op (codes "run") then run_request d
-    else (if bytes_eq op (codes "time") then time_request d
+-- the query of an op that an open session asks (profile)
+abbrev pub query_of_op : List ℕ → Data → Option Query
+query_of_op op d =
+    if bytes_eq op (codes "handle") then handle_query d
+    else (if bytes_eq op (codes "iterate") then iterate_query d
+    else (if bytes_eq op (codes "get") then get_query d
+    else (if bytes_eq op (codes "get_str") then get_str_query d
+    else (if bytes_eq op (codes "value") then value_query d
+    else (if bytes_eq op (codes "put") then put_query d
+    else (if bytes_eq op (codes "compare") then compare_query d
+    else (if bytes_eq op (codes "free") then free_query d
+    else (if bytes_eq op (codes "watch") then watch_query d
+    else (if bytes_eq op (codes "unwatch") then unwatch_query d
+    else (if bytes_eq op (codes "poll") then poll_query d
+    else (if bytes_eq op (codes "races") then races_query d
+    else (if bytes_eq op (codes "race") then race_query d
+    else (if bytes_eq op (codes "run") then run_query d
+    else (if bytes_eq op (codes "time") then time_query d
     else None))))))))))))))
 
 -- the request of an op (profile)
@@ -441,7 +444,7 @@ request_of_op op d =
     if bytes_eq op (codes "open") then open_request d
     else (if bytes_eq op (codes "close") then close_request d
     else (if bytes_eq op (codes "grant") then grant_request d
-    else asked_of_op op d))
+    else option_map (λ q. request.Call (call.Query q)) (query_of_op op d)))
 
 -- the request of a JSON value; none where it is no request
 abbrev pub request_of : Data → Option Request

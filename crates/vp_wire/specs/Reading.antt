@@ -4,6 +4,7 @@ use Rattle.std.specs.Io.KnownBytes.{Appends, Consumes, IsAtEnd}
 use Rattle.std.specs.Result.{MatchResult}
 use Rattle.std.specs.List.{concat}
 use Rattle.vp_text.specs.Texts.{parts}
+use Rattle.vp_answer.specs.declared.request.Call.TheVariants as call
 use Rattle.vp_answer.specs.declared.request.Request.{Request}
 use Rattle.vp_answer.specs.declared.request.Request.TheVariants as request
 use Rattle.vp_answer.specs.declared.reply.Reply.{Reply}
@@ -47,7 +48,7 @@ reply_text items (Err e) = error_line (text_of e)
 
 -- a request closes a session
 abbrev pub is_closing : Request → Bool
-is_closing request.Close = true
+is_closing (request.Call call.Close) = true
 is_closing r = false
 
 -- what is written of a line that is reported: all of it, or a front where the writer fails

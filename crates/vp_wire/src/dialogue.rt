@@ -12,7 +12,7 @@ use crate::line::{Line, LineError};
 use crate::replies::reply_line;
 use std::alloc::Global;
 use std::io::{Read, Write};
-use vp_answer::{Reply, Request};
+use vp_answer::{Call, Reply, Request};
 use vp_text::first_piece;
 
 /// How often the reader is asked at most.
@@ -94,7 +94,7 @@ fn is_grant(request: &Request) -> bool
 fn is_closing(request: &Request) -> bool
     ensures { result ≡ is_closing request.now }
 {
-    matches!(request, Request::Close)
+    matches!(request, Request::Call(Call::Close))
 }
 
 /// The stage after a request that the caller is asked, and the line of the reply.
@@ -354,7 +354,7 @@ fn close<C: Caller>(stage: Stage, caller: &mut C)
     ensures { Closes C.calls stage caller.old caller.new }
 {
     if stage == Stage::Open {
-        let _reply = caller.call(Request::Close);
+        let _reply = caller.call(Request::Call(Call::Close));
     }
 }
 

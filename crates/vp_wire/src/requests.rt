@@ -3,12 +3,12 @@ ghost use Rattle.std.specs.Prelude.{◌≡◌, ◌⊎◌, [], ◌∷◌, None, S
 ghost use Rattle.serde_json.specs.View.{items_view, view};
 ghost use Rattle.vp_json.specs.Keys.{has_keys};
 ghost use Rattle.vp_policy.specs.File.{each_of};
-ghost use Rattle.vp_wire.specs.Lines.{access_at, asked_of_op, close_request, compare_request, digits_request, format_at, format_of, free_request, from_at, get_request, get_str_request, grant_of_words, grant_request, handle_request, iterate_request, meaning_of, number_at, number_if, number_in, number_property, open_request, poll_request, put_request, race_request, races_request, request_of, request_of_op, run_request, text_property, time_at, time_request, unwatch_request, value_request, vector_request, watch_request, word_in, words_at, Asks, NotJson, NotRequest};
+ghost use Rattle.vp_wire.specs.Lines.{access_at, query_of_op, close_request, compare_query, digits_query, format_at, format_of, free_query, from_at, get_query, get_str_query, grant_of_words, grant_request, handle_query, iterate_query, meaning_of, number_at, number_if, number_in, number_property, open_request, poll_query, put_query, race_query, races_query, request_of, request_of_op, run_query, text_property, time_at, time_query, unwatch_query, value_query, vector_query, watch_query, word_in, words_at, Asks, NotJson, NotRequest};
 
 use crate::error::WireError;
 use serde_json::Value;
 use std::alloc::{AllocError, Global};
-use vp_answer::{GrantChange, Request, ValueFormat};
+use vp_answer::{Call, GrantChange, Query, Request, ValueFormat};
 use vp_elab::Kind;
 use vp_json::{ReadError, has_keys, number, read, text};
 use vp_policy::Access;
@@ -66,7 +66,7 @@ fn close_request(value: &Value) -> Option<Request>
     ensures { result ≡ close_request (view value.now) }
 {
     if has_request_keys(value, [].as_slice()) {
-        Some(Request::Close)
+        Some(Request::Call(Call::Close))
     } else {
         None
     }
@@ -129,15 +129,15 @@ fn handle_if(value: &Value, key: &str) -> Option<Option<u32>>
     }
 }
 
-/// The request of a handle.
-fn handle_request(alloc: Global, value: &Value) -> Result<Option<Request>, AllocError>
-    ensures { IfOk result (λ r. r ≡ handle_request (view value.now)) }
+/// The query of a handle.
+fn handle_query(alloc: Global, value: &Value) -> Result<Option<Query>, AllocError>
+    ensures { IfOk result (λ q. q ≡ handle_query (view value.now)) }
 {
     if !has_keys(value, ["name"].as_slice(), ["op", "scope"].as_slice()) {
         return Ok(None);
     }
     match (text(value, "name"), handle_if(value, "scope")) {
-        (Some(name), Some(scope)) => Ok(Some(Request::Handle {
+        (Some(name), Some(scope)) => Ok(Some(Query::Handle {
             name: Text::copy(alloc, name)?,
             scope,
         })),
@@ -145,16 +145,16 @@ fn handle_request(alloc: Global, value: &Value) -> Result<Option<Request>, Alloc
     }
 }
 
-/// The request of an iteration.
-fn iterate_request(value: &Value) -> Option<Request>
-    ensures { result ≡ iterate_request (view value.now) }
+/// The query of an iteration.
+fn iterate_query(value: &Value) -> Option<Query>
+    ensures { result ≡ iterate_query (view value.now) }
 {
     if !has_keys(value, ["kind"].as_slice(), ["op", "h"].as_slice()) {
         return None;
     }
     let kind = Kind::of_name(text(value, "kind")?)?;
     let scope = handle_if(value, "h")?;
-    Some(Request::Iterate { kind, scope })
+    Some(Query::Iterate { kind, scope })
 }
 
 /// The number of an object that a word names.
@@ -168,16 +168,16 @@ fn number_property(word: &str) -> Option<NumberProperty>
     }
 }
 
-/// The request of a number of an object.
-fn get_request(value: &Value) -> Option<Request>
-    ensures { result ≡ get_request (view value.now) }
+/// The query of a number of an object.
+fn get_query(value: &Value) -> Option<Query>
+    ensures { result ≡ get_query (view value.now) }
 {
     if !has_request_keys(value, ["h", "prop"].as_slice()) {
         return None;
     }
     let handle = handle_under(value, "h")?;
     let property = number_property(text(value, "prop")?)?;
-    Some(Request::Get { handle, property })
+    Some(Query::Get { handle, property })
 }
 
 /// The text of an object that a word names.
@@ -193,16 +193,16 @@ fn text_property(word: &str) -> Option<TextProperty>
     }
 }
 
-/// The request of a text of an object.
-fn get_str_request(value: &Value) -> Option<Request>
-    ensures { result ≡ get_str_request (view value.now) }
+/// The query of a text of an object.
+fn get_str_query(value: &Value) -> Option<Query>
+    ensures { result ≡ get_str_query (view value.now) }
 {
     if !has_request_keys(value, ["h", "prop"].as_slice()) {
         return None;
     }
     let handle = handle_under(value, "h")?;
     let property = text_property(text(value, "prop")?)?;
-    Some(Request::GetStr { handle, property })
+    Some(Query::GetStr { handle, property })
 }
 
 /// The format of values that a word names.
@@ -226,16 +226,16 @@ fn format_under(value: &Value) -> Option<ValueFormat>
     format_of(text(value, "format")?)
 }
 
-/// The request of a value.
-fn value_request(value: &Value) -> Option<Request>
-    ensures { result ≡ value_request (view value.now) }
+/// The query of a value.
+fn value_query(value: &Value) -> Option<Query>
+    ensures { result ≡ value_query (view value.now) }
 {
     if !has_keys(value, ["h"].as_slice(), ["op", "format"].as_slice()) {
         return None;
     }
     let handle = handle_under(value, "h")?;
     let format = format_under(value)?;
-    Some(Request::Value { handle, format })
+    Some(Query::Value { handle, format })
 }
 
 /// The number of 32 bits at an index of an array.
@@ -288,15 +288,15 @@ fn words_under(
     }
 }
 
-/// The request of a put by digits.
-fn digits_request(alloc: Global, value: &Value) -> Result<Option<Request>, AllocError>
-    ensures { IfOk result (λ r. r ≡ digits_request (view value.now)) }
+/// The query of a put by digits.
+fn digits_query(alloc: Global, value: &Value) -> Result<Option<Query>, AllocError>
+    ensures { IfOk result (λ q. q ≡ digits_query (view value.now)) }
 {
     if !has_request_keys(value, ["h", "value"].as_slice()) {
         return Ok(None);
     }
     match (handle_under(value, "h"), text(value, "value")) {
-        (Some(handle), Some(digits)) => Ok(Some(Request::Put {
+        (Some(handle), Some(digits)) => Ok(Some(Query::Put {
             handle,
             value: PutValue::Digits(Text::copy(alloc, digits)?),
         })),
@@ -304,9 +304,9 @@ fn digits_request(alloc: Global, value: &Value) -> Result<Option<Request>, Alloc
     }
 }
 
-/// The request of a put by words.
-fn vector_request(alloc: Global, value: &Value) -> Result<Option<Request>, AllocError>
-    ensures { IfOk result (λ r. r ≡ vector_request (view value.now)) }
+/// The query of a put by words.
+fn vector_query(alloc: Global, value: &Value) -> Result<Option<Query>, AllocError>
+    ensures { IfOk result (λ q. q ≡ vector_query (view value.now)) }
 {
     if !has_request_keys(value, ["h", "vector"].as_slice()) {
         return Ok(None);
@@ -315,7 +315,7 @@ fn vector_request(alloc: Global, value: &Value) -> Result<Option<Request>, Alloc
         handle_under(value, "h"),
         words_under(alloc, value, "vector")?,
     ) {
-        (Some(handle), Some(words)) => Ok(Some(Request::Put {
+        (Some(handle), Some(words)) => Ok(Some(Query::Put {
             handle,
             value: PutValue::Words(words),
         })),
@@ -323,35 +323,35 @@ fn vector_request(alloc: Global, value: &Value) -> Result<Option<Request>, Alloc
     }
 }
 
-/// The request of a put: by digits, or else by words.
-fn put_request(alloc: Global, value: &Value) -> Result<Option<Request>, AllocError>
-    ensures { IfOk result (λ r. r ≡ put_request (view value.now)) }
+/// The query of a put: by digits, or else by words.
+fn put_query(alloc: Global, value: &Value) -> Result<Option<Query>, AllocError>
+    ensures { IfOk result (λ q. q ≡ put_query (view value.now)) }
 {
     if value.get("value").is_some() {
-        digits_request(alloc, value)
+        digits_query(alloc, value)
     } else {
-        vector_request(alloc, value)
+        vector_query(alloc, value)
     }
 }
 
-/// The request to compare two handles.
-fn compare_request(value: &Value) -> Option<Request>
-    ensures { result ≡ compare_request (view value.now) }
+/// The query to compare two handles.
+fn compare_query(value: &Value) -> Option<Query>
+    ensures { result ≡ compare_query (view value.now) }
 {
     if !has_request_keys(value, ["a", "b"].as_slice()) {
         return None;
     }
     let first = handle_under(value, "a")?;
     let second = handle_under(value, "b")?;
-    Some(Request::Compare { first, second })
+    Some(Query::Compare { first, second })
 }
 
-/// The request to free a handle.
-fn free_request(value: &Value) -> Option<Request>
-    ensures { result ≡ free_request (view value.now) }
+/// The query to free a handle.
+fn free_query(value: &Value) -> Option<Query>
+    ensures { result ≡ free_query (view value.now) }
 {
     if has_request_keys(value, ["h"].as_slice()) {
-        Some(Request::Free {
+        Some(Query::Free {
             handle: handle_under(value, "h")?,
         })
     } else {
@@ -359,12 +359,12 @@ fn free_request(value: &Value) -> Option<Request>
     }
 }
 
-/// The request to be notified of an object's changes.
-fn watch_request(value: &Value) -> Option<Request>
-    ensures { result ≡ watch_request (view value.now) }
+/// The query to be notified of an object's changes.
+fn watch_query(value: &Value) -> Option<Query>
+    ensures { result ≡ watch_query (view value.now) }
 {
     if has_request_keys(value, ["h"].as_slice()) {
-        Some(Request::Watch {
+        Some(Query::Watch {
             handle: handle_under(value, "h")?,
         })
     } else {
@@ -372,12 +372,12 @@ fn watch_request(value: &Value) -> Option<Request>
     }
 }
 
-/// The request not to be notified by a callback any more.
-fn unwatch_request(value: &Value) -> Option<Request>
-    ensures { result ≡ unwatch_request (view value.now) }
+/// The query not to be notified by a callback any more.
+fn unwatch_query(value: &Value) -> Option<Query>
+    ensures { result ≡ unwatch_query (view value.now) }
 {
     if has_request_keys(value, ["cb"].as_slice()) {
-        Some(Request::Unwatch {
+        Some(Query::Unwatch {
             callback: handle_under(value, "cb")?,
         })
     } else {
@@ -385,12 +385,12 @@ fn unwatch_request(value: &Value) -> Option<Request>
     }
 }
 
-/// The request of what was to be reported.
-fn poll_request(value: &Value) -> Option<Request>
-    ensures { result ≡ poll_request (view value.now) }
+/// The query of what was to be reported.
+fn poll_query(value: &Value) -> Option<Query>
+    ensures { result ≡ poll_query (view value.now) }
 {
     if has_request_keys(value, [].as_slice()) {
-        Some(Request::Poll)
+        Some(Query::Poll)
     } else {
         None
     }
@@ -407,12 +407,12 @@ fn from_under(value: &Value, key: &str) -> Option<u64>
     }
 }
 
-/// The request of the races that are shown.
-fn races_request(value: &Value) -> Option<Request>
-    ensures { result ≡ races_request (view value.now) }
+/// The query of the races that are shown.
+fn races_query(value: &Value) -> Option<Query>
+    ensures { result ≡ races_query (view value.now) }
 {
     if has_keys(value, [].as_slice(), ["op", "from"].as_slice()) {
-        Some(Request::Races {
+        Some(Query::Races {
             from: from_under(value, "from")?,
         })
     } else {
@@ -420,12 +420,12 @@ fn races_request(value: &Value) -> Option<Request>
     }
 }
 
-/// The request of a race that is shown.
-fn race_request(value: &Value) -> Option<Request>
-    ensures { result ≡ race_request (view value.now) }
+/// The query of a race that is shown.
+fn race_query(value: &Value) -> Option<Query>
+    ensures { result ≡ race_query (view value.now) }
 {
     if has_request_keys(value, ["no"].as_slice()) {
-        Some(Request::Race {
+        Some(Query::Race {
             number: number(value, "no")?,
         })
     } else {
@@ -433,12 +433,12 @@ fn race_request(value: &Value) -> Option<Request>
     }
 }
 
-/// The request to let the design run.
-fn run_request(value: &Value) -> Option<Request>
-    ensures { result ≡ run_request (view value.now) }
+/// The query to let the design run.
+fn run_query(value: &Value) -> Option<Query>
+    ensures { result ≡ run_query (view value.now) }
 {
     if has_request_keys(value, ["until"].as_slice()) {
-        Some(Request::Run {
+        Some(Query::Run {
             until: time_under(value, "until")?,
         })
     } else {
@@ -446,42 +446,42 @@ fn run_request(value: &Value) -> Option<Request>
     }
 }
 
-/// The request of the time.
-fn time_request(value: &Value) -> Option<Request>
-    ensures { result ≡ time_request (view value.now) }
+/// The query of the time.
+fn time_query(value: &Value) -> Option<Query>
+    ensures { result ≡ time_query (view value.now) }
 {
     if has_request_keys(value, [].as_slice()) {
-        Some(Request::Time)
+        Some(Query::Time)
     } else {
         None
     }
 }
 
-/// The request of an op that an open session asks.
-fn asked_of_op(alloc: Global, op: &str, value: &Value) -> Result<Option<Request>, AllocError>
-    ensures { IfOk result (λ r. r ≡ asked_of_op op.now (view value.now)) }
+/// The query of an op that an open session asks.
+fn query_of_op(alloc: Global, op: &str, value: &Value) -> Result<Option<Query>, AllocError>
+    ensures { IfOk result (λ q. q ≡ query_of_op op.now (view value.now)) }
 {
     match op {
-        "handle" => handle_request(alloc, value),
-        "iterate" => Ok(iterate_request(value)),
-        "get" => Ok(get_request(value)),
-        "get_str" => Ok(get_str_request(value)),
-        "value" => Ok(value_request(value)),
-        "put" => put_request(alloc, value),
-        "compare" => Ok(compare_request(value)),
-        "free" => Ok(free_request(value)),
-        "watch" => Ok(watch_request(value)),
-        "unwatch" => Ok(unwatch_request(value)),
-        "poll" => Ok(poll_request(value)),
-        "races" => Ok(races_request(value)),
-        "race" => Ok(race_request(value)),
-        "run" => Ok(run_request(value)),
-        "time" => Ok(time_request(value)),
+        "handle" => handle_query(alloc, value),
+        "iterate" => Ok(iterate_query(value)),
+        "get" => Ok(get_query(value)),
+        "get_str" => Ok(get_str_query(value)),
+        "value" => Ok(value_query(value)),
+        "put" => put_query(alloc, value),
+        "compare" => Ok(compare_query(value)),
+        "free" => Ok(free_query(value)),
+        "watch" => Ok(watch_query(value)),
+        "unwatch" => Ok(unwatch_query(value)),
+        "poll" => Ok(poll_query(value)),
+        "races" => Ok(races_query(value)),
+        "race" => Ok(race_query(value)),
+        "run" => Ok(run_query(value)),
+        "time" => Ok(time_query(value)),
         _ => Ok(None),
     }
 }
 
-/// The request of an op.
+/// The request of an op (docs/FORMATS.md, "Lines").
 fn request_of_op(alloc: Global, op: &str, value: &Value) -> Result<Option<Request>, AllocError>
     ensures { IfOk result (λ r. r ≡ request_of_op op.now (view value.now)) }
 {
@@ -489,7 +489,10 @@ fn request_of_op(alloc: Global, op: &str, value: &Value) -> Result<Option<Reques
         "open" => open_request(alloc, value),
         "close" => Ok(close_request(value)),
         "grant" => grant_request(alloc, value),
-        _ => asked_of_op(alloc, op, value),
+        _ => match query_of_op(alloc, op, value)? {
+            Some(query) => Ok(Some(Request::Call(Call::Query(query)))),
+            None => Ok(None),
+        },
     }
 }
 

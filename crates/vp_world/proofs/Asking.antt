@@ -1,4 +1,4 @@
--- A world after a request of the session at an index.
+-- A world after a query of the session at an index.
 use Rattle.std.proofs.Common.{◌≡◌, ℕ, ◌<◌, Bool, true, false, List, length, map, Option, Some, None, refl, sym, ap, subst, ◌∙◌}
 use Rattle.std.specs.Prelude.{slice_get, slice_index_or, slice_set, if◌then◌else◌, option_map, IfSome, IsSome}
 use Rattle.std.proofs.lemmas.List.{length-map, map-set, set-get_or}
@@ -18,7 +18,7 @@ use Rattle.vp_vpi.specs.SessionStates.{SessionState}
 use Rattle.vp_expr.specs.declared.change.Change.{Change}
 use Rattle.vp_answer.specs.declared.answering.Answer.{Answer}
 use Rattle.vp_world.specs.declared.putting.AnswerWithChange.{AnswerWithChange}
-use Rattle.vp_answer.specs.declared.request.Request.{Request}
+use Rattle.vp_answer.specs.declared.query.Query.{Query}
 use Rattle.vp_world.specs.declared.limits.Limits.{Limits}
 use Rattle.vp_answer.specs.declared.reply.Reply.{Reply}
 use Rattle.vp_answer.specs.declared.reply.Reply.TheVariants as reply
@@ -71,7 +71,7 @@ put_design : (run : sim.State) (p : Option (ℕ × List Bit)) → design_in run 
 put_design run None = refl
 put_design run (Some p) = chosen_design run _ _ _ run.finished refl
 
--- what a put changes, if there is one, only a request that is done changes
+-- what a put changes, if there is one, only a query that is done changes
 done_by : (put : Option (ℕ × List Bit)) (old new : sim.State) (change : Option Change) (r : Reply) → outcome_of_put old put ≡ sim.Goes new change → ((p : ℕ × List Bit) → put ≡ Some p → r ≡ reply.Done) → IfSome change (λ c. r ≡ reply.Done)
 done_by None old new change r goes done =
     let none : None ≡ change = cc in
@@ -83,9 +83,9 @@ done_by (Some p) old new (Some c) r goes done = done p refl
 abbrev pub with_change : Answer → Option Change → AnswerWithChange
 with_change a change = record { reply = a.reply; entry_reply = a.entry_reply; goal = a.goal; change = change }
 
--- an answer, and what its put does, give what comes of a request
+-- an answer, and what its put does, give what comes of a query
 pub put_gives :
-    (observation : Observer) (session_state : SessionState) (r : Request) (old new : Recorded) (session : SessionState) (a : Answer) (change : Option Change)
+    (observation : Observer) (session_state : SessionState) (r : Query) (old new : Recorded) (session : SessionState) (a : Answer) (change : Option Change)
     → IsGiven (respond observation session_state r) session a → outcome_of_put old.simulation (put_shown a.put) ≡ sim.Goes new.simulation change
     → new.segments ≡ segments_of_put old.segments (put_shown a.put) new.simulation
     → Gives (respond observation session_state r) old new session (with_change a change)
@@ -109,16 +109,16 @@ put_there : (put : Option (ObjectId × List Bit)) → IsSome put → (p : ℕ ×
 put_there None there = cc
 put_there (Some p) there = ((p.0.0, p.1), refl)
 
--- a request with a put leaves its session as it was
+-- a query with a put leaves its session as it was
 pub put_keeps :
-    (observation : Observer) (session_state : SessionState) (r : Request) (session : SessionState) (a : Answer)
+    (observation : Observer) (session_state : SessionState) (r : Query) (session : SessionState) (a : Answer)
     → IsGiven (respond observation session_state r) session a → IsSome a.put → session ≡ session_state
 put_keeps observation session_state r session a given there =
     let p = put_there a.put there in
     given.session_state ∙ (put_only observation session_state r p.0 (sym given.put ∙ p.1)).same
 
--- what comes of a request of a session of this seat
-abbrev pub due_of : Recorded → BookState → (policy : PolicyState) → SessionState → Request → Response
+-- what comes of a query of a session of this seat
+abbrev pub due_of : Recorded → BookState → (policy : PolicyState) → SessionState → Query → Response
 due_of run book policy session_state r = respond (observer_in run book policy session_state.user) session_state r
 
 -- a world with this design, simulation, segments and sessions
@@ -131,7 +131,7 @@ with_run w design run segments sessions = record {
 -- what is known of the fields of a world in which a session of an index is asked
 module _
     (run : Recorded) (book : BookState) (first policy : PolicyState) (limits : Limits) (sessions : List OpenSession) (opens : List ℕ) (goal : Option ℕ)
-    (index : ℕ) (session : OpenSession) (r : Request) (w : WorldState)
+    (index : ℕ) (session : OpenSession) (r : Query) (w : WorldState)
     (is : shown run book.races first policy limits sessions opens goal ≡ w) (inside : index < length w.state.sessions)
     (at : session ≡ slice_index_or sessions index session)
   where

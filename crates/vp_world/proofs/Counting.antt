@@ -11,7 +11,7 @@ use Rattle.vp_sim.specs.States as sim
 use Rattle.vp_answer.specs.declared.request.GrantChange.{GrantChange}
 use Rattle.vp_world.specs.declared.event.Event.{Event}
 use Rattle.vp_world.specs.declared.event.Event.TheVariants as event
-use Rattle.vp_answer.specs.declared.request.Request.{Request}
+use Rattle.vp_answer.specs.declared.query.Query.{Query}
 use Rattle.vp_world.specs.Entries.{Entry}
 use Rattle.vp_world.specs.History.{after, asked_at, closed_at, granted_to, opened_by, outcome_of_put, raised, response_of, segments_of_put, state_asked, state_after, stepped}
 use Rattle.vp_world.specs.Worlds.{Opening, State, start}
@@ -39,8 +39,8 @@ outcome_closes : (s : State) (segments : sim.State → Segments) (o : sim.Outcom
 outcome_closes s segments (sim.Goes run change) closes = closes run
 outcome_closes s segments (sim.Refuses e) closes = omega arith
 
--- by a request of an open session
-session_closes : (s : State) (index : ℕ) (there : Option OpenSessionState) (r : Request) → ClosesOne s.segments (state_asked s index there r).segments
+-- by a query of an open session
+session_closes : (s : State) (index : ℕ) (there : Option OpenSessionState) (r : Query) → ClosesOne s.segments (state_asked s index there r).segments
 session_closes s index None r = omega arith
 session_closes s index (Some session) r =
     let given = response_of s session.session_state r in
@@ -48,10 +48,10 @@ session_closes s index (Some session) r =
     (record s { sessions = slice_set s.sessions index (record session { session_state = given.session_state }); goal = raised s.goal given.goal })
     (segments_of_put s.segments given.put) (outcome_of_put s.run given.put) (put_closes s.segments given.put)
 
--- by a request
-request_closes : (s : State) (index : Option ℕ) (r : Request) → ClosesOne s.segments (asked_at s index r).segments
-request_closes s None r = omega arith
-request_closes s (Some index) r = session_closes s index (slice_get s.sessions index) r
+-- by a query
+query_closes : (s : State) (index : Option ℕ) (r : Query) → ClosesOne s.segments (asked_at s index r).segments
+query_closes s None r = omega arith
+query_closes s (Some index) r = session_closes s index (slice_get s.sessions index) r
 
 -- by a session that is opened
 opening_closes : (s : State) (user : Option ℕ) → (let next : State = option_map_or (opened_by s) user s in ClosesOne s.segments next.segments)
@@ -76,7 +76,7 @@ job_closes old (Some run) = omega arith
 -- by an event
 event_closes : (opening : Opening) (s : State) (e : Event) → ClosesOne s.segments (after opening s e).segments
 event_closes opening s (event.Open name token) = opening_closes s (login_of s.policy.members name token)
-event_closes opening s (event.Ask id request) = request_closes s (index_of s.sessions id) request
+event_closes opening s (event.Ask id query) = query_closes s (index_of s.sessions id) query
 event_closes opening s (event.Close id) = closing_closes s (index_of s.sessions id)
 event_closes opening s (event.Grant change) = granting_closes s change (user_of s.policy.members change.user)
 event_closes opening s (event.Step k) = outcome_closes s (with_step s.segments k) (sim.step s.run k) (step_closes s.segments k)

@@ -14,7 +14,7 @@ use Rattle.vp_sim.specs.States as sim
 use Rattle.vp_answer.specs.declared.request.GrantChange.{GrantChange}
 use Rattle.vp_world.specs.declared.event.Event.{Event}
 use Rattle.vp_world.specs.declared.event.Event.TheVariants as event
-use Rattle.vp_answer.specs.declared.request.Request.{Request}
+use Rattle.vp_answer.specs.declared.query.Query.{Query}
 use Rattle.vp_world.specs.Entries.{Entry}
 use Rattle.vp_world.specs.Events.{IsWellFormed}
 use Rattle.vp_world.specs.History.{IsLegal, IsReached, after, asked_at, book_refusal, closed_at, granted_to, is_log_full, opened_by, refusal_after, refusal_of, refusal_of_booking, state_asked, state_after, stepped}
@@ -36,11 +36,11 @@ granted_book : (s : State) (change : GrantChange) (o : Option ℕ) → (option_m
 granted_book s change None = refl
 granted_book s change (Some u) = refl
 
-session_book : (s : State) (index : ℕ) (o : Option OpenSessionState) (r : Request) → (state_asked s index o r).book ≡ s.book
+session_book : (s : State) (index : ℕ) (o : Option OpenSessionState) (r : Query) → (state_asked s index o r).book ≡ s.book
 session_book s index None r = refl
 session_book s index (Some session) r = stepped_book _ _ _
 
-asked_book : (s : State) (o : Option ℕ) (r : Request) → (asked_at s o r).book ≡ s.book
+asked_book : (s : State) (o : Option ℕ) (r : Query) → (asked_at s o r).book ≡ s.book
 asked_book s None r = refl
 asked_book s (Some index) r = session_book s index (slice_get s.sessions index) r
 
@@ -91,9 +91,9 @@ after_event :
 after_event opening log e (event.Open name token) formed none all =
     let s = state_after opening log in
     subst (All (IsReached opening (log ++ e ∷ []))) (sym (opened_book s (login_of s.policy.members name token))) (all_stay opening log e s.book all)
-after_event opening log e (event.Ask id request) formed none all =
+after_event opening log e (event.Ask id query) formed none all =
     let s = state_after opening log in
-    subst (All (IsReached opening (log ++ e ∷ []))) (sym (asked_book s (index_of s.sessions id) request)) (all_stay opening log e s.book all)
+    subst (All (IsReached opening (log ++ e ∷ []))) (sym (asked_book s (index_of s.sessions id) query)) (all_stay opening log e s.book all)
 after_event opening log e (event.Close id) formed none all =
     let s = state_after opening log in
     subst (All (IsReached opening (log ++ e ∷ []))) (sym (closed_book s (index_of s.sessions id))) (all_stay opening log e s.book all)

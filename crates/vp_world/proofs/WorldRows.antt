@@ -25,8 +25,8 @@ use Rattle.vp_policy.specs.declared.denial.ShownBarrier.TheVariants as by
 use Rattle.vp_policy.specs.Users.{Member}
 use Rattle.vp_vpi.specs.declared.property.PutValue.TheVariants.{Digits}
 use Rattle.vp_answer.specs.declared.request.SessionId.{SessionId}
-use Rattle.vp_answer.specs.declared.request.Request.TheVariants as request
-use Rattle.vp_answer.specs.declared.request.ValueFormat.TheVariants as format
+use Rattle.vp_answer.specs.declared.query.Query.TheVariants as query
+use Rattle.vp_answer.specs.declared.query.ValueFormat.TheVariants as format
 use Rattle.vp_world.specs.declared.event.Event.{Event}
 use Rattle.vp_world.specs.declared.event.Event.TheVariants as event
 use Rattle.vp_world.specs.declared.error.WorldError.TheVariants as error
@@ -126,16 +126,16 @@ abbrev opens : Event
 opens = event.Open (codes "ann") (codes "t1")
 
 abbrev asks : List ℕ → Event
-asks name = event.Ask first (request.Handle name None)
+asks name = event.Ask first (query.Handle name None)
 
 abbrev reads : ℕ → Event
-reads handle = event.Ask first (request.Value handle format.Binary)
+reads handle = event.Ask first (query.Value handle format.Binary)
 
 abbrev hidden : Reply
 hidden = reply.Denied (record { by = by.Envelope; envelope = 1; right = right.List; author = codes "acme"; object = None })
 
 abbrev runs : Event
-runs = event.Ask first (request.Run 0)
+runs = event.Ask first (query.Run 0)
 
 abbrev steps : ℕ → Event
 steps k = event.Step k
@@ -168,7 +168,7 @@ value_after_a_step : answered (opens ∷ asks (codes "top.a") ∷ runs ∷ steps
 unfolding digits is_utf8 chars encode sizes_in tables_of effect_at
 value_after_a_step = refl
 
-time_read : answered (opens ∷ []) (event.Ask first request.Time) ≡ reply.Time 0 false
+time_read : answered (opens ∷ []) (event.Ask first query.Time) ≡ reply.Time 0 false
 time_read = refl
 
 hidden_name : answered (opens ∷ []) (asks (codes "top.k")) ≡ hidden
@@ -285,19 +285,19 @@ second = record { user = record { 0 = 0 }; opens = 2 }
 abbrev watching : List Event
 watching =
     event.Open (codes "bob") (codes "t2") ∷ event.Open (codes "bob") (codes "t2") ∷ asks (codes "top.a")
-    ∷ event.Ask second (request.Handle (codes "top.a") None) ∷ event.Ask second (request.Watch 1) ∷ []
+    ∷ event.Ask second (query.Handle (codes "top.a") None) ∷ event.Ask second (query.Watch 1) ∷ []
 
 -- what an event is answered after a put of the first session
 abbrev answered_after_a_put : Event → Reply
 answered_after_a_put e =
-    answer shared (after shared (fold (after shared) (start shared) watching) (event.Ask first (request.Put 1 (Digits (codes "1"))))) e
+    answer shared (after shared (fold (after shared) (start shared) watching) (event.Ask first (query.Put 1 (Digits (codes "1"))))) e
 
 -- the second is notified of it, and the first has no notice
-put_told : answered_after_a_put (event.Ask second request.Poll) ≡ reply.Notices (record { notices = record { callback = 1; time = 0; value = One ∷ [] } ∷ []; lost = 0 })
+put_told : answered_after_a_put (event.Ask second query.Poll) ≡ reply.Notices (record { notices = record { callback = 1; time = 0; value = One ∷ [] } ∷ []; lost = 0 })
 unfolding digits is_utf8 chars encode sizes_in tables_of effect_at
 put_told = refl
 
-put_not_told : answered_after_a_put (event.Ask first request.Poll) ≡ reply.Notices (record { notices = []; lost = 0 })
+put_not_told : answered_after_a_put (event.Ask first query.Poll) ≡ reply.Notices (record { notices = []; lost = 0 })
 unfolding digits is_utf8 chars encode sizes_in tables_of effect_at
 put_not_told = refl
 
@@ -306,13 +306,13 @@ abbrev answered_after_an_end : Event → Reply
 answered_after_an_end e =
     answer shared
     (fold (after shared) (start shared)
-    (watching ++ event.Ask first (request.Put 1 (Digits (codes "1"))) ∷ grants_to (codes "bob") 0 (with_right right.List nothing) ∷ [])) e
+    (watching ++ event.Ask first (query.Put 1 (Digits (codes "1"))) ∷ grants_to (codes "bob") 0 (with_right right.List nothing) ∷ [])) e
 
-nothing_waits : answered_after_an_end (event.Ask second request.Poll) ≡ reply.Notices (record { notices = []; lost = 0 })
+nothing_waits : answered_after_an_end (event.Ask second query.Poll) ≡ reply.Notices (record { notices = []; lost = 0 })
 unfolding digits is_utf8 chars encode sizes_in tables_of effect_at
 nothing_waits = refl
 
-callback_gone : answered_after_an_end (event.Ask second (request.Unwatch 1)) ≡ reply.Error refusal.NoSuchCallback
+callback_gone : answered_after_an_end (event.Ask second (query.Unwatch 1)) ≡ reply.Error refusal.NoSuchCallback
 unfolding digits is_utf8 chars encode sizes_in tables_of effect_at
 callback_gone = refl
 

@@ -22,8 +22,8 @@ pub record Entry : Type 0 where
 -- the event of what happened
 abbrev pub event_in : LoggedEvent → Event
 event_in (happening.Open login session) = event.Open (arc_value login).user (arc_value login).token
-event_in (happening.Ask asked reply) = event.Ask (arc_value asked).session (arc_value asked).request
-event_in (happening.Put asked change) = event.Ask (arc_value asked).session (arc_value asked).request
+event_in (happening.Ask asked reply) = event.Ask (arc_value asked).session (arc_value asked).query
+event_in (happening.Put asked change) = event.Ask (arc_value asked).session (arc_value asked).query
 event_in (happening.Close session) = event.Close session
 event_in (happening.Grant change) = event.Grant (arc_value change)
 event_in (happening.Step k) = event.Step k

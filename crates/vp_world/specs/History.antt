@@ -20,7 +20,7 @@ use Rattle.vp_vpi.specs.SessionStates.{SessionState, new_session_state, retired,
 use Rattle.vp_world.specs.Entries.{Entry}
 use Rattle.vp_answer.specs.declared.request.GrantChange.{GrantChange}
 use Rattle.vp_answer.specs.declared.request.SessionId.{SessionId}
-use Rattle.vp_answer.specs.declared.request.Request.{Request}
+use Rattle.vp_answer.specs.declared.query.Query.{Query}
 use Rattle.vp_world.specs.declared.event.Event.{Event}
 use Rattle.vp_world.specs.declared.event.Event.TheVariants as event
 use Rattle.vp_world.specs.declared.error.WorldError.{WorldError}
@@ -107,7 +107,7 @@ refusal_of_booking full refusal = if full then Some error.LogFull else option_ma
 -- Out of memory is no part of it (profile)
 abbrev pub refusal_of : Opening → Bool → State → Event → Option WorldError
 refusal_of opening full s (event.Open name token) = refusal_of_open opening full s (login_of s.policy.members name token)
-refusal_of opening full s (event.Ask id request) = refusal_of_session full (index_of s.sessions id)
+refusal_of opening full s (event.Ask id query) = refusal_of_session full (index_of s.sessions id)
 refusal_of opening full s (event.Close id) = refusal_of_session full (index_of s.sessions id)
 refusal_of opening full s (event.Grant change) = refusal_of_grant full s.policy change
 refusal_of opening full s (event.Step k) = refusal_of_step full (is_past_goal s.goal s.run.time) (sim.step s.run k)
@@ -126,16 +126,16 @@ next_session s u = record { user = record { 0 = u }; opens = slice_index s.opens
 abbrev pub observer_at : State → Member → Observer
 observer_at s u = observer_with s.run u s.book
 
--- what comes of a request of a session: its user looks into the simulation, and the policy in force says what he sees
-abbrev pub response_of : State → SessionState → Request → Response
+-- what comes of a query of a session: its user looks into the simulation, and the policy in force says what he sees
+abbrev pub response_of : State → SessionState → Query → Response
 response_of s session_state r = respond (observer_at s (member_at s.policy.members session_state.user)) session_state r
 
 -- the open session of a name
 abbrev pub session_of : List OpenSessionState → SessionId → Option OpenSessionState
 session_of sessions id = option_and_then (slice_get sessions) (index_of sessions id)
 
--- the reply to a request of an open session
-abbrev pub asked : State → Option OpenSessionState → Request → Reply
+-- the reply to a query of an open session
+abbrev pub asked : State → Option OpenSessionState → Query → Reply
 asked s None r = reply.Error refusal.NotOpen
 asked s (Some session) r = (response_of s session.session_state r).reply
 
@@ -143,7 +143,7 @@ asked s (Some session) r = (response_of s session.session_state r).reply
 abbrev pub answer : Opening → State → Event → Reply
 answer opening s (event.Open name token) =
     option_map_or (λ u. reply.Opened (next_session s u)) (login_of s.policy.members name token) (reply.Error refusal.BadToken)
-answer opening s (event.Ask id request) = asked s (session_of s.sessions id) request
+answer opening s (event.Ask id query) = asked s (session_of s.sessions id) query
 answer opening s (event.Close id) = reply.Done
 answer opening s (event.Grant change) = reply.Done
 answer opening s (event.Step k) = reply.Done
@@ -166,15 +166,15 @@ abbrev pub segments_of_put : Segments → Option (ℕ × List Bit) → sim.State
 segments_of_put segments None run = segments
 segments_of_put segments (Some p) run = with_anew segments run
 
--- what a request of an open session changes
-abbrev pub changed_by : State → Option OpenSessionState → Request → Option Change
+-- what a query of an open session changes
+abbrev pub changed_by : State → Option OpenSessionState → Query → Option Change
 changed_by s None r = None
 changed_by s (Some session) r = change_of (outcome_of_put s.run (response_of s session.session_state r).put)
 
 -- what an event that is accepted changes
 abbrev pub changed : State → Event → Option Change
 changed s (event.Open name token) = None
-changed s (event.Ask id request) = changed_by s (session_of s.sessions id) request
+changed s (event.Ask id query) = changed_by s (session_of s.sessions id) query
 changed s (event.Close id) = None
 changed s (event.Grant change) = None
 changed s (event.Step k) = change_of (sim.step s.run k)
@@ -219,20 +219,20 @@ stepped s segments (sim.Goes run change) = record s {
 }
 stepped s segments (sim.Refuses e) = s
 
--- the state after what comes of a request of the session at an index: the session is as the request leaves it, and then the put is made
+-- the state after what comes of a query of the session at an index: the session is as the query leaves it, and then the put is made
 abbrev pub with_response : State → ℕ → OpenSessionState → Response → State
 with_response s index session given =
     stepped
     (record s { sessions = slice_set s.sessions index (record session { session_state = given.session_state }); goal = raised s.goal given.goal })
     (segments_of_put s.segments given.put) (outcome_of_put s.run given.put)
 
--- the state after a request of the session at an index
-abbrev pub state_asked : State → ℕ → Option OpenSessionState → Request → State
+-- the state after a query of the session at an index
+abbrev pub state_asked : State → ℕ → Option OpenSessionState → Query → State
 state_asked s index None r = s
 state_asked s index (Some session) r = with_response s index session (response_of s session.session_state r)
 
--- the state after a request of a session, which is open at an index
-abbrev pub asked_at : State → Option ℕ → Request → State
+-- the state after a query of a session, which is open at an index
+abbrev pub asked_at : State → Option ℕ → Query → State
 asked_at s None r = s
 asked_at s (Some index) r = state_asked s index (slice_get s.sessions index) r
 
@@ -267,7 +267,7 @@ with_booked s finding = record s { book = s.book ++ finding ∷ [] }
 -- the state after an event that is accepted
 abbrev pub after : Opening → State → Event → State
 after opening s (event.Open name token) = option_map_or (opened_by s) (login_of s.policy.members name token) s
-after opening s (event.Ask id request) = asked_at s (index_of s.sessions id) request
+after opening s (event.Ask id query) = asked_at s (index_of s.sessions id) query
 after opening s (event.Close id) = closed_at s (index_of s.sessions id)
 after opening s (event.Grant change) = option_map_or (granted_to s change) (user_of s.policy.members change.user) s
 after opening s (event.Step k) = stepped s (with_step s.segments k) (sim.step s.run k)
@@ -349,12 +349,12 @@ with_state w s = record w { state = s }
 abbrev pub refusal_in : WorldState → Bool → Event → Option WorldError
 refusal_in w full e = refusal_of w.opening full w.state e
 
--- the reply to a request of the session at an index
-abbrev pub asked_in : WorldState → ℕ → Request → Reply
+-- the reply to a query of the session at an index
+abbrev pub asked_in : WorldState → ℕ → Query → Reply
 asked_in w index r = asked w.state (slice_get w.state.sessions index) r
 
--- what a request of the session at an index changes
-abbrev pub changed_in : WorldState → ℕ → Request → Option Change
+-- what a query of the session at an index changes
+abbrev pub changed_in : WorldState → ℕ → Query → Option Change
 changed_in w index r = changed_by w.state (slice_get w.state.sessions index) r
 
 -- the refusal of a step, after a log that is full or not, by its outcome

@@ -3,8 +3,8 @@ use Rattle.std.specs.Prelude.{ℕ, Bool, true, false, List, slice_index_or}
 use Rattle.std.specs.List.{list_all, list_any}
 use Rattle.vp_notify.specs.declared.registry.Callback.{Callback}
 use Rattle.vp_notify.specs.Registry.{watches}
-use Rattle.vp_answer.specs.declared.request.Request.{Request}
-use Rattle.vp_answer.specs.declared.request.Request.TheVariants.{Watch}
+use Rattle.vp_answer.specs.declared.query.Query.{Query}
+use Rattle.vp_answer.specs.declared.query.Query.TheVariants.{Watch}
 use Rattle.vp_world.specs.declared.session.OpenSession.{OpenSession}
 
 -- some session may have a callback on an object, by a list that says so of each object; it may on what lies beyond the list
@@ -27,7 +27,7 @@ all_marked watched sessions = list_all (λ s. are_marked watched s.session.regis
 abbrev pub is_watched : List OpenSession → (object : ℕ) → Bool
 is_watched sessions object = list_any (λ s. watches s.session.registry object) sessions
 
--- a request registers a callback
-abbrev pub is_watch : Request → Bool
+-- a query registers a callback
+abbrev pub is_watch : Query → Bool
 is_watch (Watch handle) = true
 is_watch r = false

@@ -5,7 +5,7 @@ ghost use Rattle.vp_answer.specs.declared.reply.Reply.TheVariants as reply;
 
 use std::marker::Model;
 use std::sync::Arc;
-use vp_answer::{GrantChange, Reply, Request, SessionId};
+use vp_answer::{GrantChange, Query, Reply, SessionId};
 use vp_expr::Change;
 use vp_race::Finding;
 use vp_text::{Shared, Text};
@@ -21,7 +21,7 @@ pub struct Login {
 #[derive(Drop)]
 pub struct Asked {
     pub session: SessionId,
-    pub request: Request,
+    pub query: Query,
 }
 
 /// What happened, with its reply and what it changed. What is rare is held apart, so that the entry of a step is small.
@@ -82,7 +82,7 @@ impl LoggedEvent {
     pub fn of_asked(asked: Arc<Asked>, answer: Reply, change: Option<Change>) -> LoggedEvent
         requires { IfSome change (λ c. answer ≡ reply.Done) }
         ensures event { event_in result
-            ≡ event.Ask (arc_value asked).session (arc_value asked).request }
+            ≡ event.Ask (arc_value asked).session (arc_value asked).query }
         ensures reply { reply_in result ≡ answer }
         ensures change { change_in result ≡ change }
     {

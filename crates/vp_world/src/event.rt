@@ -1,4 +1,4 @@
-use vp_answer::{GrantChange, Request, SessionId};
+use vp_answer::{GrantChange, Query, SessionId};
 use vp_race::Finding;
 use vp_text::{Shared, Text};
 
@@ -6,19 +6,11 @@ use vp_text::{Shared, Text};
 #[derive(Drop)]
 pub enum Event {
     /// A user opens a session.
-    Open {
-        user: Text,
-        token: Text,
-    },
-    /// A session asks; the request is neither `Open` nor `Close` nor `Grant`.
-    Ask {
-        session: SessionId,
-        request: Request,
-    },
+    Open { user: Text, token: Text },
+    /// A session asks; the query is neither `Open` nor `Close` nor `Grant`.
+    Ask { session: SessionId, query: Query },
     /// A session is closed.
-    Close {
-        session: SessionId,
-    },
+    Close { session: SessionId },
     /// A user's grant for an envelope changes.
     Grant(GrantChange),
     /// The simulation takes the k-th of the events that a step can take, from 0.

@@ -8,21 +8,20 @@ ghost use Rattle.vp_sim.specs.States as sim;
 ghost use Rattle.vp_world.specs.declared.event.Event.TheVariants as event;
 ghost use Rattle.vp_world.specs.declared.error.WorldError.TheVariants as world_error;
 ghost use Rattle.vp_answer.specs.declared.reply.Reply.TheVariants as reply;
-ghost use Rattle.vp_answer.specs.Requests.{IsAsked};
 ghost use Rattle.vp_world.specs.History.{asked_at, asked_in, book_refusal, change_of, changed_in, closed_at, granted_to, is_past_goal, is_full, is_next_past_goal, later, next_session, raised, opened_by, refusal_in, refusal_of_job, refusal_of_log, refusal_of_outcome, refusal_of_session, refusal_of_step, advance_refusal, step_refusal, stepped, with_booked, with_job_taken, with_state};
 ghost use Rattle.vp_answer.specs.OpenSessions.{index_of};
 ghost use Rattle.vp_world.specs.Worlds.{start};
 
 use crate::error::WorldError;
 use crate::limits::Limits;
-use crate::putting::{AnswerWithChange, answer_request};
+use crate::putting::{AnswerWithChange, answer_query};
 use crate::session::{OpenSession, retire, session_index};
 use crate::watching::{mark_asked, notify};
 use std::alloc::Global;
 use std::marker::Model;
 use std::snapshot::Snapshot;
 use std::sync::Arc;
-use vp_answer::{GrantChange, Request, SessionId};
+use vp_answer::{GrantChange, Query, SessionId};
 use vp_expr::Change;
 use vp_policy::{Policy, UserId};
 use vp_race::{Book, Finding, Recording, Segment};
@@ -508,24 +507,23 @@ impl LiveWorld {
         Ok(())
     }
 
-    /// Answers a request of the session at an index, whose change is due to the callbacks on it; or out of memory (1307), which leaves
+    /// Answers a query of the session at an index, whose change is due to the callbacks on it; or out of memory (1307), which leaves
     /// the world as it was.
-    pub fn ask(&mut self, index: usize, request: &Request) -> Result<AnswerWithChange, WorldError>
-        requires asked { IsAsked request.now }
-        requires within { index < length self.old.state.sessions }
-        ensures reply { IfOk result (λ a. a.reply ≡ asked_in self.old index request.now) }
-        ensures entry { IfOk result (λ a. a.entry_reply ≡ asked_in self.old index request.now) }
-        ensures change { IfOk result (λ a. a.change ≡ changed_in self.old index request.now) }
+    pub fn ask(&mut self, index: usize, query: &Query) -> Result<AnswerWithChange, WorldError>
+        requires { index < length self.old.state.sessions }
+        ensures reply { IfOk result (λ a. a.reply ≡ asked_in self.old index query.now) }
+        ensures entry { IfOk result (λ a. a.entry_reply ≡ asked_in self.old index query.now) }
+        ensures change { IfOk result (λ a. a.change ≡ changed_in self.old index query.now) }
         ensures done { IfOk result (λ a. IfSome a.change (λ c. a.entry_reply ≡ reply.Done)) }
         ensures after { OnOk result
             (self.new ≡ with_state self.old
-            (asked_at self.old.state (Some index) request.now)) }
+            (asked_at self.old.state (Some index) query.now)) }
         ensures refused { IsOkUnless result world_error.NoMemory }
         ensures unchanged { OnErr result (self.new ≡ self.old) }
     {
         let session = &mut self.sessions[index].session;
-        let answer = answer_request(session, &self.policy, &mut self.run, &self.book, request)?;
-        mark_asked(&mut self.watched, session, request);
+        let answer = answer_query(session, &self.policy, &mut self.run, &self.book, query)?;
+        mark_asked(&mut self.watched, session, query);
         self.goal = raised(self.goal, answer.goal);
         let change = answer.change.as_ref();
         let time = self.run.simulation().time();

@@ -1,17 +1,16 @@
-// What a session's request is answered by a world, and what it changes there.
+// What a session's query is answered by a world, and what it changes there.
 ghost use Rattle.std.specs.Prelude.{◌≡◌, IfOk, IsOkUnless, IsSome, OnErr, OnOk};
 ghost use Rattle.vp_policy.specs.PolicyState.{Fits};
 ghost use Rattle.vp_sim.specs.States as sim;
 ghost use Rattle.vp_world.specs.declared.error.WorldError.TheVariants as world_error;
 ghost use Rattle.vp_answer.specs.Answers.{respond};
-ghost use Rattle.vp_answer.specs.Requests.{IsAsked};
 ghost use Rattle.vp_answer.specs.Given.{put_shown};
 ghost use Rattle.vp_world.specs.Given.{Gives, observer_in};
 ghost use Rattle.vp_world.specs.History.{outcome_of_put, segments_of_put};
 
 use crate::error::WorldError;
 use crate::user_observer::UserObserver;
-use vp_answer::{Reply, Request, respond};
+use vp_answer::{Query, Reply, respond};
 use vp_bits::Bits;
 use vp_elab::ObjectId;
 use vp_expr::Change;
@@ -19,7 +18,7 @@ use vp_policy::Policy;
 use vp_race::{Book, Recording};
 use vp_vpi::Session;
 
-/// What a request is answered, and what it changed.
+/// What a query is answered, and what it changed.
 #[derive(Drop)]
 pub struct AnswerWithChange {
     /// The reply, for the session.
@@ -55,25 +54,24 @@ fn make_put(
     }
 }
 
-/// Answers a session's request by what its user can look up, and makes its put, if it has one; or out of memory (1307), which leaves the
+/// Answers a session's query by what its user can look up, and makes its put, if it has one; or out of memory (1307), which leaves the
 /// session and the simulation as they were.
-pub fn answer_request(
+pub fn answer_query(
     session: &mut Session,
     policy: &Policy,
     run: &mut Recording,
     book: &Book,
-    request: &Request,
+    query: &Query,
 ) -> Result<AnswerWithChange, WorldError>
-    requires asked { IsAsked request.now }
-    requires fits { Fits policy.now run.old.simulation.design.tree }
+    requires { Fits policy.now run.old.simulation.design.tree }
     ensures given { let observation = observer_in run.old book.now policy.now session.old.user in IfOk result
-        (Gives (respond observation session.old request.now) run.old run.new session.new) }
+        (Gives (respond observation session.old query.now) run.old run.new session.new) }
     ensures refused { IsOkUnless result world_error.NoMemory }
     ensures session { OnErr result (session.new ≡ session.old) }
     ensures run { OnErr result (run.new ≡ run.old) }
 {
     let observation = UserObserver::new(policy, session.user(), run.simulation(), book);
-    let answer = respond(session, &observation, request)?;
+    let answer = respond(session, &observation, query)?;
     let change = make_put(run, answer.put)?;
     Ok(AnswerWithChange {
         reply: answer.reply,

@@ -8,7 +8,7 @@ ghost use Rattle.vp_world.specs.Shown.{session_shown};
 ghost use Rattle.vp_world.specs.Marks.{all_marked, are_marked, is_watch, is_watched, may_be_watched};
 
 use crate::session::{OpenSession, notify_sessions};
-use vp_answer::Request;
+use vp_answer::Query;
 use vp_elab::ObjectId;
 use vp_expr::Change;
 use vp_notify::Callback;
@@ -44,26 +44,26 @@ fn mark_all(watched: &mut Vec<bool>, callbacks: &[Callback])
     }
 }
 
-/// A request registers a callback.
-fn is_watch(request: &Request) -> bool
-    ensures { result ≡ is_watch request.now }
+/// A query registers a callback.
+fn is_watch(query: &Query) -> bool
+    ensures { result ≡ is_watch query.now }
 {
-    match request {
-        Request::Watch { .. } => true,
+    match query {
+        Query::Watch { .. } => true,
         _ => false,
     }
 }
 
-/// After a request of a session the objects of its callbacks may be watched, if they might before.
-pub fn mark_asked(watched: &mut Vec<bool>, session: &Session, request: &Request)
+/// After a query of a session the objects of its callbacks may be watched, if they might before.
+pub fn mark_asked(watched: &mut Vec<bool>, session: &Session, query: &Query)
     ensures marked { (observation : Observer) → (session_state : SessionState)
-        → session.now ≡ (respond observation session_state request.now).session_state
+        → session.now ≡ (respond observation session_state query.now).session_state
         → are_marked watched.old.items session_state.registry.callbacks ≡ true
         → are_marked watched.new.items session.now.registry.callbacks ≡ true }
     ensures grown { (object : ℕ) → may_be_watched watched.old.items object ≡ true
         → may_be_watched watched.new.items object ≡ true }
 {
-    if is_watch(request) {
+    if is_watch(query) {
         mark_all(watched, session.callbacks());
     }
 }

@@ -6,7 +6,6 @@ ghost use Rattle.vp_world.specs.declared.event.Event.TheVariants as event;
 ghost use Rattle.vp_world.specs.declared.error.WorldError.TheVariants.{NoMemory};
 ghost use Rattle.vp_race.specs.Recording.{kept_of, next_job};
 ghost use Rattle.vp_world.specs.Events.{IsWellFormed};
-ghost use Rattle.vp_answer.specs.Requests.{IsAsked};
 ghost use Rattle.vp_world.specs.History.{Applies, IsLegal, IsReached, answered_by, is_log_full, state_after};
 
 use crate::entry::{Asked, Entry, LoggedEvent, Login, add_step};
@@ -17,7 +16,7 @@ use crate::live_world::LiveWorld;
 use std::alloc::Global;
 use std::marker::Model;
 use std::sync::Arc;
-use vp_answer::{GrantChange, Reply, Request, SessionId};
+use vp_answer::{GrantChange, Query, Reply, SessionId};
 use vp_policy::Policy;
 use vp_race::{Finding, Segment};
 use vp_sim::Checked;
@@ -99,7 +98,7 @@ impl World {
     {
         match event {
             Event::Open { user, token } => self.apply_open(user, token),
-            Event::Ask { session, request } => self.apply_ask(session, request),
+            Event::Ask { session, query } => self.apply_ask(session, query),
             Event::Close { session } => self.apply_close(session),
             Event::Grant(change) => self.apply_grant(change),
             Event::Step(k) => self.apply_step(k),
@@ -256,17 +255,16 @@ impl World {
     }
 
     /// The same of an Ask.
-    fn apply_ask(&mut self, session: SessionId, request: Request) -> Result<Reply, WorldError>
-        requires { IsAsked request }
-        ensures applied { Applies self.old (event.Ask session request) result self.new }
+    fn apply_ask(&mut self, session: SessionId, query: Query) -> Result<Reply, WorldError>
+        ensures applied { Applies self.old (event.Ask session query) result self.new }
         ensures reply { IfOk result
-            (λ reply. reply ≡ answered_by self.old (event.Ask session request)) }
+            (λ reply. reply ≡ answered_by self.old (event.Ask session query)) }
     {
         let full = self.is_full();
         let index = self.present.index(session, full)?;
         self.log.reserve(1)?;
-        let asked = Arc::new(self.alloc, Asked { session, request })?;
-        let answer = self.present.ask(index, &asked.request)?;
+        let asked = Arc::new(self.alloc, Asked { session, query })?;
+        let answer = self.present.ask(index, &asked.query)?;
         let entry = Entry {
             happening: LoggedEvent::of_asked(asked, answer.entry_reply, answer.change),
             time: self.present.time(),

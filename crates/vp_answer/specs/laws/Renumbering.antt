@@ -27,10 +27,10 @@ use Rattle.vp_vpi.specs.Observers.{Absent, Denied, Found, Lookup, Observer, is_r
 use Rattle.vp_vpi.specs.SessionStates as session_states
 use Rattle.vp_vpi.specs.SessionStates.{SessionState, drained, retired, with_due, with_handle, without_callback, handle_to, has_room, is_full, next_handle, object_of, with_handles}
 use Rattle.vp_answer.specs.declared.reply.Reply.{Reply}
-use Rattle.vp_answer.specs.declared.request.Request.{Request}
-use Rattle.vp_answer.specs.declared.request.Request.TheVariants as request
-use Rattle.vp_answer.specs.declared.request.ValueFormat.{ValueFormat}
-use Rattle.vp_answer.specs.declared.request.ValueFormat.TheVariants as format
+use Rattle.vp_answer.specs.declared.query.Query.{Query}
+use Rattle.vp_answer.specs.declared.query.Query.TheVariants as query
+use Rattle.vp_answer.specs.declared.query.ValueFormat.{ValueFormat}
+use Rattle.vp_answer.specs.declared.query.ValueFormat.TheVariants as format
 use Rattle.vp_answer.specs.declared.reply.Reply.TheVariants as reply
 use Rattle.vp_answer.specs.Answers.{Response, unwatch_response, freed, made, only_told, polling, putting, refused, respond, response_by, scanned, reply_with, value_in, watching}
 use Rattle.vp_answer.specs.Renumbering as under
@@ -474,7 +474,7 @@ watched_under n seen observation alike r found =
     (watchable_under n seen observation alike found)
     (λ o is. ap (λ (b : Bool). test_callbacks b (n.number o)) (room_for_callback n r) ∙ callbacks_found n (registry.is_full r) o)
 
--- ---- what comes of a request
+-- ---- what comes of a query
 
 -- what comes of an answer, or of its refusal
 response_under : {A B : Type 0} (n : Renumbering) (f : A → B) (s : SessionState) (given' : B → Response) (given : A → Response) (due' : Result B VpiError) (due : Result A VpiError)
@@ -541,7 +541,7 @@ polling_under : (n : Renumbering) (s : SessionState) → polling (under.session_
 polling_under n s =
     ap (λ ps. only_told (under.session_state n (drained s)) (reply.Notices (record { notices = ps; lost = s.registry.lost }))) (polled_under n s.registry.waiting)
 
--- what comes of a request to run, where the user may and where he may not
+-- what comes of a query to run, where the user may and where he may not
 run_test : (n : Renumbering) (s : SessionState) (until : ℕ) (b : Bool)
     → record { reply = if b then reply.Done else reply.RunDenied; session_state = under.session_state n s; goal = if b then Some until else None; put = None }
     ≡ under.response n (record { reply = if b then reply.Done else reply.RunDenied; session_state = s; goal = if b then Some until else None; put = None })
@@ -549,57 +549,54 @@ run_test n s until true = refl
 run_test n s until false = refl
 
 -- what a session is answered is the same under other numbers of its objects
-pub respond_under : (n : Renumbering) (seen observation : Observer) → IsSeenAs n seen observation → (s : SessionState) (r : Request)
+pub respond_under : (n : Renumbering) (seen observation : Observer) → IsSeenAs n seen observation → (s : SessionState) (r : Query)
     → respond observation (under.session_state n s) r ≡ under.response n (respond seen s r)
-respond_under n seen observation alike s (request.Open user token) = refl
-respond_under n seen observation alike s request.Close = refl
-respond_under n seen observation alike s (request.Grant change) = refl
-respond_under n seen observation alike s (request.Handle name scope) =
+respond_under n seen observation alike s (query.Handle name scope) =
     response_under n n.number s (made (under.session_state n s)) (made s) (handle_of observation (map (under.handle n) s.handles) scope name) (handle_of seen s.handles scope name)
     (handle_under n seen observation alike s.handles scope name) (made_under n s)
-respond_under n seen observation alike s (request.Iterate k scope) =
+respond_under n seen observation alike s (query.Iterate k scope) =
     response_under n (iterated_under n) s (scanned (under.session_state n s)) (scanned s) (iterated observation (map (under.handle n) s.handles) k scope) (iterated seen s.handles k scope)
     (iterated_alike n seen observation alike s.handles k scope) (scanned_under n s)
-respond_under n seen observation alike s (request.Get h p) =
+respond_under n seen observation alike s (query.Get h p) =
     reply_under n s reply.Number (number_of observation p (object_of (map (under.handle n) s.handles) h)) (number_of seen p (object_of s.handles h))
     (ap (number_of observation p) (object_under n s.handles h) ∙ number_under n seen observation alike p (object_of s.handles h))
-respond_under n seen observation alike s (request.GetStr h p) =
+respond_under n seen observation alike s (query.GetStr h p) =
     reply_under n s reply.Text (text_of observation p (object_of (map (under.handle n) s.handles) h)) (text_of seen p (object_of s.handles h))
     (ap (text_of observation p) (object_under n s.handles h) ∙ text_under n seen observation alike p (object_of s.handles h))
-respond_under n seen observation alike s (request.Value h f) =
+respond_under n seen observation alike s (query.Value h f) =
     reply_under n s (value_in f) (value_of observation (object_of (map (under.handle n) s.handles) h)) (value_of seen (object_of s.handles h))
     (ap (value_of observation) (object_under n s.handles h) ∙ value_under n seen observation alike (object_of s.handles h))
-respond_under n seen observation alike s (request.Put h v) =
+respond_under n seen observation alike s (query.Put h v) =
     response_under n (under.put n) s (putting (under.session_state n s)) (putting s) (put_of observation v (object_of (map (under.handle n) s.handles) h)) (put_of seen v (object_of s.handles h))
     (ap (put_of observation v) (object_under n s.handles h) ∙ put_alike n seen observation alike v (object_of s.handles h)) (λ x. refl)
-respond_under n seen observation alike s (request.Compare a b) =
+respond_under n seen observation alike s (query.Compare a b) =
     reply_under n s reply.Same (same_of (object_of (map (under.handle n) s.handles) a) (object_of (map (under.handle n) s.handles) b)) (same_of (object_of s.handles a) (object_of s.handles b))
     (ap (λ x. same_of x (object_of (map (under.handle n) s.handles) b)) (object_under n s.handles a)
     ∙ ap (same_of (option_map n.number (object_of s.handles a))) (object_under n s.handles b)
     ∙ same_under n (object_of s.handles a) (object_of s.handles b))
-respond_under n seen observation alike s (request.Free h) =
+respond_under n seen observation alike s (query.Free h) =
     response_under n n.number s (λ o. freed (under.session_state n s) h) (λ o. freed s h) (or_refusal (object_of (map (under.handle n) s.handles) h) error.BadHandle)
     (or_refusal (object_of s.handles h) error.BadHandle)
     (ap (λ x. or_refusal x error.BadHandle) (object_under n s.handles h) ∙ refusal_or n (object_of s.handles h)) (λ o. freed_under n s h)
-respond_under n seen observation alike s (request.Watch h) =
+respond_under n seen observation alike s (query.Watch h) =
     response_under n n.number s (watching (under.session_state n s)) (watching s) (watched_of observation (under.registry n s.registry) (object_of (map (under.handle n) s.handles) h))
     (watched_of seen s.registry (object_of s.handles h))
     (ap (watched_of observation (under.registry n s.registry)) (object_under n s.handles h) ∙ watched_under n seen observation alike s.registry (object_of s.handles h)) (watching_under n s)
-respond_under n seen observation alike s (request.Unwatch c) = unwatch_under n s c
-respond_under n seen observation alike s request.Poll = polling_under n s
-respond_under n seen observation alike s (request.Races from) =
+respond_under n seen observation alike s (query.Unwatch c) = unwatch_under n s c
+respond_under n seen observation alike s query.Poll = polling_under n s
+respond_under n seen observation alike s (query.Races from) =
     ap (λ races. only_told (under.session_state n s) (reply.Races (take race_limit (lines_from (max 1 from) (drop (from - 1) races))))) alike.races
-respond_under n seen observation alike s (request.Race k) =
+respond_under n seen observation alike s (query.Race k) =
     reply_under n s reply.Race (race_of observation k) (race_of seen k)
     (ap (λ races. or_refusal (option_map (race_details k) (shown_at races k)) error.NoSuchRace) alike.races)
-respond_under n seen observation alike s (request.Run until) =
+respond_under n seen observation alike s (query.Run until) =
     ap (λ (b : Bool). record { reply = if b then reply.Done else reply.RunDenied; session_state = under.session_state n s; goal = if b then Some until else None; put = None }) alike.may_run
     ∙ run_test n s until seen.may_run
-respond_under n seen observation alike s request.Time =
+respond_under n seen observation alike s query.Time =
     ap (λ (t : ℕ). only_told (under.session_state n s) (reply.Time t observation.finished)) alike.time
     ∙ ap (λ (b : Bool). only_told (under.session_state n s) (reply.Time seen.time b)) alike.finished
 
--- ---- what happens to a session without a request
+-- ---- what happens to a session without a query
 
 -- a notice more waits, or is lost
 waiting_test : (n : Renumbering) (b : Bool) (r : registry.RegistryState) (t : Notice) → test_waiting b (under.registry n r) (under.notice n t) ≡ under.registry n (test_waiting b r t)

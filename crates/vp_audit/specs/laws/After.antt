@@ -24,8 +24,8 @@ use Rattle.vp_vpi.specs.Calls.{allowed, handle_of, is_watchable, iterated, numbe
 use Rattle.vp_vpi.specs.declared.races.ShownRace.{ShownRace}
 use Rattle.vp_vpi.specs.Observers.{Observer, is_readable}
 use Rattle.vp_vpi.specs.SessionStates.{SessionState, object_of, with_due, without_callback}
-use Rattle.vp_answer.specs.declared.request.Request.{Request}
-use Rattle.vp_answer.specs.declared.request.Request.TheVariants as request
+use Rattle.vp_answer.specs.declared.query.Query.{Query}
+use Rattle.vp_answer.specs.declared.query.Query.TheVariants as query
 use Rattle.vp_answer.specs.declared.reply.Reply.TheVariants as reply
 use Rattle.vp_answer.specs.Answers.{Response, freed, made, only_told, putting, refused, respond, response_by, scanned, value_in, watching}
 use Rattle.vp_answer.specs.Renumbering as under
@@ -291,7 +291,7 @@ watched_object observation r found o e =
     subst (λ (q : ℕ). observation.denied right.Watch q ≡ None) (test_of (is_watchable (observation.kind b)) b a vpi.WrongKind kind ∙ full_of (registry.is_full r) a o vpi.TooManyCallbacks last)
     (allowed_of observation right.Watch found b allowed_is)
 
--- the callbacks of a session after a request are on objects that may be watched
+-- the callbacks of a session after a query are on objects that may be watched
 abbrev KeepsWatched : (v : View) → SessionState → Response → Type 0
 KeepsWatched v session_state given = AreWatched v given.session_state.registry.callbacks
 
@@ -301,29 +301,26 @@ watched_by : {A : Type 0} (v : View) (session_state : SessionState) → AreWatch
 watched_by v session_state h given (Ok x) k = k x refl
 watched_by v session_state h given (Err e) k = h
 
--- so each request does
-pub watched_kept : (v : View) (values : List (Option (List Bit))) (time : ℕ) (finished : Bool) (races : List ShownRace) (session_state : SessionState) (r : Request)
+-- so each query does
+pub watched_kept : (v : View) (values : List (Option (List Bit))) (time : ℕ) (finished : Bool) (races : List ShownRace) (session_state : SessionState) (r : Query)
     → AreWatched v session_state.registry.callbacks → KeepsWatched v session_state (respond (observer_seen v values time finished races) session_state r)
-watched_kept v values time finished races session_state (request.Open user token) h = h
-watched_kept v values time finished races session_state request.Close h = h
-watched_kept v values time finished races session_state (request.Grant change) h = h
-watched_kept v values time finished races session_state (request.Handle name scope) h =
+watched_kept v values time finished races session_state (query.Handle name scope) h =
     watched_by v session_state h (made session_state) (handle_of (observer_seen v values time finished races) session_state.handles scope name) (λ x e. h)
-watched_kept v values time finished races session_state (request.Iterate k scope) h =
+watched_kept v values time finished races session_state (query.Iterate k scope) h =
     watched_by v session_state h (scanned session_state) (iterated (observer_seen v values time finished races) session_state.handles k scope) (λ x e. h)
-watched_kept v values time finished races session_state (request.Get handle n) h =
+watched_kept v values time finished races session_state (query.Get handle n) h =
     watched_by v session_state h (λ x. only_told session_state (reply.Number x)) (number_of (observer_seen v values time finished races) n (object_of session_state.handles handle)) (λ x e. h)
-watched_kept v values time finished races session_state (request.GetStr handle t) h =
+watched_kept v values time finished races session_state (query.GetStr handle t) h =
     watched_by v session_state h (λ x. only_told session_state (reply.Text x)) (text_of (observer_seen v values time finished races) t (object_of session_state.handles handle)) (λ x e. h)
-watched_kept v values time finished races session_state (request.Value handle f) h =
+watched_kept v values time finished races session_state (query.Value handle f) h =
     watched_by v session_state h (λ x. only_told session_state (value_in f x)) (value_of (observer_seen v values time finished races) (object_of session_state.handles handle)) (λ x e. h)
-watched_kept v values time finished races session_state (request.Put handle w) h =
+watched_kept v values time finished races session_state (query.Put handle w) h =
     watched_by v session_state h (putting session_state) (put_of (observer_seen v values time finished races) w (object_of session_state.handles handle)) (λ x e. h)
-watched_kept v values time finished races session_state (request.Compare a b) h =
+watched_kept v values time finished races session_state (query.Compare a b) h =
     watched_by v session_state h (λ x. only_told session_state (reply.Same x)) (same_of (object_of session_state.handles a) (object_of session_state.handles b)) (λ x e. h)
-watched_kept v values time finished races session_state (request.Free handle) h =
+watched_kept v values time finished races session_state (query.Free handle) h =
     watched_by v session_state h (λ o. freed session_state handle) (or_refusal (object_of session_state.handles handle) vpi.BadHandle) (λ x e. h)
-watched_kept v values time finished races session_state (request.Watch handle) h =
+watched_kept v values time finished races session_state (query.Watch handle) h =
     watched_by v session_state h (watching session_state) (watched_of (observer_seen v values time finished races) session_state.registry (object_of session_state.handles handle))
     (λ o e.
     let new : Callback = record { number = session_state.registry.given + 1; object = record { 0 = o } } in
@@ -333,15 +330,15 @@ watched_kept v values time finished races session_state (request.Watch handle) h
     (All-cons watch new (filter (registry.is_past_goal o) session_state.registry.callbacks)
     (watched_object (observer_seen v values time finished races) session_state.registry (object_of session_state.handles handle) o e)
     (filter_all watch (registry.is_past_goal o) session_state.registry.callbacks h)))
-watched_kept v values time finished races session_state (request.Unwatch callback) h =
+watched_kept v values time finished races session_state (query.Unwatch callback) h =
     by_test (registry.has_number session_state.registry callback)
   where
     by_test : (b : Bool) → (let r : Response = if b then only_told (without_callback callback session_state) reply.Done else only_told session_state (refused vpi.NoSuchCallback) in KeepsWatched v session_state r)
     by_test true = filter_all (λ (b : Callback). denied_seen v right.Watch b.object.0 ≡ None) (λ b. not (registry.is_numbered callback b)) session_state.registry.callbacks h
     by_test false = h
-watched_kept v values time finished races session_state request.Poll h = h
-watched_kept v values time finished races session_state (request.Races from) h = h
-watched_kept v values time finished races session_state (request.Race number) h =
+watched_kept v values time finished races session_state query.Poll h = h
+watched_kept v values time finished races session_state (query.Races from) h = h
+watched_kept v values time finished races session_state (query.Race number) h =
     watched_by v session_state h (λ x. only_told session_state (reply.Race x)) (race_of (observer_seen v values time finished races) number) (λ x e. h)
-watched_kept v values time finished races session_state (request.Run until) h = h
-watched_kept v values time finished races session_state request.Time h = h
+watched_kept v values time finished races session_state (query.Run until) h = h
+watched_kept v values time finished races session_state query.Time h = h

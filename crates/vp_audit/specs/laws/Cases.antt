@@ -19,7 +19,7 @@ use Rattle.vp_expr.specs.declared.change.Change.{Change}
 use Rattle.vp_vpi.specs.declared.races.ShownRace.{ShownRace}
 use Rattle.vp_world.specs.Races.{is_shown, observer_with, race_seen, races_seen}
 use Rattle.vp_vpi.specs.SessionStates.{SessionState, new_session_state}
-use Rattle.vp_answer.specs.declared.request.Request.{Request}
+use Rattle.vp_answer.specs.declared.query.Query.{Query}
 use Rattle.vp_answer.specs.declared.request.SessionId.{SessionId}
 use Rattle.vp_answer.specs.declared.reply.Refusal.TheVariants as refusal
 use Rattle.vp_answer.specs.declared.reply.Reply.{Reply}
@@ -167,8 +167,8 @@ part_stands u known mine world are id own_event index e =
 
 -- ---- what a session is answered
 
--- what comes of a request of a session of a user's, and of his in his part
-pub response_is : (design : Elaborated) (u : ℕ) (s : State) (known : List Bool) (p : Part) → IsPartOf design u s known p → (his : SessionState) → his.user ≡ u → (r : Request)
+-- what comes of a query of a session of a user's, and of his in his part
+pub response_is : (design : Elaborated) (u : ℕ) (s : State) (known : List Bool) (p : Part) → IsPartOf design u s known p → (his : SessionState) → his.user ≡ u → (r : Query)
     → response_of s (under.session_state (by_index known) his) r ≡ under.response (by_index known) (respond (observer_of_part p) his r)
 response_is design u s known p is his user r =
     let m = member_at s.policy.members u in
@@ -226,8 +226,8 @@ nothing_case design u s known p is answered =
       replied = refl;
     }
 
--- a request of a user's open session
-pub asked_own : (design : Elaborated) (u : ℕ) (s : State) (known : List Bool) (p : Part) → IsPartOf design u s known p → (id : SessionId) (r : Request) → (id.user.0 == u) ≡ true → (index : ℕ)
+-- a query of a user's open session
+pub asked_own : (design : Elaborated) (u : ℕ) (s : State) (known : List Bool) (p : Part) → IsPartOf design u s known p → (id : SessionId) (r : Query) → (id.user.0 == u) ≡ true → (index : ℕ)
     → index_of s.sessions id ≡ Some index
     → ComesTo design u s (asked_at s (Some index) r) known p (Some (Asks id r)) (changed_by s (slice_get s.sessions index) r) (asked s (slice_get s.sessions index) r) p.races
 asked_own design u s known p is id r own_event index at =
@@ -277,8 +277,8 @@ asked_own design u s known p is id r own_event index at =
       replied = ap Some (ap (λ x. asked s x r) i.there ∙ ap (λ (g : Response). g.reply) world ∙ sym reply_is);
     }
 
--- a request of a session of another's
-pub asked_other : (design : Elaborated) (u : ℕ) (s : State) (known : List Bool) (p : Part) → IsPartOf design u s known p → (id : SessionId) (r : Request) → (id.user.0 == u) ≡ false → (index : ℕ)
+-- a query of a session of another's
+pub asked_other : (design : Elaborated) (u : ℕ) (s : State) (known : List Bool) (p : Part) → IsPartOf design u s known p → (id : SessionId) (r : Query) → (id.user.0 == u) ≡ false → (index : ℕ)
     → index_of s.sessions id ≡ Some index → (session : Option OpenSessionState) → slice_get s.sessions index ≡ session → (answered : Reply)
     → ComesTo design u s (state_asked s index session r) known p None (changed_by s session r) answered p.races
 asked_other design u s known p is id r other index at None there answered = nothing_case design u s known p is answered

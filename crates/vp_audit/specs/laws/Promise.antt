@@ -13,7 +13,7 @@ use Rattle.vp_race.specs.Recording.{with_anew, with_step}
 use Rattle.vp_expr.specs.declared.change.Change.{Change}
 use Rattle.vp_vpi.specs.declared.races.ShownRace.{ShownRace}
 use Rattle.vp_answer.specs.declared.request.GrantChange.{GrantChange}
-use Rattle.vp_answer.specs.declared.request.Request.{Request}
+use Rattle.vp_answer.specs.declared.query.Query.{Query}
 use Rattle.vp_answer.specs.declared.request.SessionId.{SessionId}
 use Rattle.vp_answer.specs.declared.reply.Refusal.TheVariants as refusal
 use Rattle.vp_answer.specs.declared.reply.Reply.{Reply}
@@ -73,8 +73,8 @@ open_case design u s known p is (Some v) within = by_test (v == u) refl where
       subst (λ own_event. ComesTo design u s (opened_by s v) known p own_event None (reply.Opened (next_session s v)) p.races) (sym (own_not u (next_session s v) (Opens (next_session s v)) e))
       (opened_other design u s known p is v e (reply.Opened (next_session s v)))
 
--- a request, by the index of its session
-ask_case : (design : Elaborated) (u : ℕ) (s : State) (known : List Bool) (p : Part) → IsPartOf design u s known p → (id : SessionId) (r : Request) (index : Option ℕ) → index_of s.sessions id ≡ index
+-- a query, by the index of its session
+ask_case : (design : Elaborated) (u : ℕ) (s : State) (known : List Bool) (p : Part) → IsPartOf design u s known p → (id : SessionId) (r : Query) (index : Option ℕ) → index_of s.sessions id ≡ index
     → (b : Bool) → (id.user.0 == u) ≡ b
     → ComesTo design u s (asked_at s index r) known p (own_if u id (Asks id r)) (changed_by s (option_and_then (slice_get s.sessions) index) r) (asked s (option_and_then (slice_get s.sessions) index) r) p.races
 ask_case design u s known p is id r None at true own_event =

@@ -8,8 +8,8 @@ use Rattle.vp_vpi.specs.declared.error.VpiError.TheVariants as vpi
 use Rattle.vp_vpi.specs.Calls.{handle_of, iterated, number_of, or_refusal, put_of, race_of, same_of, text_of, value_of, watched_of}
 use Rattle.vp_vpi.specs.Observers.{Observer}
 use Rattle.vp_vpi.specs.SessionStates.{SessionState, object_of}
-use Rattle.vp_answer.specs.declared.request.Request.{Request}
-use Rattle.vp_answer.specs.declared.request.Request.TheVariants as request
+use Rattle.vp_answer.specs.declared.query.Query.{Query}
+use Rattle.vp_answer.specs.declared.query.Query.TheVariants as query
 use Rattle.vp_answer.specs.declared.reply.Reply.TheVariants as reply
 use Rattle.vp_answer.specs.Answers.{Response, freed, made, only_told, putting, respond, response_by, scanned, value_in, watching}
 
@@ -127,23 +127,20 @@ kept_by : {A : Type 0} (session_state : SessionState) (given : A → Response) (
 kept_by session_state given (Ok x) h = h x
 kept_by session_state given (Err e) h = refl
 
--- so each request does
-pub user_kept : (observation : Observer) (session_state : SessionState) (r : Request) → (respond observation session_state r).session_state.user ≡ session_state.user
-user_kept observation session_state (request.Open user token) = refl
-user_kept observation session_state request.Close = refl
-user_kept observation session_state (request.Grant change) = refl
-user_kept observation session_state (request.Handle name scope) = kept_by session_state (made session_state) (handle_of observation session_state.handles scope name) (λ x. refl)
-user_kept observation session_state (request.Iterate k scope) = kept_by session_state (scanned session_state) (iterated observation session_state.handles k scope) (λ x. refl)
-user_kept observation session_state (request.Get handle n) = kept_by session_state (λ x. only_told session_state (reply.Number x)) (number_of observation n (object_of session_state.handles handle)) (λ x. refl)
-user_kept observation session_state (request.GetStr handle t) = kept_by session_state (λ x. only_told session_state (reply.Text x)) (text_of observation t (object_of session_state.handles handle)) (λ x. refl)
-user_kept observation session_state (request.Value handle f) = kept_by session_state (λ x. only_told session_state (value_in f x)) (value_of observation (object_of session_state.handles handle)) (λ x. refl)
-user_kept observation session_state (request.Put handle v) = kept_by session_state (putting session_state) (put_of observation v (object_of session_state.handles handle)) (λ x. refl)
-user_kept observation session_state (request.Compare a b) = kept_by session_state (λ x. only_told session_state (reply.Same x)) (same_of (object_of session_state.handles a) (object_of session_state.handles b)) (λ x. refl)
-user_kept observation session_state (request.Free handle) = kept_by session_state (λ o. freed session_state handle) (or_refusal (object_of session_state.handles handle) vpi.BadHandle) (λ x. refl)
-user_kept observation session_state (request.Watch handle) = kept_by session_state (watching session_state) (watched_of observation session_state.registry (object_of session_state.handles handle)) (λ x. refl)
-user_kept observation session_state (request.Unwatch callback) = kept_of (registry.has_number session_state.registry callback) _ _ session_state.user refl refl
-user_kept observation session_state request.Poll = refl
-user_kept observation session_state (request.Races from) = refl
-user_kept observation session_state (request.Race number) = kept_by session_state (λ x. only_told session_state (reply.Race x)) (race_of observation number) (λ x. refl)
-user_kept observation session_state (request.Run until) = refl
-user_kept observation session_state request.Time = refl
+-- so each query does
+pub user_kept : (observation : Observer) (session_state : SessionState) (r : Query) → (respond observation session_state r).session_state.user ≡ session_state.user
+user_kept observation session_state (query.Handle name scope) = kept_by session_state (made session_state) (handle_of observation session_state.handles scope name) (λ x. refl)
+user_kept observation session_state (query.Iterate k scope) = kept_by session_state (scanned session_state) (iterated observation session_state.handles k scope) (λ x. refl)
+user_kept observation session_state (query.Get handle n) = kept_by session_state (λ x. only_told session_state (reply.Number x)) (number_of observation n (object_of session_state.handles handle)) (λ x. refl)
+user_kept observation session_state (query.GetStr handle t) = kept_by session_state (λ x. only_told session_state (reply.Text x)) (text_of observation t (object_of session_state.handles handle)) (λ x. refl)
+user_kept observation session_state (query.Value handle f) = kept_by session_state (λ x. only_told session_state (value_in f x)) (value_of observation (object_of session_state.handles handle)) (λ x. refl)
+user_kept observation session_state (query.Put handle v) = kept_by session_state (putting session_state) (put_of observation v (object_of session_state.handles handle)) (λ x. refl)
+user_kept observation session_state (query.Compare a b) = kept_by session_state (λ x. only_told session_state (reply.Same x)) (same_of (object_of session_state.handles a) (object_of session_state.handles b)) (λ x. refl)
+user_kept observation session_state (query.Free handle) = kept_by session_state (λ o. freed session_state handle) (or_refusal (object_of session_state.handles handle) vpi.BadHandle) (λ x. refl)
+user_kept observation session_state (query.Watch handle) = kept_by session_state (watching session_state) (watched_of observation session_state.registry (object_of session_state.handles handle)) (λ x. refl)
+user_kept observation session_state (query.Unwatch callback) = kept_of (registry.has_number session_state.registry callback) _ _ session_state.user refl refl
+user_kept observation session_state query.Poll = refl
+user_kept observation session_state (query.Races from) = refl
+user_kept observation session_state (query.Race number) = kept_by session_state (λ x. only_told session_state (reply.Race x)) (race_of observation number) (λ x. refl)
+user_kept observation session_state (query.Run until) = refl
+user_kept observation session_state query.Time = refl

@@ -25,8 +25,8 @@ use Rattle.vp_vpi.specs.Calls.{Iterated, allowed, handle_of, is_of, is_watchable
 use Rattle.vp_vpi.specs.Observers.{Absent, Denied, Found, Lookup, Observer}
 use Rattle.vp_vpi.specs.Renumbered.{is_handle_within, is_session_state_within, moved_handle, moved_session_state}
 use Rattle.vp_vpi.specs.SessionStates.{SessionState, handle_to, has_room, is_full, object_of, retired, with_due}
-use Rattle.vp_answer.specs.declared.request.Request.{Request}
-use Rattle.vp_answer.specs.declared.request.Request.TheVariants as request
+use Rattle.vp_answer.specs.declared.query.Query.{Query}
+use Rattle.vp_answer.specs.declared.query.Query.TheVariants as query
 use Rattle.vp_answer.specs.declared.reply.Reply.{Reply}
 use Rattle.vp_answer.specs.Answers.{freed, made, only_told, putting, respond, response_by, scanned, reply_with, watching}
 use Rattle.vp_replay.specs.Seen.{children_seen, closed_seen, find_listed_seen, find_seen, from_seen, is_named_seen, listed_seen, observer_seen, scope_seen, unlisted_seen, walk_seen}
@@ -161,7 +161,7 @@ module _ (n : ℕ) where
       (all_kept (is_callback_within n) (λ c. not (gone c.object.0)) s.registry.callbacks (registry_callbacks s.registry (session_state_registry s h)))
       (all_kept (is_notice_within n) (λ t. not (gone t.object.0)) s.registry.waiting (registry_notices s.registry (session_state_registry s h))))
 
-  -- ---- requests
+  -- ---- queries
 
   -- an object, if there is one, is one of so many
   abbrev IsSomeIn : Option ℕ → Type 0
@@ -249,29 +249,26 @@ module _ (n : ℕ) where
     told_in s f (Ok y) h = h
     told_in s f (Err e) h = h
 
-    -- a request of a session
-    pub respond_within : (s : SessionState) (r : Request) → is_session_state_within n s ≡ true → is_session_state_within n (respond observation s r).session_state ≡ true
-    respond_within s (request.Open user token) h = h
-    respond_within s request.Close h = h
-    respond_within s (request.Grant change) h = h
-    respond_within s (request.Handle name scope) h = by_found (handle_of observation s.handles scope name) (handle_in s.handles scope name) where
+    -- a query of a session
+    pub respond_within : (s : SessionState) (r : Query) → is_session_state_within n s ≡ true → is_session_state_within n (respond observation s r).session_state ≡ true
+    respond_within s (query.Handle name scope) h = by_found (handle_of observation s.handles scope name) (handle_in s.handles scope name) where
       by_found : (x : Result ℕ VpiError) → IsOkIn x → is_session_state_within n (response_by s (made s) x).session_state ≡ true
       by_found (Err e) g = h
       by_found (Ok o) g =
           session_state_from (made s o).session_state (all_join (is_handle_within n) s.handles (handle_to o ∷ []) (session_state_handles s h) (both (nat_lt o n) true g refl)) (session_state_registry s h)
-    respond_within s (request.Iterate k scope) h = by_found (iterated observation s.handles k scope) (iterated_in s.handles k scope) where
+    respond_within s (query.Iterate k scope) h = by_found (iterated observation s.handles k scope) (iterated_in s.handles k scope) where
       by_found : (x : Result Iterated VpiError) → AreOkIn x → is_session_state_within n (response_by s (scanned s) x).session_state ≡ true
       by_found (Err e) g = h
       by_found (Ok found) g = session_state_from (scanned s found).session_state (all_join (is_handle_within n) s.handles found.handles (session_state_handles s h) g) (session_state_registry s h)
-    respond_within s (request.Get handle p) h = told_in s _ _ h
-    respond_within s (request.GetStr handle p) h = told_in s _ _ h
-    respond_within s (request.Value handle f) h = told_in s _ _ h
-    respond_within s (request.Put handle v) h = by_put (put_of observation v (object_of s.handles handle)) where
+    respond_within s (query.Get handle p) h = told_in s _ _ h
+    respond_within s (query.GetStr handle p) h = told_in s _ _ h
+    respond_within s (query.Value handle f) h = told_in s _ _ h
+    respond_within s (query.Put handle v) h = by_put (put_of observation v (object_of s.handles handle)) where
       by_put : (x : Result (ℕ × List Bit) VpiError) → is_session_state_within n (response_by s (putting s) x).session_state ≡ true
       by_put (Ok p) = h
       by_put (Err e) = h
-    respond_within s (request.Compare a b) h = told_in s _ _ h
-    respond_within s (request.Free handle) h = by_found (or_refusal (object_of s.handles handle) error.BadHandle) where
+    respond_within s (query.Compare a b) h = told_in s _ _ h
+    respond_within s (query.Free handle) h = by_found (or_refusal (object_of s.handles handle) error.BadHandle) where
       by_handle : (k : ℕ) → is_session_state_within n (freed s k).session_state ≡ true
       by_handle zero = h
       by_handle (suc k) = session_state_from (freed s (suc k)).session_state (all_set (is_handle_within n) s.handles k None (session_state_handles s h) refl) (session_state_registry s h)
@@ -279,12 +276,12 @@ module _ (n : ℕ) where
       by_found : (x : Result ℕ VpiError) → is_session_state_within n (response_by s (λ o. freed s handle) x).session_state ≡ true
       by_found (Ok o) = by_handle handle
       by_found (Err e) = h
-    respond_within s (request.Watch handle) h =
+    respond_within s (query.Watch handle) h =
         by_found (watched_of observation s.registry (object_of s.handles handle)) (watched_in s.registry (object_of s.handles handle) (object_in s.handles handle (session_state_handles s h))) where
           by_found : (x : Result ℕ VpiError) → IsOkIn x → is_session_state_within n (response_by s (watching s) x).session_state ≡ true
           by_found (Err e) g = h
           by_found (Ok o) g = session_state_from (watching s o).session_state (session_state_handles s h) (registered_within s.registry o (session_state_registry s h) g)
-    respond_within s (request.Unwatch callback) h = by_number _ _ (has_number s.registry callback) where
+    respond_within s (query.Unwatch callback) h = by_number _ _ (has_number s.registry callback) where
       by_number : (reply other : Reply) (b : Bool)
           → is_session_state_within n (if b then only_told (record s { registry = registry.without s.registry callback }) reply else only_told s other).session_state ≡ true
       by_number reply other true =
@@ -293,13 +290,13 @@ module _ (n : ℕ) where
           (all_kept (is_callback_within n) (λ c. not (is_numbered callback c)) s.registry.callbacks (registry_callbacks s.registry (session_state_registry s h)))
           (registry_notices s.registry (session_state_registry s h)))
       by_number reply other false = h
-    respond_within s request.Poll h =
+    respond_within s query.Poll h =
         session_state_from (record s { registry = registry.drained s.registry }) (session_state_handles s h)
         (registry_from (registry.drained s.registry) (registry_callbacks s.registry (session_state_registry s h)) refl)
-    respond_within s (request.Races from) h = h
-    respond_within s (request.Race number) h = told_in s _ _ h
-    respond_within s (request.Run until) h = h
-    respond_within s request.Time h = h
+    respond_within s (query.Races from) h = h
+    respond_within s (query.Race number) h = told_in s _ _ h
+    respond_within s (query.Run until) h = h
+    respond_within s query.Time h = h
 
 -- ---- other numbers
 

@@ -1,11 +1,10 @@
 //! What sessions ask of a hub.
-ghost use Rattle.vp_hub.specs.Calls.{IsCall};
 
 use std::alloc::Global;
 use std::sync::Wait;
 use std::thread;
 use std::time::{Clock, Duration};
-use vp_answer::{Reply, Request, ValueFormat};
+use vp_answer::{Call, Query, Reply, ValueFormat};
 use vp_bits::Bits;
 use vp_hub::{Closed, Hub, HubError, NamesOpening, Pass};
 use vp_text::Text;
@@ -29,11 +28,9 @@ pub fn ask<L: NamesOpening, R: Wait>(
     rt: &R,
     hub: &Hub<L>,
     pass: Pass<L>,
-    request: Request,
-) -> (Pass<L>, Option<Reply>)
-    requires { IsCall request }
-{
-    let (pass, answer) = hub.call(rt, pass, request);
+    query: Query,
+) -> (Pass<L>, Option<Reply>) {
+    let (pass, answer) = hub.call(rt, pass, Call::Query(query));
     (pass, answer.ok())
 }
 
@@ -42,11 +39,9 @@ pub fn order<L: NamesOpening, R: Wait>(
     rt: &R,
     hub: &Hub<L>,
     pass: Pass<L>,
-    request: Request,
-) -> Option<Pass<L>>
-    requires { IsCall request }
-{
-    let (pass, reply) = ask(rt, hub, pass, request);
+    query: Query,
+) -> Option<Pass<L>> {
+    let (pass, reply) = ask(rt, hub, pass, query);
     reply.and(Some(pass))
 }
 
@@ -59,7 +54,7 @@ pub fn find<L: NamesOpening, R: Wait>(
     name: &str,
 ) -> Option<Pass<L>> {
     let name = Text::copy(alloc, name).ok()?;
-    order(rt, hub, pass, Request::Handle { name, scope: None })
+    order(rt, hub, pass, Query::Handle { name, scope: None })
 }
 
 /// A session gives the object of its first handle a value, and is answered that it was done.
@@ -71,7 +66,7 @@ pub fn put<L: NamesOpening, R: Wait>(
     digits: &str,
 ) -> Option<Pass<L>> {
     let value = PutValue::Digits(Text::copy(alloc, digits).ok()?);
-    let (pass, reply) = ask(rt, hub, pass, Request::Put { handle: 1, value });
+    let (pass, reply) = ask(rt, hub, pass, Query::Put { handle: 1, value });
     match reply {
         Some(Reply::Done) => Some(pass),
         _ => None,
@@ -79,10 +74,8 @@ pub fn put<L: NamesOpening, R: Wait>(
 }
 
 /// What asks for the value of the object of a session's first handle.
-pub fn value() -> Request
-    ensures { IsCall result }
-{
-    Request::Value {
+pub fn value() -> Query {
+    Query::Value {
         handle: 1,
         format: ValueFormat::Binary,
     }

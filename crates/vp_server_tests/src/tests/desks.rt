@@ -6,7 +6,7 @@ use crate::tests::hubs::{CLOCKED, USERS, blank_of, world_of};
 use std::alloc::Global;
 use std::marker::Brand;
 use std::sync::ledger::Blank;
-use vp_answer::Request;
+use vp_answer::{Call, Query};
 use vp_hub::{Desk, NamesOpening, Pass};
 use vp_text::Text;
 use vp_world::{Event, LoggedEvent, World};
@@ -27,7 +27,7 @@ fn open<L: NamesOpening>(alloc: Global, desk: &mut Desk<L>) -> Option<Pass<L>> {
 
 /// The numbers of what a session's request for the time is refused by, and its pass.
 fn call<L: NamesOpening>(desk: &mut Desk<L>, pass: Pass<L>) -> (Pass<L>, (u32, u32)) {
-    let (pass, answer) = desk.call(pass, Request::Time);
+    let (pass, answer) = desk.call(pass, Call::Query(Query::Time));
     (pass, refusal_of(answer))
 }
 

@@ -10,7 +10,7 @@ use std::sync::Wait;
 use std::sync::ledger::Blank;
 use std::thread;
 use std::thread::Threads;
-use vp_answer::Request;
+use vp_answer::{Call, Query};
 use vp_hub::{Closed, Desk, Hub, NamesOpening, Pass};
 use vp_world::{Entry, LoggedEvent, World};
 
@@ -33,7 +33,7 @@ struct Ended {
 fn call_on<L: NamesOpening, R: Wait>(rt: &R, hub: &Hub<L>, pass: Pass<L>) -> (Pass<L>, (u32, u32)) {
     let mut pass = pass;
     for _call in 0..ENTRIES {
-        let (back, answer) = hub.call(rt, pass, Request::Time);
+        let (back, answer) = hub.call(rt, pass, Call::Query(Query::Time));
         pass = back;
         if answer.is_err() {
             return (pass, refusal_of(answer));
@@ -77,11 +77,11 @@ fn end_anew_of<L: NamesOpening + Send + Sync, R: Threads + Wait + Sync>(
 {
     let hub = Hub::<L>::new(alloc, Desk::<L>::new(alloc, blank, world));
     let pass = open(rt, &hub, alloc, "ann", "t1")?;
-    let pass = order(rt, &hub, pass, Request::Run { until: UNTIL })?;
+    let pass = order(rt, &hub, pass, Query::Run { until: UNTIL })?;
     let stage = Stage::new(alloc, hub);
     let (pass, run, call) = beside(rt, &stage, pass);
     let hub = stage.into_hub();
-    let (pass, answer) = hub.call(rt, pass, Request::Time);
+    let (pass, answer) = hub.call(rt, pass, Call::Query(Query::Time));
     Some(Ended {
         closed: close(hub, alloc, pass)?,
         run,

@@ -1,6 +1,6 @@
 //! What a log with grants says of the replies in it.
 
-use vp_answer::{GrantChange, Reply, Request};
+use vp_answer::{GrantChange, Query, Reply};
 use vp_bits::Bits;
 use vp_policy::ShownBarrier;
 use vp_pragma::Right;
@@ -51,23 +51,23 @@ fn is_right_poll(watch: Watch, reply: &Reply) -> bool {
     }
 }
 
-/// A reply to a request is right.
-fn is_right(watch: Watch, request: &Request, reply: &Reply) -> bool {
-    match request {
-        Request::Poll => is_right_poll(watch, reply),
+/// A reply to a query is right.
+fn is_right(watch: Watch, query: &Query, reply: &Reply) -> bool {
+    match query {
+        Query::Poll => is_right_poll(watch, reply),
         _ => is_right_value(watch, reply),
     }
 }
 
-/// A request is a poll or a read.
-fn is_poll_or_read(request: &Request) -> bool {
-    matches!(request, Request::Poll | Request::Value { .. })
+/// A query is a poll or a read.
+fn is_poll_or_read(query: &Query) -> bool {
+    matches!(query, Query::Poll | Query::Value { .. })
 }
 
-/// What he may see after a reply to a request: a poll leaves no notice.
-fn after_reply(watch: Watch, request: &Request) -> Watch {
-    match request {
-        Request::Poll => Watch {
+/// What he may see after a reply to a query: a poll leaves no notice.
+fn after_reply(watch: Watch, query: &Query) -> Watch {
+    match query {
+        Query::Poll => Watch {
             waiting: 0,
             ..watch
         },
@@ -93,12 +93,12 @@ pub fn are_right(log: &[Entry], replies: &[Reply]) -> bool {
     for entry in log {
         match &entry.happening {
             LoggedEvent::Grant { change } => watch = after_grant(watch, change),
-            LoggedEvent::Ask { asked, reply } if is_poll_or_read(&asked.request) => {
-                let is_right = is_right(watch, &asked.request, reply);
+            LoggedEvent::Ask { asked, reply } if is_poll_or_read(&asked.query) => {
+                let is_right = is_right(watch, &asked.query, reply);
                 if !is_right || !is_at(replies, count, reply) {
                     return false;
                 }
-                watch = after_reply(watch, &asked.request);
+                watch = after_reply(watch, &asked.query);
                 count = count.saturating_add(1);
             }
             _ => {}

@@ -1,6 +1,5 @@
 //! Grants beside a session of the user whose they are.
 ghost use Rattle.std.specs.Prelude.{◌≡◌, ◌+◌, []};
-ghost use Rattle.vp_hub.specs.Calls.{IsCall};
 
 use crate::tests::calls::{ask, close, find, open, order, put, rest, value};
 use crate::tests::grant_log::{are_logged, are_right};
@@ -13,7 +12,7 @@ use std::sync::ledger::Blank;
 use std::thread;
 use std::thread::Threads;
 use std::time::Clock;
-use vp_answer::{GrantChange, Reply, Request};
+use vp_answer::{GrantChange, Query, Reply};
 use vp_hub::{Closed, Desk, Hub, NamesOpening, Pass};
 use vp_policy::Access;
 use vp_text::Text;
@@ -88,12 +87,10 @@ fn ask_next<L: NamesOpening, R: Wait>(
     rt: &R,
     hub: &Hub<L>,
     conversation: Conversation<L>,
-    request: Request,
-) -> Option<Conversation<L>>
-    requires { IsCall request }
-{
+    query: Query,
+) -> Option<Conversation<L>> {
     let Conversation { pass, mut replies } = conversation;
-    let (pass, reply) = ask(rt, hub, pass, request);
+    let (pass, reply) = ask(rt, hub, pass, query);
     replies.push(reply?).ok()?;
     Some(Conversation { pass, replies })
 }
@@ -110,7 +107,7 @@ fn polls<L: NamesOpening, R: Wait + Clock>(
         replies: Vec::new(alloc),
     };
     for _round in 0..100 {
-        conversation = ask_next(rt, hub, conversation, Request::Poll)?;
+        conversation = ask_next(rt, hub, conversation, Query::Poll)?;
         rest(rt);
         conversation = ask_next(rt, hub, conversation, value())?;
     }
@@ -121,7 +118,7 @@ fn polls<L: NamesOpening, R: Wait + Clock>(
 fn begin<L: NamesOpening, R: Wait>(rt: &R, hub: &Hub<L>, alloc: Global) -> Option<Pass<L>> {
     let pass = open(rt, hub, alloc, "bob", "t2")?;
     let pass = find(rt, hub, alloc, pass, "top.u.k")?;
-    let pass = order(rt, hub, pass, Request::Watch { handle: 1 })?;
+    let pass = order(rt, hub, pass, Query::Watch { handle: 1 })?;
     put(rt, hub, alloc, pass, "1")
 }
 

@@ -1,13 +1,13 @@
 //! What a hub refuses.
 ghost use Rattle.std.specs.Prelude.{◌≡◌, ◌+◌, []};
 
-use crate::tests::calls::{open, order, refusal_of};
+use crate::tests::calls::{open, refusal_of};
 use crate::tests::hubs::{CLOCKED, USERS, blank_of, world_of};
 use std::alloc::Global;
 use std::marker::Brand;
 use std::sync::Wait;
 use std::sync::ledger::Blank;
-use vp_answer::Request;
+use vp_answer::{Call, Query};
 use vp_hub::{Desk, Hub, NamesOpening, Pass};
 use vp_text::Text;
 use vp_world::World;
@@ -26,8 +26,9 @@ fn calling<L: NamesOpening, R: Wait>(
     alloc: Global,
 ) -> Option<(Pass<L>, (u32, u32))> {
     let pass = open(rt, hub, alloc, "ann", "t1")?;
-    let pass = order(rt, hub, pass, Request::Close)?;
-    let (pass, answer) = hub.call(rt, pass, Request::Time);
+    let (pass, closed) = hub.call(rt, pass, Call::Close);
+    closed.ok()?;
+    let (pass, answer) = hub.call(rt, pass, Call::Query(Query::Time));
     Some((pass, refusal_of(answer)))
 }
 

@@ -11,7 +11,7 @@ use std::sync::ledger::Blank;
 use std::thread;
 use std::thread::Threads;
 use std::time::{Clock, Duration};
-use vp_answer::Request;
+use vp_answer::Query;
 use vp_bits::Bits;
 use vp_hub::{Desk, Hub, NamesOpening, Pass, Ran, Worked};
 use vp_race::{Gate, OpenGate};
@@ -115,7 +115,7 @@ fn first_job<L: NamesOpening + Send + Sync, R: Threads + Wait + Clock + Copy + S
 fn begin<L: NamesOpening, R: Wait>(rt: &R, hub: &Hub<L>, alloc: Global) -> Option<Pass<L>> {
     let pass = open(rt, hub, alloc, "ann", "t1")?;
     let pass = find(rt, hub, alloc, pass, "top.a")?;
-    order(rt, hub, pass, Request::Run { until: 10 })
+    order(rt, hub, pass, Query::Run { until: 10 })
 }
 
 /// How far the design runs by at most 100 events, and what three jobs come to.

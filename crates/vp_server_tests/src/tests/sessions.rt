@@ -11,7 +11,7 @@ use std::sync::ledger::Blank;
 use std::thread;
 use std::thread::Threads;
 use std::time::Clock;
-use vp_answer::{Reply, Request, SessionId};
+use vp_answer::{Query, Reply, SessionId};
 use vp_bits::Bits;
 use vp_elab::ObjectId;
 use vp_hub::{Closed, Desk, Hub, NamesOpening, Pass};
@@ -106,7 +106,7 @@ fn of_ann<L: NamesOpening + Send + Sync, R: Threads + Wait + Clock + Sync>(
     let (hub, alloc) = (&stage.hub, stage.alloc);
     let first = begin(rt, hub, alloc)?;
     let second = begin(rt, hub, alloc)?;
-    let first = order(rt, hub, first, Request::Run { until: 10 })?;
+    let first = order(rt, hub, first, Query::Run { until: 10 })?;
     beside(rt, stage, first, second)
 }
 
@@ -156,10 +156,10 @@ fn end_anew<R: Threads + Wait + Clock + Sync>(rt: &R, alloc: Global) -> Option<E
     end_anew_of::<Brand, R>(rt, alloc, blank_of(ENTRIES), world)
 }
 
-/// The value that a request gives `c`, if it is a put.
-fn value_put(request: &Request) -> Option<Bits> {
-    match request {
-        Request::Put {
+/// The value that a query gives `c`, if it is a put.
+fn value_put(query: &Query) -> Option<Bits> {
+    match query {
+        Query::Put {
             value: PutValue::Digits(digits),
             ..
         } => Bits::from_bin(digits.as_str().as_bytes()).ok(),
@@ -170,9 +170,7 @@ fn value_put(request: &Request) -> Option<Bits> {
 /// The value that `c` is given by an entry: of a put, or of a change by the design.
 fn value_given(entry: &Entry) -> Option<Bits> {
     match &entry.happening {
-        LoggedEvent::Ask { asked, .. } | LoggedEvent::Put { asked, .. } => value_put(
-            &asked.request,
-        ),
+        LoggedEvent::Ask { asked, .. } | LoggedEvent::Put { asked, .. } => value_put(&asked.query),
         LoggedEvent::StepWithChange { change, .. } if change.object == CLOCK => Some(change.value),
         _ => None,
     }

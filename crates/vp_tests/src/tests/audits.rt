@@ -2,7 +2,7 @@
 use crate::tests::grants::{DESIGN, POLICY, grant, open_both, session_of, watch_both};
 use crate::tests::sessions::{order_in, poll_in, put_in};
 use std::alloc::Global;
-use vp_answer::{Request, ValueFormat};
+use vp_answer::{Query, ValueFormat};
 use vp_audit::{Audit, audit_user};
 use vp_design::shared_of;
 use vp_policy::UserId;
@@ -18,7 +18,7 @@ fn happens(alloc: Global, world: &mut World) -> Option<()> {
     put_in(alloc, world, session_of(1), "0")?;
     grant(alloc, world, "op", 1, "list+read")?;
     let format = ValueFormat::Binary;
-    order_in(world, session_of(0), Request::Value { handle: 1, format })
+    order_in(world, session_of(0), Query::Value { handle: 1, format })
 }
 
 /// The audit of a user of a log, by the number of the user.

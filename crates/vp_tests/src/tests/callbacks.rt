@@ -1,7 +1,7 @@
 //! Two sessions of one world, each of which is given notices of the changes that the other makes.
 use crate::tests::sessions::{ann_world, find_in, of_ann, open, order_in, poll_in, put_in};
 use std::alloc::Global;
-use vp_answer::Request;
+use vp_answer::Query;
 use vp_world::World;
 
 /// A module with one reg.
@@ -17,7 +17,7 @@ fn open_two(alloc: Global, world: &mut World) -> Option<()> {
 
 /// The first session watches the reg.
 fn watch(world: &mut World) -> Option<()> {
-    order_in(world, of_ann(1), Request::Watch { handle: 1 })
+    order_in(world, of_ann(1), Query::Watch { handle: 1 })
 }
 
 /// How many notices each session is given of a put of the second.
@@ -48,7 +48,7 @@ fn a_put_of_another_session_is_told(rt: HostRuntime) {
 
 /// The same after the removal of the callback.
 fn counts_without_callback(alloc: Global, world: &mut World) -> Option<(usize, usize)> {
-    order_in(world, of_ann(1), Request::Unwatch { callback: 1 })?;
+    order_in(world, of_ann(1), Query::Unwatch { callback: 1 })?;
     counts_of_put(alloc, world, "1")
 }
 

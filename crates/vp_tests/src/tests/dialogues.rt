@@ -3,7 +3,7 @@
 use std::alloc::Global;
 use std::io;
 use std::io::{ErrorKind, Read, Write};
-use vp_answer::{Refusal, Reply, Request, SessionId};
+use vp_answer::{Call, Query, Refusal, Reply, Request, SessionId};
 use vp_policy::UserId;
 use vp_wire::{Caller, Counted, session};
 
@@ -94,8 +94,8 @@ impl Caller for Recorder {
                     opens: 1,
                 }),
             ),
-            Request::Close => (b'c', Reply::Done),
-            Request::Time => (
+            Request::Call(Call::Close) => (b'c', Reply::Done),
+            Request::Call(Call::Query(Query::Time)) => (
                 b't',
                 Reply::Time {
                     time: 0,

@@ -3,7 +3,7 @@ ghost use Rattle.vp_policy.specs.PolicyState.{Fits};
 
 use crate::tests::sessions::{find_in, open_as, order_in, poll_in, put_in};
 use std::alloc::Global;
-use vp_answer::{GrantChange, Request, SessionId};
+use vp_answer::{GrantChange, Query, SessionId};
 use vp_design::shared_of;
 use vp_elab::{Design, ObjectId};
 use vp_policy::{Access, Policy, UserId};
@@ -36,7 +36,7 @@ pub fn session_of(user: usize) -> SessionId {
 /// The first session of the user of a number has a handle of `k` and watches it.
 fn watch(alloc: Global, world: &mut World, user: usize) -> Option<()> {
     find_in(alloc, world, session_of(user), "top.k")?;
-    order_in(world, session_of(user), Request::Watch { handle: 1 })
+    order_in(world, session_of(user), Query::Watch { handle: 1 })
 }
 
 /// A change of Ann's grant for an envelope, by a token.

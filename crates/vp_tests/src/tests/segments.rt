@@ -6,7 +6,7 @@ ghost use Rattle.std.specs.Arc.{arc_value};
 use crate::tests::sessions::{ann_world, find_in, of_ann, open, order_in, put_in};
 use std::alloc::Global;
 use std::sync::Arc;
-use vp_answer::Request;
+use vp_answer::Query;
 use vp_elab::ObjectId;
 use vp_race::{Finding, Segment, check};
 use vp_text::Shared;
@@ -33,7 +33,7 @@ fn steps(world: &mut World, count: u64) -> Option<()> {
 /// Ann opens a session and asks for a run until a time.
 fn begin_run(alloc: Global, world: &mut World, until: u64) -> Option<()> {
     open(alloc, world)?;
-    order_in(world, of_ann(1), Request::Run { until })
+    order_in(world, of_ann(1), Query::Run { until })
 }
 
 /// The simulation goes on to the time of the race, and takes its first step.

@@ -1,8 +1,7 @@
 //! Ann's worlds, and what sessions ask there.
-ghost use Rattle.vp_answer.specs.Requests.{IsAsked};
 
 use std::alloc::Global;
-use vp_answer::{Reply, Request, SessionId};
+use vp_answer::{Query, Reply, SessionId};
 use vp_policy::UserId;
 use vp_text::Text;
 use vp_vpi::PutValue;
@@ -34,18 +33,14 @@ pub fn open(alloc: Global, world: &mut World) -> Option<()> {
     open_as(alloc, world, "ann", "t1")
 }
 
-/// What a session is answered to a request.
-fn ask_in(world: &mut World, session: SessionId, request: Request) -> Option<Reply>
-    requires { IsAsked request }
-{
-    world.apply(Event::Ask { session, request }).ok()
+/// What a session is answered to a query.
+fn ask_in(world: &mut World, session: SessionId, query: Query) -> Option<Reply> {
+    world.apply(Event::Ask { session, query }).ok()
 }
 
 /// A session asks, and is answered anything.
-pub fn order_in(world: &mut World, session: SessionId, request: Request) -> Option<()>
-    requires { IsAsked request }
-{
-    ask_in(world, session, request).and(Some(()))
+pub fn order_in(world: &mut World, session: SessionId, query: Query) -> Option<()> {
+    ask_in(world, session, query).and(Some(()))
 }
 
 /// How many notices a reply has; none where it has another kind.
@@ -58,7 +53,7 @@ fn count_notices(reply: &Reply) -> Option<usize> {
 
 /// How many notices a session is given.
 pub fn poll_in(world: &mut World, session: SessionId) -> Option<usize> {
-    let reply = ask_in(world, session, Request::Poll)?;
+    let reply = ask_in(world, session, Query::Poll)?;
     let count = count_notices(&reply);
     drop(reply);
     count
@@ -67,13 +62,13 @@ pub fn poll_in(world: &mut World, session: SessionId) -> Option<usize> {
 /// A session has a handle of the object of a name among the top modules.
 pub fn find_in(alloc: Global, world: &mut World, session: SessionId, name: &str) -> Option<()> {
     let name = Text::copy(alloc, name).ok()?;
-    order_in(world, session, Request::Handle { name, scope: None })
+    order_in(world, session, Query::Handle { name, scope: None })
 }
 
 /// A session gives the object of its first handle a value.
 pub fn put_in(alloc: Global, world: &mut World, session: SessionId, digits: &str) -> Option<()> {
     let value = PutValue::Digits(Text::copy(alloc, digits).ok()?);
-    order_in(world, session, Request::Put { handle: 1, value })
+    order_in(world, session, Query::Put { handle: 1, value })
 }
 
 /// The how-many-th session of Ann.

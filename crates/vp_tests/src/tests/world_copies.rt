@@ -1,61 +1,70 @@
-//! Copies of requests, which have their contents.
+//! Copies of queries and of changes of grants, which have their contents.
 use std::alloc::Global;
-use vp_answer::{GrantChange, Request};
+use vp_answer::{GrantChange, Query};
 use vp_policy::Access;
 use vp_text::{Same, Text};
 use vp_vpi::PutValue;
 
-/// A request to open a session.
-fn opening(alloc: Global) -> Option<Request> {
-    let user = Text::copy(alloc, "ann").ok()?;
-    let token = Text::copy(alloc, "t1").ok()?;
-    Some(Request::Open { user, token })
-}
-
-/// A request to put digits on the object of a handle.
-fn put(alloc: Global, digits: &str) -> Option<Request> {
+/// A query to put digits on the object of a handle.
+fn put(alloc: Global, digits: &str) -> Option<Query> {
     let value = PutValue::Digits(Text::copy(alloc, digits).ok()?);
-    Some(Request::Put { handle: 1, value })
+    Some(Query::Put { handle: 1, value })
 }
 
-/// A request to change a grant.
-fn grant(alloc: Global) -> Option<Request> {
-    Some(Request::Grant(GrantChange {
+/// A query of a handle.
+fn handle(alloc: Global, name: &str) -> Option<Query> {
+    let name = Text::copy(alloc, name).ok()?;
+    Some(Query::Handle {
+        name,
+        scope: Some(1),
+    })
+}
+
+/// A change of a grant.
+fn grant(alloc: Global) -> Option<GrantChange> {
+    Some(GrantChange {
         token: Text::copy(alloc, "op").ok()?,
         user: Text::copy(alloc, "ann").ok()?,
         envelope: 1,
         access: Access::of_text("list+read")?,
-    }))
+    })
 }
 
-/// Whether two requests, if they are there, have the same contents.
-fn are_same(first: Option<&Request>, second: Option<&Request>) -> Option<bool> {
+/// Whether the copy of a change of a grant has its contents.
+fn is_grant_copied(alloc: Global) -> Option<bool> {
+    let grant = grant(alloc)?;
+    let copy = grant.try_clone(alloc).ok()?;
+    Some(copy.is_same(&grant))
+}
+
+/// Whether two queries, if they are there, have the same contents.
+fn are_same(first: Option<&Query>, second: Option<&Query>) -> Option<bool> {
     Some(first?.is_same(second?))
 }
 
-/// The same of two requests that are not used again.
-fn are_alike(first: Option<Request>, second: Option<Request>) -> Option<bool> {
+/// The same of two queries that are not used again.
+fn are_alike(first: Option<Query>, second: Option<Query>) -> Option<bool> {
     let are_same = are_same(first.as_ref(), second.as_ref());
     drop((first, second));
     are_same
 }
 
-/// The copy of a request, if it is there.
-fn copy_of(alloc: Global, request: Option<&Request>) -> Option<Request> {
-    request?.try_clone(alloc).ok()
+/// The copy of a query, if it is there.
+fn copy_of(alloc: Global, query: Option<&Query>) -> Option<Query> {
+    query?.try_clone(alloc).ok()
 }
 
-/// Whether the copy of a request has its contents.
-fn is_copied(alloc: Global, request: Option<Request>) -> Option<bool> {
-    let copy = copy_of(alloc, request.as_ref());
-    are_alike(copy, request)
+/// Whether the copy of a query has its contents.
+fn is_copied(alloc: Global, query: Option<Query>) -> Option<bool> {
+    let copy = copy_of(alloc, query.as_ref());
+    are_alike(copy, query)
 }
 
 #[test]
 fn requests_are_copied(rt: HostRuntime) {
     let alloc = rt.alloc();
-    assert_eq!(rt; is_copied(alloc, opening(alloc)), Some(true));
+    assert_eq!(rt; is_copied(alloc, handle(alloc, "top.a")), Some(true));
     assert_eq!(rt; is_copied(alloc, put(alloc, "1")), Some(true));
-    assert_eq!(rt; is_copied(alloc, grant(alloc)), Some(true));
+    assert_eq!(rt; is_grant_copied(alloc), Some(true));
     assert_eq!(rt; are_alike(put(alloc, "0"), put(alloc, "1")), Some(false));
 }

@@ -6,7 +6,7 @@ ghost use Rattle.vp_world.specs.Events.{IsWellFormed};
 
 use crate::tests::sessions::READER;
 use std::alloc::Global;
-use vp_answer::{Reply, Request, SessionId};
+use vp_answer::{Query, Reply, SessionId};
 use vp_design::shared_of;
 use vp_elab::{Design, ObjectId};
 use vp_policy::UserId;
@@ -95,11 +95,11 @@ fn event(alloc: Global, act: Act) -> Option<Event>
         Act::Close => Some(Event::Close { session }),
         Act::Time => Some(Event::Ask {
             session,
-            request: Request::Time,
+            query: Query::Time,
         }),
         Act::Run => Some(Event::Ask {
             session,
-            request: Request::Run { until: 0 },
+            query: Query::Run { until: 0 },
         }),
         Act::Step(k) => Some(Event::Step(k)),
         Act::Advance => Some(Event::Advance),
@@ -214,7 +214,7 @@ fn limits_of_a_world(rt: HostRuntime) {
     }
 }
 
-/// An opening, a run, 99 steps, and a request.
+/// An opening, a run, 99 steps, and a query.
 fn endless_acts(alloc: Global) -> Option<Vec<Act>> {
     let mut acts = Vec::new(alloc);
     acts.push(Act::Open).ok()?;
@@ -226,7 +226,7 @@ fn endless_acts(alloc: Global) -> Option<Vec<Act>> {
     Some(acts)
 }
 
-/// What comes of these where 100 entries are all: the last step and the request are refused by a full log.
+/// What comes of these where 100 entries are all: the last step and the query are refused by a full log.
 fn endless_outcomes(alloc: Global) -> Option<Vec<u64>> {
     let mut outcomes = Vec::new(alloc);
     outcomes.push(1).ok()?;

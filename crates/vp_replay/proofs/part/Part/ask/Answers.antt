@@ -41,14 +41,14 @@ module _ (c : goal.In_ok-reply) where
 
 pub returns-clause-reply : goal.returns-clause-reply
 returns-clause-reply c =
-    let r = c.args.request.now in
+    let r = c.args.query.now in
     (c.in_ok-reply.ensures {u = tt}).reply ∙ ap (λ e. (respond e (session c).session_state r).reply) (observation_is c)
     ∙ sym (asked_reply (before c) c.args.id r c.in-Some.index (session c) (at c) (there c))
     ∙ ap (λ (q : Part). reply_of q (Asks c.args.id r)) c.self.view_is
 
 pub returns-clause-after : goal.returns-clause-after
 returns-clause-after c =
-    let r = c.args.request.now in
+    let r = c.args.query.now in
     let q = before c in
     let new : c.ask.new.self ≡ record { id = (session c).id; session_state = (respond (observer_of_part q) (session c).session_state r).session_state } =
     (c.in_ok-reply.ensures {u = tt}).after ∙ ap (λ e. (let t : OpenSessionState = record { id = (session c).id; session_state = (respond e (session c).session_state r).session_state } in t)) (observation_is c) in

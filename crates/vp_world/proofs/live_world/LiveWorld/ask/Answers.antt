@@ -16,9 +16,9 @@ notify-requires c =
     let inside = c.self.inside in
     let sessions = inside.sessions.items in
     let session = c.index_mut.result.now in
-    let new = c.answer_request.new.session in
+    let new = c.answer_query.new.session in
     let marks = c.mark_asked.new.watched.items in
-    let within = within_shown inside.run inside.book.races inside.opening_policy.value inside.policy inside.limits sessions inside.opens.items inside.goal c.args.index c.args.self.now c.self.view_is c.requires.within in
+    let within = within_shown inside.run inside.book.races inside.opening_policy.value inside.policy inside.limits sessions inside.opens.items inside.goal c.args.index c.args.self.now c.self.view_is c.requires in
     let own = marked_at inside.watched.items sessions c.args.index session within c.index_mut.ensures.value c.self.invariant.0 in
     let answered = (c.in_ok-answer.ensures {u = tt}).given in
     ap (all_marked marks) c.deref_mut.ensures.value
@@ -29,22 +29,22 @@ notify-requires c =
 pub returns-clause-reply : goal.returns-clause-reply
 returns-clause-reply c =
     let inside = c.self.inside in
-    told_given inside.run inside.book inside.opening_policy.value inside.policy inside.limits inside.sessions.items inside.opens.items inside.goal c.args.index c.index_mut.result.now c.args.request.now c.args.self.now c.self.view_is c.requires.within c.index_mut.ensures.value
-    c.answer_request.new.run c.answer_request.new.session c.in_ok-answer.answer
+    told_given inside.run inside.book inside.opening_policy.value inside.policy inside.limits inside.sessions.items inside.opens.items inside.goal c.args.index c.index_mut.result.now c.args.query.now c.args.self.now c.self.view_is c.requires c.index_mut.ensures.value
+    c.answer_query.new.run c.answer_query.new.session c.in_ok-answer.answer
     (c.in_ok-answer.ensures {u = tt}).given
 
 pub returns-clause-entry : goal.returns-clause-entry
 returns-clause-entry c =
     let inside = c.self.inside in
-    kept_given inside.run inside.book inside.opening_policy.value inside.policy inside.limits inside.sessions.items inside.opens.items inside.goal c.args.index c.index_mut.result.now c.args.request.now c.args.self.now c.self.view_is c.requires.within c.index_mut.ensures.value
-    c.answer_request.new.run c.answer_request.new.session c.in_ok-answer.answer
+    kept_given inside.run inside.book inside.opening_policy.value inside.policy inside.limits inside.sessions.items inside.opens.items inside.goal c.args.index c.index_mut.result.now c.args.query.now c.args.self.now c.self.view_is c.requires c.index_mut.ensures.value
+    c.answer_query.new.run c.answer_query.new.session c.in_ok-answer.answer
     (c.in_ok-answer.ensures {u = tt}).given
 
 pub returns-clause-change : goal.returns-clause-change
 returns-clause-change c =
     let inside = c.self.inside in
-    changed_given inside.run inside.book inside.opening_policy.value inside.policy inside.limits inside.sessions.items inside.opens.items inside.goal c.args.index c.index_mut.result.now c.args.request.now c.args.self.now c.self.view_is c.requires.within c.index_mut.ensures.value
-    c.answer_request.new.run c.answer_request.new.session c.in_ok-answer.answer
+    changed_given inside.run inside.book inside.opening_policy.value inside.policy inside.limits inside.sessions.items inside.opens.items inside.goal c.args.index c.index_mut.result.now c.args.query.now c.args.self.now c.self.view_is c.requires c.index_mut.ensures.value
+    c.answer_query.new.run c.answer_query.new.session c.in_ok-answer.answer
     (c.in_ok-answer.ensures {u = tt}).given
 
 pub returns-clause-after : goal.returns-clause-after
@@ -52,17 +52,17 @@ returns-clause-after c =
     let inside = c.self.inside in
     let session = c.index_mut.result.now in
     let answer = c.in_ok-answer.answer in
-    let next = c.answer_request.new.run in
-    let sessions = slice_set inside.sessions.items c.args.index (with_session session c.answer_request.new.session) in
+    let next = c.answer_query.new.run in
+    let sessions = slice_set inside.sessions.items c.args.index (with_session session c.answer_query.new.session) in
     let tells : map session_shown c.notify.new.sessions ≡ noticed answer.change next.simulation.time (map session_shown sessions) =
     c.notify.ensures.told
     ∙ ap (λ change. noticed change c.time-time.result (map session_shown c.deref_mut.result.now)) c.as_ref-change.ensures.value
     ∙ ap (λ time. noticed answer.change time (map session_shown c.deref_mut.result.now)) (c.time-time.ensures ∙ ap (λ (s : sim.State). s.time) c.simulation.ensures)
     ∙ ap (λ s. noticed answer.change next.simulation.time (map session_shown s)) c.deref_mut.ensures.value in
-    let v = with_item inside.sessions c.args.index (with_session session c.answer_request.new.session) in
+    let v = with_item inside.sessions c.args.index (with_session session c.answer_query.new.session) in
     ap (λ items. shown next inside.book.races inside.opening_policy.value inside.policy inside.limits items inside.opens.items c.raised-self-inside.result) (with_items_is v c.notify.new.sessions (search rules))
-    ∙ state_given inside.run inside.book inside.opening_policy.value inside.policy inside.limits inside.sessions.items inside.opens.items inside.goal c.args.index session c.args.request.now c.args.self.now c.self.view_is c.requires.within c.index_mut.ensures.value
-    next c.answer_request.new.session c.notify.new.sessions c.raised-self-inside.result answer
+    ∙ state_given inside.run inside.book inside.opening_policy.value inside.policy inside.limits inside.sessions.items inside.opens.items inside.goal c.args.index session c.args.query.now c.args.self.now c.self.view_is c.requires c.index_mut.ensures.value
+    next c.answer_query.new.session c.notify.new.sessions c.raised-self-inside.result answer
     (c.in_ok-answer.ensures {u = tt}).given
     c.raised-self-inside.ensures tells
 
@@ -72,9 +72,9 @@ invariant_of-self-2 c =
     let session = c.index_mut.result.now in
     let answer = c.in_ok-answer.answer in
     let given = (c.in_ok-answer.ensures {u = tt}).given in
-    let v = with_item inside.sessions c.args.index (with_session session c.answer_request.new.session) in (
+    let v = with_item inside.sessions c.args.index (with_session session c.answer_query.new.session) in (
       ap (all_marked c.notify.new.watched.items) (with_items_is v c.notify.new.sessions (search rules)) ∙ c.notify.ensures.marked,
       c.self.invariant.1,
-      put_leaves inside.run c.answer_request.new.run (due_of inside.run inside.book inside.policy session.session c.args.request.now).put answer.change given.put given.segments c.self.invariant.2,
-      fits_put inside.policy inside.run c.answer_request.new.run (due_of inside.run inside.book inside.policy session.session c.args.request.now).put answer.change given.put c.self.invariant.3,
+      put_leaves inside.run c.answer_query.new.run (due_of inside.run inside.book inside.policy session.session c.args.query.now).put answer.change given.put given.segments c.self.invariant.2,
+      fits_put inside.policy inside.run c.answer_query.new.run (due_of inside.run inside.book inside.policy session.session c.args.query.now).put answer.change given.put c.self.invariant.3,
     )

@@ -1,7 +1,7 @@
 use Rattle.std.proofs.Common.{rules, ◌≡◌, ◌++◌, List, ◌∷◌, [], None, Some, Option, ℕ, sym, ap, ◌∙◌}
 use Rattle.std.specs.Prelude.{slice_get, option_and_then}
 use Rattle.vp_world.specs.declared.entry.Asked.{Asked}
-use Rattle.vp_answer.specs.declared.request.Request.{Request}
+use Rattle.vp_answer.specs.declared.query.Query.{Query}
 use Rattle.vp_world.specs.Entries.{Entry}
 use Rattle.vp_world.specs.declared.event.Event.{Event}
 use Rattle.vp_world.specs.declared.event.Event.TheVariants as event
@@ -19,7 +19,7 @@ module _ (c : goal.After-push_reserved) where
   log = c.self.inside.log.items
 
   abbrev happens : Event
-  happens = event.Ask c.args.session c.args.request
+  happens = event.Ask c.args.session c.args.query
 
   abbrev entry : Entry
   entry = record { event = happens; reply = c.in_ok-answer.answer.entry_reply; change = c.in_ok-answer.answer.change; time = c.time.result; finished = c.finished.result }
@@ -27,26 +27,26 @@ module _ (c : goal.After-push_reserved) where
   found : index_of w.state.sessions c.args.session ≡ Some c.in_ok-index.index
   found = (c.in_ok-index.ensures {u = tt}).index
 
-  same : c.deref.result.now.request ≡ c.args.request
-  same = ap (λ (a : Asked). a.request) (c.deref.ensures ∙ (c.in_ok-asked.ensures {u = tt}).ok)
+  same : c.deref.result.now.query ≡ c.args.query
+  same = ap (λ (a : Asked). a.query) (c.deref.ensures ∙ (c.in_ok-asked.ensures {u = tt}).ok)
 
   following : c.ask.new.self ≡ with_state w (after w.opening w.state happens)
   following =
       (c.in_ok-answer.ensures {u = tt}).after
-      ∙ ap (λ (r : Request). with_state w (asked_at w.state (Some c.in_ok-index.index) r)) same
-      ∙ ap (λ (o : Option ℕ). with_state w (asked_at w.state o c.args.request)) (sym found)
+      ∙ ap (λ (r : Query). with_state w (asked_at w.state (Some c.in_ok-index.index) r)) same
+      ∙ ap (λ (o : Option ℕ). with_state w (asked_at w.state o c.args.query)) (sym found)
 
   kept : c.in_ok-answer.answer.entry_reply ≡ answer w.opening w.state happens
   kept =
       (c.in_ok-answer.ensures {u = tt}).entry
-      ∙ ap (λ (r : Request). asked_in w c.in_ok-index.index r) same
-      ∙ ap (λ (o : Option ℕ). asked w.state (option_and_then (slice_get w.state.sessions) o) c.args.request) (sym found)
+      ∙ ap (λ (r : Query). asked_in w c.in_ok-index.index r) same
+      ∙ ap (λ (o : Option ℕ). asked w.state (option_and_then (slice_get w.state.sessions) o) c.args.query) (sym found)
 
   changes : c.in_ok-answer.answer.change ≡ changed w.state happens
   changes =
       (c.in_ok-answer.ensures {u = tt}).change
-      ∙ ap (λ (r : Request). changed_in w c.in_ok-index.index r) same
-      ∙ ap (λ (o : Option ℕ). changed_by w.state (option_and_then (slice_get w.state.sessions) o) c.args.request) (sym found)
+      ∙ ap (λ (r : Query). changed_in w c.in_ok-index.index r) same
+      ∙ ap (λ (o : Option ℕ). changed_by w.state (option_and_then (slice_get w.state.sessions) o) c.args.query) (sym found)
 
   added : c.push_reserved.new.self.items ≡ log ++ entry ∷ []
   added = search rules
@@ -57,7 +57,7 @@ module _ (c : goal.After-push_reserved) where
 pub invariant_of-self-2 : goal.invariant_of-self-2
 invariant_of-self-2 c =
     let accepted : refusal_after (w c).opening (log c) (happens c) ≡ None = search rules in
-    keeps_more (w c) c.ask.new.self (log c) c.push_reserved.new.self.items (entry c) c.self.invariant (following c) (added c) c.requires accepted (made c)
+    keeps_more (w c) c.ask.new.self (log c) c.push_reserved.new.self.items (entry c) c.self.invariant (following c) (added c) tt accepted (made c)
 
 pub returns-clause-applied : goal.returns-clause-applied
 returns-clause-applied c = record {

@@ -8,7 +8,7 @@ use Rattle.vp_answer.specs.Answers.{respond}
 use Rattle.vp_answer.specs.Given.{IsGiven}
 use Rattle.vp_world.specs.Given.{observer_in}
 use Rattle.vp_world.proofs.Asking.{put_gives, put_keeps}
-use Rattle.vp_world.proofs.putting.answer_request.Goals as goal
+use Rattle.vp_world.proofs.putting.answer_query.Goals as goal
 
 -- what holds is so on an error
 on_err : {A E P : Type 0} (r : Result A E) → P → OnErr r P
@@ -26,8 +26,8 @@ returns-clause-given c =
     c.new-observation.ensures.observer
     ∙ ap (λ (s : sim.State). observer_with s (member_at policy.members c.user.result.0) races) c.simulation.ensures
     ∙ ap (λ (u : ℕ). observer_with run.simulation (member_at policy.members u) races) c.user.ensures in
-    let given = subst (λ (observation : Observer). IsGiven (respond observation session_state c.args.request.now) c.respond.new.session answer) same c.in_ok-answer.ensures.given in
-    put_gives (observer_in run c.args.book.now policy session_state.user) session_state c.args.request.now run c.make_put.new.run c.respond.new.session answer c.in_ok-change.change
+    let given = subst (λ (observation : Observer). IsGiven (respond observation session_state c.args.query.now) c.respond.new.session answer) same c.in_ok-answer.ensures.given in
+    put_gives (observer_in run c.args.book.now policy session_state.user) session_state c.args.query.now run c.make_put.new.run c.respond.new.session answer c.in_ok-change.change
     given c.in_ok-change.ensures.change c.in_ok-change.ensures.segments
 
 pub returns-in_err-change-clause-session : goal.returns-in_err-change-clause-session
@@ -35,4 +35,4 @@ returns-in_err-change-clause-session c =
     let observation = c.new-observation.result in
     let seen = observer_with observation.sim.now (member_at observation.policy.now.members observation.user.0) observation.book.now.races in
     on_err c.from_residual-in_err-change.result
-    (put_keeps seen c.args.session.now c.args.request.now c.respond.new.session c.in_ok-answer.answer c.in_ok-answer.ensures.given c.in_err-change.ensures.asked)
+    (put_keeps seen c.args.session.now c.args.query.now c.respond.new.session c.in_ok-answer.answer c.in_ok-answer.ensures.given c.in_err-change.ensures.asked)
