@@ -3,8 +3,9 @@ ghost use Rattle.std.specs.Prelude.{◌≡◌, IfOk};
 use crate::request::SessionId;
 use std::alloc::AllocError;
 use vp_bits::Bits;
-use vp_text::{Sequence, SharedText};
-use vp_vpi::{DenialText, RaceDetails, RaceLine, Shared, SharedListing, SharedNotices};
+use vp_notify::Notices;
+use vp_text::{Sequence, Shared, SharedText};
+use vp_vpi::{DenialText, Listing, RaceDetails, RaceLine};
 
 /// What a line is answered where it is refused.
 #[derive(Clone, Copy, Debug, PartialEq, Eq)]
@@ -77,7 +78,7 @@ pub enum Reply {
     /// A handle was made.
     Handle(u32),
     /// Handles of the objects that a scope lists were made.
-    Listing(SharedListing),
+    Listing(Shared<Listing>),
     /// A number of an object.
     Number(u32),
     /// A text of an object.
@@ -91,7 +92,7 @@ pub enum Reply {
     /// A callback was registered.
     Callback(u32),
     /// The notices that waited.
-    Notices(SharedNotices),
+    Notices(Shared<Notices>),
     /// Races that the user is shown.
     Races(Shared<Sequence<RaceLine>>),
     /// A race that the user is shown, with its steps.

@@ -12,6 +12,17 @@ pub struct SessionId {
     pub opens: u64,
 }
 
+impl SessionId {
+    ghost use Rattle.vp_answer.specs.OpenSessions.{same_session};
+
+    /// It is the same session.
+    pub fn is_same(self, other: SessionId) -> bool
+        ensures { result ≡ same_session self other }
+    {
+        self.user.0 == other.user.0 && self.opens == other.opens
+    }
+}
+
 /// What an operator orders: a user's grant for an envelope is to be exactly this (docs/POLICY.md, "Grants that change").
 #[derive(Drop)]
 pub struct GrantChange {

@@ -1,7 +1,6 @@
 // Whether what a user was shown is what comes of what he can know (docs/DEFINITIONS.md, "What a user can know").
 ghost use Rattle.std.specs.Prelude.{◌≡◌, ◌==◌, [], IfErr, IfOk, IsOkUnless, length, true, false};
 ghost use Rattle.vp_policy.specs.PolicyState.{Fits};
-ghost use Rattle.vp_world.specs.Entries.{reply_in};
 ghost use Rattle.vp_world.specs.History.{IsLegal};
 ghost use Rattle.vp_world.specs.Worlds.{Opening};
 ghost use Rattle.vp_replay.specs.declared.error.AuditError.TheVariants.{NoMemory};
@@ -16,7 +15,6 @@ use vp_answer::Reply;
 use vp_expr::Checked;
 use vp_policy::{Policy, UserId};
 use vp_replay::AuditError;
-use vp_text::Same;
 use vp_world::{Entry, LoggedEvent};
 
 /// Whether the replies that a user was shown are those that were replayed.
@@ -39,31 +37,6 @@ fn is_own(entry: &Entry, user: UserId) -> bool
     session.user.0 == user.0
 }
 
-/// The reply to what happened is this one.
-fn is_answered(happening: &LoggedEvent, reply: &Reply) -> bool
-    ensures same { result ≡ true → reply_in happening.now ≡ reply.now }
-    ensures differs { reply_in happening.now ≡ reply.now → result ≡ true }
-{
-    match happening {
-        LoggedEvent::Ask { reply: told, .. } => told.is_same(reply),
-        LoggedEvent::Open { session, .. } => match reply {
-            Reply::Opened(id) => session == id,
-            _ => false,
-        },
-        LoggedEvent::TakeJob { number } => match reply {
-            Reply::Job(job) => number == job,
-            _ => false,
-        },
-        LoggedEvent::Put { .. }
-        | LoggedEvent::Close { .. }
-        | LoggedEvent::Grant { .. }
-        | LoggedEvent::Step { .. }
-        | LoggedEvent::StepWithChange { .. }
-        | LoggedEvent::Advance
-        | LoggedEvent::Book { .. } => matches!(reply, Reply::Done),
-    }
-}
-
 /// Compares the replies to a user's own events in a log with others.
 fn compared(log: &[Entry], user: UserId, replayed: &[Reply]) -> Audit
     ensures { IsAudit (replies_of user.0 log.now) replayed.now result }
@@ -72,7 +45,7 @@ fn compared(log: &[Entry], user: UserId, replayed: &[Reply]) -> Audit
     for entry in log {
         if is_own(entry, user) {
             match replayed.get(number) {
-                Some(reply) if is_answered(&entry.happening, reply) => number += 1,
+                Some(reply) if entry.happening.is_answered(reply) => number += 1,
                 _ => return Audit {
                     same: false,
                     number: number as u64 + 1,

@@ -8,7 +8,7 @@ use Rattle.vp_answer.specs.declared.request.Call.TheVariants as call
 use Rattle.vp_answer.specs.declared.request.SessionId.{SessionId}
 use Rattle.vp_world.specs.declared.event.Event.{Event}
 use Rattle.vp_world.specs.declared.event.Event.TheVariants as event
-use Rattle.vp_world.specs.Entries.{Entry}
+use Rattle.vp_world.specs.Entries.{Entry, session_in}
 use Rattle.vp_hub.specs.declared.receipt.Receipt.{Receipt}
 
 -- the event of a request of a session
@@ -27,13 +27,6 @@ is_of_session e = false
 -- how many entries of a log are of sessions
 abbrev pub session_entries : List Entry → ℕ
 session_entries log = count_by (λ e. is_of_session e.event) log
-
--- the session of an event that was answered so; none where it is of no session
-abbrev pub session_in : Event → Reply → Option SessionId
-session_in (event.Open user token) (reply.Opened id) = Some id
-session_in (event.Ask id r) answer = Some id
-session_in (event.Close id) answer = Some id
-session_in e answer = None
 
 -- the event and the reply at an index of a log, if there is an entry
 abbrev pub call_at : List Entry → ℕ → Option (Event × Reply)

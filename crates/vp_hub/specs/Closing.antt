@@ -3,12 +3,12 @@ use Rattle.std.specs.Prelude.{◌≡◌, ◌≢◌, ℕ, All, AllPairs, Bool, fa
 use Rattle.std.specs.Option.{option_map_or}
 use Rattle.vp_elab.specs.Tree.{below}
 use Rattle.vp_answer.specs.declared.request.SessionId.{SessionId}
-use Rattle.vp_world.specs.Entries.{Entry}
+use Rattle.vp_world.specs.Entries.{Entry, session_in}
 use Rattle.vp_world.specs.History.{IsLegal}
 use Rattle.vp_world.specs.Worlds.{Opening}
 use Rattle.vp_answer.specs.OpenSessions.{same_session}
 use Rattle.vp_hub.specs.declared.close.Closed.{Closed}
-use Rattle.vp_hub.specs.Calls.{Passed, Stands, session_entries, session_in}
+use Rattle.vp_hub.specs.Calls.{Passed, Stands, session_entries}
 
 -- an entry is of a session
 abbrev pub is_own : SessionId → Entry → Bool

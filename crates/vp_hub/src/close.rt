@@ -1,8 +1,6 @@
 ghost use Rattle.std.specs.Prelude.{◌≡◌, ◌≢◌, All, AllPairs, IfOk, OnOk, [], length, map, sum_by, true};
-ghost use Rattle.vp_world.specs.Entries.{event_in, reply_in};
 ghost use Rattle.vp_world.specs.History.{IsLegal};
-ghost use Rattle.vp_answer.specs.OpenSessions.{same_session};
-ghost use Rattle.vp_hub.specs.Calls.{Passed, Stands, is_of_session, session_entries, session_in};
+ghost use Rattle.vp_hub.specs.Calls.{Passed, Stands, is_of_session, session_entries};
 ghost use Rattle.vp_hub.specs.Closing.{HasAll, IsClosed, is_own, entry_indexes};
 
 use crate::desk::Desk;
@@ -14,7 +12,7 @@ use crate::receipt::Receipt;
 use std::alloc::{AllocError, Global};
 use vp_answer::SessionId;
 use vp_text::Sequence;
-use vp_world::{Entry, LoggedEvent, World};
+use vp_world::{Entry, World};
 
 /// What is left of a hub: its world, with the log, and for each pass that was handed back the indexes of its calls, in order.
 #[derive(Drop)]
@@ -32,30 +30,12 @@ impl Closed {
     }
 }
 
-/// The session of what happened; none where it is of no session.
-pub fn session_of(happening: &LoggedEvent) -> Option<SessionId>
-    ensures { result ≡ session_in (event_in happening.now) (reply_in happening.now) }
-{
-    match happening {
-        LoggedEvent::Open { session, .. } | LoggedEvent::Close { session } => Some(*session),
-        LoggedEvent::Ask { asked, .. } | LoggedEvent::Put { asked, .. } => Some(asked.session),
-        _ => None,
-    }
-}
-
-/// Two sessions are the same.
-fn is_same(first: SessionId, second: SessionId) -> bool
-    ensures { result ≡ same_session first second }
-{
-    first.user.0 == second.user.0 && first.opens == second.opens
-}
-
 /// An entry is of a session.
 fn is_own(entry: &Entry, session: SessionId) -> bool
     ensures { result ≡ is_own session entry.now }
 {
-    match session_of(&entry.happening) {
-        Some(own) => is_same(own, session),
+    match entry.happening.session() {
+        Some(own) => own.is_same(session),
         None => false,
     }
 }
@@ -83,7 +63,7 @@ fn count_entries(log: &[Entry]) -> usize
 {
     let mut count = 0;
     for entry in log {
-        if session_of(&entry.happening).is_some() {
+        if entry.happening.session().is_some() {
             count += 1;
         }
     }

@@ -4,14 +4,13 @@ ghost use Rattle.std.specs.Arc.{arc_value};
 ghost use Rattle.vp_elab.specs.Built.{Elaborated};
 ghost use Rattle.vp_answer.specs.declared.reply.Reply.{Reply};
 ghost use Rattle.vp_hub.specs.declared.receipt.SessionRequest.TheVariants as requests;
-ghost use Rattle.vp_answer.specs.declared.reply.Reply.TheVariants as replies;
 ghost use Rattle.vp_world.specs.declared.event.Event.TheVariants as event;
-ghost use Rattle.vp_world.specs.Entries.{event_in, reply_in};
+ghost use Rattle.vp_world.specs.Entries.{event_in, session_in};
 ghost use Rattle.vp_world.specs.Events.{IsWellFormed};
-ghost use Rattle.vp_hub.specs.Calls.{Stands, event_of, is_of_session, session_in};
+ghost use Rattle.vp_hub.specs.Calls.{Stands, event_of, is_of_session};
 
 use crate::receipt::{Receipt, SessionRequest};
-use vp_answer::{Call, Reply, SessionId};
+use vp_answer::{Call, SessionId};
 use vp_text::Same;
 use vp_world::{Asked, Entry, Event, LoggedEvent, Login};
 
@@ -57,44 +56,18 @@ fn is_asked(asked: &Asked, session: SessionId, request: &SessionRequest) -> bool
     }
 }
 
-/// A reply is that a session was opened.
-fn is_opened(reply: &Reply, session: SessionId) -> bool
-    ensures same { result ≡ true → reply.now ≡ replies.Opened session }
-    ensures differs { reply.now ≡ replies.Opened session → result ≡ true }
-{
-    match reply {
-        Reply::Opened(opened) => *opened == session,
-        _ => false,
-    }
-}
-
-/// What happened is an event of a session's request, with this reply.
-fn is_call(
-    happening: &LoggedEvent,
-    session: SessionId,
-    request: &SessionRequest,
-    reply: &Reply,
-) -> bool
-    ensures event { result ≡ true → event_in happening.now ≡ event_of session request.now }
-    ensures reply { result ≡ true → reply_in happening.now ≡ reply.now }
-    ensures differs { event_in happening.now ≡ event_of session request.now
-        → reply_in happening.now ≡ reply.now → result ≡ true }
+/// What happened is the event of a session's request.
+fn is_event_of(happening: &LoggedEvent, session: SessionId, request: &SessionRequest) -> bool
+    ensures same { result ≡ true → event_in happening.now ≡ event_of session request.now }
+    ensures differs { event_in happening.now ≡ event_of session request.now → result ≡ true }
 {
     match happening {
-        LoggedEvent::Open {
-            login,
-            session: opened,
-        } => is_login(login, request) && is_opened(reply, *opened),
-        LoggedEvent::Ask { asked, reply: told } => {
-            is_asked(asked, session, request) && told.is_same(reply)
-        }
-        LoggedEvent::Put { asked, .. } => {
-            is_asked(asked, session, request) && matches!(reply, Reply::Done)
+        LoggedEvent::Open { login, .. } => is_login(login, request),
+        LoggedEvent::Ask { asked, .. } | LoggedEvent::Put { asked, .. } => {
+            is_asked(asked, session, request)
         }
         LoggedEvent::Close { session: closed } => {
-            *closed == session
-                && matches!(request, SessionRequest::Call(Call::Close))
-                && matches!(reply, Reply::Done)
+            *closed == session && matches!(request, SessionRequest::Call(Call::Close))
         }
         _ => false,
     }
@@ -106,7 +79,10 @@ pub fn stands(log: &[Entry], session: SessionId, receipt: &Receipt) -> bool
     ensures apart { Stands log.now session receipt.now → result ≡ true }
 {
     match log.get(receipt.index) {
-        Some(entry) => is_call(&entry.happening, session, &receipt.request, &receipt.reply),
+        Some(entry) => {
+            is_event_of(&entry.happening, session, &receipt.request)
+                && entry.happening.is_answered(&receipt.reply)
+        }
         None => false,
     }
 }

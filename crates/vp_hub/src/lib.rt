@@ -21,7 +21,7 @@ mod server_error;
 mod service;
 mod settings;
 
-pub use close::{Closed, session_of};
+pub use close::Closed;
 pub use desk::Desk;
 pub use error::HubError;
 pub use hub::{Hub, Ran, Worked};

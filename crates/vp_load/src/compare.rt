@@ -15,7 +15,6 @@ use std::alloc::Global;
 use std::sync::Arc;
 use vp_answer::{GrantChange, Reply, Request, SessionId};
 use vp_expr::Checked;
-use vp_hub::session_of;
 use vp_text::Same;
 use vp_wire::{reply_line, request};
 use vp_world::{Entry, Event, Limits, LoggedEvent, World};
@@ -138,7 +137,7 @@ fn check_no_rest(rests: &[&[u8]]) -> Result<(), Difference> {
 fn compare_users(alloc: Global, users: &[Vec<u8>], log: &[Entry]) -> Result<(), Difference> {
     let mut rests = whole_rests(alloc, users)?;
     for (index, entry) in log.iter().enumerate() {
-        if let Some(session) = session_of(&entry.happening) {
+        if let Some(session) = entry.happening.session() {
             take_line(alloc, &mut rests, session, index, entry)?;
         }
     }

@@ -1,8 +1,9 @@
-ghost use Rattle.std.specs.Prelude.{◌≡◌};
+ghost use Rattle.std.specs.Prelude.{◌≡◌, true};
 ghost use Rattle.vp_notify.specs.Registry.{polled_notice};
 
 use vp_bits::Bits;
 use vp_expr::ObjectId;
+use vp_text::{Same, Sequence};
 
 /// What a callback is notified of a change: its number, the object, the time in time units, and the object's new value (IEEE Std 1364-2005,
 /// 27.33.1).
@@ -38,6 +39,18 @@ impl Notice {
 /// The notices that waited, oldest first, and how many were lost.
 #[derive(Drop)]
 pub struct Notices {
-    pub notices: Vec<PolledNotice>,
+    pub notices: Sequence<PolledNotice>,
     pub lost: u64,
+}
+
+impl Same for PolledNotice {
+    fn is_same(&self, other: &PolledNotice) -> bool {
+        self.callback == other.callback && self.time == other.time && self.value == other.value
+    }
+}
+
+impl Same for Notices {
+    fn is_same(&self, other: &Notices) -> bool {
+        self.lost == other.lost && self.notices.is_same(&other.notices)
+    }
 }

@@ -13,6 +13,7 @@ use std::alloc::{AllocError, Global};
 use std::marker::Model;
 use vp_expr::{Change, ObjectId};
 use vp_pragma::{Right, Rights};
+use vp_text::Sequence;
 
 /// The most callbacks that a registry has at a time.
 pub const CALLBACK_LIMIT: usize = 1_024;
@@ -295,7 +296,7 @@ impl Registry {
     /// The notices that wait, oldest first, and how many were lost since the last drain. Refuses with `NoMemory` where there is none.
     pub fn notices(&self) -> Result<Notices, NotifyError>
         ensures notices { IfOk result
-            (λ n. n.notices.items ≡ map polled_notice self.now.waiting) }
+            (λ n. n.notices ≡ map polled_notice self.now.waiting) }
         ensures lost { IfOk result (λ n. n.lost ≡ self.now.lost) }
         ensures refusal { IfErr result (λ e. e ≡ NoMemory) }
     {
@@ -304,7 +305,10 @@ impl Registry {
         push_polled(&mut notices, first)?;
         push_polled(&mut notices, second)?;
         let lost = self.lost;
-        Ok(Notices { notices, lost })
+        Ok(Notices {
+            notices: Sequence::from_vec(notices),
+            lost,
+        })
     }
 
     /// None waits any more, and none counts as lost. Takes no memory.
@@ -319,7 +323,7 @@ impl Registry {
     /// with `NoMemory` where there is none; then nothing is changed.
     pub fn drain(&mut self) -> Result<Notices, NotifyError>
         ensures notices { IfOk result
-            (λ n. n.notices.items ≡ map polled_notice self.old.waiting) }
+            (λ n. n.notices ≡ map polled_notice self.old.waiting) }
         ensures lost { IfOk result (λ n. n.lost ≡ self.old.lost) }
         ensures drained { OnOk result (self.new ≡ drained self.old) }
         ensures refusal { IfErr result (λ e. e ≡ NoMemory) }

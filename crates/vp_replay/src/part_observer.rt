@@ -12,8 +12,8 @@ use vp_bits::Bits;
 use vp_elab::{Kind, ObjectId};
 use vp_policy::{DenialText, View};
 use vp_pragma::Right;
-use vp_text::{Sequence, Text};
-use vp_vpi::{Found, Observe, RaceDetails, RaceLine, Shared, ShownRace};
+use vp_text::{Sequence, Shared, Text};
+use vp_vpi::{Found, Observe, RaceDetails, RaceLine, ShownRace};
 
 /// A view, with the values that its user knows, the time, whether `$finish` was executed, and the races that he is shown.
 #[derive(Drop)]

@@ -5,7 +5,7 @@ ghost use Rattle.vp_notify.specs.Registry.{is_unwatchable};
 ghost use Rattle.vp_notify.specs.Renumbered.{number_now, rises};
 ghost use Rattle.vp_vpi.specs.SessionStates.{new_session_state, object_of};
 ghost use Rattle.vp_answer.specs.Answers.{respond};
-ghost use Rattle.vp_answer.specs.OpenSessions.{index_of, same_session};
+ghost use Rattle.vp_answer.specs.OpenSessions.{index_of};
 ghost use Rattle.vp_replay.specs.declared.error.AuditError.TheVariants.{NoMemory};
 ghost use Rattle.vp_replay.specs.Parts.{is_session_within, moved_session, session_notified};
 
@@ -43,13 +43,6 @@ impl PartSession {
             return Err(AuditError::NoMemory);
         };
         Ok(PartSession { id, session })
-    }
-
-    /// It has this name.
-    fn is(&self, id: SessionId) -> bool
-        ensures { result ≡ same_session self.now.id id }
-    {
-        self.id.user.0 == id.user.0 && self.id.opens == id.opens
     }
 
     /// Answers a query by what its user can look up; or out of memory (1307).
@@ -105,7 +98,7 @@ pub fn session_index(sessions: &[PartSession], id: SessionId) -> Option<usize>
     ensures index { result ≡ index_of sessions.now id }
     ensures within { IfSome result (λ index. index < length sessions.now) }
 {
-    sessions.iter().position(|session| session.is(id))
+    sessions.iter().position(|session| session.id.is_same(id))
 }
 
 /// All objects of these sessions are among so many.

@@ -3,8 +3,8 @@ ghost use Rattle.std.specs.Prelude.{◌≡◌, ◌-◌, IfOk, IsSome, OnErr, dro
 ghost use Rattle.vp_vpi.specs.Calls.{line_of, lines_from, race_details, shown_at};
 
 use std::alloc::{AllocError, Global};
-use vp_text::{Sequence, Text};
-use vp_vpi::{RaceDetails, RaceLine, Shared, ShownRace};
+use vp_text::{Sequence, Shared, Text};
+use vp_vpi::{RaceDetails, RaceLine, ShownRace};
 
 /// At most so many races are reported in one list.
 const RACE_LIMIT: usize = 100;

@@ -3,7 +3,7 @@ use Rattle.std.specs.Prelude.{ℕ, zero, suc, ◌+◌, ◌&&◌, not, nat_le, Bo
 use Rattle.std.specs.Option.{option_flatten}
 use Rattle.vp_elab.specs.declared.object.ObjectId.{ObjectId}
 use Rattle.vp_notify.specs.Change.{Change}
-use Rattle.vp_notify.specs.declared.notice.PolledNotice.{PolledNotice}
+use Rattle.vp_notify.specs.declared.notice.Notices.{Notices}
 use Rattle.vp_notify.specs.Registry as registry
 
 -- a session: its user; his handles in the order in which they were made, each with its object, or none where it was freed; and his
@@ -79,13 +79,8 @@ without_callback callback s = record s { registry = registry.without s.registry 
 abbrev pub with_due : Option Change → (time : ℕ) → SessionState → SessionState
 with_due change time s = record s { registry = registry.due s.registry change time }
 
--- what a poll reports: the notices that wait, oldest first, and how many were lost since the last poll
-pub record Polled : Type 0 where
-  pub notices : List PolledNotice
-  pub lost : ℕ
-
--- what a session's poll reports (profile)
-abbrev pub polled : SessionState → Polled
+-- what a session's poll reports: the notices that wait, oldest first, and how many were lost since the last poll (profile)
+abbrev pub polled : SessionState → Notices
 polled s = record { notices = map registry.polled_notice s.registry.waiting; lost = s.registry.lost }
 
 -- a session after a poll: none waits any more, and none counts as lost (profile)

@@ -1,11 +1,9 @@
 // What is reported, and the value of a put, are compared by their contents.
 ghost use Rattle.std.specs.Prelude.{◌≡◌, true};
 
-use crate::iteration::{ListedObject, Listing, SharedListing};
-use crate::notices::SharedNotices;
+use crate::iteration::{ListedObject, Listing};
 use crate::property::{PutValue, VectorWord};
 use crate::races::{RaceDetails, RaceLine};
-use vp_notify::PolledNotice;
 use vp_text::Same;
 
 impl Same for ListedObject {
@@ -18,42 +16,6 @@ impl Same for Listing {
     fn is_same(&self, other: &Listing) -> bool {
         self.closed.as_slice() == other.closed.as_slice() && self.items.is_same(&other.items)
     }
-}
-
-impl Same for SharedListing {
-    fn is_same(&self, other: &SharedListing) -> bool {
-        self.listing().is_same(other.listing())
-    }
-}
-
-impl Same for SharedNotices {
-    fn is_same(&self, other: &SharedNotices) -> bool {
-        self.lost() == other.lost() && are_same_notices(self.notices(), other.notices())
-    }
-}
-
-/// Two lists have the same notices.
-fn are_same_notices(first: &[PolledNotice], second: &[PolledNotice]) -> bool
-    ensures same { result ≡ true → first.now ≡ second.now }
-    ensures differs { first.now ≡ second.now → result ≡ true }
-{
-    if first.len() != second.len() {
-        return false;
-    }
-    for index in 0..first.len() {
-        if !is_same_notice(&first[index], &second[index]) {
-            return false;
-        }
-    }
-    true
-}
-
-/// Two notices are the same.
-fn is_same_notice(first: &PolledNotice, second: &PolledNotice) -> bool
-    ensures same { result ≡ true → first.now ≡ second.now }
-    ensures differs { first.now ≡ second.now → result ≡ true }
-{
-    first.callback == second.callback && first.time == second.time && first.value == second.value
 }
 
 impl Same for RaceLine {

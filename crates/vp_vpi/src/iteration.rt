@@ -6,9 +6,8 @@ ghost use Rattle.vp_vpi.specs.SessionStates.{handle_to, number_limit};
 use crate::observer::Observe;
 use std::alloc::{AllocError, Global};
 use std::marker::Model;
-use std::sync::Arc;
 use vp_elab::{Kind, ObjectId};
-use vp_text::{Sequence, Text};
+use vp_text::{Sequence, Shared, Text};
 
 /// An object that is listed: the handle that is made of it, and its name.
 #[derive(Drop)]
@@ -26,53 +25,10 @@ pub struct Listing {
     pub items: Sequence<ListedObject>,
 }
 
-/// What is reported of an iteration, which several may hold. A contract sees what is reported.
-#[derive(Drop)]
-pub struct SharedListing {
-    listing: Arc<Listing>,
-}
-
-impl Model for SharedListing {
-    ghost use Rattle.std.specs.Arc.{arc_value};
-    ghost use Rattle.vp_vpi.specs.declared.iteration.Listing.{Listing};
-
-    ghost Value = { Listing };
-
-    ghost view = { λ l. arc_value l.listing };
-}
-
-impl SharedListing {
-    /// A listing, which is moved in. Takes memory.
-    pub fn new(alloc: Global, listing: Listing) -> Result<SharedListing, AllocError>
-        ensures { IfOk result (λ l. l ≡ listing) }
-    {
-        match Arc::new(alloc, listing) {
-            Ok(listing) => Ok(SharedListing { listing }),
-            Err(_) => Err(AllocError),
-        }
-    }
-
-    /// The same listing for one holder more; or an error where they can't be counted.
-    pub fn try_clone(&self) -> Result<SharedListing, AllocError>
-        ensures { IfOk result (λ l. l ≡ self.now) }
-    {
-        Ok(SharedListing {
-            listing: Arc::try_clone(&self.listing)?,
-        })
-    }
-
-    /// What is reported.
-    pub fn listing(&self) -> &Listing
-        ensures { result.now ≡ self.now }
-    {
-        &self.listing
-    }
-}
-
 /// An iteration over the objects of a scope. A contract sees what is reported of it, and the handles that it makes.
 #[derive(Drop)]
 pub struct Iteration {
-    listing: SharedListing,
+    listing: Shared<Listing>,
     handles: Sequence<Option<ObjectId>>,
 }
 
@@ -106,13 +62,13 @@ impl Iteration {
         ensures count { IfOk result (λ i. length i.handles ≡ length objects.now) }
     {
         let items = listed_items(alloc, observation, last, objects)?;
-        let listing = SharedListing::new(alloc, Listing { closed, items })?;
+        let listing = Shared::new(alloc, Listing { closed, items })?;
         let handles = handles_to(alloc, objects)?;
         Ok(Iteration { listing, handles })
     }
 
     /// What is reported of it.
-    pub fn listing(&self) -> &SharedListing
+    pub fn listing(&self) -> &Shared<Listing>
         ensures { result.now ≡ self.now.listing }
     {
         &self.listing

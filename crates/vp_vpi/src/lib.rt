@@ -4,7 +4,6 @@
 mod comparison;
 mod error;
 mod iteration;
-mod notices;
 mod observer;
 mod property;
 mod put;
@@ -12,11 +11,9 @@ mod races;
 mod session;
 
 pub use error::VpiError;
-pub use iteration::{Iteration, ListedObject, Listing, SharedListing};
-pub use notices::SharedNotices;
+pub use iteration::{Iteration, ListedObject, Listing};
 pub use observer::{Found, Observe};
 pub use property::{NumberProperty, PutValue, TextProperty, VectorWord};
 pub use races::{RaceDetails, RaceLine, ShownRace};
 pub use session::{HANDLE_LIMIT, Session};
 pub use vp_policy::{Access, DenialText, UserId};
-pub use vp_text::Shared;

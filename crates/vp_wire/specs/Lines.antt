@@ -17,6 +17,7 @@ use Rattle.vp_policy.specs.declared.denial.ShownBarrier.TheVariants as by
 use Rattle.vp_policy.specs.Denials.{DenialText}
 use Rattle.vp_policy.specs.File.{each_of, opened_by}
 use Rattle.vp_policy.specs.Filter.{run_denied}
+use Rattle.vp_notify.specs.declared.notice.Notices.{Notices}
 use Rattle.vp_notify.specs.declared.notice.PolledNotice.{PolledNotice}
 use Rattle.vp_vpi.specs.declared.iteration.ListedObject.{ListedObject}
 use Rattle.vp_vpi.specs.declared.iteration.Listing.{Listing}
@@ -28,7 +29,6 @@ use Rattle.vp_vpi.specs.declared.property.VectorWord.{VectorWord}
 use Rattle.vp_vpi.specs.declared.property.PutValue.TheVariants as put
 use Rattle.vp_vpi.specs.declared.races.RaceLine.{RaceLine}
 use Rattle.vp_vpi.specs.declared.races.RaceDetails.{RaceDetails}
-use Rattle.vp_vpi.specs.SessionStates.{Polled}
 use Rattle.vp_answer.specs.declared.query.ValueFormat.{ValueFormat}
 use Rattle.vp_answer.specs.declared.query.ValueFormat.TheVariants as format
 use Rattle.vp_answer.specs.declared.query.Query.{Query}
@@ -149,7 +149,7 @@ notice_data n =
     (member (codes "time") (number (unsigned n.time)) (member (codes "value") (digits_data n.value) no_members)))
 
 -- what a poll reports as JSON, its keys in the order of their bytes (profile)
-abbrev pub polled_data : Polled → Data
+abbrev pub polled_data : Notices → Data
 polled_data p =
     object (member (codes "lost") (number (unsigned p.lost))
     (member (codes "notices") (array (items_of (map notice_data p.notices))) no_members))

@@ -9,10 +9,10 @@ use serde_json::{Map, Value, put};
 use std::alloc::{AllocError, Global};
 use vp_answer::{Refusal, Reply};
 use vp_bits::Bits;
-use vp_notify::PolledNotice;
+use vp_notify::{Notices, PolledNotice};
 use vp_policy::{DenialText, ShownBarrier};
 use vp_text::Text;
-use vp_vpi::{ListedObject, Listing, RaceDetails, RaceLine, SharedNotices};
+use vp_vpi::{ListedObject, Listing, RaceDetails, RaceLine};
 
 /// An object of one member.
 fn only(alloc: Global, key: &str, value: Value) -> Result<Value, AllocError>
@@ -190,12 +190,12 @@ fn notices_value(alloc: Global, notices: &[PolledNotice]) -> Result<Value, Alloc
 }
 
 /// What a poll reports.
-fn polled_value(alloc: Global, polled: &SharedNotices) -> Result<Value, AllocError>
+fn polled_value(alloc: Global, polled: &Notices) -> Result<Value, AllocError>
     ensures { IfOk result (λ v. view v ≡ polled_data polled.now) }
 {
     let mut members = Map::new(alloc);
-    put(&mut members, alloc, "lost", Value::from(polled.lost()))?;
-    let notices = notices_value(alloc, polled.notices())?;
+    put(&mut members, alloc, "lost", Value::from(polled.lost))?;
+    let notices = notices_value(alloc, polled.notices.as_slice())?;
     put(&mut members, alloc, "notices", notices)?;
     Ok(Value::Object(members))
 }
@@ -373,14 +373,14 @@ fn value_of(alloc: Global, reply: &Reply) -> Result<Value, AllocError>
     match reply {
         Reply::Opened(_) | Reply::Done => done_value(alloc),
         Reply::Handle(handle) => handle_value(alloc, *handle),
-        Reply::Listing(listing) => listing_value(alloc, listing.listing()),
+        Reply::Listing(listing) => listing_value(alloc, listing.value()),
         Reply::Number(number) => number_value(alloc, *number),
         Reply::Text(text) => text_value(alloc, text.as_str()),
         Reply::Value(bits) => vector_value(alloc, *bits),
         Reply::Vector(bits) => vector_words(alloc, *bits),
         Reply::Same(same) => same_value(alloc, *same),
         Reply::Callback(callback) => callback_value(alloc, *callback),
-        Reply::Notices(polled) => polled_value(alloc, polled),
+        Reply::Notices(polled) => polled_value(alloc, polled.value()),
         Reply::Races(races) => races_value(alloc, races.value().as_slice()),
         Reply::Race(race) => race_value(alloc, race.value()),
         Reply::Job(job) => job_value(alloc, *job),

@@ -6,6 +6,7 @@ use Rattle.vp_world.specs.declared.entry.LoggedEvent.{LoggedEvent}
 use Rattle.vp_world.specs.declared.entry.LoggedEvent.TheVariants as happening
 use Rattle.vp_world.specs.declared.event.Event.{Event}
 use Rattle.vp_world.specs.declared.event.Event.TheVariants as event
+use Rattle.vp_answer.specs.declared.request.SessionId.{SessionId}
 use Rattle.vp_answer.specs.declared.reply.Reply.{Reply}
 use Rattle.vp_answer.specs.declared.reply.Reply.TheVariants as reply
 
@@ -16,6 +17,13 @@ pub record Entry : Type 0 where
   pub change : Option Change
   pub time : ℕ
   pub finished : Bool
+
+-- the session of an event that was answered so; none where it is of no session
+abbrev pub session_in : Event → Reply → Option SessionId
+session_in (event.Open user token) (reply.Opened id) = Some id
+session_in (event.Ask id r) answer = Some id
+session_in (event.Close id) answer = Some id
+session_in e answer = None
 
 -- ---- what is seen of the fields of an entry
 

@@ -8,7 +8,7 @@ use std::sync::Arc;
 use vp_answer::{GrantChange, Query, Reply, SessionId};
 use vp_expr::Change;
 use vp_race::Finding;
-use vp_text::{Shared, Text};
+use vp_text::{Same, Shared, Text};
 
 /// The name and the token with which a user opens a session.
 #[derive(Drop)]
@@ -72,11 +72,11 @@ pub enum LoggedEvent {
 }
 
 impl LoggedEvent {
-    ghost use Rattle.std.specs.Prelude.{◌≡◌, IfSome};
+    ghost use Rattle.std.specs.Prelude.{◌≡◌, true, IfSome};
     ghost use Rattle.std.specs.Arc.{arc_value};
     ghost use Rattle.vp_world.specs.declared.event.Event.TheVariants as event;
     ghost use Rattle.vp_answer.specs.declared.reply.Reply.TheVariants as reply;
-    ghost use Rattle.vp_world.specs.Entries.{change_in, event_in, reply_in};
+    ghost use Rattle.vp_world.specs.Entries.{change_in, event_in, reply_in, session_in};
 
     /// A session asked, was answered so, and changed this; only what is done changes something.
     pub fn of_asked(asked: Arc<Asked>, answer: Reply, change: Option<Change>) -> LoggedEvent
@@ -92,6 +92,42 @@ impl LoggedEvent {
                 asked,
                 reply: answer,
             },
+        }
+    }
+
+    /// The session of what happened; none where it is of no session.
+    pub fn session(&self) -> Option<SessionId>
+        ensures { result ≡ session_in (event_in self.now) (reply_in self.now) }
+    {
+        match self {
+            LoggedEvent::Open { session, .. } | LoggedEvent::Close { session } => Some(*session),
+            LoggedEvent::Ask { asked, .. } | LoggedEvent::Put { asked, .. } => Some(asked.session),
+            _ => None,
+        }
+    }
+
+    /// The reply to what happened is this one.
+    pub fn is_answered(&self, reply: &Reply) -> bool
+        ensures same { result ≡ true → reply_in self.now ≡ reply.now }
+        ensures differs { reply_in self.now ≡ reply.now → result ≡ true }
+    {
+        match self {
+            LoggedEvent::Ask { reply: answer, .. } => answer.is_same(reply),
+            LoggedEvent::Open { session, .. } => match reply {
+                Reply::Opened(id) => session == id,
+                _ => false,
+            },
+            LoggedEvent::TakeJob { number } => match reply {
+                Reply::Job(job) => number == job,
+                _ => false,
+            },
+            LoggedEvent::Put { .. }
+            | LoggedEvent::Close { .. }
+            | LoggedEvent::Grant { .. }
+            | LoggedEvent::Step { .. }
+            | LoggedEvent::StepWithChange { .. }
+            | LoggedEvent::Advance
+            | LoggedEvent::Book { .. } => matches!(reply, Reply::Done),
         }
     }
 }

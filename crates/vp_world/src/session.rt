@@ -1,6 +1,6 @@
 ghost use Rattle.std.specs.Prelude.{◌≡◌, ◌<◌, length, map, Some, IfSome};
 ghost use Rattle.vp_world.specs.Shown.{retired_open, session_shown, notified_session};
-ghost use Rattle.vp_answer.specs.OpenSessions.{index_of, same_session};
+ghost use Rattle.vp_answer.specs.OpenSessions.{index_of};
 
 use vp_answer::SessionId;
 use vp_expr::Change;
@@ -25,19 +25,13 @@ impl OpenSession {
     }
 }
 
-fn is_same(a: SessionId, b: SessionId) -> bool
-    ensures { result ≡ same_session a b }
-{
-    a.user.0 == b.user.0 && a.opens == b.opens
-}
-
 /// Where the open session of a name stands.
 pub fn session_index(sessions: &[OpenSession], id: SessionId) -> Option<usize>
     ensures index { result ≡ index_of (map session_shown sessions.now) id }
     ensures within { IfSome result (λ index. index < length sessions.now) }
 {
     for index in 0..sessions.len() {
-        if is_same(sessions[index].id, id) {
+        if sessions[index].id.is_same(id) {
             return Some(index);
         }
     }

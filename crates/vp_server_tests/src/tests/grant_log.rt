@@ -45,7 +45,8 @@ fn is_right_value(watch: Watch, reply: &Reply) -> bool {
 fn is_right_poll(watch: Watch, reply: &Reply) -> bool {
     match reply {
         Reply::Notices(notices) => {
-            notices.notices().len() == watch.waiting && notices.lost() == 0
+            let notices = notices.value();
+            notices.notices.len() == watch.waiting && notices.lost == 0
         }
         _ => false,
     }

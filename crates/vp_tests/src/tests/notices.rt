@@ -29,8 +29,16 @@ fn change_two(registry: &mut Registry, time: u64) {
 
 /// Of notices, how many there are and were lost, and of the first and the last the callback and the time.
 fn shape_of(notices: &Notices) -> (usize, u64, Option<(u32, u64)>, Option<(u32, u64)>) {
-    let first = notices.notices.first().map(|n| (n.callback, n.time));
-    let last = notices.notices.last().map(|n| (n.callback, n.time));
+    let first = notices
+        .notices
+        .as_slice()
+        .first()
+        .map(|n| (n.callback, n.time));
+    let last = notices
+        .notices
+        .as_slice()
+        .last()
+        .map(|n| (n.callback, n.time));
     (notices.notices.len(), notices.lost, first, last)
 }
 

@@ -46,7 +46,7 @@ pub fn order_in(world: &mut World, session: SessionId, query: Query) -> Option<(
 /// How many notices a reply has; none where it has another kind.
 fn count_notices(reply: &Reply) -> Option<usize> {
     match reply {
-        Reply::Notices(notices) => Some(notices.notices().len()),
+        Reply::Notices(notices) => Some(notices.value().notices.len()),
         _ => None,
     }
 }

@@ -8,12 +8,12 @@ ghost use Rattle.vp_vpi.specs.SessionStates.{drained, object_of, polled, retired
 
 use super::Session;
 use crate::error::VpiError;
-use crate::notices::SharedNotices;
 use crate::observer::Observe;
 use vp_elab::{Kind, ObjectId};
-use vp_notify::{Callback, Change};
+use vp_notify::{Callback, Change, Notices};
 use vp_policy::Policy;
 use vp_pragma::{Right, Rights};
+use vp_text::Shared;
 
 /// An object is there whose changes can be watched: a net or a reg.
 fn is_watchable(kind: Option<Kind>) -> bool
@@ -111,12 +111,12 @@ impl Session {
     }
 
     /// The notices that wait, and how many were lost since the last `drain`; or out of memory (1107). `drain` takes them out.
-    pub fn poll(&self) -> Result<SharedNotices, VpiError>
+    pub fn poll(&self) -> Result<Shared<Notices>, VpiError>
         ensures told { IfOk result (λ n. n ≡ polled self.now) }
         ensures refused { IsOkUnless result VpiError.NoMemory }
     {
         let notices = self.registry.notices()?;
-        Ok(SharedNotices::new(self.alloc, notices)?)
+        Ok(Shared::new(self.alloc, notices)?)
     }
 
     /// No notice waits any more, and none counts as lost. Takes no memory.
