@@ -1,6 +1,7 @@
 use crate::client::Client;
 use crate::incoming::Incoming;
 use crate::opens::NamesOpening;
+use crate::outgoing::Outgoing;
 use crate::pass::Pass;
 use crate::service::Service;
 use std::io::BufWriter;
@@ -35,9 +36,6 @@ fn answer<L: NamesOpening, R: Wait + Clock, G: Gate>(
     stream: &TcpStream,
 ) -> Option<Pass<L>> {
     let settings = service.settings;
-    stream
-        .set_write_timeout(Some(settings.reading_silence))
-        .ok()?;
     stream.set_nodelay(true).ok()?;
     let is_known = AtomicBool::new(false);
     let incoming = Incoming::new(rt, stream, &is_known, settings.opening_time).ok()?;
@@ -50,7 +48,8 @@ fn answer<L: NamesOpening, R: Wait + Clock, G: Gate>(
         pass: None,
     };
     let mut reader = Counted::new(incoming);
-    let mut writer = Counted::new(BufWriter::new(service.alloc, stream).ok()?);
+    let outgoing = Outgoing::new(rt, stream, settings.reading_silence, settings.reading_time);
+    let mut writer = Counted::new(BufWriter::new(service.alloc, outgoing).ok()?);
     let _ended = session(service.alloc, &mut reader, &mut writer, &mut client);
     client.pass
 }

@@ -13,6 +13,7 @@ mod error;
 mod hub;
 mod incoming;
 mod opens;
+mod outgoing;
 mod pass;
 mod passes;
 mod receipt;
