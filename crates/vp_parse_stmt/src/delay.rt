@@ -88,6 +88,42 @@ fn delay_stop(stop: Stop, symbols: &[Symbol]) -> Stop
     }
 }
 
+/// A number that is no decimal one goes on after its first digits with a symbol of this kind.
+fn goes_on_number(kind: SymbolKind) -> bool {
+    matches!(
+        kind,
+        SymbolKind::Base
+            | SymbolKind::ShortBase
+            | SymbolKind::OtherBase
+            | SymbolKind::Punctuator(Punctuator::Period)
+    )
+}
+
+/// Where what follows a delay, from after its `#`, does not end: a delay of which only the first digits were read is left out.
+pub fn after_delay(stop: Stop, delay: &[Symbol], rest: &[Symbol]) -> Stop
+    ensures { stop_told result ≡ stop_told stop }
+{
+    match (stop, delay, rest) {
+        (Stop::Syntax(left), [amount, ..], [first, ..])
+            if matches!(amount.kind, SymbolKind::Number(_)) && goes_on_number(first.kind) => {
+            Stop::LeftOut(left)
+        }
+        _ => stop,
+    }
+}
+
+/// The same where a delay may be left out: these symbols begin with its `#`, if there is one.
+pub fn after_hold(stop: Stop, symbols: &[Symbol], rest: &[Symbol]) -> Stop
+    ensures { stop_told result ≡ stop_told stop }
+{
+    match symbols {
+        [hash, delay @ ..] if matches!(hash.kind, SymbolKind::Punctuator(Punctuator::Hash)) => {
+            after_delay(stop, delay, rest)
+        }
+        _ => stop,
+    }
+}
+
 // ---- delays
 
 /// A number without a base, and what follows.

@@ -13,7 +13,7 @@ ghost use Rattle.vp_parse_stmt.specs.Reading.{goes_on as more, is_default as def
 ghost use Rattle.vp_parse_stmt.specs.Weight.{weight};
 
 use crate::arena::{Arena, add_statement, lay_choices};
-use crate::delay::{delay, hold, number};
+use crate::delay::{after_delay, after_hold, delay, hold, number};
 use crate::event::event;
 use crate::values::{add_choices_of, labels, value};
 use vp_lex::{Keyword, Punctuator};
@@ -83,10 +83,16 @@ fn nonblocking<'a>(
         < weight arena.old symbols.now) }
     ensures shorter { IfOk result (λ found. length found.1.now < length symbols.now) }
 {
-    let rest = skip(SymbolKind::Punctuator(Punctuator::LessOrEqual), symbols)?;
-    let (delay, rest) = hold(rest)?;
-    let (value, rest) = value(arena, limit, rest)?;
-    let rest = skip(SymbolKind::Punctuator(Punctuator::Semicolon), rest)?;
+    let held = skip(SymbolKind::Punctuator(Punctuator::LessOrEqual), symbols)?;
+    let (delay, after) = hold(held)?;
+    let (value, rest) = match value(arena, limit, after) {
+        Ok(found) => found,
+        Err(stop) => return Err(after_hold(stop, held, after)),
+    };
+    let rest = match skip(SymbolKind::Punctuator(Punctuator::Semicolon), rest) {
+        Ok(rest) => rest,
+        Err(stop) => return Err(after_hold(stop, held, after)),
+    };
     let assign = Statement::Nonblocking {
         target,
         selection,
@@ -195,8 +201,11 @@ fn delayed<'a>(
         < weight arena.old symbols.now) }
     ensures shorter { IfOk result (λ found. length found.1.now < length symbols.now) }
 {
-    let (amount, rest) = delay(symbols)?;
-    let (body, rest) = statement_at(arena, limit, depth, rest)?;
+    let (amount, after) = delay(symbols)?;
+    let (body, rest) = match statement_at(arena, limit, depth, after) {
+        Ok(found) => found,
+        Err(stop) => return Err(after_delay(stop, symbols, after)),
+    };
     let delayed = Statement::Delay { amount, body };
     Ok((add_statement(&mut arena.statements, delayed)?, rest))
 }
