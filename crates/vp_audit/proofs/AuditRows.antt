@@ -30,7 +30,8 @@ use Rattle.vp_world.specs.declared.event.Event.TheVariants as event
 use Rattle.vp_world.specs.Entries.{Entry}
 use Rattle.vp_world.specs.Worlds.{Opening}
 use Rattle.vp_replay.specs.Known.{known_index}
-use Rattle.vp_replay.specs.Parts.{Asks, Opens, replies_from}
+use Rattle.vp_replay.specs.declared.item.OwnEvent.TheVariants.{Asks, Opens}
+use Rattle.vp_replay.specs.Parts.{replies_from}
 use Rattle.vp_replay.specs.Parts.{first_part}
 use Rattle.vp_audit.specs.Projections.{moved_numbers, number_in, projection, replies_of}
 

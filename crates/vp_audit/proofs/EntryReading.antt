@@ -15,7 +15,9 @@ use Rattle.vp_world.specs.Entries.{Entry, event_in}
 use Rattle.vp_world.specs.History.{after, entry_of}
 use Rattle.vp_world.specs.Worlds.{Opening, State}
 use Rattle.vp_replay.specs.Known.{known_also}
-use Rattle.vp_replay.specs.Parts.{GrantItem, Item, OwnEvent}
+use Rattle.vp_replay.specs.declared.item.GrantItem.{GrantItem}
+use Rattle.vp_replay.specs.declared.item.Item.{Item}
+use Rattle.vp_replay.specs.declared.item.OwnEvent.{OwnEvent}
 use Rattle.vp_audit.specs.Projections.{change_seen, granted_of, item_if, known_after, other_flag, other_number, own_of, race_of_event, regrant_of}
 use Rattle.vp_audit.specs.Readings.{Continues, Grants, LogReader, Reads, followed, reading_of}
 use Rattle.vp_audit.proofs.Following.{IsNoGrant, followed_is}

@@ -14,7 +14,7 @@ use Rattle.vp_world.specs.declared.event.Event.TheVariants as event
 use Rattle.vp_world.specs.History.{after, granted_to}
 use Rattle.vp_world.specs.Worlds.{Opening, State}
 use Rattle.vp_replay.specs.Known.{known_also}
-use Rattle.vp_replay.specs.Parts.{GrantItem}
+use Rattle.vp_replay.specs.declared.item.GrantItem.{GrantItem}
 use Rattle.vp_audit.specs.Projections.{granted_of, known_after, moved_numbers, regrant_of, values_seen}
 use Rattle.vp_audit.specs.Readings.{Grants, LogReader, reading_of}
 

@@ -10,8 +10,8 @@ use Rattle.vp_sim.specs.States as sim
 use Rattle.vp_world.specs.Entries.{Entry}
 use Rattle.vp_world.specs.History.{IsLegal, after, entry_of, is_log_full, refusal_of, state_after}
 use Rattle.vp_world.specs.Worlds.{Opening, State, start}
-use Rattle.vp_replay.specs.Parts.{Item}
-use Rattle.vp_replay.specs.Parts.{Projection}
+use Rattle.vp_replay.specs.declared.item.Item.{Item}
+use Rattle.vp_replay.specs.declared.item.Projection.{Projection}
 use Rattle.vp_audit.specs.Projections.{item_if, item_of, items_from, known_at_first, known_after, projection, values_seen}
 use Rattle.vp_audit.specs.Readings.{Continues, LogReader, reading_of}
 

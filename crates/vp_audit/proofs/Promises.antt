@@ -11,7 +11,8 @@ use Rattle.vp_replay.specs.Faults.{MayRefuse}
 use Rattle.vp_audit.specs.Openings.{IsRight}
 use Rattle.vp_replay.specs.Parts.{takes_all}
 use Rattle.vp_audit.specs.Projections as projections
-use Rattle.vp_replay.specs.Parts.{Projection, first_part}
+use Rattle.vp_replay.specs.declared.item.Projection.{Projection}
+use Rattle.vp_replay.specs.Parts.{first_part}
 use Rattle.vp_audit.specs.laws.Taken.{projection_taken}
 
 -- what goes to a user of a legal log is taken up

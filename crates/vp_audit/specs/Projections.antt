@@ -26,7 +26,11 @@ use Rattle.vp_world.specs.History.{after}
 use Rattle.vp_world.specs.Worlds.{Opening, State, start}
 use Rattle.vp_replay.specs.Known.{known_also, known_index}
 pub use Rattle.vp_replay.specs.declared.item.Projection.{Projection}
-use Rattle.vp_replay.specs.Parts.{Asks, Closes, GrantItem, Item, Opens, OwnEvent, Part}
+use Rattle.vp_replay.specs.declared.item.GrantItem.{GrantItem}
+use Rattle.vp_replay.specs.declared.item.Item.{Item}
+use Rattle.vp_replay.specs.declared.item.OwnEvent.{OwnEvent}
+use Rattle.vp_replay.specs.declared.item.OwnEvent.TheVariants.{Asks, Closes, Opens}
+use Rattle.vp_replay.specs.Parts.{Part}
 
 -- ---- numbers
 

@@ -18,7 +18,8 @@ use Rattle.vp_world.specs.declared.event.Event.TheVariants as event
 use Rattle.vp_world.specs.History.{after, entry_of, refusal_of}
 use Rattle.vp_world.specs.Worlds.{Opening, State}
 use Rattle.vp_replay.specs.declared.error.AuditError.{AuditError}
-use Rattle.vp_replay.specs.Parts.{GrantItem, Item}
+use Rattle.vp_replay.specs.declared.item.GrantItem.{GrantItem}
+use Rattle.vp_replay.specs.declared.item.Item.{Item}
 use Rattle.vp_audit.specs.Projections.{granted_of, item_if, item_of, known_after, regrant_of}
 
 -- what of a state of a world decides what goes to a user, and which objects he knows

@@ -30,7 +30,9 @@ use Rattle.vp_answer.specs.laws.Renumbering.{respond_under}
 use Rattle.vp_world.specs.History.{observer_at, asked, asked_at, change_of, changed_by, closed_at, next_session, opened_by, outcome_of_put, raised, response_of, segments_of_put, state_asked, stepped, with_booked, with_notice, with_response}
 use Rattle.vp_answer.specs.OpenSessions.{OpenSessionState, index_of, same_session}
 use Rattle.vp_world.specs.Worlds.{State}
-use Rattle.vp_replay.specs.Parts.{Asks, Closes, Opens, OwnEvent, Part, observer_of_part, opens_after, races_after, reply_of, response_in, sessions_after, with_answer}
+use Rattle.vp_replay.specs.declared.item.OwnEvent.{OwnEvent}
+use Rattle.vp_replay.specs.declared.item.OwnEvent.TheVariants.{Asks, Closes, Opens}
+use Rattle.vp_replay.specs.Parts.{Part, observer_of_part, opens_after, races_after, reply_of, response_in, sessions_after, with_answer}
 use Rattle.vp_audit.specs.Projections.{own_if}
 use Rattle.vp_replay.specs.Seen.{observer_seen}
 use Rattle.vp_audit.specs.laws.Alike.{IsKnown, seen_as}

@@ -22,6 +22,7 @@ use Rattle.vp_world.specs.History.{change_of, noticed, stepped, with_notice}
 use Rattle.vp_answer.specs.OpenSessions.{OpenSessionState}
 use Rattle.vp_world.specs.Worlds.{State}
 use Rattle.vp_replay.specs.Parts.{Part, session_notified, values_after}
+use Rattle.vp_answer.proofs.Lists.{map_same}
 use Rattle.vp_audit.specs.Projections.{change_seen, other_flag, other_number}
 use Rattle.vp_audit.specs.laws.Alike.{IsKnown}
 use Rattle.vp_audit.specs.laws.After.{AreWatched, due_same, values_kept, watched_due}

@@ -11,8 +11,12 @@ use Rattle.vp_vpi.specs.declared.races.ShownRace.{ShownRace}
 use Rattle.vp_world.specs.Entries.{Entry}
 use Rattle.vp_world.specs.History.{IsLegal, after, entry_of, state_after}
 use Rattle.vp_world.specs.Worlds.{Opening, State, start}
-use Rattle.vp_replay.specs.Parts.{GrantItem, Item, OwnEvent, Part, part_after, reply_of, replies_from, session_notified}
-use Rattle.vp_replay.specs.Parts.{Projection, first_part}
+use Rattle.vp_replay.specs.declared.item.GrantItem.{GrantItem}
+use Rattle.vp_replay.specs.declared.item.Item.{Item}
+use Rattle.vp_replay.specs.declared.item.OwnEvent.{OwnEvent}
+use Rattle.vp_replay.specs.Parts.{Part, part_after, reply_of, replies_from, session_notified}
+use Rattle.vp_replay.specs.declared.item.Projection.{Projection}
+use Rattle.vp_replay.specs.Parts.{first_part}
 use Rattle.vp_audit.specs.Projections.{item_if, item_of, items_from, known_at_first, known_after, own_reply, projection, replies_of}
 use Rattle.vp_answer.proofs.Lists.{map_same}
 use Rattle.vp_audit.specs.laws.Events.{IsPartOf}

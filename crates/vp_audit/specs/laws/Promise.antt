@@ -24,7 +24,10 @@ use Rattle.vp_world.specs.History.{after, answer, asked, asked_at, changed, chan
 use Rattle.vp_world.specs.Worlds.{Opening, State}
 use Rattle.vp_answer.specs.OpenSessions.{index_of}
 use Rattle.vp_replay.specs.Known.{known_also}
-use Rattle.vp_replay.specs.Parts.{values_after, Asks, Closes, Item, Opens, OwnEvent, Part, opens_after, part_after, part_granted, part_after_entry, races_after, reply_of, response_in, sessions_after, session_notified, with_answer}
+use Rattle.vp_replay.specs.declared.item.Item.{Item}
+use Rattle.vp_replay.specs.declared.item.OwnEvent.{OwnEvent}
+use Rattle.vp_replay.specs.declared.item.OwnEvent.TheVariants.{Asks, Closes, Opens}
+use Rattle.vp_replay.specs.Parts.{values_after, Part, opens_after, part_after, part_granted, part_after_entry, races_after, reply_of, response_in, sessions_after, session_notified, with_answer}
 use Rattle.vp_audit.specs.Projections.{change_seen, granted_of, item_of, known_after, opened_by_reply, other_flag, other_number, own_if, own_of, own_reply, race_of_event, regrant_of}
 use Rattle.vp_audit.specs.laws.Cases.{ComesTo, asked_other, asked_own, booked_case, closed_other, closed_own, nothing_case, opened_other, opened_own, own_is, own_not, part_none, step_case}
 use Rattle.vp_answer.proofs.Lists.{map_same}

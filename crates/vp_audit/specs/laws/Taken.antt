@@ -27,7 +27,11 @@ use Rattle.vp_answer.specs.OpenSessions.{OpenSessionState, index_of}
 use Rattle.vp_replay.specs.Seen.{denied_seen}
 use Rattle.vp_replay.specs.Known.{known_also}
 use Rattle.vp_audit.specs.Openings.{IsRight}
-use Rattle.vp_replay.specs.Parts.{Asks, Closes, GrantItem, Item, Opens, OwnEvent, Part, observer_of_part, granted_session, is_session_within, moved_to, part_after, part_after_entry, part_granted, response_in, session_notified, sessions_after, takes, takes_all, takes_by, with_answer}
+use Rattle.vp_replay.specs.declared.item.GrantItem.{GrantItem}
+use Rattle.vp_replay.specs.declared.item.Item.{Item}
+use Rattle.vp_replay.specs.declared.item.OwnEvent.{OwnEvent}
+use Rattle.vp_replay.specs.declared.item.OwnEvent.TheVariants.{Asks, Closes, Opens}
+use Rattle.vp_replay.specs.Parts.{Part, observer_of_part, granted_session, is_session_within, moved_to, part_after, part_after_entry, part_granted, response_in, session_notified, sessions_after, takes, takes_all, takes_by, with_answer}
 use Rattle.vp_replay.specs.Parts.{first_part}
 use Rattle.vp_audit.specs.Projections.{granted_of, item_if, item_of, items_from, known_at_first, known_after, opened_by_reply, own_if, projection, regrant_of}
 use Rattle.vp_audit.specs.laws.Cases.{part_stands}

@@ -4,7 +4,7 @@ use Rattle.std.proofs.lemmas.Option.{slice_get-get_or}
 use Rattle.vp_policy.specs.Users.{member_at}
 use Rattle.vp_sim.specs.States as sim
 use Rattle.vp_world.specs.Entries.{Entry}
-use Rattle.vp_replay.specs.Parts.{Item}
+use Rattle.vp_replay.specs.declared.item.Item.{Item}
 use Rattle.vp_audit.specs.Projections.{values_seen}
 use Rattle.vp_audit.specs.Readings.{LogReader, Reads, reading_of}
 use Rattle.vp_audit.proofs.LogReading.{IsAt, all_read, continues, next_at, projection_is, with_item}

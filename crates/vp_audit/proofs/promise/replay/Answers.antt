@@ -2,7 +2,8 @@ use Rattle.std.proofs.Common.{◌∙◌, ap}
 use Rattle.vp_policy.specs.Users.{member_at}
 use Rattle.vp_policy.specs.View.{View, view_of}
 use Rattle.vp_replay.specs.Parts.{replies_from}
-use Rattle.vp_replay.specs.Parts.{Projection, first_part}
+use Rattle.vp_replay.specs.declared.item.Projection.{Projection}
+use Rattle.vp_replay.specs.Parts.{first_part}
 use Rattle.vp_audit.specs.laws.Logs.{replies_are}
 use Rattle.vp_audit.proofs.Promises.{goes_all, if_ok, out_of_memory}
 use Rattle.vp_audit.proofs.promise.replay.Goals as goal
