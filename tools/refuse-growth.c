@@ -1,5 +1,5 @@
-/* Refuses one growth of a program's memory: the one of the number in REFUSE_GROWTH, counted from 1 over malloc, calloc, realloc and the aligned ones. At the
-   program's end the number of growths is written to the file that COUNT_GROWTHS names, if one is named.
+/* Refuses one growth of a program's memory: the one of the number in REFUSE_GROWTH, counted from 1 over malloc, calloc, realloc and the aligned
+   ones. Their number is counted in the file that COUNT_GROWTHS names, if one is named, as a word of the machine.
 
        cc -shared -fPIC -O2 -o refuse-growth.so tools/refuse-growth.c
        REFUSE_GROWTH=17 LD_PRELOAD=./refuse-growth.so PROGRAM ..
@@ -8,8 +8,8 @@
 #include <errno.h>
 #include <fcntl.h>
 #include <stddef.h>
-#include <stdio.h>
 #include <stdlib.h>
+#include <sys/mman.h>
 #include <unistd.h>
 
 extern void *__libc_malloc(size_t size);
@@ -17,16 +17,30 @@ extern void *__libc_calloc(size_t count, size_t size);
 extern void *__libc_realloc(void *memory, size_t size);
 extern void *__libc_memalign(size_t alignment, size_t size);
 
-static unsigned long growths;
-static unsigned long refused = (unsigned long)-1;
+static unsigned long own_count;
+static unsigned long *growths;
+static unsigned long refused;
+
+/* Where growths are counted: in the named file, so that the count outlives a program that ends at once. */
+static unsigned long *counter(void) {
+    const char *path = getenv("COUNT_GROWTHS");
+    int file = path ? open(path, O_RDWR | O_CREAT | O_TRUNC, 0644) : -1;
+    if (file < 0 || ftruncate(file, sizeof own_count)) {
+        return &own_count;
+    }
+    void *shared = mmap(NULL, sizeof own_count, PROT_READ | PROT_WRITE, MAP_SHARED, file, 0);
+    close(file);
+    return shared == MAP_FAILED ? &own_count : shared;
+}
 
 /* Whether this growth is the one to be refused. */
 static int is_refused(void) {
-    if (refused == (unsigned long)-1) {
+    if (!growths) {
         const char *number = getenv("REFUSE_GROWTH");
         refused = number ? strtoul(number, NULL, 10) : 0;
+        growths = counter();
     }
-    if (__atomic_add_fetch(&growths, 1, __ATOMIC_SEQ_CST) != refused) {
+    if (__atomic_add_fetch(growths, 1, __ATOMIC_SEQ_CST) != refused) {
         return 0;
     }
     errno = ENOMEM;
@@ -47,13 +61,4 @@ void *aligned_alloc(size_t alignment, size_t size) { return memalign(alignment, 
 int posix_memalign(void **memory, size_t alignment, size_t size) {
     *memory = memalign(alignment, size);
     return *memory ? 0 : ENOMEM;
-}
-
-__attribute__((destructor)) static void tell(void) {
-    const char *path = getenv("COUNT_GROWTHS");
-    int file = path ? open(path, O_WRONLY | O_CREAT | O_TRUNC, 0644) : -1;
-    if (file >= 0) {
-        dprintf(file, "%lu\n", growths);
-        close(file);
-    }
 }
