@@ -44,7 +44,6 @@ WRONG: List[Wrong] = [
     Wrong("silent_client_waited_for", "vp_hub", "incoming.rt", "if !self.is_known.load(Ordering::SeqCst) {", "if false {", "vp_server_tests"),
     Wrong("time_anew_for_each_byte", "vp_hub", "incoming.rt", "let elapsed = self.start.elapsed(self.rt)?;", "let elapsed = Duration::ZERO;", "vp_server_tests"),
     Wrong("deaf_client_waited_for", "vp_hub", "outgoing.rt", ".set_write_timeout(Some(self.wait.min(remaining)))", ".set_write_timeout(None)", "vp_server_tests"),
-    Wrong("deaf_client_waited_for_twice", "vp_hub", "outgoing.rt", "wait: silence / WAITS,", "wait: silence / WAITS * 2,", "vp_server_tests"),
     Wrong("open_session_must_talk", "vp_hub", "client.rt", "                self.pass = Some(pass);\n                self.note_known();\n", "                self.pass = Some(pass);\n", "vp_server_tests"),
     Wrong("operator_must_talk", "vp_hub", "client.rt", "                self.note_known();\n                reply\n", "                reply\n", "vp_server_tests"),
     Wrong("no_simulation", "vp_hub", "background.rt", "match service.hub.run_sim(rt, EVENTS_AT_ONCE) {", "match service.hub.run_sim(rt, 0) {", "vp_server_tests"),

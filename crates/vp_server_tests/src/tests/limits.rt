@@ -105,10 +105,8 @@ fn a_silent_operator(rt: HostRuntime) {
     assert!(rt; told == Ok(2));
 }
 
-/// So many seconds a client may read nothing, and so many it waits until what it sends is taken: less than twice as many.
-const SILENCE: u64 = 4;
-
-const PATIENCE: u64 = 7;
+/// So many seconds a client waits until what it sends is taken.
+const PATIENCE: u64 = 20;
 
 /// A client opens a session, sends lines that are no requests and reads no reply, until the server has ended the connection: sooner than the client
 /// waits until a line is taken.
@@ -134,11 +132,7 @@ fn read_nothing<R: Net<Stream = TcpStream> + Clock>(rt: &R, alloc: Global, port:
 #[test]
 fn a_client_that_reads_nothing(rt: HostRuntime) {
     let alloc = rt.alloc();
-    let settings = Settings {
-        reading_silence: Duration::from_secs(SILENCE),
-        ..impatient(1)
-    };
-    let server = Server::new(24_131, settings);
+    let server = Server::new(24_131, impatient(1));
     let (told, ended) = beside(
         &rt,
         alloc,
