@@ -294,7 +294,7 @@ impl Session {
     }
 
     /// A number of a handle's object. Refused where the number is no handle (1101), the user may not list the object (1109), or it has no
-    /// such number (1102), or out of memory (1107).
+    /// such number (1102); out of memory (1107) stands in the place of a denial alone, whose words take memory.
     pub fn get<E: Observe>(
         &self,
         observation: &E,
@@ -304,7 +304,7 @@ impl Session {
         requires { E.is_sound observation.now }
         ensures ok { IfOk result (λ n. number_of (E.observer observation.now) property
             (object_of self.now.handles handle) ≡ Ok n) }
-        ensures refused { IfErr result (λ e. Explains (number_of (E.observer observation.now) property
+        ensures refused { IfErr result (λ e. Refuses (number_of (E.observer observation.now) property
             (object_of self.now.handles handle)) e) }
     {
         let object = self.allowed(observation, handle, Right::List)?;
@@ -362,12 +362,12 @@ impl Session {
     }
 
     /// The value of a handle's object. Refused where the number is no handle (1101), the user lacks the right to read (1109), or the
-    /// object is no net, reg or parameter (1102), or out of memory (1107).
+    /// object is no net, reg or parameter (1102); out of memory (1107) stands in the place of a denial alone.
     pub fn get_value<E: Observe>(&self, observation: &E, handle: u32) -> Result<Bits, VpiError>
         requires { E.is_sound observation.now }
         ensures ok { IfOk result (λ value. value_of (E.observer observation.now)
             (object_of self.now.handles handle) ≡ Ok value) }
-        ensures refused { IfErr result (λ e. Explains (value_of (E.observer observation.now)
+        ensures refused { IfErr result (λ e. Refuses (value_of (E.observer observation.now)
             (object_of self.now.handles handle)) e) }
     {
         let object = self.allowed(observation, handle, Right::Read)?;
@@ -411,7 +411,7 @@ impl Session {
             (λ same. same_of (object_of self.now.handles first)
             (object_of self.now.handles second) ≡ Ok same) }
         ensures refused { IfErr result
-            (λ e. Explains (same_of (object_of self.now.handles first)
+            (λ e. Refuses (same_of (object_of self.now.handles first)
             (object_of self.now.handles second)) e) }
     {
         let first = self.object(first).ok_or(VpiError::BadHandle)?;
