@@ -1,2 +1,4 @@
 pub mod Lists
 pub mod Refusing
+pub mod Turns
+pub mod Sessions

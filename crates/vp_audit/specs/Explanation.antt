@@ -35,19 +35,19 @@ origin_words None = []
 origin_words (Some number) = codes "of" ∷ decimal number ∷ []
 
 -- the line for what he was shown: the number of the item, that with which the value came, if it is one, and the line of the reply
-abbrev pub told_line : Explained → List ℕ
-told_line t = decimal t.item ++ (words_text (codes "told" ∷ origin_words t.brought) ++ 32 ∷ line_of t.reply)
+abbrev pub explained_line : Explained → List ℕ
+explained_line t = decimal t.item ++ (words_text (codes "told" ∷ origin_words t.brought) ++ 32 ∷ line_of t.reply)
 
 -- the line for an event of his own, by what he was shown from there on
 abbrev pub own_line : Option OwnEvent → List Explained → List ℕ
 own_line None told = []
 own_line (Some own_event) [] = []
-own_line (Some own_event) (t ∷ told) = told_line t
+own_line (Some own_event) (t ∷ told) = explained_line t
 
 -- what he was shown after an item
-abbrev pub told_after : Option OwnEvent → List Explained → List Explained
-told_after None told = told
-told_after (Some own_event) told = drop 1 told
+abbrev pub explained_after : Option OwnEvent → List Explained → List Explained
+explained_after None told = told
+explained_after (Some own_event) told = drop 1 told
 
 -- ---- what came to him
 
@@ -92,7 +92,7 @@ view_after v (Some g) = g.view
 abbrev pub explanation_from : (number : ℕ) → View → List Item → List Explained → List ℕ
 explanation_from number v [] told = []
 explanation_from number v (i ∷ items) told =
-    own_line i.own_event told ++ (item_lines v number i ++ explanation_from (number + 1) (view_after v i.granted) items (told_after i.own_event told))
+    own_line i.own_event told ++ (item_lines v number i ++ explanation_from (number + 1) (view_after v i.granted) items (explained_after i.own_event told))
 
 -- what he was shown and what came to him, from the first item on
 abbrev pub explanation_of : View → List Item → List Explained → List ℕ

@@ -3,7 +3,7 @@ ghost use Rattle.std.specs.Prelude.{◌≡◌, ◌++◌, [], ◌∷◌, codes, d
 ghost use Rattle.std.specs.Option.{option_map_or};
 ghost use Rattle.vp_replay.specs.Outline.{words_text};
 ghost use Rattle.vp_wire.specs.Lines.{line_of};
-ghost use Rattle.vp_audit.specs.Explanation.{change_line, explanation_of, finish_line, grant_line, item_lines, origin_words, own_line, race_line, time_line, told_after, told_line, view_after};
+ghost use Rattle.vp_audit.specs.Explanation.{change_line, explanation_of, finish_line, grant_line, item_lines, origin_words, own_line, race_line, time_line, explained_after, explained_line, view_after};
 
 use std::alloc::{AllocError, Global};
 use vp_answer::Reply;
@@ -37,13 +37,13 @@ fn push_origin(text: &mut String, brought: Option<u64>) -> Result<(), AllocError
 }
 
 /// Adds the line for what the user was shown.
-fn push_told(alloc: Global, text: &mut String, told: &Explained) -> Result<(), AllocError>
-    ensures { OnOk result (string_bytes text.new ≡ string_bytes text.old ++ told_line told.now) }
+fn push_explained(alloc: Global, text: &mut String, explained: &Explained) -> Result<(), AllocError>
+    ensures { OnOk result (string_bytes text.new ≡ string_bytes text.old ++ explained_line explained.now) }
 {
-    let number = told.item;
+    let number = explained.item;
     write!(text, "{number} told")?;
-    push_origin(text, told.brought)?;
-    push_reply(alloc, text, &told.reply)
+    push_origin(text, explained.brought)?;
+    push_reply(alloc, text, &explained.reply)
 }
 
 /// Adds the line for a change of the user's grants.
@@ -139,21 +139,21 @@ fn push_own<'a>(
     alloc: Global,
     text: &mut String,
     item: &Item,
-    told: &'a [Explained],
+    explained: &'a [Explained],
 ) -> Result<&'a [Explained], AllocError>
     ensures text { OnOk result (string_bytes text.new
-        ≡ string_bytes text.old ++ own_line item.now.own_event told.now) }
-    ensures rest { IfOk result (λ rest. rest.now ≡ told_after item.now.own_event told.now) }
+        ≡ string_bytes text.old ++ own_line item.now.own_event explained.now) }
+    ensures rest { IfOk result (λ rest. rest.now ≡ explained_after item.now.own_event explained.now) }
 {
     if item.own_event.is_none() {
-        return Ok(told);
+        return Ok(explained);
     }
-    match told.split_first() {
+    match explained.split_first() {
         Some((first, rest)) => {
-            push_told(alloc, text, first)?;
+            push_explained(alloc, text, first)?;
             Ok(rest)
         }
-        None => Ok(told),
+        None => Ok(explained),
     }
 }
 
@@ -173,14 +173,14 @@ pub fn explanation(
     alloc: Global,
     view: &View,
     projection: &Projection,
-    told: &[Explained],
+    explained: &[Explained],
 ) -> Result<Text, AllocError>
     ensures { IfOk result (λ text. text
-        ≡ explanation_of view.now projection.now.items told.now) }
+        ≡ explanation_of view.now projection.now.items explained.now) }
 {
     let mut text = String::new(alloc);
     let mut sees = view;
-    let mut rest = told;
+    let mut rest = explained;
     for (index, item) in projection.items.as_slice().iter().enumerate() {
         let number = index as u64 + 1;
         rest = push_own(alloc, &mut text, item, rest)?;

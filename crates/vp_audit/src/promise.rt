@@ -54,7 +54,7 @@ pub fn explain<'a>(
     view: &'a View,
     projection: &'a Projection,
 ) -> Result<Sequence<Explained>, AuditError>
-    ensures explained { IfOk result (λ told. told
+    ensures explained { IfOk result (λ explained. explained
         ≡ explained_from 1 (map (λ v. 0) projection.now.values)
         (first_part view.now projection.now.values) projection.now.items) }
     ensures answered { (opening : Opening) → IsRight opening → (u : ℕ) → (log : List Entry)

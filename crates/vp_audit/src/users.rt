@@ -37,6 +37,6 @@ pub fn explain_user(
         return Err(AuditError::NoMemory);
     };
     let projection = project(alloc, checked, policy, log, user)?;
-    let told = explain(alloc, &view, &projection)?;
-    Ok(explanation(alloc, &view, &projection, told.as_slice())?)
+    let explained = explain(alloc, &view, &projection)?;
+    Ok(explanation(alloc, &view, &projection, explained.as_slice())?)
 }

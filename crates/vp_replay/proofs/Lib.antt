@@ -10,4 +10,3 @@ pub mod OutlineRows
 pub mod Filling
 pub mod Moving
 pub mod PartSteps
-pub mod Turns

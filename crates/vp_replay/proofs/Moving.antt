@@ -11,10 +11,10 @@ use Rattle.vp_notify.specs.Registry.{RegistryState}
 use Rattle.vp_notify.specs.Renumbered.{is_callback_within, is_notice_within, is_within, moved_callback, moved_notice, moved_registry, number_now}
 use Rattle.vp_vpi.specs.Renumbered.{is_handle_within, is_session_state_within, moved_handle, moved_session_state}
 use Rattle.vp_vpi.specs.SessionStates.{SessionState, retired}
-use Rattle.vp_answer.specs.OpenSessions.{OpenSessionState}
+use Rattle.vp_answer.specs.OpenSessions.{OpenSessionState, is_session_within, moved_session}
 use Rattle.vp_replay.specs.Seen.{denied_seen}
-use Rattle.vp_replay.specs.Parts.{GrantItem, granted_session, is_session_within, moved_session, moved_to}
-use Rattle.vp_replay.specs.laws.Tests.{both_first, both_second}
+use Rattle.vp_replay.specs.Parts.{GrantItem, granted_session, moved_to}
+use Rattle.vp_answer.specs.laws.Tests.{both_first, both_second}
 
 -- forms that agree where a test holds
 map_within : {X Y : Type 0} (p : X → Bool) (f g : X → Y) → ((x : X) → p x ≡ true → f x ≡ g x) → (xs : List X) → list_all p xs ≡ true → map f xs ≡ map g xs

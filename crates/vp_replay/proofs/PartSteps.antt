@@ -11,9 +11,9 @@ use Rattle.vp_answer.specs.declared.request.SessionId.{SessionId}
 use Rattle.vp_answer.specs.declared.reply.Refusal.TheVariants as refusal
 use Rattle.vp_answer.specs.declared.reply.Reply.TheVariants as reply
 use Rattle.vp_answer.specs.Answers.{Response, respond}
-use Rattle.vp_answer.specs.OpenSessions.{OpenSessionState, index_of}
+use Rattle.vp_answer.specs.OpenSessions.{OpenSessionState, index_of, notified_session}
 use Rattle.vp_replay.specs.Seen.{observer_seen}
-use Rattle.vp_replay.specs.Parts.{Asks, Item, Part, observer_of_part, part_after_entry, races_after, reply_of, response_in, session_notified, values_after, with_answer, with_own}
+use Rattle.vp_replay.specs.Parts.{Asks, Item, Part, observer_of_part, part_after_entry, races_after, reply_of, response_in, values_after, with_answer, with_own}
 use Rattle.vp_answer.proofs.Lists.{map_same}
 
 -- what stands at an index
@@ -45,13 +45,13 @@ observations_are v values values' time finished races races' h k = ap (λ x. obs
 
 -- the part after a change, at a time
 abbrev pub changed_part : Part → (time : ℕ) → (finished : Bool) → Option Change → Part
-changed_part p time finished change = record p { sessions = map (session_notified change time) p.sessions; values = values_after p.values change; time = time; finished = finished }
+changed_part p time finished change = record p { sessions = map (notified_session change time) p.sessions; values = values_after p.values change; time = time; finished = finished }
 
 -- after none it is as before, but for the time
 pub unchanged_part : (p : Part) (time : ℕ) (finished : Bool) → record p { time = time; finished = finished } ≡ changed_part p time finished None
 unchanged_part p time finished =
     ap (λ (ts : List OpenSessionState). (let q : Part = record p { sessions = ts; time = time; finished = finished } in q))
-    (sym (map_same (session_notified None time) (λ t. refl) p.sessions))
+    (sym (map_same (notified_session None time) (λ t. refl) p.sessions))
 
 -- with a race, if one is shown, it is the part after what of an entry goes to him
 pub entry_part : (p q : Part) (i : Item) (time : ℕ) (finished : Bool) (change : Option Change) (race : Option ShownRace) → time ≡ unwrap_or i.time p.time → finished ≡ unwrap_or i.finished p.finished

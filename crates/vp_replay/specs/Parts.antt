@@ -9,15 +9,14 @@ use Rattle.vp_expr.specs.declared.change.Change.{Change}
 use Rattle.vp_notify.specs.Renumbered.{rises}
 use Rattle.vp_vpi.specs.declared.races.ShownRace.{ShownRace}
 use Rattle.vp_vpi.specs.Observers.{Observer}
-use Rattle.vp_vpi.specs.Renumbered.{is_session_state_within, moved_session_state}
-use Rattle.vp_vpi.specs.SessionStates.{new_session_state, retired, with_due}
+use Rattle.vp_vpi.specs.SessionStates.{new_session_state}
 use Rattle.vp_answer.specs.declared.query.Query.{Query}
 use Rattle.vp_answer.specs.declared.request.SessionId.{SessionId}
 use Rattle.vp_answer.specs.declared.reply.Refusal.TheVariants as refusal
 use Rattle.vp_answer.specs.declared.reply.Reply.{Reply}
 use Rattle.vp_answer.specs.declared.reply.Reply.TheVariants as reply
 use Rattle.vp_answer.specs.Answers.{Response, respond}
-use Rattle.vp_answer.specs.OpenSessions.{OpenSessionState, index_of}
+use Rattle.vp_answer.specs.OpenSessions.{OpenSessionState, index_of, is_session_within, moved_session, notified_session}
 use Rattle.vp_replay.specs.Seen.{denied_seen, observer_seen}
 pub use Rattle.vp_replay.specs.declared.item.OwnEvent.{OwnEvent}
 pub use Rattle.vp_replay.specs.declared.item.OwnEvent.TheVariants.{Asks, Closes, Opens}
@@ -97,10 +96,6 @@ opens_after p (Closes id) = p.opens
 abbrev pub with_own : Part → OwnEvent → Part
 with_own p own_event = record p { opens = opens_after p own_event; sessions = sessions_after p own_event }
 
--- a session after a change
-abbrev pub session_notified : Option Change → (time : ℕ) → OpenSessionState → OpenSessionState
-session_notified change time t = record t { session_state = with_due change time t.session_state }
-
 -- the values after a change
 abbrev pub values_after : List (Option (List Bit)) → Option Change → List (Option (List Bit))
 values_after values None = values
@@ -110,10 +105,6 @@ values_after values (Some c) = slice_set values c.object.0 (Some c.value)
 abbrev pub races_after : List ShownRace → Option ShownRace → List ShownRace
 races_after races None = races
 races_after races (Some race) = races ++ race ∷ []
-
--- an open session whose objects have other numbers, and out of which is taken what may not be watched any more
-abbrev pub moved_session : (ℕ → ℕ) → (gone : ℕ → Bool) → OpenSessionState → OpenSessionState
-moved_session f gone t = record t { session_state = retired gone (moved_session_state f t.session_state) }
 
 -- a session after a change of grants: its objects have their numbers in the new view, and what may not be watched any more is out of it
 abbrev pub granted_session : GrantItem → OpenSessionState → OpenSessionState
@@ -136,7 +127,7 @@ abbrev pub part_after_entry : Part → Option OwnEvent → Item → Part
 part_after_entry p own_event i = record {
   view = p.view;
   opens = option_map_or (opens_after p) own_event p.opens;
-  sessions = map (session_notified i.change (unwrap_or i.time p.time)) (option_map_or (sessions_after p) own_event p.sessions);
+  sessions = map (notified_session i.change (unwrap_or i.time p.time)) (option_map_or (sessions_after p) own_event p.sessions);
   values = values_after p.values i.change;
   time = unwrap_or i.time p.time;
   finished = unwrap_or i.finished p.finished;
@@ -159,10 +150,6 @@ abbrev pub takes_own : Part → OwnEvent → Bool
 takes_own p (Opens id) = nat_lt p.opens (2 ^ 64 - 1)
 takes_own p (Asks id r) = is_some (index_of p.sessions id)
 takes_own p (Closes id) = is_some (index_of p.sessions id)
-
--- all objects of an open session are among so many
-abbrev pub is_session_within : (count : ℕ) → OpenSessionState → Bool
-is_session_within count t = is_session_state_within count t.session_state
 
 -- a change of his grants: the numbers rise, and each object of his sessions has one
 abbrev pub takes_grant : Part → GrantItem → Bool

@@ -1,4 +1,3 @@
-pub mod Tests
 pub mod Sessions
 pub mod Known
 pub mod Names

@@ -75,7 +75,7 @@ fn explain_item<'a>(
     number: u64,
     item: &'a Item,
 ) -> Result<Option<Explained>, AuditError>
-    ensures told { IfOk result (λ told. told
+    ensures explained { IfOk result (λ one. one
         ≡ option_map (explained number brought.old.items part.old) item.now.own_event) }
     ensures after { OnOk result (part.new ≡ part_after part.old item.now) }
     ensures brought { OnOk result (brought.new.items
@@ -105,19 +105,19 @@ fn explain_items<'a>(
     brought: &mut Vec<u64>,
     items: &'a [Item],
 ) -> Result<Sequence<Explained>, AuditError>
-    ensures explained { IfOk result (λ told. told
+    ensures explained { IfOk result (λ explained. explained
         ≡ explained_from 1 brought.old.items part.old items.now) }
     ensures accepted { OnOk result (takes_all part.old items.now ≡ true) }
     ensures refused { IfErr result (MayRefuse (takes_all part.old items.now)) }
 {
-    let mut told = Vec::new(alloc);
+    let mut explained = Vec::new(alloc);
     for (index, item) in items.iter().enumerate() {
         let number = index as u64 + 1;
         if let Some(one) = explain_item(alloc, part, brought, number, item)? {
-            told.push(one)?;
+            explained.push(one)?;
         }
     }
-    Ok(Sequence::from_vec(told))
+    Ok(Sequence::from_vec(explained))
 }
 
 /// What a user was shown by each event of his own, in order, as `replay` has it, with the item with which each value came. Its refusals are
@@ -128,7 +128,7 @@ pub fn explain_projection<'a>(
     view: &'a View,
     projection: &'a Projection,
 ) -> Result<Sequence<Explained>, AuditError>
-    ensures explained { IfOk result (λ told. told
+    ensures explained { IfOk result (λ explained. explained
         ≡ explained_from 1 (map (λ v. 0) projection.now.values)
         (first_part view.now projection.now.values) projection.now.items) }
     ensures accepted { OnOk result

@@ -10,7 +10,6 @@ mod lines;
 mod names;
 mod part;
 mod part_observer;
-mod part_session;
 mod path;
 mod races;
 mod replaying;

@@ -2,20 +2,23 @@
 ghost use Rattle.std.specs.Prelude.{◌≡◌, IfErr, IfOk, OnOk, None, Some, option_map, map, slice_set, true};
 ghost use Rattle.vp_pragma.specs.declared.rights.Right.TheVariants as right;
 ghost use Rattle.vp_notify.specs.Registry.{is_unwatchable};
+ghost use Rattle.vp_answer.specs.OpenSessions.{notified_session};
 ghost use Rattle.vp_replay.specs.Explained.{value_asked};
 ghost use Rattle.vp_replay.specs.Faults.{MayRefuse};
-ghost use Rattle.vp_replay.specs.Parts.{part_after, part_after_entry, part_granted, races_after, reply_of, session_notified, takes, takes_grant, takes_own, values_after, with_own, first_part};
+ghost use Rattle.vp_replay.specs.Parts.{part_after, part_after_entry, part_granted, races_after, reply_of, takes, takes_grant, takes_own, values_after, with_own, first_part};
 ghost use Rattle.vp_replay.specs.declared.item.OwnEvent.TheVariants as own_event;
 ghost use Rattle.vp_replay.specs.Seen.{denied_seen};
 
 use crate::error::AuditError;
 use crate::item::{GrantItem, Item, OwnEvent};
 use crate::part_observer::PartObserver;
-use crate::part_session::{PartSession, are_within, grant_all, notify_all, session_index};
 use crate::watching::watch_rights;
 use std::alloc::{AllocError, Global};
 use std::marker::Model;
-use vp_answer::{Query, Reply, SessionId};
+use vp_answer::{
+    OpenSession, Query, Reply, SessionId, are_sessions_within, notify_sessions, renumber_sessions,
+    session_index,
+};
 use vp_bits::Bits;
 use vp_elab::ObjectId;
 use vp_expr::Change;
@@ -33,7 +36,7 @@ pub struct Part<'a> {
     /// How often he has opened a session.
     opens: u64,
     /// Those that are open, in the order in which they were opened.
-    sessions: Vec<PartSession>,
+    sessions: Vec<OpenSession>,
     /// By the numbers of the objects in the view; none where none came.
     values: Vec<Option<Bits>>,
     /// In time units.
@@ -116,7 +119,7 @@ impl<'a> Part<'a> {
             user: id.user,
             opens: self.opens + 1,
         };
-        let session = PartSession::new(self.alloc, id)?;
+        let session = OpenSession::new(self.alloc, id)?;
         self.sessions.push(session)?;
         self.opens += 1;
         Ok(Reply::Opened(id))
@@ -139,8 +142,8 @@ impl<'a> Part<'a> {
             self.finished,
             &self.races,
         );
-        let reply = self.sessions[index].ask(&observation, query)?;
-        Ok(reply)
+        let answer = self.sessions[index].ask(&observation, query)?;
+        Ok(answer.reply)
     }
 
     /// A session of his is closed.
@@ -174,11 +177,11 @@ impl<'a> Part<'a> {
     /// An object gets a value, which is due to the callbacks of his sessions. Takes no memory.
     fn change(&mut self, change: &Change)
         ensures { self.new ≡ record self.old {
-          sessions = map (session_notified (Some change.now) self.old.time) self.old.sessions;
+          sessions = map (notified_session (Some change.now) self.old.time) self.old.sessions;
           values = values_after self.old.values (Some change.now);
         } }
     {
-        notify_all(&mut self.sessions, change, self.time);
+        notify_sessions(&mut self.sessions, change, self.time);
         set_value(&mut self.values, change.object, change.value);
     }
 
@@ -215,13 +218,13 @@ impl<'a> Part<'a> {
         ensures refused { IfErr result (MayRefuse (takes_grant self.old granted.now)) }
     {
         let moved = granted.moved.as_slice();
-        if !rises(moved) || !are_within(&self.sessions, moved.len()) {
+        if !rises(moved) || !are_sessions_within(&self.sessions, moved.len()) {
             return Err(AuditError::NotOpen);
         }
         let rights = watch_rights(self.alloc, &granted.view)?;
         let values = Vec::from_slice(self.alloc, granted.values.as_slice())?;
         let races = copied_races(self.alloc, granted.races.as_slice())?;
-        grant_all(&mut self.sessions, moved, &rights);
+        renumber_sessions(&mut self.sessions, moved, &rights);
         self.view = &granted.view;
         self.values = values;
         self.races = races;

@@ -1,8 +1,7 @@
 -- A world after a query of the session at an index.
 use Rattle.std.proofs.Common.{◌≡◌, ℕ, ◌<◌, Bool, true, false, List, length, map, Option, Some, None, refl, sym, ap, subst, ◌∙◌}
-use Rattle.std.specs.Prelude.{slice_get, slice_index_or, slice_set, if◌then◌else◌, option_map, IfSome, IsSome}
-use Rattle.std.proofs.lemmas.List.{length-map, map-set, set-get_or}
-use Rattle.std.proofs.lemmas.Option.{slice_get-map, slice_get-get_or}
+use Rattle.std.specs.Prelude.{slice_get, slice_index_or, slice_set, if◌then◌else◌, IfSome, IsSome}
+use Rattle.std.proofs.lemmas.Option.{slice_get-get_or}
 use Rattle.vp_bits.specs.declared.bit.Bit.{Bit}
 use Rattle.vp_elab.specs.Built.{Elaborated}
 use Rattle.vp_elab.specs.declared.object.ObjectId.{ObjectId}
@@ -22,40 +21,21 @@ use Rattle.vp_answer.specs.declared.query.Query.{Query}
 use Rattle.vp_world.specs.declared.limits.Limits.{Limits}
 use Rattle.vp_answer.specs.declared.reply.Reply.{Reply}
 use Rattle.vp_answer.specs.declared.reply.Reply.TheVariants as reply
-use Rattle.vp_world.specs.declared.session.OpenSession.{OpenSession}
 use Rattle.vp_answer.specs.Answers.{Response, respond}
 use Rattle.vp_answer.specs.Given.{IsGiven, put_shown}
 use Rattle.vp_world.specs.Given.{Gives, observer_in}
 use Rattle.vp_world.specs.History.{asked, asked_at, asked_in, change_of, changed_by, changed_in, noticed, outcome_of_put, raised, segments_of_put, state_asked, stepped, with_state}
-use Rattle.vp_world.specs.Shown.{session_shown, shown}
+use Rattle.vp_world.specs.Shown.{shown}
 use Rattle.vp_answer.specs.laws.Puts.{put_only}
+use Rattle.vp_answer.proofs.Sessions.{session_with, with_name_of}
 use Rattle.vp_answer.specs.OpenSessions.{OpenSessionState}
 use Rattle.vp_world.specs.Worlds.{WorldState, State}
 
--- the session of an index, as it is shown
-session_found : (sessions : List OpenSession) (index : ℕ) (session : OpenSession) → index < length sessions → session ≡ slice_index_or sessions index session → slice_get (map session_shown sessions) index ≡ Some (session_shown session)
-session_found sessions index session within is =
-    slice_get-map session_shown sessions index
-    ∙ ap (λ there. option_map session_shown there) (slice_get-get_or sessions index session within)
-    ∙ ap (λ x. Some (session_shown x)) (sym is)
-
--- the index of a session that is shown is one of the list
+-- the index of a session of a world is one of its list
 pub within_shown :
-    (run : Recorded) (book : List FindingState) (first policy : PolicyState) (limits : Limits) (sessions : List OpenSession) (opens : List ℕ) (goal : Option ℕ) (index : ℕ) (w : WorldState)
+    (run : Recorded) (book : List FindingState) (first policy : PolicyState) (limits : Limits) (sessions : List OpenSessionState) (opens : List ℕ) (goal : Option ℕ) (index : ℕ) (w : WorldState)
     → shown run book first policy limits sessions opens goal ≡ w → index < length w.state.sessions → index < length sessions
-within_shown run book first policy limits sessions opens goal index w is within =
-    subst (λ n. index < n) (length-map sessions session_shown) (subst (λ v. index < length v.state.sessions) (sym is) within)
-
--- an open session with another seat
-abbrev pub with_session : OpenSession → SessionState → OpenSession
-with_session session session_state = record { id = session.id; session = session_state }
-
--- a session that is set back as it was
-pub set_same : (sessions : List OpenSession) (index : ℕ) (session : OpenSession) (new : SessionState) → new ≡ session.session → session ≡ slice_index_or sessions index session → slice_set sessions index (with_session session new) ≡ sessions
-set_same sessions index session new same at =
-    ap (λ (session_state : SessionState). slice_set sessions index (with_session session session_state)) same
-    ∙ ap (λ s. slice_set sessions index s) at
-    ∙ set-get_or sessions index session
+within_shown run book first policy limits sessions opens goal index w is within = subst (λ v. index < length v.state.sessions) (sym is) within
 
 -- the design of an outcome
 abbrev design_in : sim.State → sim.Outcome → Elaborated
@@ -130,8 +110,8 @@ with_run w design run segments sessions = record {
 
 -- what is known of the fields of a world in which a session of an index is asked
 module _
-    (run : Recorded) (book : BookState) (first policy : PolicyState) (limits : Limits) (sessions : List OpenSession) (opens : List ℕ) (goal : Option ℕ)
-    (index : ℕ) (session : OpenSession) (r : Query) (w : WorldState)
+    (run : Recorded) (book : BookState) (first policy : PolicyState) (limits : Limits) (sessions : List OpenSessionState) (opens : List ℕ) (goal : Option ℕ)
+    (index : ℕ) (session : OpenSessionState) (r : Query) (w : WorldState)
     (is : shown run book.races first policy limits sessions opens goal ≡ w) (inside : index < length w.state.sessions)
     (at : session ≡ slice_index_or sessions index session)
   where
@@ -139,10 +119,12 @@ module _
     old = shown run book.races first policy limits sessions opens goal
 
     abbrev pub due : Response
-    due = due_of run book policy session.session r
+    due = due_of run book policy session.session_state r
 
-    found : slice_get (map session_shown sessions) index ≡ Some (session_shown session)
-    found = session_found sessions index session (within_shown run book.races first policy limits sessions opens goal index w is inside) at
+    found : slice_get sessions index ≡ Some session
+    found =
+        slice_get-get_or sessions index session (within_shown run book.races first policy limits sessions opens goal index w is inside)
+        ∙ ap Some (sym at)
 
     pub told_given : (run' : Recorded) (new : SessionState) (a : AnswerWithChange) → Gives due run run' new a → a.reply ≡ asked_in w index r
     told_given run' new a given =
@@ -156,43 +138,41 @@ module _
     changed_given run' new a given =
         sym (ap change_of given.put) ∙ ap (λ there. changed_by old.state there r) (sym found) ∙ ap (λ (v : WorldState). changed_in v index r) is
 
-    -- the state in which the session has this seat, and this is the goal
-    abbrev with_session_state : SessionState → Option ℕ → State
-    with_session_state session_state goal' = record old.state {
-      sessions = slice_set (map session_shown sessions) index (record { id = session.id; session_state = session_state });
-      goal = goal';
-    }
+    -- the state in which this is the session, and this the goal
+    abbrev with_session_state : OpenSessionState → Option ℕ → State
+    with_session_state new goal' = record old.state { sessions = slice_set sessions index new; goal = goal' }
 
     pub state_given :
-        (run' : Recorded) (new : SessionState) (told : List OpenSession) (goal' : Option ℕ) (a : AnswerWithChange) → Gives due run run' new a → goal' ≡ raised goal a.goal
-        → map session_shown told ≡ noticed a.change run'.simulation.time (map session_shown (slice_set sessions index (with_session session new)))
+        (run' : Recorded) (new : OpenSessionState) (told : List OpenSessionState) (goal' : Option ℕ) (a : AnswerWithChange) → Gives due run run' new.session_state a → new.id ≡ session.id
+        → goal' ≡ raised goal a.goal → told ≡ noticed a.change run'.simulation.time (slice_set sessions index new)
         → shown run' book.races first policy limits told opens goal' ≡ with_state w (asked_at w.state (Some index) r)
-    state_given run' new told goal' a given raises tells =
+    state_given run' new told goal' a given same_id raises tells =
         let next = run'.simulation in
         let segments : sim.State → Segments = segments_of_put run.segments due.put in
-        let between : SessionState → Option ℕ → WorldState = λ session_state goal'. record old { state = with_session_state session_state goal' } in
-        let following : SessionState → Option ℕ → sim.Outcome → WorldState = λ session_state goal' o. with_state old (stepped (with_session_state session_state goal') segments o) in
-        ap (with_run (between new goal') next.design next run'.segments) (tells ∙ ap (noticed a.change next.time) (map-set session_shown sessions index (with_session session new)))
+        let between : OpenSessionState → Option ℕ → WorldState = λ s goal'. record old { state = with_session_state s goal' } in
+        let following : OpenSessionState → Option ℕ → sim.Outcome → WorldState = λ s goal' o. with_state old (stepped (with_session_state s goal') segments o) in
+        let after : OpenSessionState = session_with session.id due.session_state in
+        ap (with_run (between new goal') next.design next run'.segments) tells
         ∙ ap (λ d. with_run (between new goal') d next run'.segments (noticed a.change next.time (with_session_state new goal').sessions)) (ap (design_in run.simulation) (sym given.put) ∙ put_design run.simulation due.put)
         ∙ ap (λ (s : Segments). with_run (between new goal') run.simulation.design next s (noticed a.change next.time (with_session_state new goal').sessions)) given.segments
         ∙ ap (following new goal') (sym given.put)
-        ∙ ap (λ session_state. following session_state goal' (outcome_of_put run.simulation due.put)) given.session_state
-        ∙ ap (λ goal'. following due.session_state goal' (outcome_of_put run.simulation due.put)) (raises ∙ ap (raised goal) given.goal)
+        ∙ ap (λ s. following s goal' (outcome_of_put run.simulation due.put)) (with_name_of new session due.session_state same_id given.session_state)
+        ∙ ap (λ goal'. following after goal' (outcome_of_put run.simulation due.put)) (raises ∙ ap (raised goal) given.goal)
         ∙ ap (λ there. with_state old (state_asked old.state index there r)) (sym found)
         ∙ ap (λ v. with_state v (asked_at v.state (Some index) r)) is
 
 -- the world after a step
 pub step_shown :
-    (old new : Recorded) (book : List FindingState) (first policy : PolicyState) (limits : Limits) (sessions told : List OpenSession) (opens : List ℕ) (goal : Option ℕ)
+    (old new : Recorded) (book : List FindingState) (first policy : PolicyState) (limits : Limits) (sessions told : List OpenSessionState) (opens : List ℕ) (goal : Option ℕ)
     (k : ℕ) (change : Option Change) (w : WorldState)
     → shown old book first policy limits sessions opens goal ≡ w → sim.step old.simulation k ≡ sim.Goes new.simulation change
     → new.segments ≡ with_step old.segments k new.simulation
-    → map session_shown told ≡ noticed change new.simulation.time (map session_shown sessions)
+    → told ≡ noticed change new.simulation.time sessions
     → shown new book first policy limits told opens goal ≡ with_state w (stepped w.state (with_step w.state.segments k) (sim.step w.state.run k))
 step_shown old new book first policy limits sessions told opens goal k change w is goes closes tells =
     let was : WorldState = shown old book first policy limits sessions opens goal in
     let next = new.simulation in
-    let notices : List OpenSessionState = noticed change next.time (map session_shown sessions) in
+    let notices : List OpenSessionState = noticed change next.time sessions in
     ap (with_run was next.design next new.segments) tells
     ∙ ap (λ (d : Elaborated). with_run was d next new.segments notices) (after_step old.simulation next k change goes)
     ∙ ap (λ (s : Segments). with_run was old.simulation.design next s notices) closes

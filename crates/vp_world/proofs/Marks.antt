@@ -1,5 +1,5 @@
 -- Objects that may be watched, while callbacks come and go.
-use Rattle.std.proofs.Common.{◌≡◌, ◌∙◌, ◌<◌, ◌==◌, ℕ, zero, suc, not, ◌&&◌, ◌||◌, Bool, true, false, List, [], ◌∷◌, ◌++◌, map, filter, length, arith, Option, Some, None, refl, sym, ap}
+use Rattle.std.proofs.Common.{◌≡◌, ◌∙◌, ◌<◌, ◌==◌, ℕ, zero, suc, not, ◌||◌, Bool, true, false, List, [], ◌∷◌, map, filter, length, Option, Some, None, refl, sym, ap}
 use Rattle.std.specs.Prelude.{cond, if◌then◌else◌, slice_index_or, slice_set}
 use Rattle.std.specs.List.{fold, list_any, remove}
 use Rattle.std.proofs.lemmas.Bool.{eq-eqb, eqb-true}
@@ -11,18 +11,11 @@ use Rattle.vp_policy.specs.Users.{member_at}
 use Rattle.vp_vpi.specs.Observers.{is_watch_denied}
 use Rattle.vp_vpi.specs.SessionStates.{SessionState, retired}
 use Rattle.vp_expr.specs.declared.change.Change.{Change}
-use Rattle.vp_world.specs.declared.session.OpenSession.{OpenSession}
-use Rattle.vp_world.specs.Marks.{all_marked, are_marked, is_marked, is_watched, may_be_watched}
-use Rattle.vp_world.specs.Shown.{retired_open, notified_session}
+use Rattle.vp_answer.specs.OpenSessions.{OpenSessionState, notified_session, retired_for}
+use Rattle.vp_answer.specs.laws.Tests.{all_implied, all_index, all_kept, all_mapped, all_removed, all_set, both, both_first, both_second}
+use Rattle.vp_world.specs.Marks.{all_marked, are_marked, is_marked, is_session_marked, is_watched, may_be_watched}
 
--- ---- two tests
-
-both_parts : (a b : Bool) → (a && b) ≡ true → (a ≡ true) × (b ≡ true)
-both_parts true b h = (refl, h)
-both_parts false b h = absurd (let no : false ≡ true = h in cc)
-
-pub both : (a b : Bool) → a ≡ true → b ≡ true → (a && b) ≡ true
-both a b h k = ap (λ x. x && b) h ∙ k
+-- ---- one of two tests
 
 first_of_two : (a b : Bool) → a ≡ true → (a || b) ≡ true
 first_of_two a b h = ap (λ x. x || b) h
@@ -55,75 +48,48 @@ mark_keeps watched object other may = set_keeps watched object other true may (�
 
 -- callbacks that are marked stay so where more is
 pub are_marked_more : (watched more : List Bool) (callbacks : List Callback) → ((object : ℕ) → may_be_watched watched object ≡ true → may_be_watched more object ≡ true) → are_marked watched callbacks ≡ true → are_marked more callbacks ≡ true
-are_marked_more watched more [] grown marked = refl
-are_marked_more watched more (c ∷ callbacks) grown marked =
-    let parts = both_parts (is_marked watched c) (are_marked watched callbacks) marked in
-    both (is_marked more c) (are_marked more callbacks) (grown c.object.0 parts.0) (are_marked_more watched more callbacks grown parts.1)
+are_marked_more watched more callbacks grown = all_implied (is_marked watched) (is_marked more) (λ c. grown c.object.0) callbacks
 
 -- and so do those of open sessions
-pub all_marked_more : (watched more : List Bool) (sessions : List OpenSession) → ((object : ℕ) → may_be_watched watched object ≡ true → may_be_watched more object ≡ true) → all_marked watched sessions ≡ true → all_marked more sessions ≡ true
-all_marked_more watched more [] grown marked = refl
-all_marked_more watched more (s ∷ sessions) grown marked =
-    let own = s.session.registry.callbacks in
-    let parts = both_parts (are_marked watched own) (all_marked watched sessions) marked in
-    both (are_marked more own) (all_marked more sessions) (are_marked_more watched more own grown parts.0) (all_marked_more watched more sessions grown parts.1)
-
--- some of them are
-pub are_marked_filter : (watched : List Bool) (test : Callback → Bool) (callbacks : List Callback) → are_marked watched callbacks ≡ true → are_marked watched (filter test callbacks) ≡ true
-are_marked_filter watched test [] marked = refl
-are_marked_filter watched test (c ∷ callbacks) marked =
-    let parts = both_parts (is_marked watched c) (are_marked watched callbacks) marked in
-    let rest = are_marked_filter watched test callbacks parts.1 in
-    elim (test c) as (λ b. are_marked watched (cond b (c ∷ filter test callbacks) (filter test callbacks)) ≡ true) [
-      | true ↦ both (is_marked watched c) (are_marked watched (filter test callbacks)) parts.0 rest
-      | false ↦ rest
-    ]
+pub all_marked_more : (watched more : List Bool) (sessions : List OpenSessionState) → ((object : ℕ) → may_be_watched watched object ≡ true → may_be_watched more object ≡ true) → all_marked watched sessions ≡ true → all_marked more sessions ≡ true
+all_marked_more watched more sessions grown =
+    all_implied (is_session_marked watched) (is_session_marked more) (λ s. are_marked_more watched more s.session_state.registry.callbacks grown) sessions
 
 -- where the mark of an object says whether it is watched, callbacks are marked
 callbacks_marked : (watched : List Bool) (object : ℕ) (mark : Bool) (callbacks : List Callback) → are_marked watched callbacks ≡ true → (list_any (is_on object) callbacks ≡ true → mark ≡ true) → are_marked (slice_set watched object mark) callbacks ≡ true
 callbacks_marked watched object mark [] marked says = refl
 callbacks_marked watched object mark (c ∷ callbacks) marked says =
-    let parts = both_parts (is_marked watched c) (are_marked watched callbacks) marked in
     both (is_marked (slice_set watched object mark) c) (are_marked (slice_set watched object mark) callbacks)
-    (set_keeps watched object c.object.0 mark parts.0 (λ e. says (first_of_two (is_on object c) (list_any (is_on object) callbacks) (eq-eqb c.object.0 object e))))
-    (callbacks_marked watched object mark callbacks parts.1 (λ any. says (second_of_two (is_on object c) (list_any (is_on object) callbacks) any)))
+    (set_keeps watched object c.object.0 mark (both_first (is_marked watched c) (are_marked watched callbacks) marked)
+    (λ e. says (first_of_two (is_on object c) (list_any (is_on object) callbacks) (eq-eqb c.object.0 object e))))
+    (callbacks_marked watched object mark callbacks (both_second (is_marked watched c) (are_marked watched callbacks) marked)
+    (λ any. says (second_of_two (is_on object c) (list_any (is_on object) callbacks) any)))
 
 -- and so are those of open sessions
-pub sessions_marked : (watched : List Bool) (object : ℕ) (mark : Bool) (sessions : List OpenSession) → all_marked watched sessions ≡ true → (is_watched sessions object ≡ true → mark ≡ true) → all_marked (slice_set watched object mark) sessions ≡ true
+pub sessions_marked : (watched : List Bool) (object : ℕ) (mark : Bool) (sessions : List OpenSessionState) → all_marked watched sessions ≡ true → (is_watched sessions object ≡ true → mark ≡ true) → all_marked (slice_set watched object mark) sessions ≡ true
 sessions_marked watched object mark [] marked says = refl
 sessions_marked watched object mark (s ∷ sessions) marked says =
-    let own = s.session.registry.callbacks in
-    let parts = both_parts (are_marked watched own) (all_marked watched sessions) marked in
+    let own = s.session_state.registry.callbacks in
     both (are_marked (slice_set watched object mark) own) (all_marked (slice_set watched object mark) sessions)
-    (callbacks_marked watched object mark own parts.0 (λ any. says (first_of_two (list_any (is_on object) own) (is_watched sessions object) any)))
-    (sessions_marked watched object mark sessions parts.1 (λ any. says (second_of_two (list_any (is_on object) own) (is_watched sessions object) any)))
+    (callbacks_marked watched object mark own (both_first (are_marked watched own) (all_marked watched sessions) marked)
+    (λ any. says (first_of_two (list_any (is_on object) own) (is_watched sessions object) any)))
+    (sessions_marked watched object mark sessions (both_second (are_marked watched own) (all_marked watched sessions) marked)
+    (λ any. says (second_of_two (list_any (is_on object) own) (is_watched sessions object) any)))
 
 -- ---- open sessions
 
--- one more
-pub marked_after : (watched : List Bool) (sessions : List OpenSession) (s : OpenSession) → all_marked watched sessions ≡ true → are_marked watched s.session.registry.callbacks ≡ true → all_marked watched (sessions ++ s ∷ []) ≡ true
-marked_after watched [] s marked own = both (are_marked watched s.session.registry.callbacks) true own refl
-marked_after watched (x ∷ sessions) s marked own =
-    let parts = both_parts (are_marked watched x.session.registry.callbacks) (all_marked watched sessions) marked in
-    both (are_marked watched x.session.registry.callbacks) (all_marked watched (sessions ++ s ∷ [])) parts.0 (marked_after watched sessions s parts.1 own)
-
 -- one less
-pub marked_without : (watched : List Bool) (sessions : List OpenSession) (index : ℕ) → all_marked watched sessions ≡ true → all_marked watched (remove sessions index) ≡ true
-marked_without watched [] zero marked = refl
-marked_without watched [] (suc index) marked = refl
-marked_without watched (x ∷ sessions) zero marked = (both_parts (are_marked watched x.session.registry.callbacks) (all_marked watched sessions) marked).1
-marked_without watched (x ∷ sessions) (suc index) marked =
-    let parts = both_parts (are_marked watched x.session.registry.callbacks) (all_marked watched sessions) marked in
-    both (are_marked watched x.session.registry.callbacks) (all_marked watched (remove sessions index)) parts.0 (marked_without watched sessions index parts.1)
+pub marked_without : (watched : List Bool) (sessions : List OpenSessionState) (index : ℕ) → all_marked watched sessions ≡ true → all_marked watched (remove sessions index) ≡ true
+marked_without watched sessions index = all_removed (is_session_marked watched) sessions index
 
 -- another at an index
-pub marked_set : (watched : List Bool) (sessions : List OpenSession) (index : ℕ) (s : OpenSession) → all_marked watched sessions ≡ true → are_marked watched s.session.registry.callbacks ≡ true → all_marked watched (slice_set sessions index s) ≡ true
-marked_set watched [] index s marked own = refl
-marked_set watched (x ∷ sessions) zero s marked own =
-    both (are_marked watched s.session.registry.callbacks) (all_marked watched sessions) own (both_parts (are_marked watched x.session.registry.callbacks) (all_marked watched sessions) marked).1
-marked_set watched (x ∷ sessions) (suc index) s marked own =
-    let parts = both_parts (are_marked watched x.session.registry.callbacks) (all_marked watched sessions) marked in
-    both (are_marked watched x.session.registry.callbacks) (all_marked watched (slice_set sessions index s)) parts.0 (marked_set watched sessions index s parts.1 own)
+pub marked_set : (watched : List Bool) (sessions : List OpenSessionState) (index : ℕ) (s : OpenSessionState) → all_marked watched sessions ≡ true → is_session_marked watched s ≡ true → all_marked watched (slice_set sessions index s) ≡ true
+marked_set watched sessions index s = all_set (is_session_marked watched) sessions index s
+
+-- the session at an index
+pub marked_at : (watched : List Bool) (sessions : List OpenSessionState) (index : ℕ) (s : OpenSessionState) → index < length sessions → s ≡ slice_index_or sessions index s → all_marked watched sessions ≡ true → is_session_marked watched s ≡ true
+marked_at watched sessions index s within at marked =
+    ap (is_session_marked watched) at ∙ all_index (is_session_marked watched) sessions index s marked within
 
 -- ---- changes
 
@@ -141,14 +107,10 @@ due_keeps r None time = refl
 due_keeps r (Some change) time = notices_keep r (map (notice_of change time) (filter (is_on change.object.0) r.callbacks))
 
 -- and so their marks
-pub told_marked : (watched : List Bool) (change : Option Change) (time : ℕ) (sessions : List OpenSession) → all_marked watched sessions ≡ true → all_marked watched (map (notified_session change time) sessions) ≡ true
-told_marked watched change time [] marked = refl
-told_marked watched change time (s ∷ sessions) marked =
-    let own = s.session.registry in
-    let parts = both_parts (are_marked watched own.callbacks) (all_marked watched sessions) marked in
-    both (are_marked watched (due own change time).callbacks) (all_marked watched (map (notified_session change time) sessions))
-    (ap (are_marked watched) (due_keeps own change time) ∙ parts.0)
-    (told_marked watched change time sessions parts.1)
+pub notified_marked : (watched : List Bool) (change : Option Change) (time : ℕ) (sessions : List OpenSessionState) → all_marked watched sessions ≡ true → all_marked watched (map (notified_session change time) sessions) ≡ true
+notified_marked watched change time sessions =
+    all_mapped (is_session_marked watched) (is_session_marked watched) (notified_session change time)
+    (λ s marked. ap (are_marked watched) (due_keeps s.session_state.registry change time) ∙ marked) sessions
 
 -- a callback that is marked is not on an object that may not be watched
 off_object : (watched : List Bool) (object : ℕ) (c : Callback) → may_be_watched watched object ≡ false → is_marked watched c ≡ true → (on : Bool) → is_on object c ≡ on → on ≡ false
@@ -161,43 +123,29 @@ off_object watched object c quiet marked true is =
 none_on : (watched : List Bool) (object : ℕ) (callbacks : List Callback) → may_be_watched watched object ≡ false → are_marked watched callbacks ≡ true → filter (is_on object) callbacks ≡ []
 none_on watched object [] quiet marked = refl
 none_on watched object (c ∷ callbacks) quiet marked =
-    let parts = both_parts (is_marked watched c) (are_marked watched callbacks) marked in
-    let rest = none_on watched object callbacks quiet parts.1 in
-    let off : is_on object c ≡ false = off_object watched object c quiet parts.0 (is_on object c) refl in
+    let rest = none_on watched object callbacks quiet (both_second (is_marked watched c) (are_marked watched callbacks) marked) in
+    let off : is_on object c ≡ false =
+    off_object watched object c quiet (both_first (is_marked watched c) (are_marked watched callbacks) marked) (is_on object c) refl in
     ap (λ b. cond b (c ∷ filter (is_on object) callbacks) (filter (is_on object) callbacks)) off ∙ rest
 
--- a change of such an object is shown to nobody
-pub quiet_told : (watched : List Bool) (change : Change) (time : ℕ) (sessions : List OpenSession) → may_be_watched watched change.object.0 ≡ false → all_marked watched sessions ≡ true → map (notified_session (Some change) time) sessions ≡ sessions
-quiet_told watched change time [] quiet marked = refl
-quiet_told watched change time (s ∷ sessions) quiet marked =
-    let own = s.session.registry in
-    let parts = both_parts (are_marked watched own.callbacks) (all_marked watched sessions) marked in
-    let none = none_on watched change.object.0 own.callbacks quiet parts.0 in
-    let state : RegistryState → OpenSession = λ r. record { id = s.id; session = record s.session { registry = r } } in
+-- a change of such an object is reported to nobody
+pub quiet_notified : (watched : List Bool) (change : Change) (time : ℕ) (sessions : List OpenSessionState) → may_be_watched watched change.object.0 ≡ false → all_marked watched sessions ≡ true → map (notified_session (Some change) time) sessions ≡ sessions
+quiet_notified watched change time [] quiet marked = refl
+quiet_notified watched change time (s ∷ sessions) quiet marked =
+    let own = s.session_state.registry in
+    let none = none_on watched change.object.0 own.callbacks quiet (both_first (are_marked watched own.callbacks) (all_marked watched sessions) marked) in
+    let state : RegistryState → OpenSessionState = λ r. record { id = s.id; session_state = record s.session_state { registry = r } } in
     ap (λ cs. state (fold with_notice own (map (notice_of change time) cs)) ∷ map (notified_session (Some change) time) sessions) none
-    ∙ ap (λ more. s ∷ more) (quiet_told watched change time sessions quiet parts.1)
-
--- the callbacks of the session at an index
-pub marked_at : (watched : List Bool) (sessions : List OpenSession) (index : ℕ) (s : OpenSession) → index < length sessions → s ≡ slice_index_or sessions index s → all_marked watched sessions ≡ true → are_marked watched s.session.registry.callbacks ≡ true
-marked_at watched [] index s within at marked = absurd (omega (arith, within))
-marked_at watched (x ∷ sessions) zero s within at marked =
-    ap (λ (y : OpenSession). are_marked watched y.session.registry.callbacks) at
-    ∙ (both_parts (are_marked watched x.session.registry.callbacks) (all_marked watched sessions) marked).0
-marked_at watched (x ∷ sessions) (suc index) s within at marked =
-    marked_at watched sessions index s (omega (arith, within)) at (both_parts (are_marked watched x.session.registry.callbacks) (all_marked watched sessions) marked).1
+    ∙ ap (λ more. s ∷ more) (quiet_notified watched change time sessions quiet (both_second (are_marked watched own.callbacks) (all_marked watched sessions) marked))
 
 -- out of one of two sessions callbacks are taken
 retired_marked_by : (watched : List Bool) (gone : ℕ → Bool) (session_state : SessionState) (his : Bool) → are_marked watched session_state.registry.callbacks ≡ true
-    → (let left : SessionState = (if his then retired gone session_state else session_state) in are_marked watched left.registry.callbacks ≡ true)
-retired_marked_by watched gone session_state true marked = are_marked_filter watched (λ c. not (gone c.object.0)) session_state.registry.callbacks marked
+    → (let after : SessionState = (if his then retired gone session_state else session_state) in are_marked watched after.registry.callbacks ≡ true)
+retired_marked_by watched gone session_state true marked = all_kept (is_marked watched) (λ c. not (gone c.object.0)) session_state.registry.callbacks marked
 retired_marked_by watched gone session_state false marked = marked
 
 -- open sessions after a change of what a user is granted
-pub retired_marked : (watched : List Bool) (policy : PolicyState) (user : ℕ) (sessions : List OpenSession) → all_marked watched sessions ≡ true → all_marked watched (map (retired_open policy user) sessions) ≡ true
-retired_marked watched policy user [] marked = refl
-retired_marked watched policy user (s ∷ sessions) marked =
-    let own = s.session.registry.callbacks in
-    let parts = both_parts (are_marked watched own) (all_marked watched sessions) marked in
-    both _ (all_marked watched (map (retired_open policy user) sessions))
-    (retired_marked_by watched (is_watch_denied policy.tree (member_at policy.members user)) s.session (s.session.user == user) parts.0)
-    (retired_marked watched policy user sessions parts.1)
+pub retired_marked : (watched : List Bool) (policy : PolicyState) (user : ℕ) (sessions : List OpenSessionState) → all_marked watched sessions ≡ true → all_marked watched (map (retired_for policy user) sessions) ≡ true
+retired_marked watched policy user sessions =
+    all_mapped (is_session_marked watched) (is_session_marked watched) (retired_for policy user)
+    (λ s. retired_marked_by watched (is_watch_denied policy.tree (member_at policy.members user)) s.session_state (s.session_state.user == user)) sessions

@@ -10,8 +10,8 @@ use Rattle.vp_vpi.specs.SessionStates.{SessionState, object_of}
 use Rattle.vp_answer.specs.declared.query.Query.{Query}
 use Rattle.vp_answer.specs.declared.query.Query.TheVariants as query
 use Rattle.vp_answer.specs.Answers.{Response, respond, response_by}
-use Rattle.vp_world.specs.Marks.{are_marked, is_watch}
-use Rattle.vp_world.proofs.Marks.{are_marked_filter}
+use Rattle.vp_world.specs.Marks.{are_marked, is_marked, is_watch}
+use Rattle.vp_answer.specs.laws.Tests.{all_kept}
 
 -- the callbacks of a session are on objects that may be watched
 abbrev Keeps : List Bool → SessionState → Type 0
@@ -40,7 +40,7 @@ respond_keeps watched observation session_state (query.Free handle) other marked
 respond_keeps watched observation session_state (query.Watch handle) other marked = absurd (let no : true ≡ false = other in cc)
 respond_keeps watched observation session_state (query.Unwatch callback) other marked =
     unwatched watched session_state callback (has_number session_state.registry callback) _ _
-    (are_marked_filter watched (λ c. not (is_numbered callback c)) session_state.registry.callbacks marked) marked
+    (all_kept (is_marked watched) (λ c. not (is_numbered callback c)) session_state.registry.callbacks marked) marked
 respond_keeps watched observation session_state query.Poll other marked = marked
 respond_keeps watched observation session_state (query.Races from) other marked = marked
 respond_keeps watched observation session_state (query.Race number) other marked = by_answer watched session_state _ (race_of observation number) marked (λ x. marked)

@@ -2,7 +2,6 @@
 use Rattle.std.proofs.Common.{◌≡◌, ℕ, ◌+◌, List, [], ◌∷◌, ◌++◌, length, map, Option, None, replicate, sym, ap, ◌∙◌}
 use Rattle.std.specs.Prelude.{slice_index, slice_set}
 use Rattle.std.specs.List.{remove}
-use Rattle.std.proofs.lemmas.List.{map-append}
 use Rattle.vp_elab.specs.Built.{Elaborated}
 use Rattle.vp_policy.specs.PolicyState.{PolicyState}
 use Rattle.vp_policy.specs.Regrants.{regranted}
@@ -12,13 +11,11 @@ use Rattle.vp_sim.specs.States as sim
 use Rattle.vp_vpi.specs.SessionStates.{new_session_state}
 use Rattle.vp_answer.specs.declared.request.GrantChange.{GrantChange}
 use Rattle.vp_world.specs.declared.limits.Limits.{Limits}
-use Rattle.vp_world.specs.declared.session.OpenSession.{OpenSession}
 use Rattle.vp_world.specs.History.{granted_to, next_session, opened_by, under_policy, with_state}
-use Rattle.vp_world.specs.Shown.{retired_open, session_shown, shown}
-use Rattle.vp_answer.specs.OpenSessions.{OpenSessionState}
+use Rattle.vp_world.specs.Shown.{shown}
+use Rattle.vp_answer.specs.OpenSessions.{OpenSessionState, retired_for}
 use Rattle.vp_world.specs.Worlds.{WorldState, State, start}
-use Rattle.vp_answer.proofs.Lists.{map-remove, replicate_is}
-use Rattle.vp_world.proofs.Noticing.{retired_shown}
+use Rattle.vp_answer.proofs.Lists.{replicate_is}
 
 -- a state with this simulation
 abbrev state_with : sim.State → Segments → List FindingState → PolicyState → List OpenSessionState → List ℕ → State
@@ -34,13 +31,13 @@ state_with run segments book policy sessions opens = record {
 
 -- a world of new fields stands at the start
 pub fresh_shown :
-    (design : Elaborated) (r : Recorded) (book : List FindingState) (first policy : PolicyState) (limits : Limits) (sessions : List OpenSession) (opens : List ℕ)
+    (design : Elaborated) (r : Recorded) (book : List FindingState) (first policy : PolicyState) (limits : Limits) (sessions : List OpenSessionState) (opens : List ℕ)
     → r.simulation ≡ sim.start design → r.segments ≡ first_segments r.simulation → book ≡ [] → policy ≡ first → sessions ≡ []
     → opens ≡ replicate {A = ℕ} (length first.members) 0
-    → state_with r.simulation r.segments book policy (map session_shown sessions) opens
+    → state_with r.simulation r.segments book policy sessions opens
     ≡ start (record { design = r.simulation.design; policy = first; limits = limits })
 fresh_shown design r book first policy limits sessions opens at_start segments unbooked same none zeros =
-    ap (λ s. state_with r.simulation r.segments book policy (map session_shown s) opens) none
+    ap (λ s. state_with r.simulation r.segments book policy s opens) none
     ∙ ap (λ (p : PolicyState). state_with r.simulation r.segments book p [] opens) same
     ∙ ap (λ (b : List FindingState). state_with r.simulation r.segments b first [] opens) unbooked
     ∙ ap (λ (o : List ℕ). state_with r.simulation r.segments [] first [] o) (zeros ∙ replicate_is first.members)
@@ -54,20 +51,19 @@ with_sessions w sessions opens = record { opening = w.opening; state = record w.
 
 -- a session is taken out
 pub closed_shown :
-    (r : Recorded) (book : List FindingState) (first policy : PolicyState) (limits : Limits) (sessions left : List OpenSession) (opens : List ℕ) (goal : Option ℕ) (index : ℕ) (w : WorldState)
+    (r : Recorded) (book : List FindingState) (first policy : PolicyState) (limits : Limits) (sessions left : List OpenSessionState) (opens : List ℕ) (goal : Option ℕ) (index : ℕ) (w : WorldState)
     → shown r book first policy limits sessions opens goal ≡ w → left ≡ remove sessions index
     → shown r book first policy limits left opens goal
     ≡ record { opening = w.opening; state = record w.state { sessions = remove w.state.sessions index } }
 closed_shown r book first policy limits sessions left opens goal index w is taken =
     ap (λ s. shown r book first policy limits s opens goal) taken
-    ∙ ap (λ s. with_sessions (shown r book first policy limits sessions opens goal) s opens) (map-remove session_shown sessions index)
     ∙ ap (λ (v : WorldState). with_sessions v (remove v.state.sessions index) v.state.opens) is
 
 -- a session is opened
 pub opened_shown :
-    (r : Recorded) (book : List FindingState) (first policy : PolicyState) (limits : Limits) (sessions more : List OpenSession) (opens counts : List ℕ) (goal : Option ℕ) (session : OpenSession) (user : ℕ) (w : WorldState)
+    (r : Recorded) (book : List FindingState) (first policy : PolicyState) (limits : Limits) (sessions more : List OpenSessionState) (opens counts : List ℕ) (goal : Option ℕ) (session : OpenSessionState) (user : ℕ) (w : WorldState)
     → shown r book first policy limits sessions opens goal ≡ w
-    → session_shown session ≡ record { id = next_session w.state user; session_state = new_session_state user }
+    → session ≡ record { id = next_session w.state user; session_state = new_session_state user }
     → more ≡ sessions ++ session ∷ []
     → counts ≡ slice_set opens user (slice_index w.state.opens user + 1)
     → shown r book first policy limits more counts goal ≡ record { opening = w.opening; state = opened_by w.state user }
@@ -75,19 +71,18 @@ opened_shown r book first policy limits sessions more opens counts goal session 
     ap (λ s. shown r book first policy limits s counts goal) added
     ∙ ap (λ c. shown r book first policy limits (sessions ++ session ∷ []) c goal) counted
     ∙ ap (λ s. with_sessions (shown r book first policy limits sessions opens goal) s (slice_set opens user (slice_index w.state.opens user + 1)))
-    (map-append session_shown sessions (session ∷ []) ∙ ap (λ (s : OpenSessionState). map session_shown sessions ++ s ∷ []) new)
+    (ap (λ (s : OpenSessionState). sessions ++ s ∷ []) new)
     ∙ ap (λ (v : WorldState). with_sessions v (v.state.sessions ++ record { id = next_session w.state user; session_state = new_session_state user } ∷ []) (slice_set v.state.opens user (slice_index w.state.opens user + 1))) is
 
 -- a user's grant is changed
 pub granted_shown :
-    (r : Recorded) (book : List FindingState) (first policy changed : PolicyState) (limits : Limits) (sessions left : List OpenSession) (opens : List ℕ) (goal : Option ℕ) (change : GrantChange) (user : ℕ) (w : WorldState)
+    (r : Recorded) (book : List FindingState) (first policy changed : PolicyState) (limits : Limits) (sessions left : List OpenSessionState) (opens : List ℕ) (goal : Option ℕ) (change : GrantChange) (user : ℕ) (w : WorldState)
     → shown r book first policy limits sessions opens goal ≡ w
     → changed ≡ regranted policy user change.envelope change.access
-    → left ≡ map (retired_open changed user) sessions
+    → left ≡ map (retired_for changed user) sessions
     → shown r book first changed limits left opens goal ≡ with_state w (granted_to w.state change user)
 granted_shown r book first policy changed limits sessions left opens goal change user w is regrants retires =
     let s = shown r book first policy limits sessions opens goal in
     ap (λ ss. shown r book first changed limits ss opens goal) retires
-    ∙ ap (λ ss. with_state s (record s.state { policy = changed; sessions = ss })) (retired_shown changed user sessions)
     ∙ ap (λ (p : PolicyState). with_state s (under_policy s.state user p)) regrants
     ∙ ap (λ (v : WorldState). with_state v (granted_to v.state change user)) is

@@ -1,5 +1,5 @@
 -- The world as a function of its events.
-use Rattle.std.specs.Prelude.{◌≡◌, ℕ, ◌+◌, ◌==◌, ◌||◌, nat_le, nat_lt, max, Bool, true, false, if◌then◌else◌, List, [], ◌∷◌, ◌++◌, length, fold, map, slice_get, slice_index, slice_set, Option, Some, None, is_none, option_and_then, option_map, Result, IfErr, OnErr, OnOk}
+use Rattle.std.specs.Prelude.{◌≡◌, ℕ, ◌+◌, ◌||◌, nat_le, nat_lt, max, Bool, true, false, if◌then◌else◌, List, [], ◌∷◌, ◌++◌, length, fold, map, slice_get, slice_index, slice_set, Option, Some, None, is_none, option_and_then, option_map, Result, IfErr, OnErr, OnOk}
 use Rattle.std.specs.List.{remove}
 use Rattle.std.specs.Option.{option_map_or}
 use Rattle.vp_text.specs.Refusals.{Explains}
@@ -14,9 +14,9 @@ use Rattle.vp_race.specs.Recording.{Segments, kept_of, next_job, with_anew, with
 use Rattle.vp_race.specs.Same.{same_run}
 use Rattle.vp_race.specs.Segments.{IsRaceOf, Run, FindingState}
 use Rattle.vp_sim.specs.States as sim
-use Rattle.vp_vpi.specs.Observers.{Observer, is_watch_denied}
+use Rattle.vp_vpi.specs.Observers.{Observer}
 use Rattle.vp_world.specs.Races.{observer_with}
-use Rattle.vp_vpi.specs.SessionStates.{SessionState, new_session_state, retired, with_due}
+use Rattle.vp_vpi.specs.SessionStates.{SessionState, new_session_state}
 use Rattle.vp_world.specs.Entries.{Entry}
 use Rattle.vp_answer.specs.declared.request.GrantChange.{GrantChange}
 use Rattle.vp_answer.specs.declared.request.SessionId.{SessionId}
@@ -30,7 +30,7 @@ use Rattle.vp_answer.specs.declared.reply.Reply.{Reply}
 use Rattle.vp_answer.specs.declared.reply.Reply.TheVariants as reply
 use Rattle.vp_world.specs.Events.{IsWellFormed}
 use Rattle.vp_world.specs.Worlds.{WorldLog, Opening, WorldState, State, start}
-use Rattle.vp_answer.specs.OpenSessions.{OpenSessionState, index_of}
+use Rattle.vp_answer.specs.OpenSessions.{OpenSessionState, index_of, notified_session, retired_for}
 use Rattle.vp_answer.specs.Answers.{Response, respond}
 
 -- ---- refusals
@@ -201,13 +201,9 @@ abbrev pub raised : Option ℕ → Option ℕ → Option ℕ
 raised goal None = goal
 raised goal (Some until) = Some (later goal until)
 
--- an open session after a change at a time, which is due to its callbacks (clause 27.33)
-abbrev pub with_notice : Option Change → (time : ℕ) → OpenSessionState → OpenSessionState
-with_notice change time s = record s { session_state = with_due change time s.session_state }
-
 -- the open sessions after a change at a time: each of them is notified, whoever made it (profile)
 abbrev pub noticed : Option Change → (time : ℕ) → List OpenSessionState → List OpenSessionState
-noticed change time sessions = map (with_notice change time) sessions
+noticed change time sessions = map (notified_session change time) sessions
 
 -- the state after what the simulation does, of whose change the open sessions are notified; the segments after it are a matter of what it did. A refusal
 -- changes nothing
@@ -240,13 +236,6 @@ asked_at s (Some index) r = state_asked s index (slice_get s.sessions index) r
 abbrev pub closed_at : State → Option ℕ → State
 closed_at s None = s
 closed_at s (Some index) = record s { sessions = remove s.sessions index }
-
--- an open session after a change of what the user of a number is granted: if it is his, what he may not watch any more is taken out of
--- it (profile)
-abbrev pub retired_for : PolicyState → (user : ℕ) → OpenSessionState → OpenSessionState
-retired_for policy user s = record s {
-  session_state = (if s.session_state.user == user then retired (is_watch_denied policy.tree (member_at policy.members user)) s.session_state else s.session_state);
-}
 
 -- the state in which another policy is in force, after a change of what the user of a number is granted
 abbrev pub under_policy : State → (user : ℕ) → PolicyState → State

@@ -5,7 +5,7 @@ use Rattle.vp_notify.specs.declared.registry.Callback.{Callback}
 use Rattle.vp_notify.specs.Registry.{watches}
 use Rattle.vp_answer.specs.declared.query.Query.{Query}
 use Rattle.vp_answer.specs.declared.query.Query.TheVariants.{Watch}
-use Rattle.vp_world.specs.declared.session.OpenSession.{OpenSession}
+use Rattle.vp_answer.specs.OpenSessions.{OpenSessionState}
 
 -- some session may have a callback on an object, by a list that says so of each object; it may on what lies beyond the list
 abbrev pub may_be_watched : List Bool → (object : ℕ) → Bool
@@ -19,13 +19,17 @@ is_marked watched callback = may_be_watched watched callback.object.0
 abbrev pub are_marked : List Bool → List Callback → Bool
 are_marked watched callbacks = list_all (is_marked watched) callbacks
 
--- and those of the callbacks of all open sessions
-abbrev pub all_marked : List Bool → List OpenSession → Bool
-all_marked watched sessions = list_all (λ s. are_marked watched s.session.registry.callbacks) sessions
+-- the objects of all callbacks of an open session
+abbrev pub is_session_marked : List Bool → OpenSessionState → Bool
+is_session_marked watched s = are_marked watched s.session_state.registry.callbacks
+
+-- and those of all open sessions
+abbrev pub all_marked : List Bool → List OpenSessionState → Bool
+all_marked watched sessions = list_all (is_session_marked watched) sessions
 
 -- some open session has a callback on an object
-abbrev pub is_watched : List OpenSession → (object : ℕ) → Bool
-is_watched sessions object = list_any (λ s. watches s.session.registry object) sessions
+abbrev pub is_watched : List OpenSessionState → (object : ℕ) → Bool
+is_watched sessions object = list_any (λ s. watches s.session_state.registry object) sessions
 
 -- a query registers a callback
 abbrev pub is_watch : Query → Bool

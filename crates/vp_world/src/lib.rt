@@ -7,7 +7,6 @@ mod event;
 mod limits;
 mod live_world;
 mod putting;
-mod session;
 mod shown_races;
 mod user_observer;
 mod watching;

@@ -15,19 +15,17 @@ ghost use Rattle.vp_world.specs.Worlds.{start};
 use crate::error::WorldError;
 use crate::limits::Limits;
 use crate::putting::{AnswerWithChange, answer_query};
-use crate::session::{OpenSession, retire, session_index};
 use crate::watching::{mark_asked, notify};
 use std::alloc::Global;
 use std::marker::Model;
 use std::snapshot::Snapshot;
 use std::sync::Arc;
-use vp_answer::{GrantChange, Query, SessionId};
+use vp_answer::{GrantChange, OpenSession, Query, SessionId, retire_sessions, session_index};
 use vp_expr::Change;
 use vp_policy::{Policy, UserId};
 use vp_race::{Book, Finding, Recording, Segment};
 use vp_sim::Checked;
 use vp_text::Shared;
-use vp_vpi::Session;
 
 /// A world without its log: a design with a policy, its simulation, and the sessions of its users. A contract sees how it began
 /// and its state.
@@ -346,10 +344,8 @@ impl LiveWorld {
             user,
             opens: self.opened(user) + 1,
         };
-        let Ok(session) = Session::new(self.alloc, user) else {
-            return Err(WorldError::NoMemory);
-        };
-        self.sessions.push(OpenSession { id, session })?;
+        let session = OpenSession::new(self.alloc, id)?;
+        self.sessions.push(session)?;
         set_count(&mut self.opens, user, id.opens);
         Ok(id)
     }
@@ -372,7 +368,7 @@ impl LiveWorld {
         else {
             return Err(WorldError::NoMemory);
         };
-        retire(&mut self.sessions, &self.policy, user);
+        retire_sessions(&mut self.sessions, &self.policy, user);
         Ok(())
     }
 
@@ -521,7 +517,7 @@ impl LiveWorld {
         ensures refused { IsOkUnless result world_error.NoMemory }
         ensures unchanged { OnErr result (self.new ≡ self.old) }
     {
-        let session = &mut self.sessions[index].session;
+        let session = &mut self.sessions[index];
         let answer = answer_query(session, &self.policy, &mut self.run, &self.book, query)?;
         mark_asked(&mut self.watched, session, query);
         self.goal = raised(self.goal, answer.goal);

@@ -10,13 +10,12 @@ ghost use Rattle.vp_world.specs.History.{outcome_of_put, segments_of_put};
 
 use crate::error::WorldError;
 use crate::user_observer::UserObserver;
-use vp_answer::{Query, Reply, respond};
+use vp_answer::{OpenSession, Query, Reply};
 use vp_bits::Bits;
 use vp_elab::ObjectId;
 use vp_expr::Change;
 use vp_policy::Policy;
 use vp_race::{Book, Recording};
-use vp_vpi::Session;
 
 /// What a query is answered, and what it changed.
 #[derive(Drop)]
@@ -57,21 +56,23 @@ fn make_put(
 /// Answers a session's query by what its user can look up, and makes its put, if it has one; or out of memory (1307), which leaves the
 /// session and the simulation as they were.
 pub fn answer_query(
-    session: &mut Session,
+    session: &mut OpenSession,
     policy: &Policy,
     run: &mut Recording,
     book: &Book,
     query: &Query,
 ) -> Result<AnswerWithChange, WorldError>
     requires { Fits policy.now run.old.simulation.design.tree }
-    ensures given { let observation = observer_in run.old book.now policy.now session.old.user in IfOk result
-        (Gives (respond observation session.old query.now) run.old run.new session.new) }
+    ensures given { let observation = observer_in run.old book.now policy.now session.old.session_state.user in IfOk result
+        (Gives (respond observation session.old.session_state query.now)
+        run.old run.new session.new.session_state) }
+    ensures id { session.new.id ≡ session.old.id }
     ensures refused { IsOkUnless result world_error.NoMemory }
     ensures session { OnErr result (session.new ≡ session.old) }
     ensures run { OnErr result (run.new ≡ run.old) }
 {
     let observation = UserObserver::new(policy, session.user(), run.simulation(), book);
-    let answer = respond(session, &observation, query)?;
+    let answer = session.ask(&observation, query)?;
     let change = make_put(run, answer.put)?;
     Ok(AnswerWithChange {
         reply: answer.reply,

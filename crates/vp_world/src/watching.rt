@@ -1,18 +1,15 @@
 // Which objects may be watched, so that a change of another one costs no look at the open sessions.
-ghost use Rattle.std.specs.Prelude.{◌≡◌, ℕ, true, map, option_copied, slice_set, Some};
+ghost use Rattle.std.specs.Prelude.{◌≡◌, ℕ, true, option_copied, slice_set, Some};
 ghost use Rattle.vp_vpi.specs.Observers.{Observer};
 ghost use Rattle.vp_vpi.specs.SessionStates.{SessionState};
 ghost use Rattle.vp_answer.specs.Answers.{respond};
 ghost use Rattle.vp_world.specs.History.{noticed};
-ghost use Rattle.vp_world.specs.Shown.{session_shown};
-ghost use Rattle.vp_world.specs.Marks.{all_marked, are_marked, is_watch, is_watched, may_be_watched};
+ghost use Rattle.vp_world.specs.Marks.{all_marked, are_marked, is_session_marked, is_watch, is_watched, may_be_watched};
 
-use crate::session::{OpenSession, notify_sessions};
-use vp_answer::Query;
+use vp_answer::{OpenSession, Query, notify_sessions};
 use vp_elab::ObjectId;
 use vp_expr::Change;
 use vp_notify::Callback;
-use vp_vpi::Session;
 
 /// Some open session may have a callback on an object, by a list that says so of each object.
 fn may_be_watched(watched: &[bool], object: ObjectId) -> bool
@@ -55,11 +52,11 @@ fn is_watch(query: &Query) -> bool
 }
 
 /// After a query of a session the objects of its callbacks may be watched, if they might before.
-pub fn mark_asked(watched: &mut Vec<bool>, session: &Session, query: &Query)
+pub fn mark_asked(watched: &mut Vec<bool>, session: &OpenSession, query: &Query)
     ensures marked { (observation : Observer) → (session_state : SessionState)
-        → session.now ≡ (respond observation session_state query.now).session_state
+        → session.now.session_state ≡ (respond observation session_state query.now).session_state
         → are_marked watched.old.items session_state.registry.callbacks ≡ true
-        → are_marked watched.new.items session.now.registry.callbacks ≡ true }
+        → is_session_marked watched.new.items session.now ≡ true }
     ensures grown { (object : ℕ) → may_be_watched watched.old.items object ≡ true
         → may_be_watched watched.new.items object ≡ true }
 {
@@ -72,7 +69,7 @@ pub fn mark_asked(watched: &mut Vec<bool>, session: &Session, query: &Query)
 fn is_watched(sessions: &[OpenSession], object: ObjectId) -> bool
     ensures { result ≡ is_watched sessions.now object.0 }
 {
-    sessions.iter().any(|open| open.session.watches(object))
+    sessions.iter().any(|session| session.watches(object))
 }
 
 /// A change at a time is due to the callbacks of all open sessions, and then it is known whether its object is watched. The change goes by
@@ -81,8 +78,7 @@ fn is_watched(sessions: &[OpenSession], object: ObjectId) -> bool
 #[inline(never)]
 fn notify_watchers(sessions: &mut [OpenSession], watched: &mut Vec<bool>, change: Change, time: u64)
     requires { all_marked watched.old.items sessions.old ≡ true }
-    ensures told { map session_shown sessions.new
-        ≡ noticed (Some change) time (map session_shown sessions.old) }
+    ensures notified { sessions.new ≡ noticed (Some change) time sessions.old }
     ensures marked { all_marked watched.new.items sessions.new ≡ true }
 {
     notify_sessions(sessions, &change, time);
@@ -93,8 +89,7 @@ fn notify_watchers(sessions: &mut [OpenSession], watched: &mut Vec<bool>, change
 /// A change at a time is due to the callbacks of all open sessions. The sessions are looked at only where its object may be watched.
 fn notify_of(sessions: &mut [OpenSession], watched: &mut Vec<bool>, change: &Change, time: u64)
     requires { all_marked watched.old.items sessions.old ≡ true }
-    ensures told { map session_shown sessions.new
-        ≡ noticed (Some change.now) time (map session_shown sessions.old) }
+    ensures notified { sessions.new ≡ noticed (Some change.now) time sessions.old }
     ensures marked { all_marked watched.new.items sessions.new ≡ true }
 {
     if may_be_watched(watched, change.object) {
@@ -110,8 +105,7 @@ pub fn notify(
     time: u64,
 )
     requires { all_marked watched.old.items sessions.old ≡ true }
-    ensures told { map session_shown sessions.new
-        ≡ noticed (option_copied change.entry) time (map session_shown sessions.old) }
+    ensures notified { sessions.new ≡ noticed (option_copied change.entry) time sessions.old }
     ensures marked { all_marked watched.new.items sessions.new ≡ true }
 {
     match change {

@@ -27,8 +27,8 @@ use Rattle.vp_answer.specs.declared.reply.Reply.TheVariants as reply
 use Rattle.vp_answer.specs.Answers.{Response, respond}
 use Rattle.vp_answer.specs.Renumbering as under
 use Rattle.vp_answer.specs.laws.Renumbering.{respond_under}
-use Rattle.vp_world.specs.History.{observer_at, asked, asked_at, change_of, changed_by, closed_at, next_session, opened_by, outcome_of_put, raised, response_of, segments_of_put, state_asked, stepped, with_booked, with_notice, with_response}
-use Rattle.vp_answer.specs.OpenSessions.{OpenSessionState, index_of, same_session}
+use Rattle.vp_world.specs.History.{observer_at, asked, asked_at, change_of, changed_by, closed_at, next_session, opened_by, outcome_of_put, raised, response_of, segments_of_put, state_asked, stepped, with_booked, with_response}
+use Rattle.vp_answer.specs.OpenSessions.{OpenSessionState, index_of, notified_session, same_session}
 use Rattle.vp_world.specs.Worlds.{State}
 use Rattle.vp_replay.specs.declared.item.OwnEvent.{OwnEvent}
 use Rattle.vp_replay.specs.declared.item.OwnEvent.TheVariants.{Asks, Closes, Opens}
@@ -43,7 +43,7 @@ use Rattle.vp_replay.specs.laws.Known.{by_index}
 use Rattle.vp_replay.specs.laws.Looks.{first_passes}
 use Rattle.vp_replay.specs.laws.Sessions.{apart_remove, apart_set, stands_from, user_kept}
 use Rattle.vp_audit.specs.laws.Sims.{Changes, put_changes}
-use Rattle.vp_replay.specs.laws.Tests.{both_first}
+use Rattle.vp_answer.specs.laws.Tests.{both_first}
 
 -- ---- lists
 
@@ -223,7 +223,7 @@ step_case design u s known p is segments o changes leaves answered =
 pub nothing_case : (design : Elaborated) (u : ℕ) (s : State) (known : List Bool) (p : Part) → IsPartOf design u s known p → (answered : Reply) → ComesTo design u s s known p None None answered p.races
 nothing_case design u s known p is answered =
     record {
-      part = after_is design u s known p is s None p.opens p.sessions s.sessions p.races refl is.its_design refl tt (sym (map_same (with_notice None s.run.time) (λ t. refl) s.sessions))
+      part = after_is design u s known p is s None p.opens p.sessions s.sessions p.races refl is.its_design refl tt (sym (map_same (notified_session None s.run.time) (λ t. refl) s.sessions))
           is.sessions is.named is.watched refl is.opens is.races;
       replied = refl;
     }
@@ -309,7 +309,7 @@ closed_own design u s known p is id own_event index at =
     let i = part_stands u known p.sessions s.sessions is.sessions id own_event index at in
     let t = closed_at s (Some index) in
     let stays = after_is design u s known p is t None p.opens (remove p.sessions i.inner) (remove s.sessions index) p.races refl is.its_design refl tt
-    (sym (map_same (with_notice None s.run.time) (λ x. refl) (remove s.sessions index))) i.removed
+    (sym (map_same (notified_session None s.run.time) (λ x. refl) (remove s.sessions index))) i.removed
     (all_remove (λ (x : OpenSessionState). x.session_state.user ≡ x.id.user.0) s.sessions index is.named)
     (all_remove (λ (x : OpenSessionState). AreWatched p.view x.session_state.registry.callbacks) p.sessions i.inner is.watched) refl is.opens is.races in
     record {
@@ -326,7 +326,7 @@ closed_other design u s known p is id other index at =
     let t = closed_at s (Some index) in
     record {
       part = after_is design u s known p is t None p.opens p.sessions (remove s.sessions index) p.races refl is.its_design refl tt
-          (sym (map_same (with_notice None s.run.time) (λ y. refl) (remove s.sessions index)))
+          (sym (map_same (notified_session None s.run.time) (λ y. refl) (remove s.sessions index)))
           (is.sessions ∙ sym (apart_remove (is_of u) s.sessions index x x_at (same_other u id other x x_is)))
           (all_remove (λ (y : OpenSessionState). y.session_state.user ≡ y.id.user.0) s.sessions index is.named) is.watched refl is.opens is.races;
       replied = refl;
@@ -374,7 +374,7 @@ opened_own design u s known p is within =
     let named : next_session s u ≡ record { user = record { 0 = u }; opens = p.opens + 1 } = ap (λ (n : ℕ). record { user = record { 0 = u }; opens = n + 1 }) (sym is.opens) in
     let self : (u == u) ≡ true = grind arith in
     let stays = after_is design u s known p is t None (p.opens + 1) (p.sessions ++ new ∷ []) (s.sessions ++ new ∷ []) p.races refl is.its_design refl tt
-    (sym (map_same (with_notice None s.run.time) (λ x. refl) (s.sessions ++ new ∷ [])))
+    (sym (map_same (notified_session None s.run.time) (λ x. refl) (s.sessions ++ new ∷ [])))
     (opened_sessions u known p.sessions s.sessions is.sessions new refl true self)
     (all_more (λ (x : OpenSessionState). x.session_state.user ≡ x.id.user.0) s.sessions new is.named refl)
     (all_more (λ (x : OpenSessionState). AreWatched p.view x.session_state.registry.callbacks) p.sessions new is.watched (All-nil _))
@@ -394,7 +394,7 @@ opened_other design u s known p is v other answered =
     let new : OpenSessionState = record { id = next_session s v; session_state = new_session_state v } in
     record {
       part = after_is design u s known p is t None p.opens p.sessions (s.sessions ++ new ∷ []) p.races refl is.its_design refl tt
-          (sym (map_same (with_notice None s.run.time) (λ x. refl) (s.sessions ++ new ∷ [])))
+          (sym (map_same (notified_session None s.run.time) (λ x. refl) (s.sessions ++ new ∷ [])))
           (opened_sessions u known p.sessions s.sessions is.sessions new refl false other)
           (all_more (λ (x : OpenSessionState). x.session_state.user ≡ x.id.user.0) s.sessions new is.named refl) is.watched
           (length-set s.opens v (slice_index s.opens v + 1))
@@ -413,7 +413,7 @@ booked_case design u s known p is finding answered =
     let t = with_booked s finding in
     record {
       part = after_is design u s known p is t None p.opens p.sessions s.sessions (races_after p.races (if is_shown design.tree m finding then Some (race_seen design.tree m finding) else None))
-          refl is.its_design refl tt (sym (map_same (with_notice None s.run.time) (λ x. refl) s.sessions)) is.sessions is.named is.watched refl is.opens
+          refl is.its_design refl tt (sym (map_same (notified_session None s.run.time) (λ x. refl) s.sessions)) is.sessions is.named is.watched refl is.opens
           (by_test (is_shown design.tree m finding) refl);
       replied = refl;
     }

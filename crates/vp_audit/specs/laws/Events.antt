@@ -18,10 +18,10 @@ use Rattle.vp_expr.specs.Changes.{values_with}
 use Rattle.vp_vpi.specs.declared.races.ShownRace.{ShownRace}
 use Rattle.vp_world.specs.Races.{races_seen}
 use Rattle.vp_answer.specs.Renumbering as under
-use Rattle.vp_world.specs.History.{change_of, noticed, stepped, with_notice}
-use Rattle.vp_answer.specs.OpenSessions.{OpenSessionState}
+use Rattle.vp_world.specs.History.{change_of, noticed, stepped}
+use Rattle.vp_answer.specs.OpenSessions.{OpenSessionState, notified_session}
 use Rattle.vp_world.specs.Worlds.{State}
-use Rattle.vp_replay.specs.Parts.{Part, session_notified, values_after}
+use Rattle.vp_replay.specs.Parts.{Part, values_after}
 use Rattle.vp_answer.proofs.Lists.{map_same}
 use Rattle.vp_audit.specs.Projections.{change_seen, other_flag, other_number}
 use Rattle.vp_audit.specs.laws.Alike.{IsKnown}
@@ -102,24 +102,24 @@ module _ (design : Elaborated) (u : ℕ) (m : Member) (known : List Bool) (all :
     (is_known : IsKnown design all m known values) where
   -- the sessions after a change are those to which what goes to their user of it is due
   pub sessions_due : (change : Option Change) → IsWithin all change → (time : ℕ) (mine world : List OpenSessionState) → AllWatched (known_view design m known) mine
-      → AreSessions u known mine world → AreSessions u known (map (session_notified (change_seen design.tree m known change) time) mine) (noticed change time world)
+      → AreSessions u known mine world → AreSessions u known (map (notified_session (change_seen design.tree m known change) time) mine) (noticed change time world)
   sessions_due change within time mine world watched are =
-      map_twice (session_notified (change_seen design.tree m known change) time) (session_under known) mine
+      map_twice (notified_session (change_seen design.tree m known change) time) (session_under known) mine
       ∙ map_alike (λ (t : OpenSessionState). AreWatched (known_view design m known) t.session_state.registry.callbacks)
-      (λ t. session_under known (session_notified (change_seen design.tree m known change) time t)) (λ t. with_notice change time (session_under known t))
+      (λ t. session_under known (notified_session (change_seen design.tree m known change) time t)) (λ t. notified_session change time (session_under known t))
       (λ t h. ap (λ session_state. record { id = t.id; session_state = session_state })
       (sym (due_same design m known is_known.long (λ r k. denied_seen_at design m known is_known.long is_known.envelopes r k) all many t.session_state change time within h))) mine watched
-      ∙ sym (map_twice (session_under known) (with_notice change time) mine)
-      ∙ ap (map (with_notice change time)) are
-      ∙ sym (filter_form (with_notice change time) (is_of u) (λ t. refl) world)
+      ∙ sym (map_twice (session_under known) (notified_session change time) mine)
+      ∙ ap (map (notified_session change time)) are
+      ∙ sym (filter_form (notified_session change time) (is_of u) (λ t. refl) world)
 
   -- their callbacks are on objects that may be watched
   pub sessions_watched : (change : Option Change) (time : ℕ) (mine : List OpenSessionState) → AllWatched (known_view design m known) mine
-      → AllWatched (known_view design m known) (map (session_notified (change_seen design.tree m known change) time) mine)
+      → AllWatched (known_view design m known) (map (notified_session (change_seen design.tree m known change) time) mine)
   sessions_watched change time mine watched =
-      All-map (λ (t : OpenSessionState). AreWatched (known_view design m known) t.session_state.registry.callbacks) (session_notified (change_seen design.tree m known change) time) mine
+      All-map (λ (t : OpenSessionState). AreWatched (known_view design m known) t.session_state.registry.callbacks) (notified_session (change_seen design.tree m known change) time) mine
       (map_all (λ (t : OpenSessionState). AreWatched (known_view design m known) t.session_state.registry.callbacks)
-      (λ (t : OpenSessionState). AreWatched (known_view design m known) (session_notified (change_seen design.tree m known change) time t).session_state.registry.callbacks)
+      (λ (t : OpenSessionState). AreWatched (known_view design m known) (notified_session (change_seen design.tree m known change) time t).session_state.registry.callbacks)
       (λ t h. watched_due (known_view design m known) (change_seen design.tree m known change) time t.session_state h) mine watched)
 
   -- and what is known is so of the values after it
@@ -155,7 +155,7 @@ abbrev pub part_following : Part → Tree → Member → List Bool → (opens : 
 part_following p tree m known opens mine change run races = record {
   view = p.view;
   opens = opens;
-  sessions = map (session_notified (change_seen tree m known change) run.time) mine;
+  sessions = map (notified_session (change_seen tree m known change) run.time) mine;
   values = values_after p.values (change_seen tree m known change);
   time = run.time;
   finished = run.finished;
@@ -182,10 +182,10 @@ after_is design u s known p is t change opens mine world races policy its_design
       is_known = subst (λ (x : Member). IsKnown design t.run.values x known (values_after p.values (change_seen design.tree m known change))) same_member known_is;
       counts = counts ∙ is.counts ∙ ap (λ (q : PolicyState). length q.members) (sym policy);
       opens = opened;
-      sessions = subst (AreSessions u known (map (session_notified (change_seen design.tree m known change) t.run.time) mine)) (sym sessions)
+      sessions = subst (AreSessions u known (map (notified_session (change_seen design.tree m known change) t.run.time) mine)) (sym sessions)
           (sessions_due design u m known s.run.values is.many p.values is.is_known change within t.run.time mine world watched_known are);
       named = subst AreNamed (sym sessions) (named_after change t.run.time world named);
-      watched = subst (λ v. AllWatched v (map (session_notified (change_seen design.tree m known change) t.run.time) mine)) (sym is.view)
+      watched = subst (λ v. AllWatched v (map (notified_session (change_seen design.tree m known change) t.run.time) mine)) (sym is.view)
           (sessions_watched design u m known s.run.values is.many p.values is.is_known change t.run.time mine watched_known);
       time = refl;
       finished = refl;
@@ -198,8 +198,8 @@ after_is design u s known p is t change opens mine world races policy its_design
 
     named_after : (c : Option Change) (time : ℕ) (ts : List OpenSessionState) → AreNamed ts → AreNamed (noticed c time ts)
     named_after c time ts h =
-        All-map (λ (t : OpenSessionState). t.session_state.user ≡ t.id.user.0) (with_notice c time) ts
-        (map_all (λ (t : OpenSessionState). t.session_state.user ≡ t.id.user.0) (λ (t : OpenSessionState). (with_notice c time t).session_state.user ≡ (with_notice c time t).id.user.0) (λ t e. e) ts h)
+        All-map (λ (t : OpenSessionState). t.session_state.user ≡ t.id.user.0) (notified_session c time) ts
+        (map_all (λ (t : OpenSessionState). t.session_state.user ≡ t.id.user.0) (λ (t : OpenSessionState). (notified_session c time t).session_state.user ≡ (notified_session c time t).id.user.0) (λ t e. e) ts h)
 
 -- what a step of the simulation, or a put, leaves
 pub stepped_is : (design : Elaborated) (u : ℕ) (s : State) (known : List Bool) (p : Part) → IsPartOf design u s known p → (goal : Option ℕ) (opens : ℕ) (mine world : List OpenSessionState)
@@ -212,4 +212,4 @@ stepped_is design u s known p is goal opens mine world segments (sim.Goes run ch
     changes.0 changes.1 refl are named watched refl opened is.races
 stepped_is design u s known p is goal opens mine world segments (sim.Refuses e) changes leaves are named watched opened =
     after_is design u s known p is (record s { sessions = world; goal = goal }) None opens mine world p.races refl is.its_design refl tt
-    (sym (map_same (with_notice None s.run.time) (λ t. refl) world)) are named watched refl opened is.races
+    (sym (map_same (notified_session None s.run.time) (λ t. refl) world)) are named watched refl opened is.races

@@ -27,13 +27,13 @@ use Rattle.vp_vpi.specs.SessionStates.{SessionState, retired}
 use Rattle.vp_answer.specs.declared.request.GrantChange.{GrantChange}
 use Rattle.vp_answer.specs.Renumbering as under
 use Rattle.vp_answer.specs.laws.Renumbering.{retired_under}
-use Rattle.vp_world.specs.History.{granted_to, retired_for}
-use Rattle.vp_answer.specs.OpenSessions.{OpenSessionState}
+use Rattle.vp_world.specs.History.{granted_to}
+use Rattle.vp_answer.specs.OpenSessions.{OpenSessionState, notified_session, retired_for}
 use Rattle.vp_world.specs.Worlds.{State}
 use Rattle.vp_replay.specs.Known.{known_also, known_index}
 use Rattle.vp_notify.specs.Renumbered.{moved_callback, moved_notice}
 use Rattle.vp_vpi.specs.Renumbered.{moved_handle, moved_session_state}
-use Rattle.vp_replay.specs.Parts.{Part, granted_session, moved_to, part_granted, session_notified}
+use Rattle.vp_replay.specs.Parts.{Part, granted_session, moved_to, part_granted}
 use Rattle.vp_audit.specs.Projections.{granted_of, moved_numbers, number_in, values_seen}
 use Rattle.vp_replay.specs.Seen.{denied_seen, kind_seen}
 use Rattle.vp_audit.specs.laws.Alike.{AreValues, IsKnown}
@@ -345,7 +345,7 @@ granted_other design u s known p is change v other =
     let apart = not_equal v u other in
     let same : member_at s.policy.members u ≡ member_at policy.members u =
     sym (index_kept s.policy.members v u (regranted_user change.envelope change.access (member_at s.policy.members v)) nobody apart) in
-    let mine = map_same (session_notified None s.run.time) (λ t. refl) p.sessions in
+    let mine = map_same (notified_session None s.run.time) (λ t. refl) p.sessions in
     record {
       its_design = is.its_design;
       its_tree = is.its_tree;

@@ -9,12 +9,13 @@ use Rattle.vp_policy.specs.View.{View, view_of}
 use Rattle.vp_expr.specs.declared.change.Change.{Change}
 use Rattle.vp_vpi.specs.declared.races.ShownRace.{ShownRace}
 use Rattle.vp_world.specs.Entries.{Entry}
+use Rattle.vp_answer.specs.OpenSessions.{notified_session}
 use Rattle.vp_world.specs.History.{IsLegal, after, entry_of, state_after}
 use Rattle.vp_world.specs.Worlds.{Opening, State, start}
 use Rattle.vp_replay.specs.declared.item.GrantItem.{GrantItem}
 use Rattle.vp_replay.specs.declared.item.Item.{Item}
 use Rattle.vp_replay.specs.declared.item.OwnEvent.{OwnEvent}
-use Rattle.vp_replay.specs.Parts.{Part, part_after, reply_of, replies_from, session_notified}
+use Rattle.vp_replay.specs.Parts.{Part, part_after, reply_of, replies_from}
 use Rattle.vp_replay.specs.declared.item.Projection.{Projection}
 use Rattle.vp_replay.specs.Parts.{first_part}
 use Rattle.vp_audit.specs.Projections.{item_if, item_of, items_from, known_at_first, known_after, own_reply, projection, replies_of}
@@ -36,7 +37,7 @@ item_replies p None None None None (Some f) r rest = refl
 item_replies p None None None None None (Some r) rest = refl
 item_replies p None None None None None None rest =
     ap (λ ts. replies_from (record { view = p.view; opens = p.opens; sessions = ts; values = p.values; time = p.time; finished = p.finished; races = p.races }) rest)
-    (sym (map_same (session_notified None p.time) (λ t. refl) p.sessions))
+    (sym (map_same (notified_session None p.time) (λ t. refl) p.sessions))
 
 -- from a state on
 replies_follow : (opening : Opening) (design : Elaborated) (u : ℕ) (before log : List Entry) (s : State) (known : List Bool) (p : Part) → s ≡ state_after opening before → IsPartOf design u s known p

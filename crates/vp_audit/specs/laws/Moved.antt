@@ -14,7 +14,7 @@ use Rattle.vp_audit.specs.Projections.{moved_numbers, number_in}
 use Rattle.vp_audit.specs.laws.After.{number_index}
 use Rattle.vp_audit.specs.laws.Grants.{below_length, marked_number, now_more, index_marked, index_past}
 use Rattle.vp_replay.specs.laws.Known.{index_in_order}
-use Rattle.vp_replay.specs.laws.Tests.{all_join, both, both_first, both_second}
+use Rattle.vp_answer.specs.laws.Tests.{all_join, both, both_first, both_second}
 
 -- one number more, which is higher than all of them
 rises_more : (least : ℕ) (xs : List ℕ) (y : ℕ) → least ≤ y → rises_from least xs ≡ true → list_all (λ x. nat_lt x y) xs ≡ true → rises_from least (xs ++ y ∷ []) ≡ true

@@ -20,14 +20,14 @@ use Rattle.vp_answer.specs.declared.reply.Reply.{Reply}
 use Rattle.vp_answer.specs.declared.reply.Reply.TheVariants as reply
 use Rattle.vp_world.specs.declared.event.Event.{Event}
 use Rattle.vp_world.specs.declared.event.Event.TheVariants as event
-use Rattle.vp_world.specs.History.{after, answer, asked, asked_at, changed, changed_by, closed_at, entry_of, granted_to, next_session, opened_by, with_job_taken, with_notice}
+use Rattle.vp_world.specs.History.{after, answer, asked, asked_at, changed, changed_by, closed_at, entry_of, granted_to, next_session, opened_by, with_job_taken}
 use Rattle.vp_world.specs.Worlds.{Opening, State}
-use Rattle.vp_answer.specs.OpenSessions.{index_of}
+use Rattle.vp_answer.specs.OpenSessions.{index_of, notified_session}
 use Rattle.vp_replay.specs.Known.{known_also}
 use Rattle.vp_replay.specs.declared.item.Item.{Item}
 use Rattle.vp_replay.specs.declared.item.OwnEvent.{OwnEvent}
 use Rattle.vp_replay.specs.declared.item.OwnEvent.TheVariants.{Asks, Closes, Opens}
-use Rattle.vp_replay.specs.Parts.{values_after, Part, opens_after, part_after, part_granted, part_after_entry, races_after, reply_of, response_in, sessions_after, session_notified, with_answer}
+use Rattle.vp_replay.specs.Parts.{values_after, Part, opens_after, part_after, part_granted, part_after_entry, races_after, reply_of, response_in, sessions_after, with_answer}
 use Rattle.vp_audit.specs.Projections.{change_seen, granted_of, item_of, known_after, opened_by_reply, other_flag, other_number, own_if, own_of, own_reply, race_of_event, regrant_of}
 use Rattle.vp_audit.specs.laws.Cases.{ComesTo, asked_other, asked_own, booked_case, closed_other, closed_own, nothing_case, opened_other, opened_own, own_is, own_not, part_none, step_case}
 use Rattle.vp_answer.proofs.Lists.{map_same}
@@ -130,7 +130,7 @@ event_comes opening design u s known p is (event.Step k) n = step_case design u 
 event_comes opening design u s known p is event.Advance n = step_case design u s known p is (with_anew s.segments) (sim.advance s.run) (advance_changes s.run) (advance_leaves s.run) reply.Done
 event_comes opening design u s known p is event.TakeJob n =
     record {
-      part = after_is design u s known p is (with_job_taken s) None p.opens p.sessions s.sessions p.races refl is.its_design refl tt (sym (map_same (with_notice None s.run.time) (λ t. refl) s.sessions))
+      part = after_is design u s known p is (with_job_taken s) None p.opens p.sessions s.sessions p.races refl is.its_design refl tt (sym (map_same (notified_session None s.run.time) (λ t. refl) s.sessions))
           is.sessions is.named is.watched refl is.opens is.races;
       replied = refl;
     }
@@ -159,7 +159,7 @@ entry_part design u s known p is t own_event change race =
     ap (λ (d : Elaborated). record {
       view = p.view;
       opens = opens;
-      sessions = map (session_notified (change_seen d.tree m known change) (unwrap_or (other_number s.run.time t.run.time) p.time)) mine;
+      sessions = map (notified_session (change_seen d.tree m known change) (unwrap_or (other_number s.run.time t.run.time) p.time)) mine;
       values = values_after p.values (change_seen d.tree m known change);
       time = unwrap_or (other_number s.run.time t.run.time) p.time;
       finished = unwrap_or (other_flag s.run.finished t.run.finished) p.finished;
@@ -168,7 +168,7 @@ entry_part design u s known p is t own_event change race =
     ∙ ap (λ (n : ℕ). record {
       view = p.view;
       opens = opens;
-      sessions = map (session_notified (change_seen design.tree m known change) n) mine;
+      sessions = map (notified_session (change_seen design.tree m known change) n) mine;
       values = values_after p.values (change_seen design.tree m known change);
       time = n;
       finished = unwrap_or (other_flag s.run.finished t.run.finished) p.finished;
@@ -177,7 +177,7 @@ entry_part design u s known p is t own_event change race =
     ∙ ap (λ b. record {
       view = p.view;
       opens = opens;
-      sessions = map (session_notified (change_seen design.tree m known change) t.run.time) mine;
+      sessions = map (notified_session (change_seen design.tree m known change) t.run.time) mine;
       values = values_after p.values (change_seen design.tree m known change);
       time = t.run.time;
       finished = b;

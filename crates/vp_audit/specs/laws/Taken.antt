@@ -23,7 +23,7 @@ use Rattle.vp_world.specs.declared.event.Event.TheVariants as event
 use Rattle.vp_world.specs.declared.error.WorldError.TheVariants as error
 use Rattle.vp_world.specs.History.{IsLegal, after, entry_of, is_full, is_log_full, next_session, refusal_of, refusal_of_log, refusal_of_open, refusal_of_session, state_after}
 use Rattle.vp_world.specs.Worlds.{Opening, State, start}
-use Rattle.vp_answer.specs.OpenSessions.{OpenSessionState, index_of}
+use Rattle.vp_answer.specs.OpenSessions.{OpenSessionState, index_of, is_session_within, notified_session}
 use Rattle.vp_replay.specs.Seen.{denied_seen}
 use Rattle.vp_replay.specs.Known.{known_also}
 use Rattle.vp_audit.specs.Openings.{IsRight}
@@ -31,7 +31,7 @@ use Rattle.vp_replay.specs.declared.item.GrantItem.{GrantItem}
 use Rattle.vp_replay.specs.declared.item.Item.{Item}
 use Rattle.vp_replay.specs.declared.item.OwnEvent.{OwnEvent}
 use Rattle.vp_replay.specs.declared.item.OwnEvent.TheVariants.{Asks, Closes, Opens}
-use Rattle.vp_replay.specs.Parts.{Part, observer_of_part, granted_session, is_session_within, moved_to, part_after, part_after_entry, part_granted, response_in, session_notified, sessions_after, takes, takes_all, takes_by, with_answer}
+use Rattle.vp_replay.specs.Parts.{Part, observer_of_part, granted_session, moved_to, part_after, part_after_entry, part_granted, response_in, sessions_after, takes, takes_all, takes_by, with_answer}
 use Rattle.vp_replay.specs.Parts.{first_part}
 use Rattle.vp_audit.specs.Projections.{granted_of, item_if, item_of, items_from, known_at_first, known_after, opened_by_reply, own_if, projection, regrant_of}
 use Rattle.vp_audit.specs.laws.Cases.{part_stands}
@@ -41,7 +41,7 @@ use Rattle.vp_audit.specs.laws.Grants.{marked_count, now_long}
 use Rattle.vp_audit.specs.laws.Moved.{moved_length, moved_rise, moved_within}
 use Rattle.vp_audit.specs.laws.Openings.{first_is}
 use Rattle.vp_audit.specs.laws.Promise.{event_follows, item_at}
-use Rattle.vp_replay.specs.laws.Tests.{all_at, all_join, all_mapped, all_removed, all_set, both}
+use Rattle.vp_answer.specs.laws.Tests.{all_at, all_join, all_mapped, all_removed, all_set, both}
 use Rattle.vp_replay.specs.laws.Within.{moved_to_within, respond_within, session_state_due, session_state_moved_within, session_state_retired, seen_within}
 
 -- ---- the objects of a part's sessions
@@ -75,7 +75,7 @@ own_within p (Closes id) h = by_index (index_of p.sessions id) where
 -- after what of an entry goes to him, if that is no change of his grants
 entry_within : (p : Part) (own_event : Option OwnEvent) (i : Item) → AreWithin p → AreWithin (part_after_entry p own_event i)
 entry_within p own_event i h =
-    all_mapped (is_session_within n) (is_session_within n) (session_notified i.change (unwrap_or i.time p.time)) (λ t e. session_state_due n i.change (unwrap_or i.time p.time) t.session_state e)
+    all_mapped (is_session_within n) (is_session_within n) (notified_session i.change (unwrap_or i.time p.time)) (λ t e. session_state_due n i.change (unwrap_or i.time p.time) t.session_state e)
     (option_map_or (sessions_after p) own_event p.sessions) (by_own own_event)
   where
     n : ℕ
@@ -223,7 +223,7 @@ item_taken p None None None None (Some f) r rest one others = others
 item_taken p None None None None None (Some r) rest one others = others
 item_taken p None None None None None None rest one others =
     subst (λ ts. takes_all (record { view = p.view; opens = p.opens; sessions = ts; values = p.values; time = p.time; finished = p.finished; races = p.races }) rest ≡ true)
-    (map_same (session_notified None p.time) (λ t. refl) p.sessions) others
+    (map_same (notified_session None p.time) (λ t. refl) p.sessions) others
 
 -- from a state on
 items_taken : (opening : Opening) (design : Elaborated) (u : ℕ) (before log : List Entry) (s : State) (known : List Bool) (p : Part) → s ≡ state_after opening before → IsPartOf design u s known p

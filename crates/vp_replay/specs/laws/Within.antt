@@ -31,7 +31,7 @@ use Rattle.vp_answer.specs.declared.reply.Reply.{Reply}
 use Rattle.vp_answer.specs.Answers.{freed, made, only_told, putting, respond, response_by, scanned, reply_with, watching}
 use Rattle.vp_replay.specs.Seen.{children_seen, closed_seen, find_listed_seen, find_seen, from_seen, is_named_seen, listed_seen, observer_seen, scope_seen, unlisted_seen, walk_seen}
 use Rattle.vp_replay.specs.Parts.{moved_to}
-use Rattle.vp_replay.specs.laws.Tests.{all_index, all_join, all_kept, all_mapped, all_passing, all_set, both, both_first, both_second}
+use Rattle.vp_answer.specs.laws.Tests.{all_index, all_join, all_kept, all_mapped, all_passing, all_set, both, both_first, both_second}
 
 -- ---- what can be looked up
 

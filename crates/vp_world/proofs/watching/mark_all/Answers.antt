@@ -2,7 +2,8 @@ use Rattle.std.proofs.Common.{◌≡◌, ◌∙◌, ◌<◌, ℕ, true, get_or, 
 use Rattle.std.proofs.lemmas.List.Folds.{list_all_more}
 use Rattle.vp_notify.specs.declared.registry.Callback.{Callback}
 use Rattle.vp_world.specs.Marks.{are_marked, is_marked, may_be_watched}
-use Rattle.vp_world.proofs.Marks.{are_marked_more, both, mark_keeps, marked_same}
+use Rattle.vp_answer.specs.laws.Tests.{both}
+use Rattle.vp_world.proofs.Marks.{are_marked_more, mark_keeps, marked_same}
 use Rattle.vp_world.proofs.watching.mark_all.Goals as goal
 
 pub loop-callback-preserved : goal.loop-callback-preserved

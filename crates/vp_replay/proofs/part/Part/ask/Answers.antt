@@ -1,14 +1,16 @@
 use Rattle.std.proofs.Common.{◌≡◌, ◌∙◌, ◌<◌, ap, sym, length, List, Some, subst}
 use Rattle.std.specs.Prelude.{slice_get, slice_set}
 use Rattle.vp_vpi.specs.Observers.{Observer}
+use Rattle.vp_vpi.specs.SessionStates.{SessionState}
 use Rattle.vp_answer.specs.Answers.{respond}
 use Rattle.vp_answer.specs.OpenSessions.{OpenSessionState, index_of}
+use Rattle.vp_answer.proofs.Sessions.{session_with, with_name_of}
 use Rattle.vp_replay.specs.Seen.{observer_seen}
 use Rattle.vp_replay.specs.Parts.{Asks, Part, observer_of_part, reply_of, with_own}
 use Rattle.vp_replay.proofs.PartSteps.{asked_after, asked_reply, at_index, observations_are}
 use Rattle.vp_replay.proofs.part.Part.ask.Goals as goal
 
-module _ (c : goal.In_ok-reply) where
+module _ (c : goal.Joined-answer) where
   -- the part before
   abbrev before : Part
   before = record {
@@ -42,7 +44,7 @@ module _ (c : goal.In_ok-reply) where
 pub returns-clause-reply : goal.returns-clause-reply
 returns-clause-reply c =
     let r = c.args.query.now in
-    (c.in_ok-reply.ensures {u = tt}).reply ∙ ap (λ e. (respond e (session c).session_state r).reply) (observation_is c)
+    (c.in_ok-answer.ensures {u = tt}).given.gives_reply ∙ ap (λ e. (respond e (session c).session_state r).reply) (observation_is c)
     ∙ sym (asked_reply (before c) c.args.id r c.in-Some.index (session c) (at c) (there c))
     ∙ ap (λ (q : Part). reply_of q (Asks c.args.id r)) c.self.view_is
 
@@ -50,8 +52,10 @@ pub returns-clause-after : goal.returns-clause-after
 returns-clause-after c =
     let r = c.args.query.now in
     let q = before c in
-    let new : c.ask.new.self ≡ record { id = (session c).id; session_state = (respond (observer_of_part q) (session c).session_state r).session_state } =
-    (c.in_ok-reply.ensures {u = tt}).after ∙ ap (λ e. (let t : OpenSessionState = record { id = (session c).id; session_state = (respond e (session c).session_state r).session_state } in t)) (observation_is c) in
+    let after : SessionState = (respond (observer_of_part q) (session c).session_state r).session_state in
+    let new : c.ask.new.self ≡ session_with (session c).id after =
+    with_name_of c.ask.new.self (session c) after c.ask.ensures.id
+    ((c.in_ok-answer.ensures {u = tt}).given.session_state ∙ ap (λ e. (respond e (session c).session_state r).session_state) (observation_is c)) in
     ap (λ (t : OpenSessionState). (let x : Part = record q { sessions = slice_set q.sessions c.in-Some.index t } in x)) new
     ∙ sym (asked_after q c.args.id r c.in-Some.index (session c) (at c) (there c))
     ∙ ap (λ (x : Part). with_own x (Asks c.args.id r)) c.self.view_is

@@ -6,8 +6,8 @@ use Rattle.vp_notify.specs.Registry.{is_unwatchable}
 use Rattle.vp_notify.specs.Renumbered.{number_now}
 use Rattle.vp_pragma.specs.declared.rights.Rights.{Rights}
 use Rattle.vp_vpi.specs.declared.races.ShownRace.{ShownRace}
-use Rattle.vp_answer.specs.OpenSessions.{OpenSessionState}
-use Rattle.vp_replay.specs.Parts.{Part, granted_session, is_session_within, moved_session, part_granted}
+use Rattle.vp_answer.specs.OpenSessions.{OpenSessionState, is_session_within, moved_session}
+use Rattle.vp_replay.specs.Parts.{Part, granted_session, part_granted}
 use Rattle.vp_replay.proofs.Moving.{sessions_granted}
 use Rattle.vp_replay.proofs.part.Part.grant.Goals as goal
 
@@ -20,9 +20,9 @@ returns-clause-after c =
     let within : list_all (is_session_within (length g.moved)) sessions ≡ true =
     ap (λ (ts : List OpenSessionState). list_all (is_session_within (length g.moved)) ts) (sym c.deref.ensures.value)
     ∙ ap (λ (ns : List ℕ). list_all (is_session_within (length ns)) c.deref.result.now) (sym c.as_slice-moved.ensures)
-    ∙ sym c.are_within.ensures ∙ c.if-not-are_within.false in
-    let new : c.grant_all.new.sessions ≡ map (granted_session g) sessions =
-    c.grant_all.ensures
+    ∙ sym c.are_sessions_within.ensures ∙ c.if-not-are_sessions_within.false in
+    let new : c.renumber_sessions.new.sessions ≡ map (granted_session g) sessions =
+    c.renumber_sessions.ensures
     ∙ ap (λ (ts : List OpenSessionState). map (moved_session (number_now c.as_slice-moved.result.now) (is_unwatchable c.deref-2.result.now)) ts) c.deref_mut.ensures.value
     ∙ ap (λ (ns : List ℕ). map (moved_session (number_now ns) (is_unwatchable c.deref-2.result.now)) sessions) c.as_slice-moved.ensures
     ∙ ap (λ (rs : List Rights). map (moved_session (number_now g.moved) (is_unwatchable rs)) sessions) c.deref-2.ensures.value
@@ -31,7 +31,7 @@ returns-clause-after c =
     let races = c.in_ok-races.ensures {u = tt} ∙ c.as_slice-2.ensures in
     let part : List OpenSessionState → List (Option (List Bit)) → List ShownRace → Part = λ ts vs rs.
     record { view = g.view; opens = inside.opens; sessions = ts; values = vs; time = inside.time; finished = inside.finished; races = rs } in
-    ap (λ ts. part ts c.in_ok-values.values.items c.in_ok-races.races.items) (with_items_is inside.sessions c.grant_all.new.sessions (search rules) ∙ new)
+    ap (λ ts. part ts c.in_ok-values.values.items c.in_ok-races.races.items) (with_items_is inside.sessions c.renumber_sessions.new.sessions (search rules) ∙ new)
     ∙ ap (λ vs. part (map (granted_session g) sessions) vs c.in_ok-races.races.items) values
     ∙ ap (λ rs. part (map (granted_session g) sessions) g.values rs) races
     ∙ ap (λ (x : Part). part_granted x g) c.self.view_is

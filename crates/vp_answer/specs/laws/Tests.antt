@@ -76,3 +76,9 @@ pub all_mapped : {X Y : Type 0} (p : X → Bool) (q : Y → Bool) (f : X → Y) 
 all_mapped p q f h [] e = refl
 all_mapped p q f h (x ∷ xs) e =
     both (q (f x)) (list_all q (map f xs)) (h x (both_first (p x) (list_all p xs) e)) (all_mapped p q f h xs (both_second (p x) (list_all p xs) e))
+
+-- where each item that passes one test passes another, so do all
+pub all_implied : {X : Type 0} (p q : X → Bool) → ((x : X) → p x ≡ true → q x ≡ true) → (xs : List X) → list_all p xs ≡ true → list_all q xs ≡ true
+all_implied p q h [] e = refl
+all_implied p q h (x ∷ xs) e =
+    both (q x) (list_all q xs) (h x (both_first (p x) (list_all p xs) e)) (all_implied p q h xs (both_second (p x) (list_all p xs) e))

@@ -1,8 +1,8 @@
 use Rattle.std.proofs.Common.{◌≡◌, ◌++◌, drop, map, take}
 use Rattle.vp_notify.specs.Registry.{is_unwatchable}
 use Rattle.vp_notify.specs.Renumbered.{number_now}
-use Rattle.vp_replay.specs.Parts.{moved_session}
-use Rattle.vp_replay.proofs.part_session.grant_all.Given as goal
+use Rattle.vp_answer.specs.OpenSessions.{moved_session}
+use Rattle.vp_answer.proofs.open_session.renumber_sessions.Given as goal
 
 -- the sessions before this one have their numbers now
 abbrev pub invariant-loop-session : goal.invariant-loop-session

@@ -2,15 +2,14 @@ use Rattle.std.proofs.Common.{◌∙◌, length, ap, slice_set, sym}
 use Rattle.std.proofs.lemmas.List.Edits.{map_over_more}
 use Rattle.vp_notify.specs.Registry.{is_unwatchable}
 use Rattle.vp_notify.specs.Renumbered.{number_now}
-use Rattle.vp_answer.specs.OpenSessions.{OpenSessionState}
+use Rattle.vp_answer.specs.OpenSessions.{OpenSessionState, is_session_within, moved_session}
 use Rattle.vp_answer.proofs.Lists.{map_over_all}
-use Rattle.vp_replay.specs.Parts.{is_session_within, moved_session}
-use Rattle.vp_replay.specs.laws.Tests.{all_at}
-use Rattle.vp_replay.proofs.Turns.{untouched_at}
-use Rattle.vp_replay.proofs.part_session.grant_all.Goals as goal
+use Rattle.vp_answer.specs.laws.Tests.{all_at}
+use Rattle.vp_answer.proofs.Turns.{untouched_at}
+use Rattle.vp_answer.proofs.open_session.renumber_sessions.Goals as goal
 
-pub grant-requires-clause-within : goal.grant-requires-clause-within
-grant-requires-clause-within c =
+pub renumber-requires-clause-within : goal.renumber-requires-clause-within
+renumber-requires-clause-within c =
     let count = length c.args.numbers.now in
     let moves = moved_session (number_now c.args.numbers.now) (is_unwatchable c.args.rights.now) in
     let items = c.loop-session.session-items in
@@ -26,7 +25,7 @@ loop-session-preserved c =
     let i = c.loop-session.session-index in
     let item = c.session-item.result in
     let moves = moved_session (number_now c.args.numbers.now) (is_unwatchable c.args.rights.now) in
-    ap (λ (s : OpenSessionState). slice_set items i s) c.grant.ensures
+    ap (λ (s : OpenSessionState). slice_set items i s) c.renumber.ensures
     ∙ ap (λ (s : OpenSessionState). slice_set items i (moves s)) (sym c.session-item.is)
     ∙ map_over_more moves c.args.sessions.now items i item c.loop-session-test.true c.loop-session.invariant c.session-item.is
 

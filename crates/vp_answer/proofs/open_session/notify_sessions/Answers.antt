@@ -1,20 +1,19 @@
 use Rattle.std.proofs.Common.{◌∙◌, Some, ap, slice_set, sym}
 use Rattle.std.proofs.lemmas.List.Edits.{map_over_more}
-use Rattle.vp_answer.specs.OpenSessions.{OpenSessionState}
+use Rattle.vp_answer.specs.OpenSessions.{OpenSessionState, notified_session}
 use Rattle.vp_answer.proofs.Lists.{map_over_all}
-use Rattle.vp_replay.specs.Parts.{session_notified}
-use Rattle.vp_replay.proofs.part_session.notify_all.Goals as goal
+use Rattle.vp_answer.proofs.open_session.notify_sessions.Goals as goal
 
 pub loop-session-preserved : goal.loop-session-preserved
 loop-session-preserved c =
     let items = c.loop-session.session-items in
     let i = c.loop-session.session-index in
     let item = c.session-item.result in
-    let notifies = session_notified (Some c.args.change.now) c.args.time in
+    let notifies = notified_session (Some c.args.change.now) c.args.time in
     ap (λ (s : OpenSessionState). slice_set items i s) c.notify.ensures
     ∙ ap (λ (s : OpenSessionState). slice_set items i (notifies s)) (sym c.session-item.is)
     ∙ map_over_more notifies c.args.sessions.now items i item c.loop-session-test.true c.loop-session.invariant c.session-item.is
 
 pub returns : goal.returns
 returns c =
-    map_over_all (session_notified (Some c.args.change.now) c.args.time) c.args.sessions.now c.loop-session.session-items c.loop-session.session-index c.loop-session-test.false c.loop-session.invariant
+    map_over_all (notified_session (Some c.args.change.now) c.args.time) c.args.sessions.now c.loop-session.session-items c.loop-session.session-index c.loop-session-test.false c.loop-session.invariant
