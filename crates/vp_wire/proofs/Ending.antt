@@ -13,10 +13,10 @@ use Rattle.vp_answer.specs.declared.reply.Reply.{Reply}
 use Rattle.vp_wire.specs.declared.dialogue.Dialogue.{Dialogue}
 use Rattle.vp_wire.specs.declared.dialogue.Stage.TheVariants.{Before}
 use Rattle.vp_wire.specs.declared.error.WireError.TheVariants as fault
-use Rattle.vp_wire.specs.Dialogue.{AreWhole, IsDialogue, IsOut, IsWhole, Point, Stops, lines_of, turn_of, without_empty_end}
+use Rattle.vp_wire.specs.Dialogue.{AreWhole, IsDialogue, IsOut, IsWhole, Point, Stops, lines_of, turn_of}
 use Rattle.vp_wire.specs.Reading.{IsBegun, Progress, AnswersLine}
 use Rattle.vp_wire.proofs.Answering.{answers_more, concat_more}
-use Rattle.vp_wire.proofs.Parting.{lines_ended, lines_first, lines_open, parts_more, whole_by_parts}
+use Rattle.vp_wire.proofs.Parting.{lines_ended, lines_open, parts_more, whole_by_parts}
 
 -- ---- the end of the input
 
@@ -83,7 +83,7 @@ last_begun {calls = calls} {held = held} {mid = mid} {holds = holds} d e begins 
       input = p.input;
       read = p.read;
       lines = p.lines ++ p.begun ∷ [];
-      are_its = ([], all ∙ sym (append-nil (p.lines ++ p.begun ∷ [])));
+      are_its = ([], inr (at_end, all ∙ sym (append-nil (p.lines ++ p.begun ∷ []))));
       reply_lines = p.reply_lines ++ t.reply_line ∷ [];
       answers = answers_more calls p.lines p.begun _ _ _ p.reply_lines t.reply_line p.answers t.answers;
       written = concat p.reply_lines ++ t.writes.0;
@@ -114,7 +114,7 @@ handed_on {held = held} {mid = mid} holds end answered (Err x) w kept = record {
   input = w.dialogue.input;
   read = w.dialogue.read;
   lines = w.dialogue.lines;
-  are_its = ([], sym w.dialogue.are_its ∙ sym (append-nil w.dialogue.lines));
+  are_its = ([], inr (w.at_end, sym w.dialogue.are_its ∙ sym (append-nil w.dialogue.lines)));
   reply_lines = w.dialogue.reply_lines;
   answers = w.dialogue.answers;
   written = w.dialogue.written;
@@ -145,7 +145,7 @@ handed {held = held} {mid = mid} holds d (Err x) p kept = record {
   input = p.input;
   read = p.read;
   lines = p.lines;
-  are_its = (without_empty_end (p.begun ∷ []), lines_first p.input p.lines (p.begun ∷ []) p.cut (omega arith));
+  are_its = ([], inl (whole_by_parts p.input p.lines p.begun p.cut ∙ sym (append-nil p.lines)));
   reply_lines = p.reply_lines;
   answers = p.answers;
   written = concat p.reply_lines;

@@ -100,6 +100,13 @@ last_after (l ∷ ls) last = last_more l (ls ++ last ∷ []) (some_after ls (las
 pub whole_by_parts : (input : List ℕ) (lines : List (List ℕ)) (last : List ℕ) → parts 10 input ≡ lines ++ last ∷ [] → whole_lines input ≡ lines
 whole_by_parts input lines last cut = ap without_last cut ∙ last_after lines last
 
+-- the first of them, where more parts follow
+pub whole_first : (input : List ℕ) (lines more : List (List ℕ)) → parts 10 input ≡ lines ++ more → 1 ≤ length more → whole_lines input ≡ lines ++ without_last more
+whole_first input lines more cut h = ap without_last cut ∙ by_lines lines more h where
+  by_lines : (lines more : List (List ℕ)) → 1 ≤ length more → without_last (lines ++ more) ≡ lines ++ without_last more
+  by_lines [] more h = refl
+  by_lines (l ∷ ls) more h = last_more l (ls ++ more) (some_after ls more h) ∙ ap (λ (ms : List (List ℕ)). l ∷ ms) (by_lines ls more h)
+
 -- the lines of an input that ends in a newline
 pub lines_ended : (input : List ℕ) (lines : List (List ℕ)) → parts 10 input ≡ lines ++ [] ∷ [] → lines_of input ≡ lines
 lines_ended input lines cut = ap without_empty_end cut ∙ end_after lines ([] ∷ []) (omega arith) ∙ append-nil lines
@@ -107,7 +114,3 @@ lines_ended input lines cut = ap without_empty_end cut ∙ end_after lines ([] �
 -- the lines of an input whose last line lacks its newline
 pub lines_open : (input : List ℕ) (lines : List (List ℕ)) (byte : ℕ) (bytes : List ℕ) → parts 10 input ≡ lines ++ (byte ∷ bytes) ∷ [] → lines_of input ≡ lines ++ (byte ∷ bytes) ∷ []
 lines_open input lines byte bytes cut = ap without_empty_end cut ∙ end_after lines ((byte ∷ bytes) ∷ []) (omega arith)
-
--- parts are the first lines of an input where another part follows
-pub lines_first : (input : List ℕ) (lines more : List (List ℕ)) → parts 10 input ≡ lines ++ more → 1 ≤ length more → lines_of input ≡ lines ++ without_empty_end more
-lines_first input lines more cut h = ap without_empty_end cut ∙ end_after lines more h

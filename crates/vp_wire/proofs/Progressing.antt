@@ -1,5 +1,5 @@
 -- How a dialogue gets on: bytes are gathered, lines are answered, and what holds where a writer fails.
-use Rattle.std.proofs.Common.{inr, ◌≡◌, ◌∙◌, ℕ, suc, ◌+◌, ◌≤◌, arith, List, [], ◌∷◌, ◌++◌, length, Option, Some, None, Result, Ok, Err, refl, sym, ap, subst}
+use Rattle.std.proofs.Common.{inl, inr, ◌≡◌, ◌∙◌, ℕ, suc, ◌+◌, ◌≤◌, arith, List, [], ◌∷◌, ◌++◌, length, Option, Some, None, Result, Ok, Err, refl, sym, ap, subst}
 use Rattle.std.proofs.lemmas.List.{append_assoc, length-append}
 use Rattle.std.proofs.KnownBytes.{Appends-trans}
 use Rattle.std.specs.Io.KnownBytes.{Appends}
@@ -12,11 +12,11 @@ use Rattle.vp_answer.specs.declared.reply.Reply.{Reply}
 use Rattle.vp_wire.specs.declared.dialogue.Dialogue.{Dialogue}
 use Rattle.vp_wire.specs.declared.error.WireError.TheVariants as fault
 use Rattle.vp_wire.specs.declared.line.Line.{Line}
-use Rattle.vp_wire.specs.Dialogue.{IsFront, Stops, turn_of, without_empty_end}
+use Rattle.vp_wire.specs.Dialogue.{IsFront, Stops, turn_of, without_last}
 use Rattle.vp_wire.specs.Failures.{failures_after, one_more}
 use Rattle.vp_wire.specs.Reading.{IsBegun, Progress, AnswersLine, Writes}
 use Rattle.vp_wire.proofs.Answering.{answers_more, concat_more}
-use Rattle.vp_wire.proofs.Parting.{joined_part, lines_first}
+use Rattle.vp_wire.proofs.Parting.{joined_part, whole_first}
 
 -- bytes without a newline are gathered
 pub gathered : {C : Type 0} {calls : C → Request → Reply → C → Type 0} {unread still_unread held holds : Option (List ℕ)} {first now : C} (d : Dialogue) (line : Line) (bytes piece : List ℕ)
@@ -95,7 +95,7 @@ failed {C} {calls = calls} {held = held} {mid = mid} {holds = holds} d e line by
       input = p.input;
       read = p.read;
       lines = p.lines ++ whole ∷ [];
-      are_its = (without_empty_end (parts 10 rest), lines_first p.input (p.lines ++ whole ∷ []) (parts 10 rest) cut (parts_some 10 rest));
+      are_its = (without_last (parts 10 rest), inl (whole_first p.input (p.lines ++ whole ∷ []) (parts 10 rest) cut (parts_some 10 rest)));
       reply_lines = p.reply_lines ++ t.reply_line ∷ [];
       answers = answers_more calls p.lines whole _ _ _ p.reply_lines t.reply_line p.answers t.answers;
       written = concat p.reply_lines ++ out.0;

@@ -148,9 +148,10 @@ AreAll input lines = lines ≡ lines_of input
 abbrev pub AreWhole : List ℕ → List (List ℕ) → Type 0
 AreWhole input lines = lines ≡ whole_lines input
 
--- lines are the first of those of an input
-abbrev pub AreFirst : List ℕ → List (List ℕ) → Type 0
-AreFirst input lines = (more : List (List ℕ)) × (lines_of input ≡ lines ++ more)
+-- lines are the first of those of an input that end in a newline; or of all, where the reader has come to its end
+abbrev pub AreFirst : (still_unread : Option (List ℕ)) → List ℕ → List (List ℕ) → Type 0
+AreFirst still_unread input lines =
+    (more : List (List ℕ)) × ((whole_lines input ≡ lines ++ more) ⊎ (IsAtEnd still_unread × (lines_of input ≡ lines ++ more)))
 
 -- what goes out: all that was reported
 abbrev pub IsOut : List (List ℕ) → List ℕ → Type 0
@@ -184,11 +185,11 @@ pub record IsWhole {C : Type 0} (calls : C → Request → Reply → C → Type 
   pub count : answered ≡ length dialogue.lines
 
 -- a dialogue that ended by a fault: at one of the reader, and at too many reads, its whole lines were answered; at one of the
--- writer, those up to the one whose answer did not go out
+-- writer, those up to the one whose answer did not go out, and a line that has only begun was not, unless it was the last of all
 abbrev pub Stops : {C : Type 0} → WireError → (C → Request → Reply → C → Type 0) → (unread still_unread held holds : Option (List ℕ)) → C → Point C → Type 0
 Stops fault.ReadFault calls unread still_unread held holds caller end = IsDialogue calls AreWhole IsOut unread still_unread held holds caller end
 Stops fault.TurnLimit calls unread still_unread held holds caller end = IsDialogue calls AreWhole IsOut unread still_unread held holds caller end
-Stops fault.WriteFault calls unread still_unread held holds caller end = IsDialogue calls AreFirst IsCutShort unread still_unread held holds caller end
+Stops fault.WriteFault calls unread still_unread held holds caller end = IsDialogue calls (AreFirst still_unread) IsCutShort unread still_unread held holds caller end
 Stops fault.LineTooLong calls unread still_unread held holds caller end = ⊥
 Stops fault.BadJson calls unread still_unread held holds caller end = ⊥
 Stops fault.BadRequest calls unread still_unread held holds caller end = ⊥
