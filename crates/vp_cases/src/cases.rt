@@ -31,9 +31,7 @@ fn parts(bundle: &str) -> Option<(&str, &str, &str)> {
 }
 
 /// The line that reports a fault.
-pub fn fault_line(alloc: Global, fault: &ServeFault) -> Result<String, AllocError> {
-    let code = fault.code();
-    let line = fault.line();
+pub fn fault_line(alloc: Global, code: u32, line: u32) -> Result<String, AllocError> {
     format!(in alloc; "fault {code} line {line}\n")
 }
 
@@ -120,7 +118,7 @@ impl Case {
         let ran = run_bundle(alloc, self.bundle.as_bytes(), &mut writer);
         let mut printed = String::from_utf8_lossy(alloc, &writer.inner)?;
         if let Err(fault) = ran {
-            printed.push_str(&fault_line(alloc, &fault)?)?;
+            printed.push_str(&fault_line(alloc, fault.code(), fault.line())?)?;
             self.diagnose(alloc, &mut printed, fault)?;
         }
         Ok(printed)
@@ -143,7 +141,8 @@ impl Case {
     /// What the audit of a user by the bundle's script prints.
     fn audit(&self, alloc: Global, audits: &Audits) -> Result<String, AllocError> {
         let Some((design, policy, script)) = parts(self.bundle.as_str()) else {
-            return fault_line(alloc, &ServeFault::BadBundle);
+            let fault = ServeFault::BadBundle;
+            return fault_line(alloc, fault.code(), fault.line());
         };
         let mut reader = Counted::new(script.as_bytes());
         let Audits { user, explain } = audits;
@@ -156,7 +155,7 @@ impl Case {
             &mut reader,
         ) {
             Ok(audited) => audit_lines(alloc, audited),
-            Err(fault) => fault_line(alloc, &fault),
+            Err(fault) => fault_line(alloc, fault.code(), fault.line()),
         }
     }
 

@@ -15,8 +15,8 @@ use crate::vectors::{Kind, Tally, check_line};
 use std::io::{BufRead, BufReader};
 use std::rt::Files;
 use std::{env, fs, io};
-use vp_hub::HubError;
-use vp_script::{Failure, ServeFault, audit_files, check_files, run_files, view_files};
+use vp_hub::{HubError, ServerError};
+use vp_script::{Failure, audit_files, check_files, run_files, view_files};
 
 /// Prints what came of the lines of a kind.
 fn print_tally<R: Print>(rt: &R, kind: &str, tally: &Tally) -> io::Result<()> {
@@ -78,13 +78,14 @@ fn check_file<R: AllocGlobal + Files + Print>(rt: &R, file: &str) -> io::Result<
 
 /// Reports a fault, and its diagnostic.
 fn print_fault<R: AllocGlobal + Print>(rt: &R, refused: &Failure) -> io::Result<()> {
-    rt.print(fault_line(rt.alloc(), &refused.fault)?.as_str())?;
+    rt.print(fault_line(rt.alloc(), refused.code, refused.line)?.as_str())?;
     rt.print(refused.diagnostic.as_str())
 }
 
 /// Reports the fault of a server whose hub can't be closed.
 fn print_unclosed<R: AllocGlobal + Print>(rt: &R, error: HubError) -> io::Result<()> {
-    print_fault(rt, &Failure::new(rt.alloc(), ServeFault::Hub(error)))
+    let error = ServerError::Hub(error);
+    print_fault(rt, &Failure::plain(rt.alloc(), error.code(), error.words()))
 }
 
 /// Runs a design and a policy of files, and reports the fault that ends the run, if one does.

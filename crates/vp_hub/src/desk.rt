@@ -74,16 +74,16 @@ fn receive(
       request = requests.Call call;
       reply = reply;
     } ∷ [] }
-    ensures reply { IfOk result (λ told. told ≡ reply) }
+    ensures reply { IfOk result (λ copy. copy ≡ reply) }
     ensures out_of_memory { IsOkUnless result out_of_memory }
 {
-    let told = reply.try_clone();
+    let copy = reply.try_clone();
     receipts.push_reserved(Receipt {
         index,
         request: SessionRequest::Call(call),
         reply,
     });
-    Ok(told?)
+    Ok(copy?)
 }
 
 /// The request that opens a session. Takes memory.

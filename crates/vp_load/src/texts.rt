@@ -6,8 +6,8 @@ use std::alloc::{AllocError, Global};
 use std::sync::Arc;
 use vp_design::shared_of;
 use vp_expr::Checked;
+use vp_policy::read_policy;
 use vp_world::{Limits, World};
-use vp_world_samples::world_of_design;
 
 /// A design with a clock that runs on and two envelopes, in the second of which there is a race whenever the first one's counter has come
 /// round.
@@ -107,5 +107,6 @@ pub fn world_of(alloc: Global, checked: &Arc<Checked>, limits: Limits) -> Option
 {
     let policy = policy_text(alloc).ok()?;
     let checked = Arc::try_clone(checked).ok()?;
-    world_of_design(alloc, checked, policy.as_bytes(), limits)
+    let policy = read_policy(alloc, policy.as_bytes(), checked.design()).ok()?;
+    World::new(alloc, checked, policy, limits).ok()
 }

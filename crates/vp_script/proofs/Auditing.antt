@@ -79,13 +79,10 @@ module _ (text bytes : List ℕ) (design : Elaborated) (policy : PolicyState) (r
   allocation_error name fault.NoMemory h = inl tt
   allocation_error name (fault.Design e) h = absurd h
   allocation_error name (fault.Lines e) h = absurd h
-  allocation_error name (fault.Hub e) h = absurd h
   allocation_error name fault.BadBundle h = absurd h
   allocation_error name fault.ReadFailed h = absurd h
   allocation_error name fault.TooLong h = absurd h
   allocation_error name fault.NoSuchUser h = absurd h
-  allocation_error name fault.ListenFailed h = absurd h
-  allocation_error name fault.NoThread h = absurd h
 
   module _ (name : List ℕ) (unread still_unread : Option (List ℕ)) where
     -- before the script: the policy file is refused, or has no such user

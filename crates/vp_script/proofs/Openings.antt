@@ -14,7 +14,7 @@ use Rattle.vp_world.specs.Worlds.{WorldLog}
 use Rattle.vp_wire.specs.declared.dialogue.Stage.{Stage}
 use Rattle.vp_wire.specs.declared.dialogue.Stage.TheVariants.{Before, Open, Closed}
 use Rattle.vp_wire.specs.Dialogue.{Answers, AnswersAll, Calls, Closes, Point, Tells, Turn, turn_of}
-use Rattle.vp_script.specs.Scripts.{Applied, AppliedBy, Happen, IsAnswered, Running, Runs, Script, Serves, next_event, searched, turned_by, with_event_if}
+use Rattle.vp_script.specs.Scripts.{Applied, AppliedBy, Happen, IsAnswered, Running, Runs, Resumes, Script, Serves, ServesNow, next_event, searched, turned_by, with_event_if}
 use Rattle.vp_script.proofs.Running.{opening_if, which}
 
 -- an event leaves it, by its refusal
@@ -48,9 +48,18 @@ runs_keep : (out_of_memory : Bool) (w v : WorldLog) → Runs out_of_memory w v �
 runs_keep out_of_memory w v (n, rest, happened, ends) = happen_keeps n (record { world = w; found = [] }) (record { world = v; found = rest }) happened
 
 -- so a request that is served leaves it
-serves_keeps : (out_of_memory : Bool) (before after : Script) (r : Request) (answer : Reply) → Serves out_of_memory before r answer after → after.world.opening ≡ before.world.opening
-serves_keeps out_of_memory before after r answer s =
+serves_now_keeps : (out_of_memory : Bool) (before after : Script) (r : Request) (answer : Reply) → ServesNow out_of_memory before r answer after → after.world.opening ≡ before.world.opening
+serves_now_keeps out_of_memory before after r answer s =
     runs_keep out_of_memory s.asked after.world s.runs ∙ applied_keeps _ before.world s.asked answer s.applied
+
+resumes_keep : (out_of_memory : Bool) (w v : WorldLog) → Resumes out_of_memory w v → v.opening ≡ w.opening
+resumes_keep out_of_memory w v (inl same) = ap (λ (u : WorldLog). u.opening) same
+resumes_keep out_of_memory w v (inr (lacking, runs)) = runs_keep true w v runs
+
+serves_keeps : (out_of_memory : Bool) (before after : Script) (r : Request) (answer : Reply) → Serves out_of_memory before r answer after → after.world.opening ≡ before.world.opening
+serves_keeps out_of_memory before after r answer (inl (ready, resumes, s)) =
+    serves_now_keeps out_of_memory (record before { world = ready }) after r answer s ∙ resumes_keep out_of_memory before.world ready resumes
+serves_keeps out_of_memory before after r answer (inr (lacking, told, session, runs)) = runs_keep true before.world after.world runs
 
 -- the opening at a point of a dialogue
 module _ (out_of_memory : Bool) where

@@ -1,27 +1,62 @@
 -- A kept script serves as the script says.
-use Rattle.std.proofs.Common.{inl, inr, ◌≡◌, ◌∙◌, ℕ, Bool, true, List, [], ◌∷◌, Option, ap}
+use Rattle.std.proofs.Common.{inl, inr, ◌≡◌, ◌∙◌, ℕ, Bool, true, false, List, [], ◌∷◌, Option, Result, Ok, Err, ap, refl}
+use Rattle.std.specs.Prelude.{OnErr, OnOk, is_err}
 use Rattle.vp_wire.specs.declared.dialogue.Stage.{Stage}
 use Rattle.vp_wire.specs.declared.dialogue.Stage.TheVariants.{Before, Open, Closed}
 use Rattle.vp_answer.specs.declared.request.Request.{Request}
+use Rattle.vp_answer.specs.declared.reply.Refusal.TheVariants as refusal
 use Rattle.vp_answer.specs.declared.reply.Reply.{Reply}
+use Rattle.vp_answer.specs.declared.reply.Reply.TheVariants as reply
 use Rattle.vp_world.specs.Worlds.{WorldLog}
 use Rattle.vp_wire.specs.declared.error.WireError.{WireError}
 use Rattle.vp_wire.specs.declared.error.WireError.TheVariants as wire
 use Rattle.vp_wire.specs.Dialogue.{Stops, Answers, AnswersAll, Calls, Closes, IsWhole, Point, Tells, Turn, turn_of}
 use Rattle.vp_script.specs.declared.script_session.ScriptSession.{ScriptSession}
-use Rattle.vp_script.specs.Keeping.{Keeps, script_of}
-use Rattle.vp_script.specs.Scripts.{IsAnswered, IsStopped, Runs, Script, Serves}
+use Rattle.vp_script.specs.Keeping.{Keeps, KeepsNow, script_of}
+use Rattle.vp_script.specs.Scripts.{IsAnswered, IsStopped, Resumes, Runs, Script, Serves, ServesNow}
 
 -- a run in which memory was not lacking is one in which it may have been
 pub runs_more : (a b : Bool) (w v : WorldLog) → (a ≡ true → b ≡ true) → Runs a w v → Runs b w v
 runs_more a b w v up (n, rest, happened, ends) = (n, rest, happened, elim ends [ inl out_of_memory ↦ inl (up out_of_memory) | inr refused ↦ inr refused ])
 
-serves_more : (a b : Bool) (before after : Script) (r : Request) (answer : Reply) → (a ≡ true → b ≡ true) → Serves a before r answer after → Serves b before r answer after
-serves_more a b before after r answer up s = record {
+serves_now_more : (a b : Bool) (before after : Script) (r : Request) (answer : Reply) → (a ≡ true → b ≡ true) → ServesNow a before r answer after → ServesNow b before r answer after
+serves_now_more a b before after r answer up s = record {
   asked = s.asked;
   applied = s.applied;
   session = s.session;
   runs = runs_more a b s.asked after.world up s.runs;
+}
+
+resumes_more : (a b : Bool) (w v : WorldLog) → (a ≡ true → b ≡ true) → Resumes a w v → Resumes b w v
+resumes_more a b w v up (inl same) = inl same
+resumes_more a b w v up (inr (lacking, runs)) = inr (up lacking, runs)
+
+serves_more : (a b : Bool) (before after : Script) (r : Request) (answer : Reply) → (a ≡ true → b ≡ true) → Serves a before r answer after → Serves b before r answer after
+serves_more a b before after r answer up (inl (ready, resumes, s)) =
+    inl (ready, resumes_more a b before.world ready up resumes, serves_now_more a b (record before { world = ready }) after r answer up s)
+serves_more a b before after r answer up (inr (lacking, told, session, runs)) = inr (up lacking, told, session, runs)
+
+-- what holds at an error, and what holds at success
+pub if_err : {T E P : Type 0} (r : Result T E) → is_err r ≡ true → OnErr r P → P
+if_err (Ok x) none p = absurd (cc)
+if_err (Err e) is p = p
+
+pub if_ok : {T E P : Type 0} (r : Result T E) → is_err r ≡ false → OnOk r P → P
+if_ok (Ok x) is p = p
+if_ok (Err e) none p = absurd (cc)
+
+-- a request that is answered after the simulation went on
+pub served_on : (k l : ScriptSession) (ready : WorldLog) (r : Request) (answer : Reply) → Resumes k.out_of_memory k.world ready → KeepsNow (record k { world = ready }) r answer l → Keeps k r answer l
+served_on k l ready r answer resumes now = record {
+  serves = inl (ready, resumes_more k.out_of_memory l.out_of_memory k.world ready now.out_of_memory resumes, now.serves);
+  out_of_memory = now.out_of_memory;
+}
+
+-- a request that is not asked, since memory is lacking
+pub not_served : (k : ScriptSession) (after : WorldLog) (r : Request) → k.out_of_memory ≡ true → Runs true k.world after → Keeps k r (reply.Error refusal.NoMemory) (record k { world = after })
+not_served k after r lacking runs = record {
+  serves = inr (lacking, refl, refl, runs);
+  out_of_memory = λ same. same;
 }
 
 -- the point of a script that is kept

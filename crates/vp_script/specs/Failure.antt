@@ -4,12 +4,11 @@ use Rattle.vp_design.specs.Designs.{text_limit}
 use Rattle.vp_design.specs.Diagnostics.{IsDesignDiagnostic}
 use Rattle.vp_design.specs.Policies.{IsPolicyDiagnostic}
 use Rattle.vp_design.specs.Rendering.{file_text, plain_text}
-use Rattle.vp_script.specs.Faults.{code_of}
+use Rattle.vp_script.specs.Faults.{code_of, line_of}
 use Rattle.vp_script.specs.Scripts.{IsCutInto, Parts}
 use Rattle.vp_script.specs.declared.error.ServeFault.{ServeFault}
 use Rattle.vp_script.specs.declared.error.ServeFault.TheVariants as fault
-use Rattle.vp_hub.specs.declared.error.HubError.{HubError}
-use Rattle.vp_hub.specs.declared.error.HubError.TheVariants.{Mismatch, Receipt, World}
+use Rattle.vp_script.specs.declared.failure.Failure.{Failure}
 use Rattle.vp_wire.specs.declared.error.WireError.{WireError}
 use Rattle.vp_wire.specs.declared.error.WireError.TheVariants.{ReadFault, TurnLimit, WriteFault}
 
@@ -20,11 +19,10 @@ words_of_lines WriteFault = codes "standard output can't be written"
 words_of_lines TurnLimit = codes "standard input was read 16,777,216 times"
 words_of_lines e = codes "bad lines"
 
--- the words of a hub that can't be closed
-abbrev pub words_of_hub : HubError → List ℕ
-words_of_hub Receipt = codes "a reply is not at its place in the log"
-words_of_hub Mismatch = codes "the log has more requests than were answered"
-words_of_hub (World e) = codes "no memory to compare what was answered with the log"
+-- a failure has the number and the line of a fault
+pub record IsOf (f : ServeFault) (failure : Failure) : Type 0 where
+  pub code : failure.code ≡ code_of f
+  pub line : failure.line ≡ line_of f
 
 -- the words of a fault that is none of a design's or a policy's text
 abbrev pub words_of : ServeFault → List ℕ
@@ -32,13 +30,10 @@ words_of (fault.Design e) = codes "bad design"
 words_of (fault.Policy e) = codes "bad policy"
 words_of (fault.World e) = codes "no memory for a world"
 words_of (fault.Lines e) = words_of_lines e
-words_of (fault.Hub e) = words_of_hub e
 words_of fault.BadBundle = codes "a bundle is a design in UTF-8, a line %%, a policy, a line %%, and a script"
 words_of fault.ReadFailed = codes "it can't be read as text in UTF-8"
 words_of fault.TooLong = codes "a design and a policy have at most 1,048,576 bytes, a bundle 16,777,216"
 words_of fault.NoSuchUser = codes "the policy has no such user"
-words_of fault.ListenFailed = codes "the port can't be listened on"
-words_of fault.NoThread = codes "no thread can be started"
 words_of fault.NoMemory = codes "no memory"
 
 -- the diagnostic of a fault of a run over a design and a policy of files of these names: that of the text of the design, of the policy,

@@ -4,7 +4,7 @@ use Rattle.vp_race.specs.Segments.{FindingState}
 use Rattle.vp_answer.specs.declared.request.Request.{Request}
 use Rattle.vp_answer.specs.declared.reply.Reply.{Reply}
 use Rattle.vp_script.specs.declared.script_session.ScriptSession.{ScriptSession}
-use Rattle.vp_script.specs.Scripts.{Happen, Running, Script, Serves}
+use Rattle.vp_script.specs.Scripts.{Happen, Running, Script, Serves, ServesNow}
 use Rattle.vp_world.specs.Worlds.{WorldLog}
 
 -- the script that is kept
@@ -14,6 +14,11 @@ script_of k = record { world = k.world; session = k.session }
 -- a kept script's request is answered as the script serves it; that there was no memory for the simulation is remembered
 pub record Keeps (k : ScriptSession) (r : Request) (answer : Reply) (l : ScriptSession) : Type 0 where
   pub serves : Serves l.out_of_memory (script_of k) r answer (script_of l)
+  pub out_of_memory : k.out_of_memory ≡ true → l.out_of_memory ≡ true
+
+-- the same where the simulation need not go on first
+pub record KeepsNow (k : ScriptSession) (r : Request) (answer : Reply) (l : ScriptSession) : Type 0 where
+  pub serves : ServesNow l.out_of_memory (script_of k) r answer (script_of l)
   pub out_of_memory : k.out_of_memory ≡ true → l.out_of_memory ≡ true
 
 -- what was found is booked in a world, or what there was memory for

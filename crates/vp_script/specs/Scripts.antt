@@ -128,11 +128,26 @@ session_after session (reply.Opened id) = Some id
 session_after session answer = session
 
 -- a script's request is answered by the world, and then the simulation runs
-pub record Serves (out_of_memory : Bool) (before : Script) (r : Request) (answer : Reply) (after : Script) : Type 0 where
+pub record ServesNow (out_of_memory : Bool) (before : Script) (r : Request) (answer : Reply) (after : Script) : Type 0 where
   pub asked : WorldLog
   pub applied : Applied (event_of before.session r) before.world answer asked
   pub session : after.session ≡ session_after before.session answer
   pub runs : Runs out_of_memory asked after.world
+
+-- where memory was lacking for the simulation, it goes on before the next request
+abbrev pub Resumes : (out_of_memory : Bool) → WorldLog → WorldLog → Type 0
+Resumes out_of_memory w v = (v ≡ w) ⊎ ((out_of_memory ≡ true) × Runs true w v)
+
+-- while memory is lacking there, a request is answered so, and not asked
+abbrev pub LacksMemory : (out_of_memory : Bool) → Script → Reply → Script → Type 0
+LacksMemory out_of_memory before answer after =
+    (out_of_memory ≡ true) × (answer ≡ reply.Error refusal.NoMemory) × (after.session ≡ before.session) × Runs true before.world after.world
+
+-- a request of a script is served: first the simulation goes on where memory was lacking for it
+abbrev pub Serves : (out_of_memory : Bool) → Script → Request → Reply → Script → Type 0
+Serves out_of_memory before r answer after =
+    ((ready : WorldLog) × Resumes out_of_memory before.world ready × ServesNow out_of_memory (record before { world = ready }) r answer after)
+    ⊎ LacksMemory out_of_memory before answer after
 
 -- a world that began so, in which nothing has happened
 abbrev pub new_world : Opening → WorldLog

@@ -4,7 +4,6 @@ ghost use Rattle.vp_script.specs.declared.error.ServeFault.TheVariants.{Design, 
 use std::alloc::{AllocError, AllocFailed};
 use thiserror::Error;
 use vp_design::DesignError;
-use vp_hub::HubError;
 use vp_policy::PolicyError;
 use vp_wire::WireError;
 use vp_world::WorldError;
@@ -20,9 +19,6 @@ pub enum ServeFault {
     World(WorldError),
     #[error(transparent)]
     Lines(WireError),
-    /// The hub of a server that can't be closed (1401 to 1403).
-    #[error(transparent)]
-    Hub(HubError),
     /// A bundle without two lines `%%`, or whose design is no UTF-8 (1601).
     #[error("bad bundle")]
     BadBundle,
@@ -35,12 +31,6 @@ pub enum ServeFault {
     /// A user who is not in the policy (1604).
     #[error("no such user")]
     NoSuchUser,
-    /// A port that can't be listened on (1605).
-    #[error("listening failed")]
-    ListenFailed,
-    /// The thread of the simulation or a worker's can't be started (1606).
-    #[error("no thread")]
-    NoThread,
     /// Out of memory (1607).
     #[error("no memory")]
     NoMemory,
@@ -58,13 +48,10 @@ impl ServeFault {
             ServeFault::Policy(error) => error.code(),
             ServeFault::World(error) => error.code(),
             ServeFault::Lines(error) => error.code(),
-            ServeFault::Hub(error) => error.code(),
             ServeFault::BadBundle => 1601,
             ServeFault::ReadFailed => 1602,
             ServeFault::TooLong => 1603,
             ServeFault::NoSuchUser => 1604,
-            ServeFault::ListenFailed => 1605,
-            ServeFault::NoThread => 1606,
             ServeFault::NoMemory => 1607,
         }
     }

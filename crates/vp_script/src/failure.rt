@@ -1,6 +1,6 @@
 // What a run is refused for, in words.
 ghost use Rattle.std.specs.Prelude.{◌≡◌, [], MatchOption, MatchResult};
-ghost use Rattle.vp_script.specs.Failure.{HasDesignText, HasNoDesignText, IsBundleDiagnostic, IsToldOr, words_of, words_of_hub, words_of_lines};
+ghost use Rattle.vp_script.specs.Failure.{HasDesignText, HasNoDesignText, IsBundleDiagnostic, IsOf, IsToldOr, words_of, words_of_lines};
 
 use crate::bundle::cut;
 use crate::error::ServeFault;
@@ -12,7 +12,6 @@ use vp_design::{
     design_diagnostic, file_diagnostic, keyless_diagnostic, plain_diagnostic, policy_diagnostic,
 };
 use vp_expr::Checked;
-use vp_hub::HubError;
 use vp_policy::PolicyError;
 use vp_text::Text;
 use vp_wire::WireError;
@@ -20,10 +19,13 @@ use vp_wire::WireError;
 /// The name under which the parts of a bundle are reported.
 pub const STANDARD_INPUT: &str = "standard input";
 
-/// A fault, and its diagnostic, which is empty where there is no memory for it.
+/// The number and the line of a fault, and its diagnostic, which is empty where there is no memory for it.
 #[derive(Drop)]
 pub struct Failure {
-    pub fault: ServeFault,
+    /// The number of the fault.
+    pub code: u32,
+    /// The line of the design at fault, from 1; 0 where none is known.
+    pub line: u32,
     /// Lines, each with its newline.
     pub diagnostic: Text,
 }
@@ -32,31 +34,55 @@ impl Failure {
     ghost use Rattle.std.specs.Prelude.{◌≡◌};
     ghost use Rattle.vp_design.specs.Rendering.{file_text, plain_text};
     ghost use Rattle.vp_script.specs.Faults.{code_of};
-    ghost use Rattle.vp_script.specs.Failure.{IsToldOr, words_of};
+    ghost use Rattle.vp_script.specs.Failure.{IsOf, IsToldOr, words_of};
+
+    /// A fault, by its number and its words, that stands in no file and at no line.
+    pub fn plain(alloc: Global, code: u32, words: &str) -> Failure
+        ensures code { result.code ≡ code }
+        ensures line { result.line ≡ 0 }
+        ensures diagnostic { IsToldOr (λ text. text ≡ plain_text code words.now) result.diagnostic }
+    {
+        Failure {
+            code,
+            line: 0,
+            diagnostic: or_empty(alloc, plain_diagnostic(alloc, code, words)),
+        }
+    }
+
+    /// A fault with its diagnostic, or without where there was no memory for it.
+    fn of(alloc: Global, fault: &ServeFault, diagnostic: Result<Text, AllocError>) -> Failure
+        ensures fault { IsOf fault.now result }
+        ensures diagnostic { MatchResult diagnostic
+            (λ text. result.diagnostic ≡ text) (λ e. result.diagnostic ≡ []) }
+    {
+        Failure {
+            code: fault.code(),
+            line: fault.line(),
+            diagnostic: or_empty(alloc, diagnostic),
+        }
+    }
 
     /// A fault that stands in no file.
     pub fn new(alloc: Global, fault: ServeFault) -> Failure
-        ensures fault { result.fault ≡ fault }
+        ensures fault { IsOf fault result }
         ensures diagnostic { IsToldOr
             (λ text. text ≡ plain_text (code_of fault) (words_of fault)) result.diagnostic }
     {
-        let diagnostic = or_empty(
-            alloc,
-            plain_diagnostic(alloc, fault.code(), words_of(&fault)),
-        );
-        Failure { fault, diagnostic }
+        let words = words_of(&fault);
+        let diagnostic = plain_diagnostic(alloc, fault.code(), words);
+        Failure::of(alloc, &fault, diagnostic)
     }
 
     /// A fault of a file as a whole.
     pub fn of_file(alloc: Global, name: &str, fault: ServeFault) -> Failure
-        ensures fault { result.fault ≡ fault }
+        ensures fault { IsOf fault result }
         ensures diagnostic { IsToldOr
             (λ text. text ≡ file_text name.now (code_of fault) (words_of fault))
             result.diagnostic }
     {
         let words = words_of(&fault);
-        let diagnostic = or_empty(alloc, file_diagnostic(alloc, name, fault.code(), words));
-        Failure { fault, diagnostic }
+        let diagnostic = file_diagnostic(alloc, name, fault.code(), words);
+        Failure::of(alloc, &fault, diagnostic)
     }
 }
 
@@ -83,17 +109,6 @@ fn words_of_lines(error: WireError) -> &'static str
     }
 }
 
-/// The words of a hub that can't be closed.
-fn words_of_hub(error: HubError) -> &'static str
-    ensures { result.now ≡ words_of_hub error }
-{
-    match error {
-        HubError::Receipt => "a reply is not at its place in the log",
-        HubError::Mismatch => "the log has more requests than were answered",
-        HubError::World(_) => "no memory to compare what was answered with the log",
-    }
-}
-
 /// The words of a fault that is none of a design's or a policy's text.
 fn words_of(fault: &ServeFault) -> &'static str
     ensures { result.now ≡ words_of fault.now }
@@ -103,15 +118,12 @@ fn words_of(fault: &ServeFault) -> &'static str
         ServeFault::Policy(_) => "bad policy",
         ServeFault::World(_) => "no memory for a world",
         ServeFault::Lines(error) => words_of_lines(*error),
-        ServeFault::Hub(error) => words_of_hub(*error),
         ServeFault::BadBundle =>
             "a bundle is a design in UTF-8, a line %%, a policy, a line %%, and a script",
         ServeFault::ReadFailed => "it can't be read as text in UTF-8",
         ServeFault::TooLong =>
             "a design and a policy have at most 1,048,576 bytes, a bundle 16,777,216",
         ServeFault::NoSuchUser => "the policy has no such user",
-        ServeFault::ListenFailed => "the port can't be listened on",
-        ServeFault::NoThread => "no thread can be started",
         ServeFault::NoMemory => "no memory",
     }
 }
@@ -128,16 +140,16 @@ pub struct Sources<'d, 'p> {
 impl Sources<'_, '_> {
     ghost use Rattle.std.specs.Prelude.{◌≡◌, IfOk};
     ghost use Rattle.vp_design.specs.Policies.{IsPolicyDiagnostic};
-    ghost use Rattle.vp_script.specs.Failure.{IsDiagnostic, IsToldOr};
+    ghost use Rattle.vp_script.specs.Failure.{IsDiagnostic, IsOf, IsToldOr};
 
     /// A fault of a run over these sources.
     pub fn refused(self, alloc: Global, fault: ServeFault) -> Failure
-        ensures fault { result.fault ≡ fault }
+        ensures fault { IsOf fault result }
         ensures diagnostic { IsToldOr (IsDiagnostic self.entry.design_name.now
             self.entry.design.now self.entry.policy_name.now fault) result.diagnostic }
     {
-        let diagnostic = or_empty(alloc, self.diagnostic(alloc, &fault));
-        Failure { fault, diagnostic }
+        let diagnostic = self.diagnostic(alloc, &fault);
+        Failure::of(alloc, &fault, diagnostic)
     }
 
     /// The diagnostic of a fault of a run over these sources.
@@ -206,7 +218,7 @@ fn bundle_texts(bundle: &[u8]) -> Option<(&str, &[u8])>
 
 /// A fault of the run of a bundle; the lines are those of its design.
 pub fn bundle_refused(alloc: Global, bundle: &[u8], fault: ServeFault) -> Failure
-    ensures fault { result.fault ≡ fault }
+    ensures fault { IsOf fault result }
     ensures diagnostic { IsToldOr (IsBundleDiagnostic bundle.now fault) result.diagnostic }
 {
     match bundle_texts(bundle) {

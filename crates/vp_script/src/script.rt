@@ -58,7 +58,7 @@ fn world_of(alloc: Global, checked: Arc<Checked>, policy: Policy) -> Result<Worl
     requires { Fits policy (arc_value checked).tree }
     ensures world { IfOk result
         (λ world. world ≡ new_world (opening_of (arc_value checked) policy)) }
-    ensures refused { IfErr result (λ told. told ≡ fault.World error.NoMemory) }
+    ensures refused { IfErr result (λ e. e ≡ fault.World error.NoMemory) }
 {
     Ok(World::new(alloc, checked, policy, Limits::GREATEST)?)
 }
@@ -72,7 +72,7 @@ pub(crate) fn script_session_of(
     requires { Fits policy (arc_value checked).tree }
     ensures script { IfOk result
         (λ script_session. script_of script_session ≡ opened (opening_of (arc_value checked) policy)) }
-    ensures refused { IfErr result (λ told. told ≡ fault.World error.NoMemory) }
+    ensures refused { IfErr result (λ e. e ≡ fault.World error.NoMemory) }
 {
     Ok(ScriptSession::new(alloc, world_of(alloc, checked, policy)?))
 }
@@ -91,7 +91,8 @@ pub fn fresh_world(alloc: Global, design: &str, policy: &[u8]) -> Result<World, 
 
 /// A fresh script of the text of a design and the file of a policy; or the first fault of the design, then of the policy.
 fn opened(alloc: Global, design: &str, policy: &[u8]) -> Result<ScriptSession, ServeFault>
-    ensures script { IfOk result (λ script_session. IsOpened design.now policy.now (script_of script_session)) }
+    ensures script { IfOk result
+        (λ script. IsOpened design.now policy.now (script_of script)) }
     ensures refused { IfErr result (λ fault. IsUnopened design.now policy.now fault) }
 {
     Ok(ScriptSession::new(alloc, fresh_world(alloc, design, policy)?))

@@ -7,8 +7,8 @@ ghost use Rattle.vp_world.specs.declared.event.Event.TheVariants as event;
 ghost use Rattle.vp_elab.specs.Built.{Elaborated};
 ghost use Rattle.vp_world.specs.declared.error.WorldError.TheVariants.{NoMemory};
 ghost use Rattle.vp_world.specs.Events.{IsWellFormed};
-ghost use Rattle.vp_script.specs.Keeping.{GoesOn, GoesOnBy, Keeps};
-ghost use Rattle.vp_script.specs.Scripts.{Applied, Runs, event_of, next_event, seed_count, step_limit, with_event_if};
+ghost use Rattle.vp_script.specs.Keeping.{GoesOn, GoesOnBy, Keeps, KeepsNow};
+ghost use Rattle.vp_script.specs.Scripts.{Applied, Resumes, Runs, event_of, next_event, seed_count, step_limit, with_event_if};
 ghost use Rattle.vp_world.specs.History.{Applies, IsLegal, refused_by, state_after, with_entry};
 
 use std::alloc::{AllocError, Global};
@@ -213,6 +213,19 @@ fn run(alloc: Global, world: &mut World) -> Result<(), AllocError>
     }
 }
 
+/// Lets the simulation go on where memory was lacking for it; or until there is no memory.
+fn resume(alloc: Global, world: &mut World, out_of_memory: bool) -> Result<(), AllocError>
+    ensures resumed { OnOk result (Resumes out_of_memory world.old world.new) }
+    ensures lacking { OnErr result (out_of_memory ≡ true) }
+    ensures runs { OnErr result (Runs true world.old world.new) }
+{
+    if out_of_memory {
+        run(alloc, world)
+    } else {
+        Ok(())
+    }
+}
+
 /// A world with the session of one script.
 #[derive(Drop)]
 pub struct ScriptSession {
@@ -248,6 +261,21 @@ impl ScriptSession {
         self.world.log()
     }
 
+    /// Answers a request, and then lets the simulation run.
+    fn answer(&mut self, request: Request) -> Reply
+        ensures { KeepsNow self.old request result self.new }
+    {
+        let event = event_of(self.session, request);
+        let reply = applied(&mut self.world, event);
+        if let Reply::Opened(session) = &reply {
+            self.session = Some(*session);
+        }
+        if run(self.alloc, &mut self.world).is_err() {
+            self.out_of_memory = true;
+        }
+        reply
+    }
+
     /// At some time there was no memory to let the simulation run on.
     pub fn is_out_of_memory(&self) -> bool
         ensures { result ≡ self.now.out_of_memory }
@@ -259,17 +287,12 @@ impl ScriptSession {
 impl Caller for ScriptSession {
     ghost calls = { Keeps };
 
-    /// Answers a request, and then lets the simulation run. Where there is no memory for its next event it goes on after the
-    /// next request.
+    /// Answers a request, and then lets the simulation run. Where there was no memory for it, it goes on before the next request,
+    /// which is answered that there is no memory while there is none.
     fn call(&mut self, request: Request) -> Reply {
-        let event = event_of(self.session, request);
-        let reply = applied(&mut self.world, event);
-        if let Reply::Opened(session) = &reply {
-            self.session = Some(*session);
+        if resume(self.alloc, &mut self.world, self.out_of_memory).is_err() {
+            return Reply::Error(Refusal::NoMemory);
         }
-        if run(self.alloc, &mut self.world).is_err() {
-            self.out_of_memory = true;
-        }
-        reply
+        self.answer(request)
     }
 }

@@ -27,8 +27,8 @@ fn print_text<R: Print>(rt: &R, text: &Text) -> io::Result<ExitCode> {
 
 /// Prints a fault, and its diagnostic on standard error, also where the fault can't be printed; the status is 1.
 fn print_refused<R: Print + Eprint>(rt: &R, refused: &Failure) -> io::Result<ExitCode> {
-    let code = refused.fault.code();
-    let line = refused.fault.line();
+    let code = refused.code;
+    let line = refused.line;
     let printed = println!(rt; "fault {code} line {line}");
     rt.eprint(refused.diagnostic.as_str())?;
     printed?;

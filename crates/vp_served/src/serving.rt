@@ -1,9 +1,11 @@
 // A server of files.
 ghost use Rattle.std.specs.Prelude.{◌≡◌, [], IfOk};
-ghost use Rattle.vp_script.specs.Faults.{code_of};
+ghost use Rattle.vp_design.specs.Rendering.{plain_text};
+ghost use Rattle.vp_script.specs.Failure.{IsToldOr};
 ghost use Rattle.vp_script.specs.Scripts.{greatest};
 ghost use Rattle.vp_hub.specs.ServerFaults as server;
 
+use std::alloc::Global;
 use std::net::{Ipv4Addr, Net, TcpListener, TcpStream};
 use std::rt::Files;
 use std::sync::Wait;
@@ -45,14 +47,24 @@ fn print_line<R: AllocGlobal + Print>(rt: &R, word: &str, number: u64) -> Result
     }
 }
 
+/// A fault of a server.
+fn failure_of(alloc: Global, fault: ServerError) -> Failure
+    ensures code { result.code ≡ server.code_of fault }
+    ensures line { result.line ≡ 0 }
+    ensures diagnostic { IsToldOr
+        (λ text. text ≡ plain_text (server.code_of fault) (server.words_of fault))
+        result.diagnostic }
+{
+    Failure::plain(alloc, fault.code(), fault.words())
+}
+
 /// Listens on a port of 127.0.0.1, and prints `listening` and the port; or reports that it can't be listened on (1605).
 fn listen<R>(rt: &R, port: u16) -> Result<TcpListener, Failure>
 where
     R: AllocGlobal + Print + Net<Listener = TcpListener, Stream = TcpStream>,
 {
     let Ok(listener) = TcpListener::bind(rt, (Ipv4Addr::LOCALHOST, port)) else {
-        let fault = ServeFault::ListenFailed;
-        return Err(Failure::new(rt.alloc(), fault));
+        return Err(failure_of(rt.alloc(), ServerError::ListenFailed));
     };
     print_line(rt, "listening", u64::from(port))?;
     Ok(listener)
@@ -64,16 +76,6 @@ fn entry_count(closed: Closed) -> u64 {
     // Dropped by a call, so that how it is dropped is no part of this function's proof.
     drop(closed);
     entries
-}
-
-/// The fault of a run that a server's fault is.
-fn fault_of(fault: ServerError) -> ServeFault
-    ensures { code_of result ≡ server.code_of fault }
-{
-    match fault {
-        ServerError::NoThread => ServeFault::NoThread,
-        ServerError::Hub(error) => ServeFault::Hub(error),
-    }
 }
 
 /// Serves a world in which nothing has happened, with the greatest limits, to whoever connects to a listener, and gives the number of the log's
@@ -90,7 +92,7 @@ fn serve_world<R: AllocGlobal + Threads + Wait + Clock + Sync>(
     let limits = Limits::GREATEST;
     match serve(rt, rt.alloc(), world, limits, settings, listener, &OpenGate) {
         Ok(closed) => Ok(entry_count(closed)),
-        Err(fault) => Err(Failure::new(rt.alloc(), fault_of(fault))),
+        Err(fault) => Err(failure_of(rt.alloc(), fault)),
     }
 }
 

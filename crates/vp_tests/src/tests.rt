@@ -3,6 +3,7 @@ mod callbacks;
 mod command_line;
 mod designs;
 mod dialogues;
+mod fresh;
 mod grants;
 mod notices;
 mod races;

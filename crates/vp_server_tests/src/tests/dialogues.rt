@@ -1,6 +1,7 @@
 //! Clients one by one and side by side.
 use crate::tests::clients::{OK, OPEN, connect, is_told, line, send, talk};
-use crate::tests::servers::{DESIGN, Server, beside};
+use crate::tests::hubs::CLOCKED;
+use crate::tests::servers::{Server, beside};
 use std::alloc::Global;
 use std::net::{Net, TcpStream};
 use std::sync::atomic::{AtomicU32, Ordering};
@@ -23,7 +24,7 @@ fn one_client(rt: HostRuntime) {
     let (told, talked) = beside(
         &rt,
         alloc,
-        DESIGN,
+        CLOCKED,
         server,
         &OpenGate,
         || talk(&rt, alloc, 24_123, &SHORT),
@@ -85,7 +86,7 @@ fn a_client_beside_one_that_waits(rt: HostRuntime) {
     let (told, talked) = beside(
         &rt,
         alloc,
-        DESIGN,
+        CLOCKED,
         server,
         &gate,
         || beside_another(&rt, alloc, 24_124),
@@ -110,7 +111,7 @@ fn a_line_that_breaks_off(rt: HostRuntime) {
     let (told, sent) = beside(
         &rt,
         alloc,
-        DESIGN,
+        CLOCKED,
         server,
         &OpenGate,
         || break_off(&rt, 24_126),

@@ -3,6 +3,8 @@ ghost use Rattle.std.specs.Prelude.{◌≡◌, ◌+◌, [], IfSome};
 
 use std::alloc::Global;
 use std::sync::ledger::Blank;
+use vp_design::shared_of;
+use vp_policy::read_policy;
 use vp_world::{Limits, World};
 
 /// A clock `c` at the top (object 1), and below it a module with an envelope, in which stand `k` and `s`.
@@ -64,12 +66,22 @@ fn limits_of(entries: u32) -> Limits
     }
 }
 
-/// A world of a text and a policy in which nothing has happened, and whose log holds so many entries.
+/// A world of a text and a policy, of these limits, in which nothing has happened; none where one of them is refused, or out of memory.
+pub fn world_with(alloc: Global, text: &str, policy: &[u8], limits: Limits) -> Option<World>
+    ensures empty { IfSome result (λ world. world.log ≡ []) }
+    ensures limits { IfSome result (λ world. world.opening.limits ≡ limits) }
+{
+    let checked = shared_of(alloc, text)?;
+    let policy = read_policy(alloc, policy, checked.design()).ok()?;
+    World::new(alloc, checked, policy, limits).ok()
+}
+
+/// The same, whose log holds so many entries.
 pub fn world_of(alloc: Global, text: &str, policy: &[u8], entries: u32) -> Option<World>
     ensures empty { IfSome result (λ world. world.log ≡ []) }
     ensures limit { IfSome result (λ world. world.opening.limits.log ≡ entries) }
 {
-    vp_world_samples::world_of(alloc, text, policy, limits_of(entries))
+    world_with(alloc, text, policy, limits_of(entries))
 }
 
 /// A ledger for such a world: with a part for each entry, and one more.

@@ -1,6 +1,7 @@
 //! Clients that are silent, that read nothing, and that are too many.
 use crate::tests::clients::{OK, OPEN, connect, is_ended, is_told, send, talk};
-use crate::tests::servers::{DESIGN, Server, beside};
+use crate::tests::hubs::CLOCKED;
+use crate::tests::servers::{Server, beside};
 use std::alloc::Global;
 use std::net::{Net, TcpStream};
 use std::thread;
@@ -36,7 +37,7 @@ fn silent_clients(rt: HostRuntime) {
     let (told, right) = beside(
         &rt,
         alloc,
-        DESIGN,
+        CLOCKED,
         server,
         &OpenGate,
         || be_silent(&rt, alloc, 24_130),
@@ -64,7 +65,7 @@ fn a_slow_client(rt: HostRuntime) {
     let (told, ended) = beside(
         &rt,
         alloc,
-        DESIGN,
+        CLOCKED,
         server,
         &OpenGate,
         || drip(&rt, alloc, 24_134),
@@ -96,7 +97,7 @@ fn a_silent_operator(rt: HostRuntime) {
     let (told, right) = beside(
         &rt,
         alloc,
-        DESIGN,
+        CLOCKED,
         server,
         &OpenGate,
         || be_operator(&rt, alloc, 24_135),
@@ -136,7 +137,7 @@ fn a_client_that_reads_nothing(rt: HostRuntime) {
     let (told, ended) = beside(
         &rt,
         alloc,
-        DESIGN,
+        CLOCKED,
         server,
         &OpenGate,
         || read_nothing(&rt, alloc, 24_131),
@@ -191,7 +192,7 @@ fn sixty_five_sessions(rt: HostRuntime) {
     let (told, right) = beside(
         &rt,
         alloc,
-        DESIGN,
+        CLOCKED,
         server,
         &OpenGate,
         || be_many(&rt, alloc, 24_132),
@@ -236,7 +237,7 @@ fn a_connection_too_many(rt: HostRuntime) {
     let (told, right) = beside(
         &rt,
         alloc,
-        DESIGN,
+        CLOCKED,
         server,
         &OpenGate,
         || be_too_many(&rt, alloc, 24_133),

@@ -1,6 +1,7 @@
 //! The simulation beside the clients.
 use crate::tests::clients::{OK, OPEN, are_told, connect, is_told, line, send, talk};
-use crate::tests::servers::{DESIGN, Server, beside};
+use crate::tests::hubs::CLOCKED;
+use crate::tests::servers::{Server, beside};
 use std::alloc::Global;
 use std::net::{Net, TcpStream};
 use std::thread;
@@ -126,7 +127,7 @@ fn users_share_a_simulation(rt: HostRuntime) {
     let (told, right) = beside(
         &rt,
         alloc,
-        DESIGN,
+        CLOCKED,
         server,
         &OpenGate,
         || share(&rt, alloc, 24_141),
@@ -152,7 +153,7 @@ fn connections_one_after_another(rt: HostRuntime) {
     let (told, right) = beside(
         &rt,
         alloc,
-        DESIGN,
+        CLOCKED,
         server,
         &OpenGate,
         || come_and_go(&rt, alloc, 24_142),

@@ -1,6 +1,7 @@
 //! Servers of worlds of texts.
 ghost use Rattle.std.specs.Prelude.{◌<◌, ◌^◌};
 
+use crate::tests::hubs::world_with;
 use std::alloc::Global;
 use std::net::{Ipv4Addr, Net, TcpListener, TcpStream};
 use std::sync::Wait;
@@ -8,24 +9,6 @@ use std::thread::{Threads, join};
 use std::time::Clock;
 use vp_hub::{Limits, Settings, serve};
 use vp_race::Gate;
-use vp_world_samples::world_of;
-
-/// A module of a vendor, in an envelope, and one that has an instance of it.
-pub const DESIGN: &str = "module ip(input wire c, output reg q);
-`pragma protect author=\"acme\", begin
-  reg k, s;
-`pragma protect viewport=(object=\"ip.s\", access=\"read\")
-  initial begin k = 1'b1; s = 1'b0; end
-  always @(posedge c) begin s = k; q = s; end
-`pragma protect end
-endmodule
-module top;
-  reg c;
-  wire q;
-  ip u(.c(c), .q(q));
-  initial begin c = 0; #5 c = 1; end
-endmodule
-";
 
 /// A policy with two users, of whom the second has all rights in the envelope, and an operator.
 pub const POLICY: &[u8] = b"{\"operator\":\"op\",\"users\":[\
@@ -68,7 +51,7 @@ where
         port,
         settings,
     } = server;
-    let Some(world) = world_of(alloc, text, POLICY, limits) else {
+    let Some(world) = world_with(alloc, text, POLICY, limits) else {
         return Err(0);
     };
     let Ok(listener) = TcpListener::bind(rt, (Ipv4Addr::LOCALHOST, port)) else {

@@ -1,13 +1,13 @@
 //! What users can know of a world whose grants change, and what they were shown there.
+use crate::tests::fresh::world_of;
 use crate::tests::grants::{DESIGN, POLICY, grant, open_both, session_of, watch_both};
 use crate::tests::sessions::{order_in, poll_in, put_in};
 use std::alloc::Global;
 use vp_answer::{Query, ValueFormat};
 use vp_audit::{Audit, audit_user};
 use vp_design::shared_of;
-use vp_policy::UserId;
+use vp_policy::{UserId, read_policy};
 use vp_world::{Entry, Limits, World};
-use vp_world_samples::{policy_of, world_of};
 
 /// Ann and Bob watch `k`, of which Bob is notified, and Ann no more after her grant has changed. Each has five events of his own.
 fn happens(alloc: Global, world: &mut World) -> Option<()> {
@@ -24,7 +24,7 @@ fn happens(alloc: Global, world: &mut World) -> Option<()> {
 /// The audit of a user of a log, by the number of the user.
 fn audit_of_log(alloc: Global, log: &[Entry], user: usize) -> Option<Audit> {
     let checked = shared_of(alloc, DESIGN)?;
-    let policy = policy_of(alloc, POLICY, checked.design())?;
+    let policy = read_policy(alloc, POLICY, checked.design()).ok()?;
     let audit = audit_user(alloc, &checked, &policy, log, UserId(user)).ok();
     drop(policy);
     audit

@@ -1,16 +1,16 @@
 //! Grants that change: what they come to in a world of several sessions, and on a policy alone.
 ghost use Rattle.vp_policy.specs.PolicyState.{Fits};
 
+use crate::tests::fresh::world_of;
 use crate::tests::sessions::{find_in, open_as, order_in, poll_in, put_in};
 use std::alloc::Global;
 use vp_answer::{GrantChange, Query, SessionId};
 use vp_design::shared_of;
 use vp_elab::{Design, ObjectId};
-use vp_policy::{Access, Policy, UserId};
+use vp_policy::{Access, Policy, UserId, read_policy};
 use vp_pragma::{Right, access};
 use vp_text::Text;
 use vp_world::{Event, Limits, World};
-use vp_world_samples::{policy_of, world_of};
 
 /// A module whose reg `k` stands in an envelope. Its objects are `top` (0) and `k` (1).
 pub const DESIGN: &str = "module top;
@@ -171,7 +171,7 @@ fn change_and_copy(alloc: Global, design: &Design, policy: &mut Policy) -> Optio
 
 /// The same of the policy for a design.
 fn change_and_copy_for(alloc: Global, design: &Design) -> Option<(bool, bool, u32)> {
-    let mut policy = policy_of(alloc, POLICY, design)?;
+    let mut policy = read_policy(alloc, POLICY, design).ok()?;
     let answers = change_and_copy(alloc, design, &mut policy);
     drop(policy);
     answers

@@ -1,12 +1,12 @@
 //! Ann's worlds, and what sessions ask there.
 
+use crate::tests::fresh::world_of;
 use std::alloc::Global;
 use vp_answer::{Query, Reply, SessionId};
 use vp_policy::UserId;
 use vp_text::Text;
 use vp_vpi::PutValue;
 use vp_world::{Event, Limits, World};
-use vp_world_samples::world_of;
 
 /// A policy with one user, who may find and read what stands in the open text and let the design run.
 pub const READER: &[u8] =

@@ -3,9 +3,8 @@ use crate::tests::sessions::READER;
 use std::alloc::Global;
 use vp_design::shared_of;
 use vp_elab::Design;
-use vp_policy::{SeenObject, UserId, View};
+use vp_policy::{SeenObject, UserId, View, read_policy};
 use vp_text::Text;
-use vp_world_samples::policy_of;
 
 /// A design in which `acme` hides two regs, and opens one of them by a viewport.
 const DESIGN: &str = "module top;
@@ -20,7 +19,7 @@ endmodule
 
 /// What Ann sees of a design.
 fn view_of(alloc: Global, design: &Design) -> Option<View> {
-    let policy = policy_of(alloc, READER, design)?;
+    let policy = read_policy(alloc, READER, design).ok()?;
     let view = policy.view(alloc, design, UserId(0)).ok();
     drop(policy);
     view

@@ -4,12 +4,13 @@ ghost use Rattle.std.specs.Prelude.{IfSome};
 ghost use Rattle.vp_elab.specs.Built.{Elaborated};
 ghost use Rattle.vp_world.specs.Events.{IsWellFormed};
 
+use crate::tests::fresh::world_of;
 use crate::tests::sessions::READER;
 use std::alloc::Global;
 use vp_answer::{Query, Reply, SessionId};
 use vp_design::shared_of;
 use vp_elab::{Design, ObjectId};
-use vp_policy::UserId;
+use vp_policy::{UserId, read_policy};
 use vp_text::{Sequence, Text};
 use vp_world::{Event, Limits, World, WorldError};
 
@@ -29,11 +30,9 @@ const ANN: SessionId = SessionId {
     opens: 1,
 };
 
-use vp_world_samples::{policy_of, world_of};
-
 /// The envelopes of a scope of a design that are closed to Ann.
 fn closed_in(alloc: Global, design: &Design, scope: Option<ObjectId>) -> Option<Sequence<u8>> {
-    let policy = policy_of(alloc, READER, design)?;
+    let policy = read_policy(alloc, READER, design).ok()?;
     let closed = policy.closed(alloc, UserId(0), scope).ok();
     drop(policy);
     closed
