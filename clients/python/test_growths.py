@@ -1,7 +1,7 @@
 """Out of memory at each growth in turn: a shim over the C library's allocator (tools/refuse-growth.c) refuses the first growth of a run, then the second,
 and so on. Each run ends by itself, and what it prints is that of a run without a refusal up to a fault of out of memory or a request that is answered
-`no memory`. Where the simulation lacks memory it goes on after the next request, so these scripts let nothing run. python3 -m unittest, in this folder,
-over the program of test_loddrume. It wants the machine's C compiler, and is skipped where there is none.
+`no memory`. Where the simulation lacks memory it goes on before the next request, so the values after a run are as ever. python3 -m unittest, in this
+folder, over the program of test_loddrume. It wants the machine's C compiler, and is skipped where there is none.
 """
 
 import json
@@ -115,6 +115,20 @@ class Growths(unittest.TestCase):
     def test_long_authors(self) -> None:
         requests = [{"op": "open", "user": "u0", "token": "t"}, {"op": "handle", "name": "top.r1"}, {"op": "handle", "name": "top.r2"}]
         self.check(["run", *self.write(envelopes(3, "a" * 1000), policy(1, 2))], script=[json.dumps(request) for request in requests])
+
+    def test_run(self) -> None:
+        requests = [
+            {"op": "open", "user": "u0", "token": "t"},
+            {"op": "handle", "name": "top.r"},
+            {"op": "watch", "h": 1},
+            {"op": "run", "until": 6},
+            {"op": "value", "h": 1},
+            {"op": "poll"},
+            {"op": "time"},
+        ]
+        design = "module top; reg [3:0] r; initial begin r = 4'd1; while (r < 4'd6) #1 r = r + 4'd1; end endmodule"
+        rules = '{"users":[{"name":"u0","token":"t","open":"list+read+watch","run":true}]}'
+        self.check(["run", *self.write(design, rules)], script=[json.dumps(request) for request in requests])
 
     def test_view(self) -> None:
         self.check(["view", *self.write(envelopes(3, "acme"), policy(2, 2)), "u1"])
