@@ -1,5 +1,5 @@
 -- How the world of a script began stays as it was.
-use Rattle.std.proofs.Common.{◌≡◌, ◌∙◌, ℕ, zero, suc, Bool, List, [], ◌∷◌, Option, Some, None, refl, subst, inl, inr, ap}
+use Rattle.std.proofs.Common.{◌≡◌, ◌∙◌, ℕ, zero, suc, Bool, true, List, [], ◌∷◌, Option, Some, None, refl, subst, inl, inr, ap}
 use Rattle.std.specs.Prelude.{is_none}
 use Rattle.vp_race.specs.Segments.{FindingState}
 use Rattle.vp_answer.specs.declared.request.Call.TheVariants as call
