@@ -316,8 +316,10 @@ class Served:
     def run(self, until: int) -> None:
         """Lets the design run until a time is reached, so that nothing of the times before is left to do."""
         self.ask([{"op": "run", "until": until}])
+        wait = 0.001
         while self.ask([{"op": "time"}])[0]["time"] < until:
-            time.sleep(0.002)
+            time.sleep(wait)
+            wait = min(1.5 * wait, 0.1)
 
     def put(self, values: Dict[str, str]) -> None:
         handles = self.handles(list(values))
@@ -340,18 +342,23 @@ class Served:
             replies += self.ask([{"op": "watch", "h": handle} for handle in first[at : at + 200]])
         return {reply["cb"]: handle for reply, handle in zip(replies, first)}
 
-    def changes(self) -> List[Tuple[int, str]]:
-        """The changes since the last poll: callback and value."""
+    def changes(self, watched: Dict[int, int]) -> Dict[int, str]:
+        """The values of watched objects that changed since the last poll; of all, where notices were lost."""
         told = self.ask([{"op": "poll"}])[0]
         if told["lost"]:
-            raise RuntimeError(f"vp_served: {told['lost']} notices were lost")
-        return [(notice["cb"], notice["value"]) for notice in told["notices"]]
+            return dict(zip(watched.values(), self.values(list(watched.values()))))
+        return {watched[notice["cb"]]: notice["value"] for notice in told["notices"]}
 
-    def end(self) -> None:
-        self._socket.close()
+    def end(self, patience: float) -> str:
+        """Ends the session, and gives the last line of the server, which has the length of its log."""
         self._lines.close()
-        self._process.terminate()
-        self._process.wait()
+        self._socket.close()
+        try:
+            return self._process.communicate(timeout=patience)[0].strip()
+        except subprocess.TimeoutExpired:
+            self._process.terminate()
+            self._process.communicate()
+            return "ended"
 
 
 def port_values(port: Port, value: str) -> Dict[str, str]:
@@ -383,7 +390,7 @@ def served(
     result = []
     for cycle in range(CYCLES):
         session.run(2 + cycle * length + len(design.clocks) + bench.settle)
-        values.update({watched[callback]: value for callback, value in session.changes()})
+        values.update(session.changes(watched))
         values.update(zip(unwatched, session.values(unwatched)))
         digits = iter([values[handle] for handle in handles])
         result.append(["".join(next(digits) for _ in parts) for parts in kept.values()])
@@ -515,19 +522,22 @@ def simulate(
     old, new = regs_of(result, kept, design.name) if setting else ({}, {})
     found, theirs = icarus(design, sources, ports, list(kept), cycles, old, folder)
     kept = {name: kept[name] for name in found}
+    began, closed = time.monotonic(), ""
     if program == "iverilog":
         ours = in_icarus(design, result, ports, kept, cycles, new, folder / "lowered")
     else:
-        session = Served(program, folder)
+        session, patience = Served(program, folder), 0.0
         try:
             puts = {f"loddrume_bench.{path}": value for path, value in new.items()}
-            ours = served(design, session, ports, kept, cycles, puts, bench)
+            ours, patience = served(design, session, ports, kept, cycles, puts, bench), 600.0
         finally:
-            session.end()
+            closed = session.end(patience)
     return {
         "names": len(found),
         "not in Icarus": all_names - len(found),
         "set": setting,
+        "seconds of the run": round(time.monotonic() - began, 1),
+        "server": closed,
         **compared(ours, theirs, found),
     }
 
