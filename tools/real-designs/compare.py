@@ -6,9 +6,9 @@
 SOURCES is a folder with the Debian source packages, one folder each (see fetch.sh); PROGRAM is vp_served;
 FOLDER takes what is made. Each design is lowered. Then 1,000 cycles of random inputs, with the reset first, run
 in both simulators, and all names that the map keeps are compared, bit by bit, at each cycle. `results.json` in
-FOLDER has a record for each design, and `table.md` the table. Where under 90 percent of the bits are known in
-both, a second run sets each reg to a random value before the first cycle. With `iverilog` as PROGRAM, Icarus runs
-the lowered text too: that is quick, and tells nothing of the server.
+FOLDER has a record for each design, and `table.md` the table. First Icarus runs the lowered text too: where under
+90 percent of the bits are known in both, each reg is set to a random value before the first cycle. Then the server
+runs it. With `iverilog` as PROGRAM it does not: that is quick, and tells nothing of the server.
 """
 
 from __future__ import annotations
@@ -76,7 +76,8 @@ def designs(path: Path) -> Iterator[Design]:
             continue
         name, package, top, clocks, reset, files = (part.strip() for part in line.split("|"))
         level = tuple(reset.split(":")) if reset != "-" else None
-        yield Design(name, package, top, clocks.split(",") if clocks != "-" else [], level, files.split())  # type: ignore[arg-type]
+        called = clocks.split(",") if clocks != "-" else []
+        yield Design(name, package, top, called, level, files.split())  # type: ignore[arg-type]
 
 
 def top_ports(text: str, names: Dict[str, Any]) -> List[Port]:
@@ -89,7 +90,9 @@ def top_ports(text: str, names: Dict[str, Any]) -> List[Port]:
     ports: Dict[str, Port] = {}
     direction, bounds = "", ""
     for part in filter(str.strip, header[1].split(",")):
-        found = re.fullmatch(r"\s*(?:(input|output)\s*(?:(?:wire|reg)\b)?\s*(\[\s*\d+\s*:\s*\d+\s*\])?\s*)?([\w$]+)\s*", part)
+        found = re.fullmatch(
+            r"\s*(?:(input|output)\s*(?:(?:wire|reg)\b)?\s*(\[\s*\d+\s*:\s*\d+\s*\])?\s*)?([\w$]+)\s*", part
+        )
         assert found, part
         direction, bounds = (found[1], found[2] or "") if found[1] else (direction, bounds)
         width = 1
@@ -175,26 +178,33 @@ def icarus(
 ) -> Tuple[List[str], List[List[str]]]:
     """The values of the kept names at each cycle. Names that Icarus does not find are left out."""
     files = [str(sources / design.package / file) for file in design.files]
-    kept, grammar = list(kept), "-g2005"
+    kept = compiled(design, files, ports, kept, cycles, regs, folder)
+    ran = subprocess.run(["vvp", "-n", str(folder / "bench.vvp")], capture_output=True, text=True, check=False)
+    values = [line for line in ran.stdout.splitlines() if re.fullmatch("[01xz]+", line)]
+    if len(values) != len(kept) * CYCLES:
+        raise RuntimeError(
+            f"vvp printed {len(values)} values, not {len(kept) * CYCLES}: {ran.stdout[:200]} {ran.stderr[:200]}"
+        )
+    return kept, [values[at * len(kept) : (at + 1) * len(kept)] for at in range(CYCLES)]
+
+
+def compiled(
+    design: Design,
+    files: List[str],
+    ports: List[Port],
+    kept: List[str],
+    cycles: List[Dict[str, str]],
+    regs: Dict[str, str],
+    folder: Path,
+) -> List[str]:
+    """Compiles the original with its testbench, and gives the names that Icarus finds."""
+    grammar = "-g2005"
     while True:
         (folder / "bench.v").write_text(icarus_bench(design, ports, kept, cycles, regs, folder), encoding="utf-8")
-        made = subprocess.run(
-            [
-                "iverilog",
-                grammar,
-                "-s",
-                "loddrume_bench",
-                "-o",
-                str(folder / "bench.vvp"),
-                *files,
-                str(folder / "bench.v"),
-            ],
-            capture_output=True,
-            text=True,
-            check=False,
-        )
+        words = ["iverilog", grammar, "-s", "loddrume_bench", "-o", str(folder / "bench.vvp")]
+        made = subprocess.run([*words, *files, str(folder / "bench.v")], capture_output=True, text=True, check=False)
         if not made.returncode:
-            break
+            return list(kept)
         if grammar == "-g2005" and "bench.v:" not in made.stderr:
             grammar = "-g2012"
             continue
@@ -209,13 +219,6 @@ def icarus(
             raise RuntimeError(f"iverilog: {made.stderr.strip()[:300]}")
         kept = [name for name in kept if name not in wrong]
         regs = {name: value for name, value in regs.items() if name not in wrong}
-    ran = subprocess.run(["vvp", "-n", str(folder / "bench.vvp")], capture_output=True, text=True, check=False)
-    values = [line for line in ran.stdout.splitlines() if re.fullmatch("[01xz]+", line)]
-    if len(values) != len(kept) * CYCLES:
-        raise RuntimeError(
-            f"vvp printed {len(values)} values, not {len(kept) * CYCLES}: {ran.stdout[:200]} {ran.stderr[:200]}"
-        )
-    return kept, [values[at * len(kept) : (at + 1) * len(kept)] for at in range(CYCLES)]
 
 
 # ---- the server's program
@@ -272,8 +275,8 @@ def server_bench(names: Dict[str, Any], ports: List[Port], clocks: List[str], se
     half = len(called)
     steps = [*toggles[:half], f"#{settle} ;", *toggles[half:], f"#{settle} ;"]
     start = " ".join(f"{clock} = 0;" for clock in called)
-    lines += [f"  {names['top']} dut({', '.join(words)});", "  initial forever #1 ;"]
-    lines += [f"  initial begin {start} #2 ; forever begin {' '.join(steps)} end end", "endmodule", ""]
+    lines += [f"  {names['top']} dut({', '.join(words)});"]
+    lines += [f"  initial begin {start} #1 ; #1 ; forever begin {' '.join(steps)} end end", "endmodule", ""]
     return Bench("\n".join(lines), regs, places, settle)
 
 
@@ -293,6 +296,7 @@ class Served:
         self._socket = socket.create_connection(("127.0.0.1", port), 600)
         self._lines = self._socket.makefile("r", encoding="utf-8", newline="\n")
         self._handles: Dict[str, int] = {}
+        self._wait = 0.002
         self.ask([{"op": "open", "user": "ann", "token": "t"}])
 
     def ask(self, requests: List[Dict[str, Any]]) -> List[Dict[str, Any]]:
@@ -316,10 +320,13 @@ class Served:
     def run(self, until: int) -> None:
         """Lets the design run until a time is reached, so that nothing of the times before is left to do."""
         self.ask([{"op": "run", "until": until}])
-        wait = 0.001
+        # Each request is an entry of the log, so the first wait grows or shrinks until few requests are enough.
+        time.sleep(self._wait)
+        asked = 1
         while self.ask([{"op": "time"}])[0]["time"] < until:
-            time.sleep(wait)
-            wait = min(1.5 * wait, 0.1)
+            time.sleep(max(0.001, self._wait / 8))
+            asked += 1
+        self._wait = min(0.2, 1.3 * self._wait) if asked > 2 else max(0.001, 0.8 * self._wait)
 
     def put(self, values: Dict[str, str]) -> None:
         handles = self.handles(list(values))
@@ -379,7 +386,8 @@ def served(
     regs: Dict[str, str],
     bench: Bench,
 ) -> List[List[str]]:
-    """The values of the kept names at each cycle. The next inputs are put when a cycle has been read, before clocks fall."""
+    """The values of the kept names at each cycle. The next inputs are put when a cycle has been read, before clocks
+    fall."""
     session.run(1)
     session.put({**regs, **bench.puts(cycles[0], ports)})
     handles = session.handles(["loddrume_bench." + part for parts in kept.values() for part in reversed(parts)])
@@ -412,7 +420,8 @@ def declared_regs(text: str) -> Dict[str, Dict[str, int]]:
 
 
 def regs_of(result: Result, kept: Dict[str, List[str]], seed: str) -> Tuple[Dict[str, str], Dict[str, str]]:
-    """A random value for each kept reg of one part: by its name in the original, and by its path in the lowered text."""
+    """A random value for each kept reg of one part: by its name in the original, and by its path in the lowered
+    text."""
     declared = declared_regs(result.text)
     modules = dict(modules_of(result.names, result.names["top"], "dut"))
     chance = random.Random(seed)
@@ -556,14 +565,18 @@ def tried(design: Design, sources: Path, program: str, folder: Path) -> Dict[str
     record["seconds"] = round(time.monotonic() - began, 2)
     record["bytes"] = len(result.text)
     record["how"] = {account.name: account.how for account in result.accounts}
-    checked = subprocess.run([program, *(["-t", "null"] if program == "iverilog" else ["check"]), "design.v"], cwd=folder, capture_output=True, text=True, check=False)
+    check = ["-t", "null"] if program == "iverilog" else ["check"]
+    checked = subprocess.run([program, *check, "design.v"], cwd=folder, capture_output=True, text=True, check=False)
     if checked.returncode:
         return {**record, "status": "not read", "why": checked.stderr[:400]}
     try:
-        compare = simulate(design, result, sources, program, folder, False)
-        if compare["known"] < 90:
+        # Icarus tells quickly whether regs are to be set.
+        compare = simulate(design, result, sources, "iverilog", folder, False)
+        setting = compare["known"] < 90
+        if setting:
             record["without setting"] = {key: compare[key] for key in ("known", "unequal")}
-            compare = simulate(design, result, sources, program, folder, True)
+        if setting or program != "iverilog":
+            compare = simulate(design, result, sources, program, folder, setting)
     except RuntimeError as error:
         return {**record, "status": "not compared", "why": str(error)}
     return {**record, "status": "compared", **compare}
@@ -572,20 +585,21 @@ def tried(design: Design, sources: Path, program: str, folder: Path) -> Dict[str
 def table(records: List[Dict[str, Any]]) -> str:
     """The table of results, in Markdown."""
     lines = [
-        "| Design | Package | In | Names | Bits compared | Known in both | Unequal | x in both | x in Icarus alone | x on the server alone | Regs set |",
+        "| Design | Package | In | Names | Bits compared | Known in both | Unequal | x in both | x in Icarus alone "
+        "| x on the server alone | Regs set |",
         "|---|---|---|---|---|---|---|---|---|---|---|",
     ]
     for record in records:
         if record["status"] != "compared":
-            lines.append(
-                f"| {record['name']} | {record['package']} | {record['status']}: {record.get('why', '').splitlines()[0][:160]} | | | | | | | | |"
-            )
+            why = record.get("why", "").splitlines()[0][:160]
+            lines.append(f"| {record['name']} | {record['package']} | {record['status']}: {why} | | | | | | | | |")
             continue
         total = sum(record[key] for key in ("equal", "unequal", "x in Icarus", "x on the server", "x in both"))
         hows = sorted(set(record["how"].values()))
         lines.append(
-            f"| {record['name']} | {record['package']} | {', '.join(hows)} | {record['names']} | {total:,} | {record['known']} % | {record['unequal']} | "
-            f"{record['x in both']:,} | {record['x in Icarus']:,} | {record['x on the server']:,} | {'yes' if record['set'] else 'no'} |"
+            f"| {record['name']} | {record['package']} | {', '.join(hows)} | {record['names']} | {total:,} "
+            f"| {record['known']} % | {record['unequal']} | {record['x in both']:,} | {record['x in Icarus']:,} "
+            f"| {record['x on the server']:,} | {'yes' if record['set'] else 'no'} |"
         )
     return "\n".join(lines) + "\n"
 
