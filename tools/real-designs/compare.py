@@ -280,6 +280,10 @@ def server_bench(names: Dict[str, Any], ports: List[Port], clocks: List[str], se
     return Bench("\n".join(lines), regs, places, settle)
 
 
+class LogFull(RuntimeError):
+    """The log of a server is full."""
+
+
 class Served:
     """A session on `vp_served serve`, which searches for no races here, so that long runs are quick."""
 
@@ -304,6 +308,8 @@ class Served:
         self._socket.sendall("".join(json.dumps(request) + "\n" for request in requests).encode())
         replies = [json.loads(self._lines.readline() or '{"error":"the server has ended"}') for _ in requests]
         for request, reply in zip(requests, replies):
+            if reply.get("error") == "log full":
+                raise LogFull("vp_served: log full")
             if "error" in reply or "denied" in reply:
                 raise RuntimeError(f"vp_served: {request} {reply}")
         return replies
@@ -378,14 +384,45 @@ def port_values(port: Port, value: str) -> Dict[str, str]:
 
 
 def served(
+    program: str,
+    folder: Path,
     design: Design,
-    session: Served,
     ports: List[Port],
     kept: Dict[str, List[str]],
     cycles: List[Dict[str, str]],
     regs: Dict[str, str],
     bench: Bench,
-) -> List[List[str]]:
+    state: Dict[str, str],
+) -> Tuple[List[List[str]], List[str]]:
+    """The values of the kept names at each cycle, and the last line of each server. Where a log is full, another
+    server goes on, whose regs are put as they were: `state` has the paths of all regs, or nothing."""
+    rows: List[List[str]] = []
+    closed = []
+    while len(rows) < CYCLES:
+        session, patience, first = Served(program, folder), 0.0, len(rows)
+        try:
+            for row in part_served(session, design, ports, kept, cycles[first:], regs, bench):
+                rows.append(row)
+            patience = 600.0
+        except LogFull:
+            if len(rows) == first or not state:
+                raise
+            last = dict(zip(kept, rows[-1]))
+            regs = {path: last[name] for name, path in state.items() if name in last}
+        finally:
+            closed.append(session.end(patience))
+    return rows, closed
+
+
+def part_served(
+    session: Served,
+    design: Design,
+    ports: List[Port],
+    kept: Dict[str, List[str]],
+    cycles: List[Dict[str, str]],
+    regs: Dict[str, str],
+    bench: Bench,
+) -> Iterator[List[str]]:
     """The values of the kept names at each cycle. The next inputs are put when a cycle has been read, before clocks
     fall."""
     session.run(1)
@@ -395,16 +432,14 @@ def served(
     values = dict(zip(handles, session.values(handles)))
     unwatched = handles[len(watched) :]
     length = 2 * len(design.clocks) + 2 * bench.settle
-    result = []
-    for cycle in range(CYCLES):
+    for cycle in range(len(cycles)):
         session.run(2 + cycle * length + len(design.clocks) + bench.settle)
         values.update(session.changes(watched))
         values.update(zip(unwatched, session.values(unwatched)))
         digits = iter([values[handle] for handle in handles])
-        result.append(["".join(next(digits) for _ in parts) for parts in kept.values()])
-        if cycle + 1 < CYCLES:
+        yield ["".join(next(digits) for _ in parts) for parts in kept.values()]
+        if cycle + 1 < len(cycles):
             session.put(bench.puts(cycles[cycle + 1], ports))
-    return result
 
 
 def declared_regs(text: str) -> Dict[str, Dict[str, int]]:
@@ -414,8 +449,9 @@ def declared_regs(text: str) -> Dict[str, Dict[str, int]]:
     for module in re.finditer(r"\bmodule\s+([\w$]+)(.*?)\bendmodule\b", text, re.DOTALL):
         regs = found.setdefault(module[1], {})
         for reg in re.finditer(r"\breg\b\s*(?:\[\s*(\d+)\s*:\s*(\d+)\s*\])?\s*([\w$]+(?:\s*,\s*[\w$]+)*)", module[2]):
-            for name in reg[3].split(","):
-                regs[name.strip()] = int(reg[1]) - int(reg[2]) + 1 if reg[1] else 1
+            for name in map(str.strip, reg[3].split(",")):
+                if name not in ("input", "output", "inout", "wire", "reg"):
+                    regs[name] = int(reg[1]) - int(reg[2]) + 1 if reg[1] else 1
     return found
 
 
@@ -433,6 +469,17 @@ def regs_of(result: Result, kept: Dict[str, List[str]], seed: str) -> Tuple[Dict
         if len(parts) == 1 and width:
             old[name] = new[parts[0]] = format(chance.getrandbits(width), f"0{width}b")
     return old, new
+
+
+def state_of(result: Result, kept: Dict[str, List[str]]) -> Dict[str, str]:
+    """The path of each reg of the lowered text, by its name in the original. Nothing, where a reg has no name of the
+    original for it alone, or where something waits for a clock that falls."""
+    declared = declared_regs(result.text)
+    names = list(regs_of(result, kept, "")[0])
+    total = sum(len(declared.get(module, {})) for _, module in modules_of(result.names, result.names["top"], "dut"))
+    if len(names) < total or "negedge" in result.text:
+        return {}
+    return {name: f"loddrume_bench.{kept[name][0]}" for name in names}
 
 
 def modules_of(names: Dict[str, Any], module: str, path: str) -> Iterator[Tuple[str, str]]:
@@ -531,22 +578,19 @@ def simulate(
     old, new = regs_of(result, kept, design.name) if setting else ({}, {})
     found, theirs = icarus(design, sources, ports, list(kept), cycles, old, folder)
     kept = {name: kept[name] for name in found}
-    began, closed = time.monotonic(), ""
+    began, closed = time.monotonic(), []
     if program == "iverilog":
         ours = in_icarus(design, result, ports, kept, cycles, new, folder / "lowered")
     else:
-        session, patience = Served(program, folder), 0.0
-        try:
-            puts = {f"loddrume_bench.{path}": value for path, value in new.items()}
-            ours, patience = served(design, session, ports, kept, cycles, puts, bench), 600.0
-        finally:
-            closed = session.end(patience)
+        puts = {f"loddrume_bench.{path}": value for path, value in new.items()}
+        state = state_of(result, kept) if settle == 1 else {}
+        ours, closed = served(program, folder, design, ports, kept, cycles, puts, bench, state)
     return {
         "names": len(found),
         "not in Icarus": all_names - len(found),
         "set": setting,
         "seconds of the run": round(time.monotonic() - began, 1),
-        "server": closed,
+        "servers": closed,
         **compared(ours, theirs, found),
     }
 
