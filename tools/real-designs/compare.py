@@ -35,6 +35,8 @@ CYCLES = 1000
 SETTLE = 4
 RESET_CYCLES = 8
 SETTLED = 10
+# How many objects a session watches: few enough that its notices of a cycle all fit.
+WATCHED = 512
 POLICY = '{"users":[{"name":"ann","token":"t","open":"list+read+watch+put","run":true}]}'
 
 
@@ -284,29 +286,24 @@ class LogFull(RuntimeError):
     """The log of a server is full."""
 
 
-class Served:
-    """A session on `vp_served serve`, which searches for no races here, so that long runs are quick."""
+class Session:
+    """A session of a server."""
 
-    def __init__(self, program: str, folder: Path) -> None:
-        with socket.socket() as free:
-            free.bind(("127.0.0.1", 0))
-            port = free.getsockname()[1]
-        words = [program, "serve", "served.v", "policy.json", "--port", str(port), "--workers", "0", "--sessions", "1"]
-        self._process = subprocess.Popen(words, cwd=folder, stdout=subprocess.PIPE, stderr=subprocess.STDOUT, text=True)
-        assert self._process.stdout
-        first = self._process.stdout.readline()
-        if not first.startswith("listening"):
-            raise RuntimeError(f"vp_served: {first}")
+    def __init__(self, port: int) -> None:
         self._socket = socket.create_connection(("127.0.0.1", port), 600)
         self._lines = self._socket.makefile("r", encoding="utf-8", newline="\n")
         self._handles: Dict[str, int] = {}
+        self._watched: Dict[int, str] = {}
         self._wait = 0.002
         self.ask([{"op": "open", "user": "ann", "token": "t"}])
 
     def ask(self, requests: List[Dict[str, Any]]) -> List[Dict[str, Any]]:
-        """The replies to requests, which are sent at once."""
-        self._socket.sendall("".join(json.dumps(request) + "\n" for request in requests).encode())
-        replies = [json.loads(self._lines.readline() or '{"error":"the server has ended"}') for _ in requests]
+        """The replies to requests, which are sent some hundreds at once."""
+        replies: List[Dict[str, Any]] = []
+        for at in range(0, len(requests), 500):
+            part = requests[at : at + 500]
+            self._socket.sendall("".join(json.dumps(request) + "\n" for request in part).encode())
+            replies += [json.loads(self._lines.readline() or '{"error":"the server has ended"}') for _ in part]
         for request, reply in zip(requests, replies):
             if reply.get("error") == "log full":
                 raise LogFull("vp_served: log full")
@@ -317,10 +314,8 @@ class Served:
     def handles(self, paths: List[str]) -> List[int]:
         """The handles of objects, made where there are none yet."""
         new = [path for path in paths if path not in self._handles]
-        for at in range(0, len(new), 500):
-            part = new[at : at + 500]
-            for path, reply in zip(part, self.ask([{"op": "handle", "name": path} for path in part])):
-                self._handles[path] = reply["h"]
+        for path, reply in zip(new, self.ask([{"op": "handle", "name": path} for path in new])):
+            self._handles[path] = reply["h"]
         return [self._handles[path] for path in paths]
 
     def run(self, until: int) -> None:
@@ -338,34 +333,49 @@ class Served:
         handles = self.handles(list(values))
         self.ask([{"op": "put", "h": handle, "value": value} for handle, value in zip(handles, values.values())])
 
-    def values(self, handles: List[int]) -> List[str]:
-        replies: List[str] = []
-        for at in range(0, len(handles), 500):
-            replies += [
-                reply["value"]
-                for reply in self.ask([{"op": "value", "h": handle} for handle in handles[at : at + 500]])
-            ]
-        return replies
+    def watch(self, paths: List[str]) -> None:
+        """Watches objects: at most 1,024."""
+        replies = self.ask([{"op": "watch", "h": handle} for handle in self.handles(paths)])
+        self._watched = {reply["cb"]: path for reply, path in zip(replies, paths)}
 
-    def watch(self, handles: List[int]) -> Dict[int, int]:
-        """Watches as many objects as a session may, and gives their handles by callback."""
-        first = handles[:1024]
-        replies = []
-        for at in range(0, len(first), 200):
-            replies += self.ask([{"op": "watch", "h": handle} for handle in first[at : at + 200]])
-        return {reply["cb"]: handle for reply, handle in zip(replies, first)}
+    def values(self) -> Dict[str, str]:
+        """The values of all watched objects."""
+        paths = list(self._watched.values())
+        replies = self.ask([{"op": "value", "h": handle} for handle in self.handles(paths)])
+        return {path: reply["value"] for path, reply in zip(paths, replies)}
 
-    def changes(self, watched: Dict[int, int]) -> Dict[int, str]:
+    def changes(self) -> Dict[str, str]:
         """The values of watched objects that changed since the last poll; of all, where notices were lost."""
-        told = self.ask([{"op": "poll"}])[0]
-        if told["lost"]:
-            return dict(zip(watched.values(), self.values(list(watched.values()))))
-        return {watched[notice["cb"]]: notice["value"] for notice in told["notices"]}
+        polled = self.ask([{"op": "poll"}])[0]
+        if polled["lost"]:
+            return self.values()
+        return {self._watched[notice["cb"]]: notice["value"] for notice in polled["notices"]}
 
-    def end(self, patience: float) -> str:
-        """Ends the session, and gives the last line of the server, which has the length of its log."""
+    def close(self) -> None:
         self._lines.close()
         self._socket.close()
+
+
+class Served:
+    """`vp_served serve` with so many sessions. It searches for no races here, so that long runs are quick."""
+
+    def __init__(self, program: str, folder: Path, sessions: int) -> None:
+        with socket.socket() as free:
+            free.bind(("127.0.0.1", 0))
+            port = free.getsockname()[1]
+        words = [program, "serve", "served.v", "policy.json", "--port", str(port), "--workers", "0"]
+        words += ["--sessions", str(sessions)]
+        self._process = subprocess.Popen(words, cwd=folder, stdout=subprocess.PIPE, stderr=subprocess.STDOUT, text=True)
+        assert self._process.stdout
+        first = self._process.stdout.readline()
+        if not first.startswith("listening"):
+            raise RuntimeError(f"vp_served: {first}")
+        self.sessions = [Session(port) for _ in range(sessions)]
+
+    def end(self, patience: float) -> str:
+        """Ends the sessions, and gives the last line of the server, which has the length of its log."""
+        for session in self.sessions:
+            session.close()
         try:
             return self._process.communicate(timeout=patience)[0].strip()
         except subprocess.TimeoutExpired:
@@ -398,10 +408,11 @@ def served(
     server goes on, whose regs are put as they were: `state` has the paths of all regs, or nothing."""
     rows: List[List[str]] = []
     closed = []
+    parts = sum(map(len, kept.values()))
     while len(rows) < CYCLES:
-        session, patience, first = Served(program, folder), 0.0, len(rows)
+        server, patience, first = Served(program, folder, -(-parts // WATCHED)), 0.0, len(rows)
         try:
-            for row in part_served(session, design, ports, kept, cycles[first:], regs, bench):
+            for row in part_served(server, design, ports, kept, cycles[first:], regs, bench):
                 rows.append(row)
             patience = 600.0
         except LogFull:
@@ -410,12 +421,12 @@ def served(
             last = dict(zip(kept, rows[-1]))
             regs = {path: last[name] for name, path in state.items() if name in last}
         finally:
-            closed.append(session.end(patience))
+            closed.append(server.end(patience))
     return rows, closed
 
 
 def part_served(
-    session: Served,
+    server: Served,
     design: Design,
     ports: List[Port],
     kept: Dict[str, List[str]],
@@ -425,21 +436,23 @@ def part_served(
 ) -> Iterator[List[str]]:
     """The values of the kept names at each cycle. The next inputs are put when a cycle has been read, before clocks
     fall."""
-    session.run(1)
-    session.put({**regs, **bench.puts(cycles[0], ports)})
-    handles = session.handles(["loddrume_bench." + part for parts in kept.values() for part in reversed(parts)])
-    watched = session.watch(handles)
-    values = dict(zip(handles, session.values(handles)))
-    unwatched = handles[len(watched) :]
+    first = server.sessions[0]
+    first.run(1)
+    first.put({**regs, **bench.puts(cycles[0], ports)})
+    paths = ["loddrume_bench." + part for parts in kept.values() for part in reversed(parts)]
+    values: Dict[str, str] = {}
+    for at, session in enumerate(server.sessions):
+        session.watch(paths[at * WATCHED : (at + 1) * WATCHED])
+        values.update(session.values())
     length = 2 * len(design.clocks) + 2 * bench.settle
     for cycle in range(len(cycles)):
-        session.run(2 + cycle * length + len(design.clocks) + bench.settle)
-        values.update(session.changes(watched))
-        values.update(zip(unwatched, session.values(unwatched)))
-        digits = iter([values[handle] for handle in handles])
+        first.run(2 + cycle * length + len(design.clocks) + bench.settle)
+        for session in server.sessions:
+            values.update(session.changes())
+        digits = iter([values[path] for path in paths])
         yield ["".join(next(digits) for _ in parts) for parts in kept.values()]
         if cycle + 1 < len(cycles):
-            session.put(bench.puts(cycles[cycle + 1], ports))
+            first.put(bench.puts(cycles[cycle + 1], ports))
 
 
 def declared_regs(text: str) -> Dict[str, Dict[str, int]]:
