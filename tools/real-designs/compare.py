@@ -591,7 +591,8 @@ def simulate(
     old, new = regs_of(result, kept, design.name) if setting else ({}, {})
     found, theirs = icarus(design, sources, ports, list(kept), cycles, old, folder)
     kept = {name: kept[name] for name in found}
-    began, closed = time.monotonic(), []
+    began = time.monotonic()
+    closed: List[str] = []
     if program == "iverilog":
         ours = in_icarus(design, result, ports, kept, cycles, new, folder / "lowered")
     else:
