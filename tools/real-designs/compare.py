@@ -327,7 +327,7 @@ class Session:
         while self.ask([{"op": "time"}])[0]["time"] < until:
             time.sleep(max(0.001, self._wait / 8))
             asked += 1
-        self._wait = min(0.2, 1.3 * self._wait) if asked > 2 else max(0.001, 0.8 * self._wait)
+        self._wait = min(5.0, 1.3 * self._wait) if asked > 2 else max(0.001, 0.8 * self._wait)
 
     def put(self, values: Dict[str, str]) -> None:
         handles = self.handles(list(values))
