@@ -13,7 +13,8 @@ from .refusal import Refusal
 def _parser() -> argparse.ArgumentParser:
     parser = argparse.ArgumentParser(
         prog="python3 -m loddrume_lower",
-        description="Turns ordinary Verilog into the Verilog that Loddrume reads. It wants Yosys (apt-get install yosys).",
+        description="Turns ordinary Verilog into the Verilog that Loddrume reads. "
+        "It wants Yosys (apt-get install yosys).",
     )
     parser.add_argument("FILES", nargs="+", help="the files of the design")
     parser.add_argument("--top", required=True, help="the name of the top module")

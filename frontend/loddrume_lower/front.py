@@ -94,7 +94,8 @@ def elaborated(yosys: Yosys, reader: Reader, layout: Layout, top: str, sources: 
     escaped = top if top.isidentifier() else f"\\{top}"
     bufferer = Bufferer(Places(layout, reader.origin))
     yosys.run(
-        f"read_verilog -nopp {yosys.path('flat.v')}; hierarchy -check -top {escaped}; write_rtlil {yosys.path('read.il')}",
+        f"read_verilog -nopp {yosys.path('flat.v')}; hierarchy -check -top {escaped}; "
+        f"write_rtlil {yosys.path('read.il')}",
         origin=reader.origin,
     )
     _buffer(bufferer, folder, "read.il", ASSIGNING)
@@ -154,7 +155,8 @@ def place_by_readers(module: Dict[str, Any]) -> None:
 
 
 def without_procedures(flat: str, modules: List[Module]) -> str:
-    """The text for Yosys: of modules that are passed on it needs ports, nets and instances alone, and can't read all the rest."""
+    """The text for Yosys. Of modules that are passed on it needs ports, nets and instances alone, and can't read all
+    the rest."""
     for module in sorted(modules, key=lambda module: -module.header[0].start):
         for item in reversed(module.items):
             if item.kind in ("always", "initial", "assign"):
@@ -322,7 +324,8 @@ def derived_in(name: str, netlist: Dict[str, Any], layout: Layout, places: Place
         raise Refusal(
             file,
             line,
-            f"an envelope sets parameters of {module.name}, which has envelopes of its own or instances of another author",
+            f"an envelope sets parameters of {module.name}, which has envelopes of its own or instances of another "
+            "author",
             "set them outside",
         )
     return numbers

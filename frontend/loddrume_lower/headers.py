@@ -85,9 +85,8 @@ class _Passing:
             reading = Profile(tokens_of(_blanked(text), self._module.file), self._children).read()
             return self._done(text, "header rewritten", reading)
         except Left as left:
-            return Passed(
-                fault=f"{left.construct} at {self._module.file}:{left.token.line if left.token.file else self._module.line}"
-            )
+            line = left.token.line if left.token.file else self._module.line
+            return Passed(fault=f"{left.construct} at {self._module.file}:{line}")
 
     def _done(self, text: str, how: str, reading: Reading) -> Passed:
         names = [name for name, kind in reading.kinds.items() if kind.what in ("net", "reg")]

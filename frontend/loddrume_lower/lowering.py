@@ -144,8 +144,8 @@ class Lowering:
         self._public[name] = [
             self._nets.add(
                 Piece(
-                    names[at], width, place, self._origin(net), direction=direction, offset=offset, bits=bits[low : low + width],
-                    initial=value[len(bits) - low - width : len(bits) - low],
+                    names[at], width, place, self._origin(net), direction=direction, offset=offset,
+                    bits=bits[low : low + width], initial=value[len(bits) - low - width : len(bits) - low],
                 )
             )
             for at, (low, width) in enumerate(parts)

@@ -140,7 +140,8 @@ class Bufferer:
         self._count += 1
         return [
             f'  attribute \\src "{source}"', f"  cell $pos $buffer${self._count}", "    parameter \\A_SIGNED 0",
-            f"    parameter \\A_WIDTH {width}", f"    parameter \\Y_WIDTH {width}", f"    connect \\A {right}", f"    connect \\Y {left}", "  end",
+            f"    parameter \\A_WIDTH {width}", f"    parameter \\Y_WIDTH {width}",
+            f"    connect \\A {right}", f"    connect \\Y {left}", "  end",
         ]  # fmt: skip
 
     def _source(self, targets: List[str], values: List[str], netlist: _Netlist, module: Module) -> str:

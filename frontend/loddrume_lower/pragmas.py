@@ -10,8 +10,8 @@ from .refusal import Refusal
 from .sources import Pragma
 
 ENCRYPTED = {
-    "begin_protected", "end_protected", "data_block", "key_block", "digest_block", "data_public_key", "data_decrypt_key",
-    "digest_public_key", "digest_decrypt_key", "key_public_key",
+    "begin_protected", "end_protected", "data_block", "key_block", "digest_block", "data_public_key",
+    "data_decrypt_key", "digest_public_key", "digest_decrypt_key", "key_public_key",
 }  # fmt: skip
 _WORDS = re.compile(
     r'\s*(?P<string>"(?:\\.|[^"\\])*")|\s*(?P<word>[A-Za-z_][\w$]*|\d[\w\']*)|\s*(?P<mark>[(),=])|\s*(?P<comment>//.*)'

@@ -57,7 +57,8 @@ class Registers:
         events = [] if blocking else [self._edge(parameters, ports, "CLK")]
         for level, value in self._overrides(kind, parameters, ports, ends, origin):
             port = level
-            statement = f"if ({self._level(parameters, ports, port)}) {name} {'=' if blocking else '<='} {value}; else {statement}"
+            assigned = f"{name} {'=' if blocking else '<='} {value};"
+            statement = f"if ({self._level(parameters, ports, port)}) {assigned} else {statement}"
             if not blocking and port != "SRST":
                 events.append(self._edge(parameters, ports, port))
         return ("always @* " + statement, "") if blocking else (f"always @({' or '.join(events)})", statement)

@@ -122,7 +122,8 @@ class Reader:
             self._inside = "begin" in words
 
     def _notes_macro(self, directive: Token, text: str) -> bool:
-        """Notes where macros are defined and used. Refuses one of an envelope that is used outside, in whichever order."""
+        """Notes where macros are defined and used. Refuses one of an envelope that is used outside, in whichever
+        order."""
         found = re.match(r"`define\s+(\w+)", text[directive.start :])
         name = found[1] if found else directive.text[1:]
         where = (directive.file, directive.line)

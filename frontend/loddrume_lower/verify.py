@@ -25,6 +25,11 @@ from .yosys import Yosys
 VECTORS = 1024
 _WORD = re.compile(r"[A-Za-z_][\w$]*")
 _HELPER = re.compile(r"_n\d+(_\d+)?$")
+_SAID = re.compile(
+    r'author\s*=\s*("(?:\\.|[^"\\])*")'
+    r'|viewport\s*=\s*\(\s*object\s*=\s*"([^"]*)"\s*,\s*access\s*=\s*"([^"]*)"\s*\)'
+    r"|\b(begin|end|reset)\b"
+)
 _DECLARING = (
     "wire",
     "reg",
@@ -80,10 +85,7 @@ def _apply(text: str, author: str, envelope: Optional[Envelope]) -> Tuple[str, s
     text = re.sub(r'("(?:\\.|[^"\\])*")|//.*', lambda found: found[1] or "", text)
     if not re.match(r"\s*protect\b", text):
         return said, ("" if re.match(r"\s*(resetall|reset\s+protect)", text) else author)
-    for found in re.finditer(
-        r'author\s*=\s*("(?:\\.|[^"\\])*")|viewport\s*=\s*\(\s*object\s*=\s*"([^"]*)"\s*,\s*access\s*=\s*"([^"]*)"\s*\)|\b(begin|end|reset)\b',
-        text,
-    ):
+    for found in _SAID.finditer(text):
         if found[1]:
             author = json.loads(found[1])
         elif found[2] is not None and envelope:
@@ -210,7 +212,8 @@ def _remade(name: str, tokens: List[Token], result: Cut) -> str:
                 if not inside[word] or set(_WORD.findall(inside[word])) & values:
                     token = envelope.tokens[0]
                     raise Leak(
-                        f"{token.file}:{token.line}: {word} is declared in an envelope, and its value or width is used outside of it"
+                        f"{token.file}:{token.line}: {word} is declared in an envelope, and its value or width is "
+                        "used outside of it"
                     )
                 free[word] = inside[word]
     result.free[name] = set(free)
@@ -590,13 +593,16 @@ def verify(netlist: Netlist, sources: Sources, top: str, text: str, design_top: 
 
 
 def _leave_out_same(original: Cut, design: Cut) -> None:
-    """Leaves procedures and assignments out of modules that have the same text in both: they need no comparison, and Yosys may not read them."""
+    """Leaves procedures and assignments out of modules that have the same text in both: they need no comparison, and
+    Yosys may not read them."""
     old, new = (Splitter(tokens_of(one.text, "design.v"), []).split().modules for one in (original, design))
     same = [name for name in old if name in new and _texts(old[name]) == _texts(new[name])]
     if not same:
         return
     for one, modules in ((original, old), (design, new)):
-        one.text = "\n".join(_spell_module(module, module.name in same, module.name in one.closed) for module in modules.values())
+        one.text = "\n".join(
+            _spell_module(module, module.name in same, module.name in one.closed) for module in modules.values()
+        )
 
 
 def _texts(module: Module) -> List[str]:

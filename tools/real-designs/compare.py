@@ -6,9 +6,9 @@
 SOURCES is a folder with the Debian source packages, one folder each (see fetch.sh); PROGRAM is vp_served;
 FOLDER takes what is made. Each design is lowered. Then 1,000 cycles of random inputs, with the reset first, run
 in both simulators, and all names that the map keeps are compared, bit by bit, at each cycle. `results.json` in
-FOLDER has a record for each design, and `table.md` the table. Where under 90 percent of the bits are known in
-both, a second run sets each reg to a random value before the first cycle. With `iverilog` as PROGRAM, Icarus runs
-the lowered text too: that is quick, and tells nothing of the server.
+FOLDER has a record for each design, and `table.md` the table. First Icarus runs the lowered text too: where under
+90 percent of the bits are known in both, each reg is set to a random value before the first cycle. Then the server
+runs it. With `iverilog` as PROGRAM it does not: that is quick, and tells nothing of the server.
 """
 
 from __future__ import annotations
@@ -35,6 +35,8 @@ CYCLES = 1000
 SETTLE = 4
 RESET_CYCLES = 8
 SETTLED = 10
+# How many objects a session watches: few enough that its notices of a cycle all fit.
+WATCHED = 512
 POLICY = '{"users":[{"name":"ann","token":"t","open":"list+read+watch+put","run":true}]}'
 
 
@@ -76,7 +78,8 @@ def designs(path: Path) -> Iterator[Design]:
             continue
         name, package, top, clocks, reset, files = (part.strip() for part in line.split("|"))
         level = tuple(reset.split(":")) if reset != "-" else None
-        yield Design(name, package, top, clocks.split(",") if clocks != "-" else [], level, files.split())  # type: ignore[arg-type]
+        called = clocks.split(",") if clocks != "-" else []
+        yield Design(name, package, top, called, level, files.split())  # type: ignore[arg-type]
 
 
 def top_ports(text: str, names: Dict[str, Any]) -> List[Port]:
@@ -89,7 +92,9 @@ def top_ports(text: str, names: Dict[str, Any]) -> List[Port]:
     ports: Dict[str, Port] = {}
     direction, bounds = "", ""
     for part in filter(str.strip, header[1].split(",")):
-        found = re.fullmatch(r"\s*(?:(input|output)\s*(?:(?:wire|reg)\b)?\s*(\[\s*\d+\s*:\s*\d+\s*\])?\s*)?([\w$]+)\s*", part)
+        found = re.fullmatch(
+            r"\s*(?:(input|output)\s*(?:(?:wire|reg)\b)?\s*(\[\s*\d+\s*:\s*\d+\s*\])?\s*)?([\w$]+)\s*", part
+        )
         assert found, part
         direction, bounds = (found[1], found[2] or "") if found[1] else (direction, bounds)
         width = 1
@@ -175,26 +180,33 @@ def icarus(
 ) -> Tuple[List[str], List[List[str]]]:
     """The values of the kept names at each cycle. Names that Icarus does not find are left out."""
     files = [str(sources / design.package / file) for file in design.files]
-    kept, grammar = list(kept), "-g2005"
+    kept = compiled(design, files, ports, kept, cycles, regs, folder)
+    ran = subprocess.run(["vvp", "-n", str(folder / "bench.vvp")], capture_output=True, text=True, check=False)
+    values = [line for line in ran.stdout.splitlines() if re.fullmatch("[01xz]+", line)]
+    if len(values) != len(kept) * CYCLES:
+        raise RuntimeError(
+            f"vvp printed {len(values)} values, not {len(kept) * CYCLES}: {ran.stdout[:200]} {ran.stderr[:200]}"
+        )
+    return kept, [values[at * len(kept) : (at + 1) * len(kept)] for at in range(CYCLES)]
+
+
+def compiled(
+    design: Design,
+    files: List[str],
+    ports: List[Port],
+    kept: List[str],
+    cycles: List[Dict[str, str]],
+    regs: Dict[str, str],
+    folder: Path,
+) -> List[str]:
+    """Compiles the original with its testbench, and gives the names that Icarus finds."""
+    grammar = "-g2005"
     while True:
         (folder / "bench.v").write_text(icarus_bench(design, ports, kept, cycles, regs, folder), encoding="utf-8")
-        made = subprocess.run(
-            [
-                "iverilog",
-                grammar,
-                "-s",
-                "loddrume_bench",
-                "-o",
-                str(folder / "bench.vvp"),
-                *files,
-                str(folder / "bench.v"),
-            ],
-            capture_output=True,
-            text=True,
-            check=False,
-        )
+        words = ["iverilog", grammar, "-s", "loddrume_bench", "-o", str(folder / "bench.vvp")]
+        made = subprocess.run([*words, *files, str(folder / "bench.v")], capture_output=True, text=True, check=False)
         if not made.returncode:
-            break
+            return list(kept)
         if grammar == "-g2005" and "bench.v:" not in made.stderr:
             grammar = "-g2012"
             continue
@@ -209,13 +221,6 @@ def icarus(
             raise RuntimeError(f"iverilog: {made.stderr.strip()[:300]}")
         kept = [name for name in kept if name not in wrong]
         regs = {name: value for name, value in regs.items() if name not in wrong}
-    ran = subprocess.run(["vvp", "-n", str(folder / "bench.vvp")], capture_output=True, text=True, check=False)
-    values = [line for line in ran.stdout.splitlines() if re.fullmatch("[01xz]+", line)]
-    if len(values) != len(kept) * CYCLES:
-        raise RuntimeError(
-            f"vvp printed {len(values)} values, not {len(kept) * CYCLES}: {ran.stdout[:200]} {ran.stderr[:200]}"
-        )
-    return kept, [values[at * len(kept) : (at + 1) * len(kept)] for at in range(CYCLES)]
 
 
 # ---- the server's program
@@ -272,34 +277,36 @@ def server_bench(names: Dict[str, Any], ports: List[Port], clocks: List[str], se
     half = len(called)
     steps = [*toggles[:half], f"#{settle} ;", *toggles[half:], f"#{settle} ;"]
     start = " ".join(f"{clock} = 0;" for clock in called)
-    lines += [f"  {names['top']} dut({', '.join(words)});", "  initial forever #1 ;"]
-    lines += [f"  initial begin {start} #2 ; forever begin {' '.join(steps)} end end", "endmodule", ""]
+    lines += [f"  {names['top']} dut({', '.join(words)});"]
+    lines += [f"  initial begin {start} #1 ; #1 ; forever begin {' '.join(steps)} end end", "endmodule", ""]
     return Bench("\n".join(lines), regs, places, settle)
 
 
-class Served:
-    """A session on `vp_served serve`, which searches for no races here, so that long runs are quick."""
+class LogFull(RuntimeError):
+    """The log of a server is full."""
 
-    def __init__(self, program: str, folder: Path) -> None:
-        with socket.socket() as free:
-            free.bind(("127.0.0.1", 0))
-            port = free.getsockname()[1]
-        words = [program, "serve", "served.v", "policy.json", "--port", str(port), "--workers", "0", "--sessions", "1"]
-        self._process = subprocess.Popen(words, cwd=folder, stdout=subprocess.PIPE, stderr=subprocess.STDOUT, text=True)
-        assert self._process.stdout
-        first = self._process.stdout.readline()
-        if not first.startswith("listening"):
-            raise RuntimeError(f"vp_served: {first}")
+
+class Session:
+    """A session of a server."""
+
+    def __init__(self, port: int) -> None:
         self._socket = socket.create_connection(("127.0.0.1", port), 600)
         self._lines = self._socket.makefile("r", encoding="utf-8", newline="\n")
         self._handles: Dict[str, int] = {}
+        self._watched: Dict[int, str] = {}
+        self._wait = 0.002
         self.ask([{"op": "open", "user": "ann", "token": "t"}])
 
     def ask(self, requests: List[Dict[str, Any]]) -> List[Dict[str, Any]]:
-        """The replies to requests, which are sent at once."""
-        self._socket.sendall("".join(json.dumps(request) + "\n" for request in requests).encode())
-        replies = [json.loads(self._lines.readline() or '{"error":"the server has ended"}') for _ in requests]
+        """The replies to requests, which are sent some hundreds at once."""
+        replies: List[Dict[str, Any]] = []
+        for at in range(0, len(requests), 500):
+            part = requests[at : at + 500]
+            self._socket.sendall("".join(json.dumps(request) + "\n" for request in part).encode())
+            replies += [json.loads(self._lines.readline() or '{"error":"the server has ended"}') for _ in part]
         for request, reply in zip(requests, replies):
+            if reply.get("error") == "log full":
+                raise LogFull("vp_served: log full")
             if "error" in reply or "denied" in reply:
                 raise RuntimeError(f"vp_served: {request} {reply}")
         return replies
@@ -307,51 +314,74 @@ class Served:
     def handles(self, paths: List[str]) -> List[int]:
         """The handles of objects, made where there are none yet."""
         new = [path for path in paths if path not in self._handles]
-        for at in range(0, len(new), 500):
-            part = new[at : at + 500]
-            for path, reply in zip(part, self.ask([{"op": "handle", "name": path} for path in part])):
-                self._handles[path] = reply["h"]
+        for path, reply in zip(new, self.ask([{"op": "handle", "name": path} for path in new])):
+            self._handles[path] = reply["h"]
         return [self._handles[path] for path in paths]
 
     def run(self, until: int) -> None:
         """Lets the design run until a time is reached, so that nothing of the times before is left to do."""
         self.ask([{"op": "run", "until": until}])
+        # Each request is an entry of the log, so the first wait grows or shrinks until few requests are enough.
+        time.sleep(self._wait)
+        asked = 1
         while self.ask([{"op": "time"}])[0]["time"] < until:
-            time.sleep(0.002)
+            time.sleep(max(0.001, self._wait / 8))
+            asked += 1
+        self._wait = min(5.0, 1.3 * self._wait) if asked > 2 else max(0.001, 0.8 * self._wait)
 
     def put(self, values: Dict[str, str]) -> None:
         handles = self.handles(list(values))
         self.ask([{"op": "put", "h": handle, "value": value} for handle, value in zip(handles, values.values())])
 
-    def values(self, handles: List[int]) -> List[str]:
-        replies: List[str] = []
-        for at in range(0, len(handles), 500):
-            replies += [
-                reply["value"]
-                for reply in self.ask([{"op": "value", "h": handle} for handle in handles[at : at + 500]])
-            ]
-        return replies
+    def watch(self, paths: List[str]) -> None:
+        """Watches objects: at most 1,024."""
+        replies = self.ask([{"op": "watch", "h": handle} for handle in self.handles(paths)])
+        self._watched = {reply["cb"]: path for reply, path in zip(replies, paths)}
 
-    def watch(self, handles: List[int]) -> Dict[int, int]:
-        """Watches as many objects as a session may, and gives their handles by callback."""
-        first = handles[:1024]
-        replies = []
-        for at in range(0, len(first), 200):
-            replies += self.ask([{"op": "watch", "h": handle} for handle in first[at : at + 200]])
-        return {reply["cb"]: handle for reply, handle in zip(replies, first)}
+    def values(self) -> Dict[str, str]:
+        """The values of all watched objects."""
+        paths = list(self._watched.values())
+        replies = self.ask([{"op": "value", "h": handle} for handle in self.handles(paths)])
+        return {path: reply["value"] for path, reply in zip(paths, replies)}
 
-    def changes(self) -> List[Tuple[int, str]]:
-        """The changes since the last poll: callback and value."""
-        told = self.ask([{"op": "poll"}])[0]
-        if told["lost"]:
-            raise RuntimeError(f"vp_served: {told['lost']} notices were lost")
-        return [(notice["cb"], notice["value"]) for notice in told["notices"]]
+    def changes(self) -> Dict[str, str]:
+        """The values of watched objects that changed since the last poll; of all, where notices were lost."""
+        polled = self.ask([{"op": "poll"}])[0]
+        if polled["lost"]:
+            return self.values()
+        return {self._watched[notice["cb"]]: notice["value"] for notice in polled["notices"]}
 
-    def end(self) -> None:
-        self._socket.close()
+    def close(self) -> None:
         self._lines.close()
-        self._process.terminate()
-        self._process.wait()
+        self._socket.close()
+
+
+class Served:
+    """`vp_served serve` with so many sessions. It searches for no races here, so that long runs are quick."""
+
+    def __init__(self, program: str, folder: Path, sessions: int) -> None:
+        with socket.socket() as free:
+            free.bind(("127.0.0.1", 0))
+            port = free.getsockname()[1]
+        words = [program, "serve", "served.v", "policy.json", "--port", str(port), "--workers", "0"]
+        words += ["--sessions", str(sessions)]
+        self._process = subprocess.Popen(words, cwd=folder, stdout=subprocess.PIPE, stderr=subprocess.STDOUT, text=True)
+        assert self._process.stdout
+        first = self._process.stdout.readline()
+        if not first.startswith("listening"):
+            raise RuntimeError(f"vp_served: {first}")
+        self.sessions = [Session(port) for _ in range(sessions)]
+
+    def end(self, patience: float) -> str:
+        """Ends the sessions, and gives the last line of the server, which has the length of its log."""
+        for session in self.sessions:
+            session.close()
+        try:
+            return self._process.communicate(timeout=patience)[0].strip()
+        except subprocess.TimeoutExpired:
+            self._process.terminate()
+            self._process.communicate()
+            return "ended"
 
 
 def port_values(port: Port, value: str) -> Dict[str, str]:
@@ -364,32 +394,65 @@ def port_values(port: Port, value: str) -> Dict[str, str]:
 
 
 def served(
+    program: str,
+    folder: Path,
     design: Design,
-    session: Served,
     ports: List[Port],
     kept: Dict[str, List[str]],
     cycles: List[Dict[str, str]],
     regs: Dict[str, str],
     bench: Bench,
-) -> List[List[str]]:
-    """The values of the kept names at each cycle. The next inputs are put when a cycle has been read, before clocks fall."""
-    session.run(1)
-    session.put({**regs, **bench.puts(cycles[0], ports)})
-    handles = session.handles(["loddrume_bench." + part for parts in kept.values() for part in reversed(parts)])
-    watched = session.watch(handles)
-    values = dict(zip(handles, session.values(handles)))
-    unwatched = handles[len(watched) :]
+    state: Dict[str, str],
+) -> Tuple[List[List[str]], List[str]]:
+    """The values of the kept names at each cycle, and the last line of each server. Where a log is full, another
+    server goes on, whose regs are put as they were: `state` has the paths of all regs, or nothing."""
+    rows: List[List[str]] = []
+    closed = []
+    parts = sum(map(len, kept.values()))
+    while len(rows) < CYCLES:
+        server, patience, first = Served(program, folder, -(-parts // WATCHED)), 0.0, len(rows)
+        try:
+            for row in part_served(server, design, ports, kept, cycles[first:], regs, bench):
+                rows.append(row)
+            patience = 600.0
+        except LogFull:
+            if len(rows) == first or not state:
+                raise
+            last = dict(zip(kept, rows[-1]))
+            regs = {path: last[name] for name, path in state.items() if name in last}
+        finally:
+            closed.append(server.end(patience))
+    return rows, closed
+
+
+def part_served(
+    server: Served,
+    design: Design,
+    ports: List[Port],
+    kept: Dict[str, List[str]],
+    cycles: List[Dict[str, str]],
+    regs: Dict[str, str],
+    bench: Bench,
+) -> Iterator[List[str]]:
+    """The values of the kept names at each cycle. The next inputs are put when a cycle has been read, before clocks
+    fall."""
+    first = server.sessions[0]
+    first.run(1)
+    first.put({**regs, **bench.puts(cycles[0], ports)})
+    paths = ["loddrume_bench." + part for parts in kept.values() for part in reversed(parts)]
+    values: Dict[str, str] = {}
+    for at, session in enumerate(server.sessions):
+        session.watch(paths[at * WATCHED : (at + 1) * WATCHED])
+        values.update(session.values())
     length = 2 * len(design.clocks) + 2 * bench.settle
-    result = []
-    for cycle in range(CYCLES):
-        session.run(2 + cycle * length + len(design.clocks) + bench.settle)
-        values.update({watched[callback]: value for callback, value in session.changes()})
-        values.update(zip(unwatched, session.values(unwatched)))
-        digits = iter([values[handle] for handle in handles])
-        result.append(["".join(next(digits) for _ in parts) for parts in kept.values()])
-        if cycle + 1 < CYCLES:
-            session.put(bench.puts(cycles[cycle + 1], ports))
-    return result
+    for cycle in range(len(cycles)):
+        first.run(2 + cycle * length + len(design.clocks) + bench.settle)
+        for session in server.sessions:
+            values.update(session.changes())
+        digits = iter([values[path] for path in paths])
+        yield ["".join(next(digits) for _ in parts) for parts in kept.values()]
+        if cycle + 1 < len(cycles):
+            first.put(bench.puts(cycles[cycle + 1], ports))
 
 
 def declared_regs(text: str) -> Dict[str, Dict[str, int]]:
@@ -399,13 +462,15 @@ def declared_regs(text: str) -> Dict[str, Dict[str, int]]:
     for module in re.finditer(r"\bmodule\s+([\w$]+)(.*?)\bendmodule\b", text, re.DOTALL):
         regs = found.setdefault(module[1], {})
         for reg in re.finditer(r"\breg\b\s*(?:\[\s*(\d+)\s*:\s*(\d+)\s*\])?\s*([\w$]+(?:\s*,\s*[\w$]+)*)", module[2]):
-            for name in reg[3].split(","):
-                regs[name.strip()] = int(reg[1]) - int(reg[2]) + 1 if reg[1] else 1
+            for name in map(str.strip, reg[3].split(",")):
+                if name not in ("input", "output", "inout", "wire", "reg"):
+                    regs[name] = int(reg[1]) - int(reg[2]) + 1 if reg[1] else 1
     return found
 
 
 def regs_of(result: Result, kept: Dict[str, List[str]], seed: str) -> Tuple[Dict[str, str], Dict[str, str]]:
-    """A random value for each kept reg of one part: by its name in the original, and by its path in the lowered text."""
+    """A random value for each kept reg of one part: by its name in the original, and by its path in the lowered
+    text."""
     declared = declared_regs(result.text)
     modules = dict(modules_of(result.names, result.names["top"], "dut"))
     chance = random.Random(seed)
@@ -417,6 +482,17 @@ def regs_of(result: Result, kept: Dict[str, List[str]], seed: str) -> Tuple[Dict
         if len(parts) == 1 and width:
             old[name] = new[parts[0]] = format(chance.getrandbits(width), f"0{width}b")
     return old, new
+
+
+def state_of(result: Result, kept: Dict[str, List[str]]) -> Dict[str, str]:
+    """The path of each reg of the lowered text, by its name in the original. Nothing, where a reg has no name of the
+    original for it alone, or where something waits for a clock that falls."""
+    declared = declared_regs(result.text)
+    names = list(regs_of(result, kept, "")[0])
+    total = sum(len(declared.get(module, {})) for _, module in modules_of(result.names, result.names["top"], "dut"))
+    if len(names) < total or "negedge" in result.text:
+        return {}
+    return {name: f"loddrume_bench.{kept[name][0]}" for name in names}
 
 
 def modules_of(names: Dict[str, Any], module: str, path: str) -> Iterator[Tuple[str, str]]:
@@ -515,19 +591,20 @@ def simulate(
     old, new = regs_of(result, kept, design.name) if setting else ({}, {})
     found, theirs = icarus(design, sources, ports, list(kept), cycles, old, folder)
     kept = {name: kept[name] for name in found}
+    began = time.monotonic()
+    closed: List[str] = []
     if program == "iverilog":
         ours = in_icarus(design, result, ports, kept, cycles, new, folder / "lowered")
     else:
-        session = Served(program, folder)
-        try:
-            puts = {f"loddrume_bench.{path}": value for path, value in new.items()}
-            ours = served(design, session, ports, kept, cycles, puts, bench)
-        finally:
-            session.end()
+        puts = {f"loddrume_bench.{path}": value for path, value in new.items()}
+        state = state_of(result, kept) if settle == 1 else {}
+        ours, closed = served(program, folder, design, ports, kept, cycles, puts, bench, state)
     return {
         "names": len(found),
         "not in Icarus": all_names - len(found),
         "set": setting,
+        "seconds of the run": round(time.monotonic() - began, 1),
+        "servers": closed,
         **compared(ours, theirs, found),
     }
 
@@ -546,14 +623,18 @@ def tried(design: Design, sources: Path, program: str, folder: Path) -> Dict[str
     record["seconds"] = round(time.monotonic() - began, 2)
     record["bytes"] = len(result.text)
     record["how"] = {account.name: account.how for account in result.accounts}
-    checked = subprocess.run([program, *(["-t", "null"] if program == "iverilog" else ["check"]), "design.v"], cwd=folder, capture_output=True, text=True, check=False)
+    check = ["-t", "null"] if program == "iverilog" else ["check"]
+    checked = subprocess.run([program, *check, "design.v"], cwd=folder, capture_output=True, text=True, check=False)
     if checked.returncode:
         return {**record, "status": "not read", "why": checked.stderr[:400]}
     try:
-        compare = simulate(design, result, sources, program, folder, False)
-        if compare["known"] < 90:
+        # Icarus tells quickly whether regs are to be set.
+        compare = simulate(design, result, sources, "iverilog", folder, False)
+        setting = compare["known"] < 90
+        if setting:
             record["without setting"] = {key: compare[key] for key in ("known", "unequal")}
-            compare = simulate(design, result, sources, program, folder, True)
+        if setting or program != "iverilog":
+            compare = simulate(design, result, sources, program, folder, setting)
     except RuntimeError as error:
         return {**record, "status": "not compared", "why": str(error)}
     return {**record, "status": "compared", **compare}
@@ -562,20 +643,21 @@ def tried(design: Design, sources: Path, program: str, folder: Path) -> Dict[str
 def table(records: List[Dict[str, Any]]) -> str:
     """The table of results, in Markdown."""
     lines = [
-        "| Design | Package | In | Names | Bits compared | Known in both | Unequal | x in both | x in Icarus alone | x on the server alone | Regs set |",
+        "| Design | Package | In | Names | Bits compared | Known in both | Unequal | x in both | x in Icarus alone "
+        "| x on the server alone | Regs set |",
         "|---|---|---|---|---|---|---|---|---|---|---|",
     ]
     for record in records:
         if record["status"] != "compared":
-            lines.append(
-                f"| {record['name']} | {record['package']} | {record['status']}: {record.get('why', '').splitlines()[0][:160]} | | | | | | | | |"
-            )
+            why = record.get("why", "").splitlines()[0][:160]
+            lines.append(f"| {record['name']} | {record['package']} | {record['status']}: {why} | | | | | | | | |")
             continue
         total = sum(record[key] for key in ("equal", "unequal", "x in Icarus", "x on the server", "x in both"))
         hows = sorted(set(record["how"].values()))
         lines.append(
-            f"| {record['name']} | {record['package']} | {', '.join(hows)} | {record['names']} | {total:,} | {record['known']} % | {record['unequal']} | "
-            f"{record['x in both']:,} | {record['x in Icarus']:,} | {record['x on the server']:,} | {'yes' if record['set'] else 'no'} |"
+            f"| {record['name']} | {record['package']} | {', '.join(hows)} | {record['names']} | {total:,} "
+            f"| {record['known']} % | {record['unequal']} | {record['x in both']:,} | {record['x in Icarus']:,} "
+            f"| {record['x on the server']:,} | {'yes' if record['set'] else 'no'} |"
         )
     return "\n".join(lines) + "\n"
 

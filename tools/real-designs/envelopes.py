@@ -79,7 +79,8 @@ def with_envelopes(text: str, chance: random.Random) -> Optional[Tuple[str, List
             if head and name.isidentifier()
         ]
         if nets and chance.random() < 0.4:
-            lines += f'\n`pragma protect viewport=(object="{chance.choice(nets)}", access="{chance.choice(("list", "read", "read+watch"))}")'
+            shown, access = chance.choice(nets), chance.choice(("list", "read", "read+watch"))
+            lines += f'\n`pragma protect viewport=(object="{shown}", access="{access}")'
         edits.append((items[0].tokens[0].start, f"\n{lines}\n"))
         edits.append((items[-1].tokens[-1].end, "\n`pragma protect end\n"))
         insides.append(items)
@@ -181,6 +182,16 @@ def made(design: Design, text: str, sources: Path, folder: Path) -> Any:
     return lower(design.top, [str(first), *(str(sources / design.package / file) for file in design.files[1:])])
 
 
+def counts_of(text: str, insides: List[List[Item]]) -> Dict[str, int]:
+    """How many envelopes, authors, viewports and hidden names a text has."""
+    return {
+        "envelopes": len(insides),
+        "authors": len(set(re.findall(r'author="([^"]*)"', text))),
+        "viewports": text.count("viewport="),
+        "hidden": len(hidden_names(text, insides)),
+    }
+
+
 def one(design: Design, seed: int, sources: Path, program: str, folder: Path) -> Dict[str, Any]:
     """The record of one design."""
     chance = random.Random(seed)
@@ -209,12 +220,7 @@ def one(design: Design, seed: int, sources: Path, program: str, folder: Path) ->
         if name in words or any(re.fullmatch(re.escape(name) + r"(__\d+)+", word) for word in words)
     ]
     other = changed_constant(text, chance)
-    record.update(
-        envelopes=len(insides),
-        authors=len(set(re.findall(r'author="([^"]*)"', text))),
-        viewports=text.count("viewport="),
-        hidden=len(hidden_names(text, insides)),
-    )
+    record.update(counts_of(text, insides))
     if other is None:
         return {**record, "status": "no constant"}
     try:

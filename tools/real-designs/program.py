@@ -3,8 +3,9 @@
 
     program.py PICORV32 PROGRAM FOLDER
 
-PICORV32 is the file of the Debian source package `nextpnr`, PROGRAM is vp_served, FOLDER takes what is made. It prints how long the
-lowering took, how long the run, and what stands in the memory at its end; the status is 1 where that is wrong.
+PICORV32 is the file of the Debian source package `nextpnr`, PROGRAM is vp_served, FOLDER takes what is made. It
+prints how long the lowering took, how long the run, and what stands in the memory at its end; the status is 1 where
+that is wrong.
 """
 
 from __future__ import annotations
