@@ -180,7 +180,7 @@ class Lists(unittest.TestCase):
     def test_the_definitions_of_a_call_are_listed(self) -> None:
         words = [TOP / "tools" / "definitions", "vp_script", "bundle_refused"]
         listed = subprocess.run(words, stdout=subprocess.PIPE, encoding="utf-8", check=True).stdout
-        for file, name in [("vp_script/specs/Failure.antt", "IsBundleDiagnostic"), ("vp_hub/src/error.rt", "HubError"), ("vp_lex/specs/Tokens.antt", "AreTokens")]:
+        for file, name in [("vp_script/specs/Failure.antt", "IsBundleDiagnostic"), ("vp_wire/src/error.rt", "WireError"), ("vp_lex/specs/Tokens.antt", "AreTokens")]:
             self.assertRegex(listed, rf"(?m)^crates/{file}:[0-9]+: {name} \(")
 
 
