@@ -1,1 +1,2 @@
 pub mod Misuses
+pub mod Numbers

@@ -1,3 +1,6 @@
+ghost use Rattle.std.specs.Prelude.{◌≤◌, IfOk, IfSome};
+ghost use Rattle.vp_cli.specs.Numbers.{HasNumbersInRange};
+
 use crate::words;
 use crate::words::Misuse;
 use clap::builder::ValueParser;
@@ -5,6 +8,18 @@ use clap::error::ErrorKind;
 use clap::{Arg, ArgAction, ArgMatches, Error};
 use std::alloc::{AllocError, Global};
 use vp_text::Text;
+
+/// The least port on which `serve` may listen.
+const LEAST_PORT: u32 = 1;
+
+/// The greatest port on which `serve` may listen.
+const MOST_PORT: u32 = 65_535;
+
+/// The most threads that may search for races.
+const MOST_WORKERS: u32 = 16;
+
+/// The most connections after which `serve` may end.
+const MOST_SESSIONS: u32 = 4_294_967_295;
 
 const ABOUT: &str =
     "Answers questions about a Verilog design, to each user what the policy lets him see.";
@@ -119,10 +134,10 @@ fn audit_words<'a>(alloc: Global) -> Result<clap::Command<'a>, AllocError> {
 }
 
 /// A number between two others, by a name.
-fn number_word<'a>(alloc: Global, name: &'static str, least: u64, most: u64) -> Arg<'a> {
+fn number_word<'a>(alloc: Global, name: &'static str, least: u32, most: u32) -> Arg<'a> {
     Arg::new(alloc, name)
         .long(name)
-        .value_parser(ValueParser::Unsigned(least, most))
+        .value_parser(ValueParser::Unsigned(u64::from(least), u64::from(most)))
         .action(ArgAction::Set)
 }
 
@@ -134,17 +149,17 @@ fn serve_words<'a>(alloc: Global) -> Result<clap::Command<'a>, AllocError> {
         .arg(design_word(alloc))?
         .arg(policy_word(alloc, true))?
         .arg(
-            number_word(alloc, "port", 1, 65_535)
+            number_word(alloc, "port", LEAST_PORT, MOST_PORT)
                 .required(true)
                 .help("The port of 127.0.0.1 on which it listens"),
         )?
         .arg(
-            number_word(alloc, "workers", 0, 16)
+            number_word(alloc, "workers", 0, MOST_WORKERS)
                 .default_value("2")
                 .help("How many threads search for races"),
         )?
         .arg(
-            number_word(alloc, "sessions", 0, 4_294_967_295)
+            number_word(alloc, "sessions", 0, MOST_SESSIONS)
                 .default_value("0")
                 .help("After how many connections it ends; 0: it does not end"),
         )
@@ -165,64 +180,96 @@ fn grammar<'a>(alloc: Global) -> Result<clap::Command<'a>, AllocError> {
 
 /// What the program's words ask, of which the first is the program's name; or what is wrong with them
 /// (1608), or out of memory (1607).
-pub fn command<'a>(alloc: Global, words: &'a [String]) -> Result<words::Command<'a>, Misuse> {
+pub fn command<'a>(alloc: Global, words: &'a [String]) -> Result<words::Command<'a>, Misuse>
+    ensures numbers { IfOk result (λ c. HasNumbersInRange c) }
+{
     let Ok(grammar) = grammar(alloc) else {
         return Err(Misuse::NoMemory);
     };
     match grammar.try_get_matches_from(words) {
-        Ok(matches) => Ok(asked(&matches)),
+        Ok(matches) => match asked(&matches) {
+            Some(command) => Ok(command),
+            None => Err(out_of_range(alloc)),
+        },
         Err(error) => unmatched(alloc, &error),
     }
 }
 
-/// What the words of `serve` ask.
-fn served<'a>(serve: &ArgMatches<'a>) -> words::Command<'a> {
-    words::Command::Serve {
-        design: serve.get_str("DESIGN").unwrap_or(""),
-        policy: serve.get_str("POLICY").unwrap_or(""),
-        port: serve.get_one("port").unwrap_or(0),
-        workers: serve.get_one("workers").unwrap_or(0),
-        sessions: serve.get_one("sessions").unwrap_or(0),
+/// A number by its name, if it is between two others.
+fn number(matches: &ArgMatches, name: &str, least: u32, most: u32) -> Option<u32>
+    ensures { IfSome result (λ n. (least ≤ n) × (n ≤ most)) }
+{
+    match matches.get_one(name) {
+        Some(number) if least <= number && number <= most => Some(number),
+        _ => None,
     }
 }
 
-/// What words ask that fit the grammar.
-fn asked<'a>(matches: &ArgMatches<'a>) -> words::Command<'a> {
+/// What the words of `serve` ask, if each number is in its range.
+fn served<'a>(serve: &ArgMatches<'a>) -> Option<words::Command<'a>>
+    ensures { IfSome result (λ c. HasNumbersInRange c) }
+{
+    let port = number(serve, "port", LEAST_PORT, MOST_PORT)?;
+    let workers = number(serve, "workers", 0, MOST_WORKERS)?;
+    let sessions = number(serve, "sessions", 0, MOST_SESSIONS)?;
+    Some(words::Command::Serve {
+        design: serve.get_str("DESIGN").unwrap_or(""),
+        policy: serve.get_str("POLICY").unwrap_or(""),
+        port: port as u16,
+        workers,
+        sessions,
+    })
+}
+
+/// That a number is out of its range, which the grammar has refused before; or out of memory.
+fn out_of_range(alloc: Global) -> Misuse {
+    match Text::copy(alloc, "error: a number is out of its range\n") {
+        Ok(text) => Misuse::BadWords(text),
+        Err(_) => Misuse::NoMemory,
+    }
+}
+
+/// What words ask that fit the grammar, if each number is in its range.
+fn asked<'a>(matches: &ArgMatches<'a>) -> Option<words::Command<'a>>
+    ensures { IfSome result (λ c. HasNumbersInRange c) }
+{
     if let Some(run) = matches.subcommand_matches("run") {
-        return words::Command::Run {
+        return Some(words::Command::Run {
             design: run.get_str("DESIGN").unwrap_or(""),
             policy: run.get_str("POLICY").unwrap_or(""),
-        };
+        });
     }
     if let Some(check) = matches.subcommand_matches("check") {
-        return words::Command::Check {
+        return Some(words::Command::Check {
             design: check.get_str("DESIGN").unwrap_or(""),
             policy: check.get_str("POLICY"),
-        };
+        });
     }
     if let Some(audit) = matches.subcommand_matches("audit") {
-        return words::Command::Audit {
+        return Some(words::Command::Audit {
             design: audit.get_str("DESIGN").unwrap_or(""),
             policy: audit.get_str("POLICY").unwrap_or(""),
             user: audit.get_str("USER").unwrap_or(""),
             explain: audit.get_flag("explain"),
-        };
+        });
     }
     if let Some(serve) = matches.subcommand_matches("serve") {
         return served(serve);
     }
     match matches.subcommand_matches("view") {
-        Some(view) => words::Command::View {
+        Some(view) => Some(words::Command::View {
             design: view.get_str("DESIGN").unwrap_or(""),
             policy: view.get_str("POLICY").unwrap_or(""),
             user: view.get_str("USER").unwrap_or(""),
-        },
-        None => words::Command::Bundle,
+        }),
+        None => Some(words::Command::Bundle),
     }
 }
 
 /// What words ask that do not fit the grammar: help, the version, or nothing that the program does.
-fn unmatched<'a>(alloc: Global, error: &Error) -> Result<words::Command<'a>, Misuse> {
+fn unmatched<'a>(alloc: Global, error: &Error) -> Result<words::Command<'a>, Misuse>
+    ensures { IfOk result (λ c. HasNumbersInRange c) }
+{
     if error.kind() == ErrorKind::OutOfMemory {
         return Err(Misuse::NoMemory);
     }
