@@ -42,13 +42,26 @@ fn audit_line(alloc: Global, audit: Audit) -> Result<String, AllocError> {
     format!(in alloc; "{word} {number}\n")
 }
 
+/// Adds a line where memory was missing, as in no case it is.
+fn add_memory(printed: &mut String, out_of_memory: bool) -> Result<(), AllocError> {
+    if out_of_memory {
+        return printed.push_str("out of memory\n");
+    }
+    Ok(())
+}
+
 /// The lines that report what an audit gives.
 pub fn audit_lines(alloc: Global, audited: Audited) -> Result<String, AllocError> {
-    let Audited { audit, explanation } = audited;
+    let Audited {
+        audit,
+        explanation,
+        out_of_memory,
+    } = audited;
     let mut lines = audit_line(alloc, audit)?;
     if let Some(text) = explanation {
         lines.push_str(text.as_str())?;
     }
+    add_memory(&mut lines, out_of_memory)?;
     Ok(lines)
 }
 
@@ -117,9 +130,12 @@ impl Case {
         let mut writer = Counted::new(Vec::new(alloc));
         let ran = run_bundle(alloc, self.bundle.as_bytes(), &mut writer);
         let mut printed = String::from_utf8_lossy(alloc, &writer.inner)?;
-        if let Err(fault) = ran {
-            printed.push_str(&fault_line(alloc, fault.code(), fault.line())?)?;
-            self.diagnose(alloc, &mut printed, fault)?;
+        match ran {
+            Ok(ran) => add_memory(&mut printed, ran.out_of_memory)?,
+            Err(fault) => {
+                printed.push_str(&fault_line(alloc, fault.code(), fault.line())?)?;
+                self.diagnose(alloc, &mut printed, fault)?;
+            }
         }
         Ok(printed)
     }

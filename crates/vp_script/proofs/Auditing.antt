@@ -122,9 +122,8 @@ opens_lent script own lent policy opens same = opens ∙ ap (λ (d : Elaborated)
 module _ (opening : Opening) (unread still_unread : Option (List ℕ)) where
   module _ (script : Script) (opens : script ≡ opened opening) where
     -- a script that opens so is run
-    pub runs_to : (out_of_memory : Bool) (following : Script) (lines : ℕ) → IsAnswered out_of_memory script following unread still_unread None None lines → RunsTo opening unread still_unread following
+    pub runs_to : (out_of_memory : Bool) (following : Script) (lines : ℕ) → IsAnswered out_of_memory script following unread still_unread None None lines → RunsTo out_of_memory opening unread still_unread following
     runs_to out_of_memory following lines answered = record {
-      out_of_memory = out_of_memory;
       lines = lines;
       answered = subst (λ (s : Script). IsAnswered out_of_memory s following unread still_unread None None lines) opens answered;
     }
@@ -133,17 +132,20 @@ module _ (opening : Opening) (unread still_unread : Option (List ℕ)) where
     pub stops : (e : WireError) → IsStopped e script unread still_unread None None → EndsRunBy opening unread still_unread (fault.Lines e)
     stops e stopped = subst (λ (s : Script). IsStopped e s unread still_unread None None) opens stopped
 
-  module _ (following : Script) (runs : RunsTo opening unread still_unread following) where
+  module _ (out_of_memory : Bool) (following : Script) (runs : RunsTo out_of_memory opening unread still_unread following) where
     -- after a run its log is audited
     pub audit_after :
-        (began : following.world.opening ≡ opening) (explain : Bool) (user : ℕ) (audited : Audited) → audited ≡ audited_of explain following.world.opening user following.world.log
+        (began : following.world.opening ≡ opening) (explain : Bool) (user : ℕ) (audited : Audited) → audited ≡ audited_of explain out_of_memory following.world.opening user following.world.log
         → IsAuditAfter explain opening user unread still_unread audited
-    audit_after began explain user audited is = record {
-      following = following;
-      runs = runs;
-      is = is ∙ ap (λ (o : Opening). audited_of explain o user following.world.log) began;
-    }
+    audit_after began explain user audited is =
+        let log = following.world.log in
+        let told : out_of_memory ≡ audited.out_of_memory = sym (ap (λ (a : Audited). a.out_of_memory) is) in
+        record {
+          following = following;
+          runs = subst (λ (b : Bool). RunsTo b opening unread still_unread following) told runs;
+          is = is ∙ ap (λ (o : Opening). audited_of explain out_of_memory o user log) began ∙ ap (λ (b : Bool). audited_of explain b opening user log) told;
+        }
 
     -- or memory is lacking for that
     pub lacks_after : (f : ServeFault) → f ≡ fault.NoMemory → EndsRunBy opening unread still_unread f
-    lacks_after f is = subst (EndsRunBy opening unread still_unread) (sym is) (following, runs)
+    lacks_after f is = subst (EndsRunBy opening unread still_unread) (sym is) (out_of_memory, following, runs)

@@ -18,15 +18,15 @@ use Rattle.vp_script.specs.Scripts.{Applied, AppliedBy, Happen, IsAnswered, Runn
 use Rattle.vp_script.proofs.Running.{opening_if, which}
 
 -- an event leaves it, by its refusal
-by_refusal : (refusal : Option WorldError) (w v : WorldLog) (e : Event) (answer : Reply) → AppliedBy refusal w e answer v → v.opening ≡ w.opening
-by_refusal (Some x) w v e answer (told, same) = ap (λ (u : WorldLog). u.opening) same
-by_refusal None w v e answer (inl (told, same)) = ap (λ (u : WorldLog). u.opening) same
-by_refusal None w v e answer (inr (told, same)) = ap (λ (u : WorldLog). u.opening) same
+by_refusal : (out_of_memory : Bool) (refusal : Option WorldError) (w v : WorldLog) (e : Event) (answer : Reply) → AppliedBy out_of_memory refusal w e answer v → v.opening ≡ w.opening
+by_refusal out_of_memory (Some x) w v e answer (told, same) = ap (λ (u : WorldLog). u.opening) same
+by_refusal out_of_memory None w v e answer (inl (told, same)) = ap (λ (u : WorldLog). u.opening) same
+by_refusal out_of_memory None w v e answer (inr (missing, told, same)) = ap (λ (u : WorldLog). u.opening) same
 
 -- so does a request, whether there is an event of it or not
-applied_keeps : (e : Option Event) (w v : WorldLog) (answer : Reply) → Applied e w answer v → v.opening ≡ w.opening
-applied_keeps None w v answer (told, same) = ap (λ (u : WorldLog). u.opening) same
-applied_keeps (Some e) w v answer applied = by_refusal (refused_by w e) w v e answer applied
+applied_keeps : (out_of_memory : Bool) (e : Option Event) (w v : WorldLog) (answer : Reply) → Applied out_of_memory e w answer v → v.opening ≡ w.opening
+applied_keeps out_of_memory None w v answer (told, same) = ap (λ (u : WorldLog). u.opening) same
+applied_keeps out_of_memory (Some e) w v answer applied = by_refusal out_of_memory (refused_by w e) w v e answer applied
 
 -- and what happens next
 turn_keeps : (w : WorldLog) (found : List FindingState) (q : Running) → turned_by w found ≡ Some q → q.world.opening ≡ w.opening
@@ -50,7 +50,7 @@ runs_keep out_of_memory w v (n, rest, happened, ends) = happen_keeps n (record {
 -- so a request that is served leaves it
 serves_now_keeps : (out_of_memory : Bool) (before after : Script) (r : Request) (answer : Reply) → ServesNow out_of_memory before r answer after → after.world.opening ≡ before.world.opening
 serves_now_keeps out_of_memory before after r answer s =
-    runs_keep out_of_memory s.asked after.world s.runs ∙ applied_keeps _ before.world s.asked answer s.applied
+    runs_keep out_of_memory s.asked after.world s.runs ∙ applied_keeps out_of_memory _ before.world s.asked answer s.applied
 
 resumes_keep : (out_of_memory : Bool) (w v : WorldLog) → Resumes out_of_memory w v → v.opening ≡ w.opening
 resumes_keep out_of_memory w v (inl same) = ap (λ (u : WorldLog). u.opening) same
@@ -63,12 +63,12 @@ serves_keeps out_of_memory before after r answer (inr (lacking, told, session, r
 
 -- the opening at a point of a dialogue
 module _ (out_of_memory : Bool) where
-  line_keeps : (turn : Turn) (p q : Point Script) (reply_line : List ℕ) → Answers (Serves out_of_memory) turn p reply_line q → q.caller.world.opening ≡ p.caller.world.opening
+  line_keeps : (turn : Turn) (p q : Point Script) (reply_line : List ℕ) → Answers out_of_memory (Serves out_of_memory) turn p reply_line q → q.caller.world.opening ≡ p.caller.world.opening
   line_keeps (Tells text) p q reply_line (told, same) = ap (λ (o : Point Script). o.caller.world.opening) same
   line_keeps (Calls r) p q reply_line (inl asked) = serves_keeps out_of_memory p.caller q.caller r asked.reply asked.called
   line_keeps (Calls r) p q reply_line (inr (told, same)) = ap (λ (o : Point Script). o.caller.world.opening) same
 
-  lines_keep : (lines reply_lines : List (List ℕ)) (p q : Point Script) → AnswersAll (Serves out_of_memory) lines p reply_lines q → q.caller.world.opening ≡ p.caller.world.opening
+  lines_keep : (lines reply_lines : List (List ℕ)) (p q : Point Script) → AnswersAll out_of_memory (Serves out_of_memory) lines p reply_lines q → q.caller.world.opening ≡ p.caller.world.opening
   lines_keep [] [] p q same = ap (λ (o : Point Script). o.caller.world.opening) same
   lines_keep [] (t ∷ reply_lines) p q none = absurd none
   lines_keep (line ∷ lines) [] p q none = absurd none

@@ -25,23 +25,24 @@ abbrev pub explanation_if : (explain : Bool) → Opening → (user : ℕ) → Li
 explanation_if explain opening user log = if explain then Some (log_explanation opening user log) else None
 
 -- what an audit of the user of a number gives, of a log of a world of an opening
-abbrev pub audited_of : (explain : Bool) → Opening → (user : ℕ) → List Entry → Audited
-audited_of explain opening user log = record {
+abbrev pub audited_of : (explain out_of_memory : Bool) → Opening → (user : ℕ) → List Entry → Audited
+audited_of explain out_of_memory opening user log = record {
   audit = audit_of user log;
   explanation = explanation_if explain opening user log;
+  out_of_memory = out_of_memory;
 }
 
--- a script, from how its world opens to what it is after an input: the input is read to its end, and what is reported goes nowhere
-pub record RunsTo (opening : Opening) (unread still_unread : Option (List ℕ)) (following : Script) : Type 0 where
-  pub out_of_memory : Bool
+-- a script, from how its world opens to what it is after an input: the input is read to its end, and what is reported goes nowhere;
+-- memory was missing only where it is told
+pub record RunsTo (out_of_memory : Bool) (opening : Opening) (unread still_unread : Option (List ℕ)) (following : Script) : Type 0 where
   pub lines : ℕ
   pub answered : IsAnswered out_of_memory (opened opening) following unread still_unread None None lines
 
--- an audit of the user of a number, of the log after a script over an input
+-- an audit of the user of a number, of the log after a script over an input, which also tells that memory was missing
 pub record IsAuditAfter (explain : Bool) (opening : Opening) (user : ℕ) (unread still_unread : Option (List ℕ)) (audited : Audited) : Type 0 where
   pub following : Script
-  pub runs : RunsTo opening unread still_unread following
-  pub is : audited ≡ audited_of explain opening user following.world.log
+  pub runs : RunsTo audited.out_of_memory opening unread still_unread following
+  pub is : audited ≡ audited_of explain audited.out_of_memory opening user following.world.log
 
 -- a text and a policy file open a script, and the user of a name in the file has this number
 pub record OpensFor (text policy name : List ℕ) (opening : Opening) (user : ℕ) : Type 0 where
@@ -67,7 +68,8 @@ IsOutOfMemory f = ⊥
 -- a script over an input has ended without an audit: by a fault of the reader; or at the end of the input, when out of memory
 abbrev pub EndsRunBy : Opening → (unread still_unread : Option (List ℕ)) → ServeFault → Type 0
 EndsRunBy opening unread still_unread (fault.Lines e) = IsStopped e (opened opening) unread still_unread None None
-EndsRunBy opening unread still_unread fault.NoMemory = (following : Script) × RunsTo opening unread still_unread following
+EndsRunBy opening unread still_unread fault.NoMemory =
+    (out_of_memory : Bool) × (following : Script) × RunsTo out_of_memory opening unread still_unread following
 EndsRunBy opening unread still_unread f = ⊥
 
 -- the same, or before anything was read, when out of memory

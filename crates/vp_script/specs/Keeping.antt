@@ -1,8 +1,10 @@
 -- A script that the program keeps.
-use Rattle.std.specs.Prelude.{◌≡◌, ◌⊎◌, ℕ, suc, Bool, true, List, []}
+use Rattle.std.specs.Prelude.{◌≡◌, ◌⊎◌, ℕ, suc, Bool, true, false, List, []}
 use Rattle.vp_race.specs.Segments.{FindingState}
 use Rattle.vp_answer.specs.declared.request.Request.{Request}
+use Rattle.vp_answer.specs.declared.reply.Refusal.TheVariants as refusal
 use Rattle.vp_answer.specs.declared.reply.Reply.{Reply}
+use Rattle.vp_answer.specs.declared.reply.Reply.TheVariants as reply
 use Rattle.vp_script.specs.declared.script_session.ScriptSession.{ScriptSession}
 use Rattle.vp_script.specs.Scripts.{Happen, Running, Script, Serves, ServesNow}
 use Rattle.vp_world.specs.Worlds.{WorldLog}
@@ -11,7 +13,12 @@ use Rattle.vp_world.specs.Worlds.{WorldLog}
 abbrev pub script_of : ScriptSession → Script
 script_of k = record { world = k.world; session = k.session }
 
--- a kept script's request is answered as the script serves it; that there was no memory for the simulation is remembered
+-- a reply is that there is no memory
+abbrev pub is_no_memory : Reply → Bool
+is_no_memory (reply.Error refusal.NoMemory) = true
+is_no_memory answer = false
+
+-- a kept script's request is answered as the script serves it; that memory was missing for it or for the simulation is remembered
 pub record Keeps (k : ScriptSession) (r : Request) (answer : Reply) (l : ScriptSession) : Type 0 where
   pub serves : Serves l.out_of_memory (script_of k) r answer (script_of l)
   pub out_of_memory : k.out_of_memory ≡ true → l.out_of_memory ≡ true

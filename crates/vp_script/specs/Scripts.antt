@@ -36,18 +36,18 @@ use Rattle.vp_script.specs.Designs.{IsRefusedBy}
 
 -- ---- one event
 
--- what a world does with an event, by its refusal: it answers and logs it, or reports the refusal; or there is no memory, and
+-- what a world does with an event, by its refusal: it answers and logs it, or reports the refusal; or memory was missing, and
 -- nothing happens
-abbrev pub AppliedBy : Option WorldError → WorldLog → Event → Reply → WorldLog → Type 0
-AppliedBy (Some e) w happens answer v = (answer ≡ reply.Error (refusal_of_error e)) × (v ≡ w)
-AppliedBy None w happens answer v =
+abbrev pub AppliedBy : (out_of_memory : Bool) → Option WorldError → WorldLog → Event → Reply → WorldLog → Type 0
+AppliedBy out_of_memory (Some e) w happens answer v = (answer ≡ reply.Error (refusal_of_error e)) × (v ≡ w)
+AppliedBy out_of_memory None w happens answer v =
     ((answer ≡ answered_by w happens) × (v ≡ with_entry w happens))
-    ⊎ ((answer ≡ reply.Error refusal.NoMemory) × (v ≡ w))
+    ⊎ ((out_of_memory ≡ true) × (answer ≡ reply.Error refusal.NoMemory) × (v ≡ w))
 
 -- what a world does with an event, if there is one: a request of a session that was not opened is none
-abbrev pub Applied : Option Event → WorldLog → Reply → WorldLog → Type 0
-Applied None w answer v = (answer ≡ reply.Error refusal.NotOpen) × (v ≡ w)
-Applied (Some e) w answer v = AppliedBy (refused_by w e) w e answer v
+abbrev pub Applied : (out_of_memory : Bool) → Option Event → WorldLog → Reply → WorldLog → Type 0
+Applied out_of_memory None w answer v = (answer ≡ reply.Error refusal.NotOpen) × (v ≡ w)
+Applied out_of_memory (Some e) w answer v = AppliedBy out_of_memory (refused_by w e) w e answer v
 
 -- ---- the simulation runs
 
@@ -127,14 +127,14 @@ abbrev pub session_after : Option SessionId → Reply → Option SessionId
 session_after session (reply.Opened id) = Some id
 session_after session answer = session
 
--- a script's request is answered by the world, and then the simulation runs
+-- a script's request is answered by the world, and then the simulation runs; where memory was not missing, neither lacked any
 pub record ServesNow (out_of_memory : Bool) (before : Script) (r : Request) (answer : Reply) (after : Script) : Type 0 where
   pub asked : WorldLog
-  pub applied : Applied (event_of before.session r) before.world answer asked
+  pub applied : Applied out_of_memory (event_of before.session r) before.world answer asked
   pub session : after.session ≡ session_after before.session answer
   pub runs : Runs out_of_memory asked after.world
 
--- where memory was lacking for the simulation, it goes on before the next request
+-- where memory was lacking, the simulation may go on before the next request
 abbrev pub Resumes : (out_of_memory : Bool) → WorldLog → WorldLog → Type 0
 Resumes out_of_memory w v = (v ≡ w) ⊎ ((out_of_memory ≡ true) × Runs true w v)
 
@@ -181,10 +181,11 @@ pub record IsOpened (text policy : List ℕ) (script : Script) : Type 0 where
   pub fresh : script ≡ opened (opening_of design (policy_for design.tree file))
 
 -- a script over an input has read it to the end, so many lines, and each was answered what the script answers it; and it is this script
--- after that
+-- after that. Where memory was not missing, each line was asked and reported, and after each the simulation ran until nothing happened
+-- next
 pub record IsAnswered (out_of_memory : Bool) (script following : Script) (unread still_unread held holds : Option (List ℕ)) (lines : ℕ) : Type 0 where
   pub end : Point Script
-  pub whole : IsWhole (Serves out_of_memory) unread still_unread held holds script end lines
+  pub whole : IsWhole out_of_memory (Serves out_of_memory) unread still_unread held holds script end lines
   pub closes : Closes (Serves out_of_memory) end.stage end.caller following
 
 -- the script of a text and a policy file over an input

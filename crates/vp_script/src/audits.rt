@@ -28,6 +28,8 @@ pub struct Audited {
     pub audit: Audit,
     /// Where it is asked for: what the user was shown and what came to him (docs/FORMATS.md, "What a user was shown").
     pub explanation: Option<Text>,
+    /// Memory was missing at some time: for a line, or for the simulation. Then the audit is of what happened.
+    pub out_of_memory: bool,
 }
 
 /// The audit of a user, of a kept script's log, by the design and the policy with which its world opened; or out of memory.
@@ -83,28 +85,33 @@ fn log_audited(
     script_session: &ScriptSession,
     user: UserId,
     explain: bool,
+    out_of_memory: bool,
 ) -> Result<Audited, ServeFault>
     requires right { IsRight script_session.now.world.opening }
     requires design { script_session.now.world.opening.design ≡ checked.now }
     requires policy { script_session.now.world.opening.policy ≡ policy.now }
-    ensures audited { IfOk result (λ audited. audited
-        ≡ audited_of explain script_session.now.world.opening user.0 script_session.now.world.log) }
+    ensures audited { IfOk result (λ audited. audited ≡ audited_of explain out_of_memory
+        script_session.now.world.opening user.0 script_session.now.world.log) }
     ensures refused { IsOkUnless result NoMemory }
 {
     Ok(Audited {
         audit: log_audit(alloc, checked, policy, script_session, user)?,
         explanation: log_explanation(alloc, checked, policy, script_session, user, explain)?,
+        out_of_memory,
     })
 }
 
-/// Answers the lines of a reader by a script, up to the end of the input, and reports no reply; or the fault of the reader.
+/// Answers the lines of a reader by a script, up to the end of the input, and reports no reply, but whether memory was missing; or the
+/// fault of the reader.
 fn run_to_end<R: Read>(
     alloc: Global,
     script_session: &mut ScriptSession,
     reader: &mut Counted<R>,
-) -> Result<(), ServeFault>
-    ensures ran { OnOk result ((opening : Opening) → script_of script_session.old ≡ opened opening
-        → RunsTo opening (R.remaining reader.old.inner) (R.remaining reader.new.inner)
+) -> Result<bool, ServeFault>
+    ensures ran { IfOk result (λ out_of_memory. (opening : Opening)
+        → script_of script_session.old ≡ opened opening
+        → RunsTo out_of_memory opening
+        (R.remaining reader.old.inner) (R.remaining reader.new.inner)
         (script_of script_session.new)) }
     ensures opening { OnOk result
         ((script_of script_session.new).world.opening ≡ (script_of script_session.old).world.opening) }
@@ -114,7 +121,7 @@ fn run_to_end<R: Read>(
 {
     let mut nowhere = Counted::new(io::sink());
     match answered(alloc, script_session, reader, &mut nowhere) {
-        Ok(_) => Ok(()),
+        Ok(ran) => Ok(ran.out_of_memory),
         Err(error) => Err(ServeFault::Lines(error)),
     }
 }
@@ -153,11 +160,19 @@ fn run_and_audit<R: Read>(
     ensures refused { IfErr result (λ fault. EndsRunBy (opening_of checked.now policy.now)
         (R.remaining reader.old.inner) (R.remaining reader.new.inner) fault) }
 {
-    run_to_end(alloc, script_session, reader)?;
-    log_audited(alloc, checked, policy, script_session, user, explain)
+    let out_of_memory = run_to_end(alloc, script_session, reader)?;
+    log_audited(
+        alloc,
+        checked,
+        policy,
+        script_session,
+        user,
+        explain,
+        out_of_memory,
+    )
 }
 
-/// Runs a fresh script of a design and a policy over a reader, and audits a user after it; or the fault of the reader, or want of
+/// Runs a fresh script of a design and a policy over a reader, and audits a user after it; or the fault of the reader, or out of
 /// memory, before anything was read or at the end of the input.
 fn script_audit<R: Read>(
     alloc: Global,

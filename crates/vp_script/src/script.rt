@@ -27,7 +27,7 @@ use vp_world::{Limits, World};
 pub struct Ran {
     /// How many lines were read.
     pub lines: u64,
-    /// At some time there was no memory to let the simulation run on.
+    /// Memory was missing at some time: a line was answered so, or the simulation could not run on.
     pub out_of_memory: bool,
 }
 
@@ -116,7 +116,7 @@ pub(crate) fn answered<R: Read, W: Write>(
     match session(alloc, reader, writer, script_session) {
         Ok(ended) => Ok(Ran {
             lines: ended.lines,
-            out_of_memory: script_session.is_out_of_memory(),
+            out_of_memory: script_session.is_out_of_memory_or(ended.out_of_memory),
         }),
         Err(error) => Err(error),
     }

@@ -7,8 +7,8 @@ ghost use Rattle.vp_world.specs.declared.event.Event.TheVariants as event;
 ghost use Rattle.vp_elab.specs.Built.{Elaborated};
 ghost use Rattle.vp_world.specs.declared.error.WorldError.TheVariants.{NoMemory};
 ghost use Rattle.vp_world.specs.Events.{IsWellFormed};
-ghost use Rattle.vp_script.specs.Keeping.{GoesOn, GoesOnBy, Keeps, KeepsNow};
-ghost use Rattle.vp_script.specs.Scripts.{Applied, Resumes, Runs, event_of, next_event, seed_count, step_limit, with_event_if};
+ghost use Rattle.vp_script.specs.Keeping.{GoesOn, GoesOnBy, Keeps, KeepsNow, is_no_memory};
+ghost use Rattle.vp_script.specs.Scripts.{Applied, Resumes, Runs, event_of, next_event, seed_count, session_after, step_limit, with_event_if};
 ghost use Rattle.vp_world.specs.History.{Applies, IsLegal, refused_by, state_after, with_entry};
 
 use std::alloc::{AllocError, Global};
@@ -44,7 +44,7 @@ fn event_of(session: Option<SessionId>, request: Request) -> Option<Event>
 /// What a world answers to an event, if there is one, or says where it refuses it.
 fn applied(world: &mut World, event: Option<Event>) -> Reply
     requires { IfSome event (IsWellFormed world.old.opening.design) }
-    ensures { Applied event world.old result world.new }
+    ensures { Applied (is_no_memory result) event world.old result world.new }
 {
     let Some(event) = event else {
         return Reply::Error(Refusal::NotOpen);
@@ -53,6 +53,23 @@ fn applied(world: &mut World, event: Option<Event>) -> Reply
         Ok(reply) => reply,
         Err(error) => Reply::Error(Refusal::from(error)),
     }
+}
+
+/// The session of a script after a reply: the one that was opened, if one was.
+fn session_after(session: Option<SessionId>, reply: &Reply) -> Option<SessionId>
+    ensures { result ≡ session_after session reply.now }
+{
+    match reply {
+        Reply::Opened(opened) => Some(*opened),
+        _ => session,
+    }
+}
+
+/// The reply is that there is no memory.
+fn is_no_memory(reply: &Reply) -> bool
+    ensures { result ≡ is_no_memory reply.now }
+{
+    matches!(reply, Reply::Error(Refusal::NoMemory))
 }
 
 /// Lets the next event of the simulation happen: the first that a step can take, or, where nothing is left to do at the current
@@ -261,26 +278,26 @@ impl ScriptSession {
         self.world.log()
     }
 
-    /// Answers a request, and then lets the simulation run.
+    /// Answers a request, and then lets the simulation run. That there was no memory for it or for the simulation is remembered.
     fn answer(&mut self, request: Request) -> Reply
         ensures { KeepsNow self.old request result self.new }
     {
         let event = event_of(self.session, request);
         let reply = applied(&mut self.world, event);
-        if let Reply::Opened(session) = &reply {
-            self.session = Some(*session);
-        }
+        self.out_of_memory = self.is_out_of_memory_or(is_no_memory(&reply));
+        self.session = session_after(self.session, &reply);
         if run(self.alloc, &mut self.world).is_err() {
             self.out_of_memory = true;
         }
         reply
     }
 
-    /// At some time there was no memory to let the simulation run on.
-    pub fn is_out_of_memory(&self) -> bool
-        ensures { result ≡ self.now.out_of_memory }
+    /// At some time there was no memory for a request or to let the simulation run on; or memory was missing elsewhere.
+    pub fn is_out_of_memory_or(&self, elsewhere: bool) -> bool
+        ensures here { self.now.out_of_memory ≡ true → result ≡ true }
+        ensures elsewhere { elsewhere ≡ true → result ≡ true }
     {
-        self.out_of_memory
+        elsewhere || self.out_of_memory
     }
 }
 

@@ -35,14 +35,19 @@ fn print_refused<R: Print + Eprint>(rt: &R, refused: &Failure) -> io::Result<Exi
     Ok(ExitCode::FAILURE)
 }
 
-/// Prints the fault that ended a run, if one did; the status is 1 then. That there was no memory to let the simulation run on is
-/// reported on standard error.
+/// Reports on standard error that memory was missing at some time, if it was.
+fn report_memory<R: Eprint>(rt: &R, out_of_memory: bool) -> io::Result<()> {
+    if out_of_memory {
+        rt.eprint("there was no memory for a line or to let the simulation run on\n")?;
+    }
+    Ok(())
+}
+
+/// Prints the fault that ended a run, if one did; the status is 1 then. That memory was missing is reported on standard error.
 fn run_status<R: Print + Eprint>(rt: &R, ran: Result<Ran, Failure>) -> io::Result<ExitCode> {
     match ran {
         Ok(ran) => {
-            if ran.out_of_memory {
-                rt.eprint("there was no memory to let the simulation run on\n")?;
-            }
+            report_memory(rt, ran.out_of_memory)?;
             Ok(ExitCode::SUCCESS)
         }
         Err(refused) => print_refused(rt, &refused),
@@ -77,17 +82,24 @@ fn print_audit<R: Print>(rt: &R, audit: Audit) -> io::Result<ExitCode> {
     })
 }
 
-/// Prints what an audit gives, of which the explanation is reported on standard error, or the fault for which there is none; the status is
-/// that of the audit, or 1.
+/// Prints what an audit gives, of which the explanation is reported on standard error, and that memory was missing; or the fault for which
+/// there is none. The status is that of the audit, or 1.
 fn audit_status<R: Print + Eprint>(
     rt: &R,
     audited: Result<Audited, Failure>,
 ) -> io::Result<ExitCode> {
     match audited {
-        Ok(Audited { audit, explanation }) => {
+        Ok(
+            Audited {
+                audit,
+                explanation,
+                out_of_memory,
+            },
+        ) => {
             if let Some(text) = explanation {
                 rt.eprint(text.as_str())?;
             }
+            report_memory(rt, out_of_memory)?;
             print_audit(rt, audit)
         }
         Err(refused) => print_refused(rt, &refused),

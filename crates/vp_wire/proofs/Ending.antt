@@ -15,7 +15,7 @@ use Rattle.vp_wire.specs.declared.dialogue.Stage.TheVariants.{Before}
 use Rattle.vp_wire.specs.declared.error.WireError.TheVariants as fault
 use Rattle.vp_wire.specs.Dialogue.{AreWhole, IsDialogue, IsOut, IsWhole, Point, Stops, lines_of, turn_of}
 use Rattle.vp_wire.specs.Reading.{IsBegun, Progress, AnswersLine}
-use Rattle.vp_wire.proofs.Answering.{answers_more, concat_more}
+use Rattle.vp_wire.proofs.Answering.{answers_all, answers_more, concat_more}
 use Rattle.vp_wire.proofs.Parting.{lines_ended, lines_open, parts_more, whole_by_parts}
 
 -- ---- the end of the input
@@ -35,7 +35,7 @@ ended_lines input lines (b ∷ bs) cut h =
 pub none_begun : {C : Type 0} {calls : C → Request → Reply → C → Type 0} {unread still_unread held holds : Option (List ℕ)} {first now : C} (d : Dialogue) (begins : Bool)
     → Progress calls unread still_unread held holds first d now None → IsAtEnd still_unread
     → ((begun : List ℕ) → IsBegun d.line begun → begins ≡ nat_lt 0 (length begun)) → begins ≡ false
-    → IsWhole calls unread still_unread held holds first (record { stage = d.stage; caller = now }) d.lines
+    → IsWhole d.out_of_memory calls unread still_unread held holds first (record { stage = d.stage; caller = now }) d.lines
 none_begun d begins p at_end tells none = record {
   dialogue = record {
     input = p.input;
@@ -56,9 +56,9 @@ none_begun d begins p at_end tells none = record {
 pub last_begun : {C T E : Type 0} {calls : C → Request → Reply → C → Type 0} {unread still_unread held mid holds : Option (List ℕ)} {first before now : C} (d e : Dialogue) (begins : Bool) (result : Result T E)
     → Progress calls unread still_unread held mid first d before None → IsAtEnd still_unread
     → ((begun : List ℕ) → IsBegun d.line begun → begins ≡ nat_lt 0 (length begun)) → begins ≡ true
-    → ((begun : List ℕ) → IsBegun d.line begun → AnswersLine calls (turn_of d.stage begun) (record { stage = d.stage; caller = before }) (record { stage = e.stage; caller = now }) result mid holds)
+    → ((begun : List ℕ) → IsBegun d.line begun → AnswersLine d.out_of_memory e.out_of_memory calls (turn_of d.stage begun) (record { stage = d.stage; caller = before }) (record { stage = e.stage; caller = now }) result mid holds)
     → e.lines ≡ d.lines + 1
-    → MatchResult result (λ u. IsWhole calls unread still_unread held holds first (record { stage = e.stage; caller = now }) e.lines) (λ x. Stops fault.WriteFault calls unread still_unread held holds first (record { stage = e.stage; caller = now }))
+    → MatchResult result (λ u. IsWhole e.out_of_memory calls unread still_unread held holds first (record { stage = e.stage; caller = now }) e.lines) (λ x. Stops fault.WriteFault calls unread still_unread held holds first (record { stage = e.stage; caller = now }))
 last_begun {calls = calls} {held = held} {mid = mid} {holds = holds} d e begins (Ok x) p at_end is_begun some tells one =
     let t = tells p.begun p.is_begun in
     record {
@@ -68,7 +68,7 @@ last_begun {calls = calls} {held = held} {mid = mid} {holds = holds} d e begins 
         lines = p.lines ++ p.begun ∷ [];
         are_its = sym (begun_lines p.input p.lines p.begun p.cut (sym (is_begun p.begun p.is_begun) ∙ some));
         reply_lines = p.reply_lines ++ t.reply_line ∷ [];
-        answers = answers_more calls p.lines p.begun _ _ _ p.reply_lines t.reply_line p.answers t.answers;
+        answers = answers_more _ _ calls p.lines p.begun _ _ _ p.reply_lines t.reply_line t.remembered p.answers t.answers;
         written = concat p.reply_lines ++ t.reply_line;
         is_out = sym (concat_more p.reply_lines t.reply_line);
         appended = Appends-trans held mid holds (concat p.reply_lines) t.reply_line p.appended t.writes;
@@ -85,17 +85,17 @@ last_begun {calls = calls} {held = held} {mid = mid} {holds = holds} d e begins 
       lines = p.lines ++ p.begun ∷ [];
       are_its = ([], inr (at_end, all ∙ sym (append-nil (p.lines ++ p.begun ∷ []))));
       reply_lines = p.reply_lines ++ t.reply_line ∷ [];
-      answers = answers_more calls p.lines p.begun _ _ _ p.reply_lines t.reply_line p.answers t.answers;
+      answers = answers_all _ calls _ _ _ _ (answers_more _ _ calls p.lines p.begun _ _ _ p.reply_lines t.reply_line t.remembered p.answers t.answers);
       written = concat p.reply_lines ++ t.writes.0;
       is_out = inr (p.reply_lines, t.reply_line, t.writes.0, refl, t.writes.1, refl);
       appended = Appends-trans held mid holds (concat p.reply_lines) t.writes.0 p.appended t.writes.2;
     }
 
 -- what was written at the end is handed on, unless the writer fails
-pub handed_on : {C T E : Type 0} {calls : C → Request → Reply → C → Type 0} {unread still_unread held mid : Option (List ℕ)} (holds : Option (List ℕ)) {first : C} (end : Point C) (answered : ℕ) (result : Result T E)
-    → IsWhole calls unread still_unread held mid first end answered → Keeps mid holds
-    → MatchResult result (λ u. IsWhole calls unread still_unread held holds first end answered) (λ x. Stops fault.WriteFault calls unread still_unread held holds first end)
-handed_on {held = held} {mid = mid} holds end answered (Ok x) w kept = record {
+pub handed_on : {C T E : Type 0} {calls : C → Request → Reply → C → Type 0} {unread still_unread held mid : Option (List ℕ)} (holds : Option (List ℕ)) {first : C} (out_of_memory : Bool) (end : Point C) (answered : ℕ) (result : Result T E)
+    → IsWhole out_of_memory calls unread still_unread held mid first end answered → Keeps mid holds
+    → MatchResult result (λ u. IsWhole out_of_memory calls unread still_unread held holds first end answered) (λ x. Stops fault.WriteFault calls unread still_unread held holds first end)
+handed_on {held = held} {mid = mid} holds out_of_memory end answered (Ok x) w kept = record {
   dialogue = record {
     input = w.dialogue.input;
     read = w.dialogue.read;
@@ -110,13 +110,13 @@ handed_on {held = held} {mid = mid} holds end answered (Ok x) w kept = record {
   at_end = w.at_end;
   count = w.count;
 }
-handed_on {held = held} {mid = mid} holds end answered (Err x) w kept = record {
+handed_on {calls = calls} {held = held} {mid = mid} holds out_of_memory end answered (Err x) w kept = record {
   input = w.dialogue.input;
   read = w.dialogue.read;
   lines = w.dialogue.lines;
   are_its = ([], inr (w.at_end, sym w.dialogue.are_its ∙ sym (append-nil w.dialogue.lines)));
   reply_lines = w.dialogue.reply_lines;
-  answers = w.dialogue.answers;
+  answers = answers_all _ calls _ _ _ _ w.dialogue.answers;
   written = w.dialogue.written;
   is_out = inl w.dialogue.is_out;
   appended = Appends-kept held mid holds w.dialogue.written w.dialogue.appended kept;
@@ -141,13 +141,13 @@ handed {held = held} {mid = mid} holds d (Ok x) p kept = record {
   appended = Appends-kept held mid holds (concat p.reply_lines) p.appended kept;
   count = p.count;
 }
-handed {held = held} {mid = mid} holds d (Err x) p kept = record {
+handed {calls = calls} {held = held} {mid = mid} holds d (Err x) p kept = record {
   input = p.input;
   read = p.read;
   lines = p.lines;
   are_its = ([], inl (whole_by_parts p.input p.lines p.begun p.cut ∙ sym (append-nil p.lines)));
   reply_lines = p.reply_lines;
-  answers = p.answers;
+  answers = answers_all _ calls _ _ _ _ p.answers;
   written = concat p.reply_lines;
   is_out = inl refl;
   appended = Appends-kept held mid holds (concat p.reply_lines) p.appended kept;
@@ -212,14 +212,14 @@ read_end mid still_unread buffer counted n is none some bytes end =
 -- where it stops between two reads, the whole lines were answered
 pub stopped : {C : Type 0} {calls : C → Request → Reply → C → Type 0} {unread still_unread held holds : Option (List ℕ)} {first now : C} (d : Dialogue)
     → Progress calls unread still_unread held holds first d now None
-    → IsDialogue calls AreWhole IsOut unread still_unread held holds first (record { stage = d.stage; caller = now })
-stopped d p = record {
+    → IsDialogue true calls AreWhole IsOut unread still_unread held holds first (record { stage = d.stage; caller = now })
+stopped {calls = calls} d p = record {
   input = p.input;
   read = p.read;
   lines = p.lines;
   are_its = sym (whole_by_parts p.input p.lines p.begun p.cut);
   reply_lines = p.reply_lines;
-  answers = p.answers;
+  answers = answers_all _ calls _ _ _ _ p.answers;
   written = concat p.reply_lines;
   is_out = refl;
   appended = p.appended;

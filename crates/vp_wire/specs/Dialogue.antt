@@ -103,30 +103,35 @@ pub record Point (C : Type 0) : Type 0 where
   pub stage : Stage
   pub caller : C
 
--- what is written to report a line: that line, or, where memory runs out, the one that says so
-abbrev pub IsReplyLine : List ℕ → List ℕ → Type 0
-IsReplyLine line reply_line = (reply_line ≡ line) ⊎ (reply_line ≡ error_line (codes "no memory"))
+-- it is answered that there is no memory, which may be only where memory was missing
+abbrev pub IsNoMemory : (out_of_memory : Bool) → List ℕ → Type 0
+IsNoMemory out_of_memory reply_line = (out_of_memory ≡ true) × (reply_line ≡ error_line (codes "no memory"))
+
+-- what is written to report a line: that line, or, where memory was missing, the one that says so
+abbrev pub IsReplyLine : (out_of_memory : Bool) → List ℕ → List ℕ → Type 0
+IsReplyLine out_of_memory line reply_line = (reply_line ≡ line) ⊎ IsNoMemory out_of_memory reply_line
 
 -- a caller is asked, from one point of a dialogue to the next: its reply is reported, and opens or closes the session
-pub record Asked {C : Type 0} (calls : C → Request → Reply → C → Type 0) (r : Request) (p : Point C) (reply_line : List ℕ) (q : Point C) : Type 0 where
+pub record Asked {C : Type 0} (out_of_memory : Bool) (calls : C → Request → Reply → C → Type 0) (r : Request) (p : Point C) (reply_line : List ℕ) (q : Point C) : Type 0 where
   pub reply : Reply
   pub called : calls p.caller r reply q.caller
-  pub is_reply_line : IsReplyLine (line_of reply) reply_line
+  pub is_reply_line : IsReplyLine out_of_memory (line_of reply) reply_line
   pub stage : q.stage ≡ stage_after p.stage r reply
 
 -- a line is answered, from one point of a dialogue to the next: by its error, or by the caller's reply, who is not asked where
--- there is no memory for the request
-abbrev pub Answers : {C : Type 0} → (C → Request → Reply → C → Type 0) → Turn → Point C → List ℕ → Point C → Type 0
-Answers calls (Tells text) p reply_line q = IsReplyLine (error_line text) reply_line × (q ≡ p)
-Answers calls (Calls r) p reply_line q = Asked calls r p reply_line q ⊎ ((reply_line ≡ error_line (codes "no memory")) × (q ≡ p))
+-- memory was missing for the request
+abbrev pub Answers : {C : Type 0} → (out_of_memory : Bool) → (C → Request → Reply → C → Type 0) → Turn → Point C → List ℕ → Point C → Type 0
+Answers out_of_memory calls (Tells text) p reply_line q = IsReplyLine out_of_memory (error_line text) reply_line × (q ≡ p)
+Answers out_of_memory calls (Calls r) p reply_line q =
+    Asked out_of_memory calls r p reply_line q ⊎ (IsNoMemory out_of_memory reply_line × (q ≡ p))
 
--- lines are answered in turn, each by one text
-abbrev pub AnswersAll : {C : Type 0} → (C → Request → Reply → C → Type 0) → List (List ℕ) → Point C → List (List ℕ) → Point C → Type 0
-AnswersAll calls [] p [] q = q ≡ p
-AnswersAll calls [] p (reply_line ∷ more) q = ⊥
-AnswersAll calls (line ∷ lines) p [] q = ⊥
-AnswersAll {C} calls (line ∷ lines) p (reply_line ∷ more) q =
-    (next : Point C) × Answers calls (turn_of p.stage line) p reply_line next × AnswersAll calls lines next more q
+-- lines are answered in turn, each by one text; where memory was not missing, each was asked and reported
+abbrev pub AnswersAll : {C : Type 0} → (out_of_memory : Bool) → (C → Request → Reply → C → Type 0) → List (List ℕ) → Point C → List (List ℕ) → Point C → Type 0
+AnswersAll out_of_memory calls [] p [] q = q ≡ p
+AnswersAll out_of_memory calls [] p (reply_line ∷ more) q = ⊥
+AnswersAll out_of_memory calls (line ∷ lines) p [] q = ⊥
+AnswersAll {C} out_of_memory calls (line ∷ lines) p (reply_line ∷ more) q =
+    (next : Point C) × Answers out_of_memory calls (turn_of p.stage line) p reply_line next × AnswersAll out_of_memory calls lines next more q
 
 -- at the end of a dialogue an open session is closed, and that reply is not reported
 abbrev pub Closes : {C : Type 0} → (C → Request → Reply → C → Type 0) → Stage → C → C → Type 0
@@ -164,7 +169,7 @@ IsCutShort reply_lines written = (written ≡ concat reply_lines) ⊎ ((before :
 
 -- a dialogue from a caller to a point: what was read of a reader, the lines of that which were answered, what was reported to them,
 -- and what of that went out of a writer
-pub record IsDialogue {C : Type 0} (calls : C → Request → Reply → C → Type 0)
+pub record IsDialogue {C : Type 0} (out_of_memory : Bool) (calls : C → Request → Reply → C → Type 0)
     (are_lines : List ℕ → List (List ℕ) → Type 0) (goes_out : List (List ℕ) → List ℕ → Type 0)
     (unread still_unread held holds : Option (List ℕ)) (caller : C) (end : Point C) : Type 0 where
   pub input : List ℕ
@@ -172,24 +177,25 @@ pub record IsDialogue {C : Type 0} (calls : C → Request → Reply → C → Ty
   pub lines : List (List ℕ)
   pub are_its : are_lines input lines
   pub reply_lines : List (List ℕ)
-  pub answers : AnswersAll calls lines (record { stage = Before; caller = caller }) reply_lines end
+  pub answers : AnswersAll out_of_memory calls lines (record { stage = Before; caller = caller }) reply_lines end
   pub written : List ℕ
   pub is_out : goes_out reply_lines written
   pub appended : Appends held holds written
 
 -- a dialogue that read its input to the end, and answered so many lines: all
-pub record IsWhole {C : Type 0} (calls : C → Request → Reply → C → Type 0)
+pub record IsWhole {C : Type 0} (out_of_memory : Bool) (calls : C → Request → Reply → C → Type 0)
     (unread still_unread held holds : Option (List ℕ)) (caller : C) (end : Point C) (answered : ℕ) : Type 0 where
-  pub dialogue : IsDialogue calls AreAll IsOut unread still_unread held holds caller end
+  pub dialogue : IsDialogue out_of_memory calls AreAll IsOut unread still_unread held holds caller end
   pub at_end : IsAtEnd still_unread
   pub count : answered ≡ length dialogue.lines
 
 -- a dialogue that ended by a fault: at one of the reader, and at too many reads, its whole lines were answered; at one of the
--- writer, those up to the one whose answer did not go out, and a line that has only begun was not, unless it was the last of all
+-- writer, those up to the one whose answer did not go out, and a line that has only begun was not, unless it was the last of all;
+-- memory may have been missing
 abbrev pub Stops : {C : Type 0} → WireError → (C → Request → Reply → C → Type 0) → (unread still_unread held holds : Option (List ℕ)) → C → Point C → Type 0
-Stops fault.ReadFault calls unread still_unread held holds caller end = IsDialogue calls AreWhole IsOut unread still_unread held holds caller end
-Stops fault.TurnLimit calls unread still_unread held holds caller end = IsDialogue calls AreWhole IsOut unread still_unread held holds caller end
-Stops fault.WriteFault calls unread still_unread held holds caller end = IsDialogue calls (AreFirst still_unread) IsCutShort unread still_unread held holds caller end
+Stops fault.ReadFault calls unread still_unread held holds caller end = IsDialogue true calls AreWhole IsOut unread still_unread held holds caller end
+Stops fault.TurnLimit calls unread still_unread held holds caller end = IsDialogue true calls AreWhole IsOut unread still_unread held holds caller end
+Stops fault.WriteFault calls unread still_unread held holds caller end = IsDialogue true calls (AreFirst still_unread) IsCutShort unread still_unread held holds caller end
 Stops fault.LineTooLong calls unread still_unread held holds caller end = ⊥
 Stops fault.BadJson calls unread still_unread held holds caller end = ⊥
 Stops fault.BadRequest calls unread still_unread held holds caller end = ⊥

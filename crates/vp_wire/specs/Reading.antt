@@ -56,10 +56,25 @@ abbrev pub Writes : {T E : Type 0} → Result T E → List ℕ → Option (List 
 Writes (Ok x) reply_line held holds = Appends held holds reply_line
 Writes (Err e) reply_line held holds = (front : List ℕ) × IsFront front reply_line × Appends held holds front
 
--- a line is answered and written, from one point to the next
-pub record AnswersLine {C T E : Type 0} (calls : C → Request → Reply → C → Type 0) (turn : Turn) (p q : Point C) (result : Result T E) (held holds : Option (List ℕ)) : Type 0 where
+-- an error is that there is no memory
+abbrev pub is_no_memory : LineError → Bool
+is_no_memory error.NoMemory = true
+is_no_memory e = false
+
+-- a line is answered so
+abbrev pub lacks_memory : {V : Type 0} → Result V LineError → Bool
+lacks_memory (Ok line) = false
+lacks_memory (Err e) = is_no_memory e
+
+-- what was true stays so
+abbrev pub StaysTrue : Bool → Bool → Type 0
+StaysTrue before now = before ≡ true → now ≡ true
+
+-- a line is answered and written, from one point to the next; that memory was missing, before or for it, is remembered
+pub record AnswersLine {C T E : Type 0} (before now : Bool) (calls : C → Request → Reply → C → Type 0) (turn : Turn) (p q : Point C) (result : Result T E) (held holds : Option (List ℕ)) : Type 0 where
   pub reply_line : List ℕ
-  pub answers : Answers calls turn p reply_line q
+  pub remembered : StaysTrue before now
+  pub answers : Answers now calls turn p reply_line q
   pub writes : Writes result reply_line held holds
 
 -- ---- how far a dialogue has come
@@ -85,7 +100,7 @@ pub record Progress {C : Type 0} (calls : C → Request → Reply → C → Type
   pub no_newline : parts 10 begun ≡ begun ∷ []
   pub is_begun : IsBegun d.line begun
   pub reply_lines : List (List ℕ)
-  pub answers : AnswersAll calls lines (record { stage = Before; caller = caller }) reply_lines (record { stage = d.stage; caller = now })
+  pub answers : AnswersAll d.out_of_memory calls lines (record { stage = Before; caller = caller }) reply_lines (record { stage = d.stage; caller = now })
   pub appended : Appends held holds (concat reply_lines)
   pub count : d.lines ≡ length lines
 
@@ -103,9 +118,9 @@ Takes {C} calls d before e now mid holds bytes result remaining =
 abbrev pub Finishes : {C T E : Type 0} → (C → Request → Reply → C → Type 0) → (d : Dialogue) → C → (e : Dialogue) → C → (mid holds : Option (List ℕ)) → Result T E → Type 0
 Finishes {C} calls d before e now mid holds result =
     (first : C) → (unread still_unread held : Option (List ℕ)) → Progress calls unread still_unread held mid first d before None → IsAtEnd still_unread
-    → MatchResult result (λ x. IsWhole calls unread still_unread held holds first (point_of e now) e.lines) (λ x. Stops fault.WriteFault calls unread still_unread held holds first (point_of e now))
+    → MatchResult result (λ x. IsWhole e.out_of_memory calls unread still_unread held holds first (point_of e now) e.lines) (λ x. Stops fault.WriteFault calls unread still_unread held holds first (point_of e now))
 
 -- where a dialogue is after one more read: it goes on, or its input has ended
 abbrev pub Goes : {C : Type 0} → Bool → (C → Request → Reply → C → Type 0) → (unread still_unread held holds : Option (List ℕ)) → C → Dialogue → C → Type 0
 Goes false calls unread still_unread held holds caller d now = Progress calls unread still_unread held holds caller d now None
-Goes true calls unread still_unread held holds caller d now = IsWhole calls unread still_unread held holds caller (point_of d now) d.lines
+Goes true calls unread still_unread held holds caller d now = IsWhole d.out_of_memory calls unread still_unread held holds caller (point_of d now) d.lines

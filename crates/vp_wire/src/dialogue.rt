@@ -4,7 +4,7 @@ ghost use Rattle.vp_answer.specs.declared.request.Request.{Request};
 ghost use Rattle.vp_answer.specs.declared.reply.Reply.{Reply};
 ghost use Rattle.vp_wire.specs.Dialogue.{Answers, Asked, Closes, IsDialogue, IsWhole, Point, Stops, is_grant, is_opening, stage_after, turn_of, turn_of_request};
 ghost use Rattle.vp_wire.specs.Failures.{failures_after, one_more, reader_failures, writer_failures};
-ghost use Rattle.vp_wire.specs.Reading.{Finishes, Goes, IsBegun, Progress, Takes, AnswersLine, is_closing, point_of, remaining_size, reply_text, turn_by};
+ghost use Rattle.vp_wire.specs.Reading.{Finishes, Goes, IsBegun, Progress, Takes, AnswersLine, is_closing, lacks_memory, point_of, remaining_size, reply_text, turn_by};
 
 use crate::counted::{Counted, Failed};
 use crate::error::WireError;
@@ -36,6 +36,8 @@ pub trait Caller {
 pub struct Ended {
     /// How many lines were read.
     pub lines: u64,
+    /// A line was answered that there is no memory: for its request or for its reply's line.
+    pub out_of_memory: bool,
 }
 
 /// How far a dialogue's session is.
@@ -104,8 +106,9 @@ fn ask<C: Caller>(
     request: Request,
     caller: &mut C,
 ) -> (Stage, Result<Vec<u8>, LineError>)
-    ensures { Asked C.calls request (record { stage = stage; caller = caller.old })
-        (reply_text vec_items result.1) (record { stage = result.0; caller = caller.new }) }
+    ensures { Asked (lacks_memory result.1) C.calls request
+        (record { stage = stage; caller = caller.old }) (reply_text vec_items result.1)
+        (record { stage = result.0; caller = caller.new }) }
 {
     let opens = is_opening(&request);
     let closes = is_closing(&request);
@@ -124,6 +127,7 @@ struct Dialogue {
     stage: Stage,
     lines: u64,
     line: Line,
+    out_of_memory: bool,
 }
 
 impl Dialogue {
@@ -137,16 +141,19 @@ impl Dialogue {
             stage: Stage::Before,
             lines: 0,
             line: Line::new(alloc),
+            out_of_memory: false,
         }
     }
 
     /// What the line that was read is answered. The next line begins.
     fn reply_line<C: Caller>(&mut self, caller: &mut C) -> Result<Vec<u8>, LineError>
         ensures reply { (line : List ℕ) → IsBegun self.old.line line
-            → Answers C.calls (turn_of self.old.stage line) (point_of self.old caller.old)
-            (reply_text vec_items result) (point_of self.new caller.new) }
+            → Answers (lacks_memory result) C.calls (turn_of self.old.stage line)
+            (point_of self.old caller.old) (reply_text vec_items result)
+            (point_of self.new caller.new) }
         ensures begun { IsBegun self.new.line [] }
         ensures lines { self.new.lines ≡ self.old.lines }
+        ensures out_of_memory { self.new.out_of_memory ≡ self.old.out_of_memory }
     {
         let turn = self.line.turn(self.alloc, self.stage);
         self.line.begin();
@@ -159,7 +166,7 @@ impl Dialogue {
         line
     }
 
-    /// Answers the line that was read, and begins the next.
+    /// Answers the line that was read, and begins the next. Where it is answered that there is no memory, that is remembered.
     fn answer<W: Write, C: Caller>(
         &mut self,
         writer: &mut Counted<W>,
@@ -167,7 +174,8 @@ impl Dialogue {
     ) -> Result<(), Failed>
         requires { self.old.lines + 1 < 2 ^ 64 }
         ensures reply { (line : List ℕ) → IsBegun self.old.line line
-            → AnswersLine C.calls (turn_of self.old.stage line) (point_of self.old caller.old)
+            → AnswersLine self.old.out_of_memory self.new.out_of_memory C.calls
+            (turn_of self.old.stage line) (point_of self.old caller.old)
             (point_of self.new caller.new) result (W.contents writer.old.inner)
             (W.contents writer.new.inner) }
         ensures begun { IsBegun self.new.line [] }
@@ -177,7 +185,10 @@ impl Dialogue {
         self.lines += 1;
         match self.reply_line(caller) {
             Ok(line) => writer.write(&line),
-            Err(error) => writer.write(error.line()),
+            Err(error) => {
+                self.out_of_memory = error.is_no_memory_or(self.out_of_memory);
+                writer.write(error.line())
+            }
         }
     }
 
@@ -330,7 +341,8 @@ impl Dialogue {
         ensures goes { (first : C) → (unread held : Option (List ℕ))
             → Progress C.calls unread (R.remaining reader.old.inner) held
             (W.contents writer.old.inner) first self.old caller.old None
-            → MatchResult result (λ u. IsWhole C.calls unread (R.remaining reader.new.inner) held
+            → MatchResult result (λ u. IsWhole self.new.out_of_memory C.calls unread
+            (R.remaining reader.new.inner) held
             (W.contents writer.new.inner) first (point_of self.new caller.new) self.new.lines)
             (λ e. Stops e C.calls unread (R.remaining reader.new.inner) held
             (W.contents writer.new.inner) first (point_of self.new caller.new)) }
@@ -370,7 +382,8 @@ pub fn session<R: Read, W: Write, C: Caller>(
 ) -> Result<Ended, WireError>
     ensures ok { IfOk result
         (λ ended. (end : Point C)
-        × IsWhole C.calls (R.remaining reader.old.inner) (R.remaining reader.new.inner)
+        × IsWhole ended.out_of_memory C.calls
+        (R.remaining reader.old.inner) (R.remaining reader.new.inner)
         (W.contents writer.old.inner) (W.contents writer.new.inner) caller.old end ended.lines
         × Closes C.calls end.stage end.caller caller.new) }
     ensures fault { IfErr result
@@ -389,6 +402,7 @@ pub fn session<R: Read, W: Write, C: Caller>(
     match ended {
         Ok(()) => Ok(Ended {
             lines: dialogue.lines,
+            out_of_memory: dialogue.out_of_memory,
         }),
         Err(error) => Err(error),
     }

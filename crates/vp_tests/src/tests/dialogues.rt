@@ -137,7 +137,7 @@ impl Held {
     }
 }
 
-/// Holds the dialogue of a reader and a writer.
+/// Holds the dialogue of a reader and a writer; the code is 1507 where memory was missing for a line.
 fn hold<R: Read + Drop>(alloc: Global, reader: R, writer: BrokenWriter) -> Held {
     let mut reader = Counted::new(reader);
     let mut writer = Counted::new(writer);
@@ -145,6 +145,7 @@ fn hold<R: Read + Drop>(alloc: Global, reader: R, writer: BrokenWriter) -> Held 
         asked: Vec::new(alloc),
     };
     let (code, lines) = match session(alloc, &mut reader, &mut writer, &mut caller) {
+        Ok(ended) if ended.out_of_memory => (1507, ended.lines),
         Ok(ended) => (0, ended.lines),
         Err(fault) => (fault.code(), 0),
     };

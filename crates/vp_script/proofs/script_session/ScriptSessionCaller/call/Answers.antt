@@ -1,6 +1,4 @@
-use Rattle.std.proofs.Common.{◌≡◌, rules, true}
-use Rattle.std.specs.Prelude.{OnErr, OnOk, is_err}
-use Rattle.vp_script.specs.Scripts.{Resumes, Runs}
+use Rattle.std.proofs.Common.{rules}
 use Rattle.vp_script.proofs.Serving.{if_err, if_ok, not_served, served_on}
 use Rattle.vp_script.proofs.script_session.ScriptSessionCaller.call.Goals as goal
 

@@ -5,7 +5,7 @@ use Rattle.vp_wire.proofs.dialogue.Dialogue.finish.Goals as goal
 
 pub returns-clause-whole : goal.returns-clause-whole
 returns-clause-whole g c = λ first unread still_unread held p at_end.
-    handed_on _ _ c.answer_last.new.self.lines c.flush.result ((c.in_ok-answer_last.ensures {u = tt}).whole first unread still_unread held p at_end) c.flush.ensures.bytes
+    handed_on _ c.answer_last.new.self.out_of_memory _ c.answer_last.new.self.lines c.flush.result ((c.in_ok-answer_last.ensures {u = tt}).whole first unread still_unread held p at_end) c.flush.ensures.bytes
 
 pub returns-in_err-answer_last-clause-whole : goal.returns-in_err-answer_last-clause-whole
 returns-in_err-answer_last-clause-whole g c = λ first unread still_unread held p at_end.
