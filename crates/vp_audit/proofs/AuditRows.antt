@@ -193,14 +193,14 @@ changes = refl
 abbrev names : SeenNode → List (List ℕ)
 names node = map (λ s. s.name) node.path
 
--- her grant shows the reg of the envelope, with its value as it is then
+-- her grant shows the reg of the envelope, with its value as it is then, and no value that she could read before
 granted_names :
     map (λ g. map names g.view.nodes) (filter_map (λ i. i.granted) (projection opening 0 log).items)
     ≡ ((codes "top" ∷ []) ∷ (codes "top" ∷ codes "a" ∷ []) ∷ (codes "top" ∷ codes "k" ∷ []) ∷ []) ∷ []
 unfolding digits is_utf8 chars encode sizes_in tables_of effect_at
 granted_names = refl
 
-granted_values : map (λ g. g.values) (filter_map (λ i. i.granted) (projection opening 0 log).items) ≡ (None ∷ Some (One ∷ []) ∷ Some (One ∷ []) ∷ []) ∷ []
+granted_values : map (λ g. g.values) (filter_map (λ i. i.granted) (projection opening 0 log).items) ≡ (None ∷ None ∷ Some (One ∷ []) ∷ []) ∷ []
 unfolding digits is_utf8 chars encode sizes_in tables_of effect_at
 granted_values = refl
 

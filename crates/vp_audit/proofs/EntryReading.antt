@@ -55,7 +55,7 @@ same_items own_event own_event' granted granted' change change' time time' finis
 
 -- what goes to him of a change of his grants by the event, and the reading after the entry
 pub record Leaves (u : ℕ) (opening : Opening) (s : State) (known : List Bool) (e : Entry) (granted : Option GrantItem) (mid : LogReader) : Type 0 where
-  pub item : granted ≡ option_map (granted_of u (after opening s e.event) known (known_after u s (after opening s e.event) known e.event)) (regrant_of u s.policy e.event)
+  pub item : granted ≡ option_map (granted_of u s (after opening s e.event) known (known_after u s (after opening s e.event) known e.event)) (regrant_of u s.policy e.event)
   pub reading : followed mid e ≡ reading_of u (after opening s e.event) (known_after u s (after opening s e.event) known e.event)
 
 module _ (opening : Opening) (u : ℕ) (s : State) (known : List Bool) (e : Entry) (goes : Continues opening s e) where
@@ -69,7 +69,7 @@ module _ (opening : Opening) (u : ℕ) (s : State) (known : List Bool) (e : Entr
       let knows : known_after u s following known e.event ≡ known =
       ap (λ (g : Option GrantChange). option_map_or (λ x. known_also following.run.design.tree (member_at following.policy.members u) known following.run.design.tree.nodes) g known) same in
       record {
-        item = none ∙ sym (ap (option_map (granted_of u following known (known_after u s following known e.event))) same);
+        item = none ∙ sym (ap (option_map (granted_of u s following known (known_after u s following known e.event))) same);
         reading = ap (λ (r : LogReader). followed r e) reads ∙ ap (followed (reading_of u s known)) goes.entry ∙ followed_is opening u s known e.event n ∙ ap (reading_of u following) (sym knows);
       }
 
@@ -80,7 +80,7 @@ module _ (opening : Opening) (u : ℕ) (s : State) (known : List Bool) (e : Entr
       let t = after opening s (event.Grant change) in
       let now = known_after u s t known (event.Grant change) in
       record {
-        item = grants.item ∙ ap (λ (x : Event). option_map (granted_of u (after opening s x) known (known_after u s (after opening s x) known x)) (regrant_of u s.policy x)) (sym is);
+        item = grants.item ∙ ap (λ (x : Event). option_map (granted_of u s (after opening s x) known (known_after u s (after opening s x) known x)) (regrant_of u s.policy x)) (sym is);
         reading = ap (λ (r : LogReader). followed r e) grants.reading ∙ ap (followed (reading_of u t now)) (goes.entry ∙ ap (entry_of opening s) is)
             ∙ ap (λ (x : Event). reading_of u (after opening s x) (known_after u s (after opening s x) known x)) (sym is);
       }

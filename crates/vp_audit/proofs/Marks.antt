@@ -12,8 +12,8 @@ use Rattle.vp_policy.proofs.Views.{listed_scopes}
 use Rattle.vp_sim.specs.States as sim
 use Rattle.vp_expr.specs.declared.change.Change.{Change}
 use Rattle.vp_replay.specs.Known.{known_also, known_index}
-use Rattle.vp_audit.specs.Projections.{change_seen, is_followed, moved_numbers, number_in, values_seen}
-use Rattle.vp_audit.specs.Readings.{either_marked, value_of}
+use Rattle.vp_audit.specs.Projections.{change_seen, is_followed, moved_numbers, number_in, values_but}
+use Rattle.vp_audit.specs.Readings.{either_marked, value_but}
 
 -- of the marked objects from a number on, something of each
 abbrev pub over_marked : {X : Type 0} → ℕ → (marks : List Bool) → (ℕ → X) → List X
@@ -84,12 +84,12 @@ over_is f n (false ∷ known) =
     next : (n k : ℕ) → n + suc k ≡ (n + 1) + k
     next n k = omega arith
 
--- the values of the known objects that a user may read
-pub values_are : (run : sim.State) (u : Member) (known : List Bool) → values_seen run u known ≡ over_marked 0 known (value_of run.design.tree run.values u)
-values_are run u known =
-    map_like (λ k. value_of run.design.tree run.values u (known_index known k)) (λ k. value_of run.design.tree run.values u (0 + known_index known k)) (below (length (marked known known)))
-    (λ k. ap (value_of run.design.tree run.values u) (at_first (known_index known k)))
-    ∙ over_is (value_of run.design.tree run.values u) 0 known
+-- the values of the known objects that a user may read, but for those that are marked
+pub values_are : (marks : List Bool) (run : sim.State) (u : Member) (known : List Bool) → values_but marks run u known ≡ over_marked 0 known (value_but marks run.design.tree run.values u)
+values_are marks run u known =
+    map_like (λ k. value_but marks run.design.tree run.values u (known_index known k)) (λ k. value_but marks run.design.tree run.values u (0 + known_index known k)) (below (length (marked known known)))
+    (λ k. ap (value_but marks run.design.tree run.values u) (at_first (known_index known k)))
+    ∙ over_is (value_but marks run.design.tree run.values u) 0 known
   where
     at_first : (k : ℕ) → k ≡ 0 + k
     at_first k = omega arith

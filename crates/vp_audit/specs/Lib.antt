@@ -3,4 +3,6 @@ pub mod Explanation
 pub mod Openings
 pub mod Projections
 pub mod Readings
+pub mod GoesTo
+pub mod UserParts
 pub mod laws

@@ -1,5 +1,5 @@
 -- What of a log goes to a user.
-use Rattle.std.specs.Prelude.{ℕ, zero, suc, ◌==◌, ◌&&◌, ◌||◌, Bool, true, false, if◌then◌else◌, List, [], ◌∷◌, length, map, slice_index_or, Option, Some, None, is_none, is_some, option_map}
+use Rattle.std.specs.Prelude.{ℕ, zero, suc, ◌==◌, ◌&&◌, ◌||◌, Bool, true, false, if◌then◌else◌, List, [], ◌∷◌, length, map, slice_get, slice_index_or, Option, Some, None, is_none, is_some, option_map, unwrap_or}
 use Rattle.std.specs.List.{cons_option, filter_map}
 use Rattle.std.specs.Option.{option_map_or}
 use Rattle.vp_bits.specs.declared.bit.Bit.{Bit}
@@ -9,7 +9,7 @@ use Rattle.vp_elab.specs.Tree.{Tree, below}
 use Rattle.vp_policy.specs.Filter.{denial_at}
 use Rattle.vp_policy.specs.PolicyState.{PolicyState}
 use Rattle.vp_policy.specs.Users.{Member, member_at, user_of}
-use Rattle.vp_policy.specs.View.{View, known_view, listed_marks, marked}
+use Rattle.vp_policy.specs.View.{known_view, listed_marks, marked}
 use Rattle.vp_sim.specs.States as sim
 use Rattle.vp_expr.specs.declared.change.Change.{Change}
 use Rattle.vp_vpi.specs.declared.races.ShownRace.{ShownRace}
@@ -30,7 +30,6 @@ use Rattle.vp_replay.specs.declared.item.GrantItem.{GrantItem}
 use Rattle.vp_replay.specs.declared.item.Item.{Item}
 use Rattle.vp_replay.specs.declared.item.OwnEvent.{OwnEvent}
 use Rattle.vp_replay.specs.declared.item.OwnEvent.TheVariants.{Asks, Closes, Opens}
-use Rattle.vp_replay.specs.Parts.{Part}
 
 -- ---- numbers
 
@@ -48,12 +47,28 @@ moved_numbers known now = map (λ k. option_map_or (λ n. n) (number_in now (kno
 
 -- ---- what a user may know of it
 
+-- the value of the known object of a number, if it has one and a user may read it
+abbrev pub value_seen : sim.State → Member → (known : List Bool) → (number : ℕ) → Option (List Bit)
+value_seen run u known k =
+    if is_readable (kind_at run.design.tree (known_index known k)) && is_none (denial_at run.design.tree u right.Read (known_index known k))
+    then Some (slice_index_or run.values (known_index known k) (Unknown ∷ [])) else None
+
+-- the values of the known objects that a user may read, but for the objects that are marked
+abbrev pub values_but : (marks : List Bool) → sim.State → Member → (known : List Bool) → List (Option (List Bit))
+values_but marks run u known =
+    map (λ k. if unwrap_or (slice_get marks (known_index known k)) false then None else value_seen run u known k) (below (length (marked known known)))
+
 -- the values of the known objects that a user may read
 abbrev pub values_seen : sim.State → Member → (known : List Bool) → List (Option (List Bit))
-values_seen run u known =
-    map (λ k. if is_readable (kind_at run.design.tree (known_index known k)) && is_none (denial_at run.design.tree u right.Read (known_index known k))
-    then Some (slice_index_or run.values (known_index known k) (Unknown ∷ [])) else None)
-    (below (length (marked known known)))
+values_seen run u known = values_but [] run u known
+
+-- a user knows an object and may read it
+abbrev pub is_read : Tree → Member → (known : List Bool) → ℕ → Bool
+is_read tree u known o = unwrap_or (slice_get known o) false && is_none (denial_at tree u right.Read o)
+
+-- of each object whether a user knows it and may read it
+abbrev pub read_marks : Tree → Member → (known : List Bool) → List Bool
+read_marks tree u known = map (is_read tree u known) (below (length known))
 
 -- a user may read or watch an object
 abbrev pub is_followed : Tree → Member → ℕ → Bool
@@ -98,14 +113,15 @@ abbrev pub known_after : (user : ℕ) → (before following : State) → (known 
 known_after u s t known e =
     option_map_or (λ g. known_also t.run.design.tree (member_at t.policy.members u) known t.run.design.tree.nodes) (regrant_of u s.policy e) known
 
--- what goes to him of a change of his grants
-abbrev pub granted_of : (user : ℕ) → (following : State) → (known now : List Bool) → GrantChange → GrantItem
-granted_of u t known now change = record {
+-- what goes to him of a change of his grants: the new view, in which each object that he knew has a number, the present values of what he may
+-- newly read, and the races that he is shown now
+abbrev pub granted_of : (user : ℕ) → (before following : State) → (known now : List Bool) → GrantChange → GrantItem
+granted_of u s t known now change = record {
   envelope = change.envelope;
   access = change.access;
   view = known_view t.run.design (member_at t.policy.members u) now;
   moved = moved_numbers known now;
-  values = values_seen t.run (member_at t.policy.members u) now;
+  values = values_but (read_marks s.run.design.tree (member_at s.policy.members u) known) t.run (member_at t.policy.members u) now;
   races = races_seen t.run.design.tree (member_at t.policy.members u) t.book;
 }
 
@@ -129,7 +145,7 @@ race_of_event tree u e = None
 abbrev pub item_of : (user : ℕ) → (before following : State) → (known now : List Bool) → Entry → Item
 item_of u s t known now e = record {
   own_event = own_of u e.event e.reply;
-  granted = option_map (granted_of u t known now) (regrant_of u s.policy e.event);
+  granted = option_map (granted_of u s t known now) (regrant_of u s.policy e.event);
   change = change_seen s.run.design.tree (member_at s.policy.members u) known e.change;
   time = other_number s.run.time e.time;
   finished = other_flag s.run.finished e.finished;

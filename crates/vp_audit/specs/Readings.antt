@@ -1,5 +1,5 @@
 -- What is kept of a world while its log is read for one user.
-use Rattle.std.specs.Prelude.{◌≡◌, ℕ, ◌∷◌, [], ◌++◌, ◌||◌, ◌&&◌, if◌then◌else◌, Bool, List, None, Option, Some, Result, IfOk, OnOk, is_none, option_map, slice_index_or}
+use Rattle.std.specs.Prelude.{◌≡◌, ℕ, ◌∷◌, [], ◌++◌, ◌||◌, ◌&&◌, if◌then◌else◌, Bool, false, List, None, Option, Some, Result, IfOk, OnOk, is_none, option_map, slice_get, slice_index_or, unwrap_or}
 use Rattle.vp_bits.specs.declared.bit.Bit.{Bit}
 use Rattle.vp_bits.specs.declared.bit.Bit.TheVariants.{Unknown}
 use Rattle.vp_pragma.specs.declared.rights.Right.TheVariants as right
@@ -63,6 +63,10 @@ abbrev pub value_of : Tree → (values : List (List Bit)) → Member → ℕ →
 value_of tree values u o =
     if is_readable (kind_at tree o) && is_none (denial_at tree u right.Read o) then Some (slice_index_or values o (Unknown ∷ [])) else None
 
+-- the value of an object, if it has one and a user may read it, unless it is marked
+abbrev pub value_but : (marks : List Bool) → Tree → (values : List (List Bit)) → Member → ℕ → Option (List Bit)
+value_but marks tree values u o = if unwrap_or (slice_get marks o) false then None else value_of tree values u o
+
 -- the races of a book after an event
 abbrev pub book_after : List FindingState → Event → List FindingState
 book_after book (event.Book finding) = book ++ finding ∷ []
@@ -79,7 +83,7 @@ followed r e = record r {
 
 -- what goes to a user of a change of a grant, and the reading after it
 pub record Grants (u : ℕ) (s t : State) (known : List Bool) (change : GrantChange) (result : Result (Option GrantItem) AuditError) (r : LogReader) : Type 0 where
-  pub item : IfOk result (λ g. g ≡ option_map (granted_of u t known (known_after u s t known (event.Grant change))) (regrant_of u s.policy (event.Grant change)))
+  pub item : IfOk result (λ g. g ≡ option_map (granted_of u s t known (known_after u s t known (event.Grant change))) (regrant_of u s.policy (event.Grant change)))
   pub reading : OnOk result (r ≡ reading_of u t (known_after u s t known (event.Grant change)))
 
 -- what goes to a user of an entry, and the reading after it

@@ -8,5 +8,6 @@ pub mod Moved
 pub mod Promise
 pub mod Openings
 pub mod Logs
+pub mod Following
 pub mod Taken
 pub mod Traces

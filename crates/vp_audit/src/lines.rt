@@ -16,7 +16,8 @@ use vp_wire::reply_text;
 
 /// Adds the line of a reply after a word.
 fn push_reply(alloc: Global, text: &mut String, reply: &Reply) -> Result<(), AllocError>
-    ensures { OnOk result (string_bytes text.new ≡ string_bytes text.old ++ 32 ∷ line_of reply.now) }
+    ensures { OnOk result
+        (string_bytes text.new ≡ string_bytes text.old ++ 32 ∷ line_of reply.now) }
 {
     let Ok(line) = reply_text(alloc, reply) else {
         return Err(AllocError);
@@ -38,7 +39,8 @@ fn push_origin(text: &mut String, brought: Option<u64>) -> Result<(), AllocError
 
 /// Adds the line for what the user was shown.
 fn push_explained(alloc: Global, text: &mut String, explained: &Explained) -> Result<(), AllocError>
-    ensures { OnOk result (string_bytes text.new ≡ string_bytes text.old ++ explained_line explained.now) }
+    ensures { OnOk result (string_bytes text.new
+        ≡ string_bytes text.old ++ explained_line explained.now) }
 {
     let number = explained.item;
     write!(text, "{number} told")?;
@@ -143,7 +145,8 @@ fn push_own<'a>(
 ) -> Result<&'a [Explained], AllocError>
     ensures text { OnOk result (string_bytes text.new
         ≡ string_bytes text.old ++ own_line item.now.own_event explained.now) }
-    ensures rest { IfOk result (λ rest. rest.now ≡ explained_after item.now.own_event explained.now) }
+    ensures rest { IfOk result
+        (λ rest. rest.now ≡ explained_after item.now.own_event explained.now) }
 {
     if item.own_event.is_none() {
         return Ok(explained);

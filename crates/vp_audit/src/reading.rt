@@ -14,8 +14,8 @@ ghost use Rattle.vp_world.specs.History.{after, refusal_of};
 ghost use Rattle.vp_world.specs.Worlds.{Opening, State, start};
 ghost use Rattle.vp_replay.specs.declared.error.AuditError.TheVariants.{NoMemory};
 ghost use Rattle.vp_replay.specs.Known.{known_also};
-ghost use Rattle.vp_audit.specs.Projections.{change_seen, granted_of, is_followed, item_if, known_at_first, moved_numbers, other_flag, other_number, own_of, race_of_event, values_seen};
-ghost use Rattle.vp_audit.specs.Readings.{Continues, Grants, Reads, either_marked, followed, reading_of, value_of};
+ghost use Rattle.vp_audit.specs.Projections.{change_seen, granted_of, is_followed, is_read, item_if, known_at_first, moved_numbers, other_flag, other_number, own_of, race_of_event, read_marks, values_but, values_seen};
+ghost use Rattle.vp_audit.specs.Readings.{Continues, Grants, Reads, either_marked, followed, reading_of, value_but, value_of};
 
 use std::alloc::{AllocError, Global};
 use std::marker::Model;
@@ -342,6 +342,17 @@ impl<'a> LogReader<'a> {
         }
     }
 
+    /// The value of an object, if it has one and he may read it, unless it is marked.
+    fn value_but(&self, marks: &[bool], object: ObjectId) -> Option<Bits>
+        ensures { let member : Member = member_at self.now.policy.members self.now.user in
+            result ≡ value_but marks.now self.now.design.tree self.now.values member object.0 }
+    {
+        if is_marked(marks, object.0) {
+            return None;
+        }
+        self.value_seen(object)
+    }
+
     /// The values of the objects that he knows, of those that have one and that he may read. Takes memory.
     pub fn values_seen(&self) -> Result<Sequence<Option<Bits>>, AllocError>
         ensures { (run : sim.State) → run.design ≡ self.now.design
@@ -349,13 +360,44 @@ impl<'a> LogReader<'a> {
             → let member : Member = member_at self.now.policy.members self.now.user in
             IfOk result (λ values. values ≡ values_seen run member self.now.known) }
     {
+        self.values_but(&[])
+    }
+
+    /// The same, but for those that are marked.
+    fn values_but(&self, marks: &[bool]) -> Result<Sequence<Option<Bits>>, AllocError>
+        ensures { (run : sim.State) → run.design ≡ self.now.design
+            → run.values ≡ self.now.values
+            → let member : Member = member_at self.now.policy.members self.now.user in
+            IfOk result (λ values. values ≡ values_but marks.now run member self.now.known) }
+    {
         let mut values = Vec::new(self.alloc);
         for number in 0..self.design.count() {
             if is_marked(&self.known, number) {
-                values.push(self.value_seen(ObjectId(number)))?;
+                values.push(self.value_but(marks, ObjectId(number)))?;
             }
         }
         Ok(Sequence::from_vec(values))
+    }
+
+    /// He knows an object and may read it.
+    fn is_read(&self, object: ObjectId) -> bool
+        ensures { let member : Member = member_at self.now.policy.members self.now.user in
+            result ≡ is_read self.now.design.tree member self.now.known object.0 }
+    {
+        is_marked(&self.known, object.0) && !self.policy.is_denied(self.user, object, Right::Read)
+    }
+
+    /// Of each object whether he knows it and may read it. Takes memory.
+    fn read_marks(&self) -> Result<Vec<bool>, AllocError>
+        ensures { let member : Member = member_at self.now.policy.members self.now.user in
+            IfOk result (λ marks. marks.items
+            ≡ read_marks self.now.design.tree member self.now.known) }
+    {
+        let mut marks = Vec::new(self.alloc);
+        for number in 0..self.design.count() {
+            marks.push(self.is_read(ObjectId(number)))?;
+        }
+        Ok(marks)
     }
 
     /// A user's grant for an envelope is from now on what an operator orders. Nothing changes where no envelope has the number. Refused for
@@ -398,12 +440,20 @@ impl<'a> LogReader<'a> {
         Ok(std::mem::replace(&mut self.known, known))
     }
 
-    /// What goes to him of a change of his grants, after it, where he knew these objects before it. Refused when out of memory (1307).
-    fn granted(&self, before: &[bool], change: &GrantChange) -> Result<GrantItem, AuditError>
+    /// What goes to him of a change of his grants, after it, where he knew these objects before it and could read those. Refused when out
+    /// of memory (1307).
+    fn granted(
+        &self,
+        before: &[bool],
+        was_read: &[bool],
+        change: &GrantChange,
+    ) -> Result<GrantItem, AuditError>
         requires { length before.now ≡ length self.now.known }
-        ensures granted { (t : State) → self.now ≡ reading_of self.now.user t self.now.known
+        ensures granted { (s t : State) → self.now ≡ reading_of self.now.user t self.now.known
+            → (let member : Member = member_at s.policy.members self.now.user in
+            was_read.now ≡ read_marks s.run.design.tree member before.now)
             → IfOk result (λ granted. granted
-            ≡ granted_of self.now.user t before.now self.now.known change.now) }
+            ≡ granted_of self.now.user s t before.now self.now.known change.now) }
         ensures refused { IsOkUnless result NoMemory }
     {
         let view = self
@@ -417,7 +467,7 @@ impl<'a> LogReader<'a> {
             access: change.access.copy(),
             view,
             moved: moved_numbers(self.alloc, self.design, before, &self.numbers)?,
-            values: self.values_seen()?,
+            values: self.values_but(was_read)?,
             races: seen_races(self.alloc, self.design, &self.policy, self.user, &self.book)?,
         })
     }
@@ -434,12 +484,13 @@ impl<'a> LogReader<'a> {
         let Some(grantee) = self.policy.user(change.user.as_str()) else {
             return Ok(None);
         };
+        let was_read = self.read_marks()?;
         self.regrant(grantee, change)?;
         if grantee.0 != self.user.0 {
             return Ok(None);
         }
         let before = self.learn()?;
-        let granted = self.granted(&before, change)?;
+        let granted = self.granted(&before, &was_read, change)?;
         Ok(Some(Shared::new(self.alloc, granted)?))
     }
 

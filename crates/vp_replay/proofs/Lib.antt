@@ -8,5 +8,6 @@ pub mod EachObject
 pub mod Writing
 pub mod OutlineRows
 pub mod Filling
+pub mod Keeping
 pub mod Moving
 pub mod PartSteps

@@ -1,6 +1,7 @@
 -- What a user was shown, and with which item of what goes to him each value came.
-use Rattle.std.specs.Prelude.{ℕ, ◌+◌, Bool, false, true, if◌then◌else◌, List, [], ◌∷◌, map, slice_get, slice_set, Option, Some, None, option_and_then, option_map}
+use Rattle.std.specs.Prelude.{ℕ, ◌+◌, Bool, false, true, if◌then◌else◌, List, [], ◌∷◌, map, slice_get, slice_index_or, slice_set, Option, Some, None, is_some, option_and_then, option_map}
 use Rattle.std.specs.List.{cons_option}
+use Rattle.vp_bits.specs.declared.bit.Bit.{Bit}
 use Rattle.vp_expr.specs.declared.change.Change.{Change}
 use Rattle.vp_vpi.specs.SessionStates.{object_of}
 use Rattle.vp_answer.specs.declared.query.Query.TheVariants as query
@@ -9,9 +10,19 @@ use Rattle.vp_answer.specs.declared.reply.Reply.TheVariants as reply
 pub use Rattle.vp_replay.specs.declared.explaining.Explained.{Explained}
 use Rattle.vp_replay.specs.Parts.{Asks, GrantItem, Item, OwnEvent, Part, part_after, reply_of, session_in}
 
--- the numbers of the items with which the values of the known objects last came, after the item of a number: a change of grants brings all of them
+-- numbers, where the object of a number has this one if no value of it came
+abbrev pub with_number : (came : List (Option (List Bit))) → List ℕ → ℕ → ℕ → List ℕ
+with_number came numbers n number = if is_some (slice_index_or came n None) then numbers else slice_set numbers n number
+
+-- numbers of items after a change of grants, whose values came so: of each object that was known before, where none came, the number that it had
+abbrev pub numbers_kept : (moved : List ℕ) → (came : List (Option (List Bit))) → (brought numbers : List ℕ) → List ℕ
+numbers_kept [] came brought numbers = numbers
+numbers_kept (n ∷ moved) came [] numbers = numbers
+numbers_kept (n ∷ moved) came (b ∷ brought) numbers = numbers_kept moved came brought (with_number came numbers n b)
+
+-- the numbers of the items with which the values of the known objects last came, after the item of a number
 abbrev pub brought_by : (number : ℕ) → (brought : List ℕ) → Option GrantItem → Option Change → List ℕ
-brought_by number brought (Some g) change = map (λ v. number) g.values
+brought_by number brought (Some g) change = numbers_kept g.moved g.values brought (map (λ v. number) g.values)
 brought_by number brought None (Some c) = slice_set brought c.object.0 number
 brought_by number brought None None = brought
 

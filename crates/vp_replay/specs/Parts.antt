@@ -110,13 +110,28 @@ races_after races (Some race) = races ++ race ∷ []
 abbrev pub granted_session : GrantItem → OpenSessionState → OpenSessionState
 granted_session g t = moved_session (moved_to g.moved (length g.view.nodes)) (λ o. is_some (denied_seen g.view right.Watch o)) t
 
+-- the value that came of an object; where none came, what was known of it
+abbrev pub come_or_known : (came known : Option (List Bit)) → Option (List Bit)
+come_or_known (Some bits) known = Some bits
+come_or_known None known = known
+
+-- values that came, where the object of a number has this one if none came of it
+abbrev pub with_known : List (Option (List Bit)) → ℕ → Option (List Bit) → List (Option (List Bit))
+with_known came n known = slice_set came n (come_or_known (slice_index_or came n None) known)
+
+-- the values after a change of grants: those that came with it; of each object that was known before, where none came, what was known of it
+abbrev pub granted_values : (moved : List ℕ) → (known came : List (Option (List Bit))) → List (Option (List Bit))
+granted_values [] known came = came
+granted_values (n ∷ moved) [] came = came
+granted_values (n ∷ moved) (v ∷ known) came = granted_values moved known (with_known came n v)
+
 -- the part after a change of grants
 abbrev pub part_granted : Part → GrantItem → Part
 part_granted p g = record {
   view = g.view;
   opens = p.opens;
   sessions = map (granted_session g) p.sessions;
-  values = g.values;
+  values = granted_values g.moved p.values g.values;
   time = p.time;
   finished = p.finished;
   races = g.races;

@@ -1,14 +1,15 @@
 // What a user was shown, and with which item of what goes to him each value came.
 ghost use Rattle.std.specs.Prelude.{◌≡◌, IfErr, IfOk, OnOk, map, option_map, option_and_then, slice_get, true};
-ghost use Rattle.vp_replay.specs.Explained.{brought_by, explained, explained_from, is_value, value_asked};
-ghost use Rattle.vp_replay.specs.Faults.{MayRefuse};
+ghost use Rattle.vp_replay.specs.Explained.{brought_by, explained, explained_from, is_value, numbers_kept, value_asked, with_number};
+ghost use Rattle.vp_replay.specs.Faults.{MayRefuse, TakesUp};
 ghost use Rattle.vp_replay.specs.Parts.{part_after, takes, takes_all, first_part};
 
 use crate::error::AuditError;
-use crate::item::{Item, OwnEvent, Projection};
+use crate::item::{GrantItem, Item, OwnEvent, Projection};
 use crate::part::Part;
 use std::alloc::{AllocError, Global};
 use vp_answer::Reply;
+use vp_bits::Bits;
 use vp_policy::View;
 use vp_text::Sequence;
 
@@ -31,20 +32,60 @@ fn is_value(reply: &Reply) -> bool
 
 /// The number of the item with which the value last came that an event of his own asks, if it asks one.
 fn asked_of(part: &Part<'_>, brought: &[u64], own_event: &OwnEvent) -> Option<u64>
-    ensures { result ≡ option_and_then (slice_get brought.now) (value_asked part.now own_event.now) }
+    ensures { result
+        ≡ option_and_then (slice_get brought.now) (value_asked part.now own_event.now) }
 {
     let object = part.value_asked(own_event)?;
     brought.get(object.0 as usize).copied()
 }
 
-/// Notes which values come with the item of a number. Takes memory where it is a change of grants.
+/// The object of a number has the number of the item with which its value came, where none came now.
+fn keep_number(numbers: &mut Vec<u64>, came: &[Option<Bits>], object: u32, number: u64)
+    ensures { numbers.new.items ≡ with_number came.now numbers.old.items object number }
+{
+    if let Some(Some(_)) = came.get(object as usize) {
+        return;
+    }
+    if let Some(kept) = numbers.get_mut(object as usize) {
+        *kept = number;
+    }
+}
+
+/// Each object that was known before has the number of the item with which its value came, under its own number now, where none came now.
+fn keep_numbers(numbers: &mut Vec<u64>, granted: &GrantItem, brought: &[u64])
+    ensures { numbers.new.items ≡ numbers_kept granted.now.moved granted.now.values brought.now
+        numbers.old.items }
+{
+    let came = granted.values.as_slice();
+    for (object, number) in granted.moved.as_slice().iter().zip(brought) {
+        keep_number(numbers, came, *object, *number);
+    }
+}
+
+/// The numbers of the items with which the values came, after a change of grants, which is the item of a number. Takes memory.
 #[tactic(auto, using(crate::proofs::Filling::fill_is))]
+fn granted_numbers(
+    alloc: Global,
+    number: u64,
+    granted: &GrantItem,
+    brought: &[u64],
+) -> Result<Vec<u64>, AllocError>
+    ensures { IfOk result (λ numbers. numbers.items
+        ≡ numbers_kept granted.now.moved granted.now.values brought.now
+        (map (λ v. number) granted.now.values)) }
+{
+    let mut numbers = vec![in alloc; number; granted.values.len()]?;
+    keep_numbers(&mut numbers, granted, brought);
+    Ok(numbers)
+}
+
+/// Notes which values come with the item of a number. Takes memory where it is a change of grants.
 fn bring(alloc: Global, brought: &mut Vec<u64>, number: u64, item: &Item) -> Result<(), AllocError>
     ensures { OnOk result (brought.new.items
         ≡ brought_by number brought.old.items item.now.granted item.now.change) }
 {
     if let Some(granted) = &item.granted {
-        *brought = vec![in alloc; number; granted.value().values.len()]?;
+        *brought = granted_numbers(alloc, number, granted.value(), brought)?;
         return Ok(());
     }
     if let Some(change) = &item.change {
@@ -107,8 +148,7 @@ fn explain_items<'a>(
 ) -> Result<Sequence<Explained>, AuditError>
     ensures explained { IfOk result (λ explained. explained
         ≡ explained_from 1 brought.old.items part.old items.now) }
-    ensures accepted { OnOk result (takes_all part.old items.now ≡ true) }
-    ensures refused { IfErr result (MayRefuse (takes_all part.old items.now)) }
+    ensures taken { TakesUp (takes_all part.old items.now) result }
 {
     let mut explained = Vec::new(alloc);
     for (index, item) in items.iter().enumerate() {
@@ -131,10 +171,8 @@ pub fn explain_projection<'a>(
     ensures explained { IfOk result (λ explained. explained
         ≡ explained_from 1 (map (λ v. 0) projection.now.values)
         (first_part view.now projection.now.values) projection.now.items) }
-    ensures accepted { OnOk result
-        (takes_all (first_part view.now projection.now.values) projection.now.items ≡ true) }
-    ensures refused { IfErr result
-        (MayRefuse (takes_all (first_part view.now projection.now.values) projection.now.items)) }
+    ensures taken { let part = first_part view.now projection.now.values in
+        TakesUp (takes_all part projection.now.items) result }
 {
     let mut part = Part::new(alloc, view, projection.values.as_slice())?;
     let mut brought = vec![in alloc; 0; projection.values.len()]?;

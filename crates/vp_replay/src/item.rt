@@ -28,7 +28,7 @@ pub struct GrantItem {
     pub view: View,
     /// Of each object that he knew before, by its number, the number there.
     pub moved: Sequence<u32>,
-    /// By their numbers there, the values of the objects that he may read.
+    /// By their numbers there, the present values of the objects that he may newly read; none of the others.
     pub values: Sequence<Option<Bits>>,
     /// The races that he is shown then.
     pub races: Sequence<Shared<ShownRace>>,

@@ -5,7 +5,7 @@ ghost use Rattle.vp_notify.specs.Registry.{is_unwatchable};
 ghost use Rattle.vp_answer.specs.OpenSessions.{notified_session};
 ghost use Rattle.vp_replay.specs.Explained.{value_asked};
 ghost use Rattle.vp_replay.specs.Faults.{MayRefuse};
-ghost use Rattle.vp_replay.specs.Parts.{part_after, part_after_entry, part_granted, races_after, reply_of, takes, takes_grant, takes_own, values_after, with_own, first_part};
+ghost use Rattle.vp_replay.specs.Parts.{granted_values, part_after, part_after_entry, part_granted, races_after, reply_of, takes, takes_grant, takes_own, values_after, with_known, with_own, first_part};
 ghost use Rattle.vp_replay.specs.declared.item.OwnEvent.TheVariants as own_event;
 ghost use Rattle.vp_replay.specs.Seen.{denied_seen};
 
@@ -84,6 +84,24 @@ fn set_value(values: &mut Vec<Option<Bits>>, object: ObjectId, value: Bits)
     }
 }
 
+/// The object of a number has a value that was known of it, where none came.
+fn keep_value(values: &mut Vec<Option<Bits>>, number: u32, known: Option<Bits>)
+    ensures { values.new.items ≡ with_known values.old.items number known }
+{
+    if let Some(value) = values.get_mut(number as usize) {
+        *value = value.or(known);
+    }
+}
+
+/// Each object that was known before has the value that was known of it, under its number now, where none came.
+fn keep_values(values: &mut Vec<Option<Bits>>, moved: &[u32], known: &[Option<Bits>])
+    ensures { values.new.items ≡ granted_values moved.now known.now values.old.items }
+{
+    for (number, value) in moved.iter().zip(known) {
+        keep_value(values, *number, *value);
+    }
+}
+
 impl<'a> Part<'a> {
     /// The part of a world in which nothing has happened, of a user who sees this and may read these values. Takes memory.
     pub fn new(
@@ -127,10 +145,12 @@ impl<'a> Part<'a> {
 
     /// A session of his asks.
     fn ask(&mut self, id: SessionId, query: &Query) -> Result<Reply, AuditError>
-        ensures reply { IfOk result (λ reply. reply ≡ reply_of self.old (own_event.Asks id query.now)) }
+        ensures reply { IfOk result
+            (λ reply. reply ≡ reply_of self.old (own_event.Asks id query.now)) }
         ensures after { OnOk result (self.new ≡ with_own self.old (own_event.Asks id query.now)) }
         ensures accepted { OnOk result (takes_own self.old (own_event.Asks id query.now) ≡ true) }
-        ensures refused { IfErr result (MayRefuse (takes_own self.old (own_event.Asks id query.now))) }
+        ensures refused { IfErr result
+            (MayRefuse (takes_own self.old (own_event.Asks id query.now))) }
     {
         let Some(index) = session_index(&self.sessions, id) else {
             return Err(AuditError::NotOpen);
@@ -222,8 +242,9 @@ impl<'a> Part<'a> {
             return Err(AuditError::NotOpen);
         }
         let rights = watch_rights(self.alloc, &granted.view)?;
-        let values = Vec::from_slice(self.alloc, granted.values.as_slice())?;
+        let mut values = Vec::from_slice(self.alloc, granted.values.as_slice())?;
         let races = copied_races(self.alloc, granted.races.as_slice())?;
+        keep_values(&mut values, moved, &self.values);
         renumber_sessions(&mut self.sessions, moved, &rights);
         self.view = &granted.view;
         self.values = values;
@@ -234,7 +255,8 @@ impl<'a> Part<'a> {
     /// What of an entry of the log goes to him is taken up; an event of his own is answered. Refused where it goes to nobody so (1303),
     /// and when out of memory (1307), which leaves the part as it may be.
     pub fn take(&mut self, item: &'a Item) -> Result<Option<Reply>, AuditError>
-        ensures reply { IfOk result (λ reply. reply ≡ option_map (reply_of self.old) item.now.own_event) }
+        ensures reply { IfOk result
+            (λ reply. reply ≡ option_map (reply_of self.old) item.now.own_event) }
         ensures after { OnOk result (self.new ≡ part_after self.old item.now) }
         ensures accepted { OnOk result (takes self.old item.now ≡ true) }
         ensures refused { IfErr result (MayRefuse (takes self.old item.now)) }

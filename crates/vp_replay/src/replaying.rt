@@ -1,6 +1,6 @@
 // What a user was shown, by what he sees and what of the log goes to him (docs/DEFINITIONS.md, "What a user can know").
-ghost use Rattle.std.specs.Prelude.{◌≡◌, IfErr, IfOk, OnOk, true};
-ghost use Rattle.vp_replay.specs.Faults.{MayRefuse};
+ghost use Rattle.std.specs.Prelude.{◌≡◌, IfOk};
+ghost use Rattle.vp_replay.specs.Faults.{TakesUp};
 ghost use Rattle.vp_replay.specs.Parts.{replies_from, takes_all, first_part};
 
 use crate::error::AuditError;
@@ -20,10 +20,8 @@ pub fn replay_projection<'a>(
 ) -> Result<Sequence<Reply>, AuditError>
     ensures replies { IfOk result (λ replies. replies
         ≡ replies_from (first_part view.now projection.now.values) projection.now.items) }
-    ensures accepted { OnOk result
-        (takes_all (first_part view.now projection.now.values) projection.now.items ≡ true) }
-    ensures refused { IfErr result
-        (MayRefuse (takes_all (first_part view.now projection.now.values) projection.now.items)) }
+    ensures taken { let part = first_part view.now projection.now.values in
+        TakesUp (takes_all part projection.now.items) result }
 {
     let mut part = Part::new(alloc, view, projection.values.as_slice())?;
     let mut replies = Vec::new(alloc);

@@ -1,6 +1,6 @@
 -- A user's part after a change of a grant.
-use Rattle.std.proofs.Common.{◌≡◌, ℕ, zero, suc, ◌+◌, ◌-◌, ◌<◌, ◌≤◌, Bool, false, true, List, [], ◌∷◌, ◌++◌, length, Option, Some, None, refl, ap, sym, subst, ◌∙◌, arith, length-append, inl, inr}
-use Rattle.std.specs.Prelude.{◌==◌, ◌&&◌, ◌||◌, filter, if◌then◌else◌, is_none, is_some, map, not, nat_lt, option_map, slice_get, slice_index_or, slice_set}
+use Rattle.std.proofs.Common.{◌≡◌, ℕ, zero, suc, ◌+◌, ◌-◌, ◌<◌, ◌≤◌, Bool, false, true, List, [], ◌∷◌, ◌++◌, length, Option, Some, None, refl, ap, sym, subst, ◌∙◌, arith, length-append, ◌⊎◌, inl, inr}
+use Rattle.std.specs.Prelude.{◌==◌, ◌&&◌, ◌||◌, filter, if◌then◌else◌, is_none, is_some, map, not, nat_lt, option_map, slice_get, slice_index_or, slice_set, unwrap_or}
 use Rattle.std.specs.List.{All}
 use Rattle.std.specs.Option.{option_map_or}
 use Rattle.std.proofs.lemmas.Bool.{cases_lt}
@@ -33,12 +33,12 @@ use Rattle.vp_world.specs.Worlds.{State}
 use Rattle.vp_replay.specs.Known.{known_also, known_index}
 use Rattle.vp_notify.specs.Renumbered.{moved_callback, moved_notice}
 use Rattle.vp_vpi.specs.Renumbered.{moved_handle, moved_session_state}
-use Rattle.vp_replay.specs.Parts.{Part, granted_session, moved_to, part_granted}
-use Rattle.vp_audit.specs.Projections.{granted_of, moved_numbers, number_in, values_seen}
+use Rattle.vp_replay.specs.Parts.{Part, come_or_known, granted_session, granted_values, moved_to, part_granted, with_known}
+use Rattle.vp_audit.specs.Projections.{granted_of, is_read, moved_numbers, number_in, read_marks, value_seen, values_but, values_seen}
 use Rattle.vp_replay.specs.Seen.{denied_seen, kind_seen}
 use Rattle.vp_audit.specs.laws.Alike.{AreValues, IsKnown}
-use Rattle.vp_audit.specs.laws.After.{AreWatched, number_index}
-use Rattle.vp_replay.specs.laws.Denials.{denied_seen_at, node_seen}
+use Rattle.vp_audit.specs.laws.After.{AreWatched, index_number, number_index}
+use Rattle.vp_replay.specs.laws.Denials.{AllInEnvelopes, denied_seen_at, node_seen}
 use Rattle.vp_answer.proofs.Lists.{map_same}
 use Rattle.vp_audit.specs.laws.Events.{AllWatched, AreNamed, AreSessions, IsPartOf, filter_form, is_of, map_alike, map_all, map_twice, part_following, same_number, session_under}
 use Rattle.vp_replay.specs.laws.Known.{by_index}
@@ -246,53 +246,299 @@ none_again f (Some x) e = absurd (cc)
 
 -- ---- values
 
--- the value of a number, if it may be read
-abbrev value_at : sim.State → Member → List Bool → ℕ → Option (List Bit)
-value_at run m known j =
-    if is_readable (kind_at run.design.tree (known_index known j)) && is_none (denial_at run.design.tree m right.Read (known_index known j))
-    then Some (slice_index_or run.values (known_index known j) (Unknown ∷ [])) else None
-
 -- an object with a kind is there
 readable_within : (nodes : List SeenNode) (k : ℕ) → is_readable (option_map (λ n. n.kind) (slice_get nodes k)) ≡ true → k < length nodes
 readable_within [] k e = absurd (cc)
 readable_within (n ∷ nodes) zero e = omega arith
 readable_within (n ∷ nodes) (suc k) e = let rest = readable_within nodes k e in omega (arith, rest)
 
--- the values that go to a user are those of what he may read
-pub values_are : (run : sim.State) (design : Elaborated) → run.design ≡ design → (m : Member) (known : List Bool) → (long : length known ≡ length design.tree.nodes)
-    → ((r : _) (k : ℕ) → denied_seen (known_view design m known) r k ≡ option_map (words_of design.tree) (denial_at design.tree m r (known_index known k)))
-    → AreValues design run.values m known (values_seen run m known)
-values_are run design its m known long denied k open_to readable =
-    let kinds : kind_at design.tree (known_index known k) ≡ kind_seen (known_view design m known) k =
-    sym (ap (option_map (λ n. n.kind)) (node_seen design m known k long) ∙ by_node (slice_get design.tree.nodes (known_index known k))) in
-    let within : k < length (marked known known) =
-    let l = readable_within (known_view design m known).nodes k readable in
-    let many = length-map (marked known design.tree.nodes) (seen_node design m) in
-    let same = marked_count known known design.tree.nodes refl long in
-    omega (arith, l, many, same) in
-    let readable_is : is_readable (kind_at run.design.tree (known_index known k)) ≡ true =
-    ap (λ (d : Elaborated). is_readable (kind_at d.tree (known_index known k))) its ∙ ap is_readable kinds ∙ readable in
-    let undenied : is_none (denial_at run.design.tree m right.Read (known_index known k)) ≡ true =
-    ap (λ (d : Elaborated). is_none (denial_at d.tree m right.Read (known_index known k))) its
-    ∙ none_again (words_of design.tree) (denial_at design.tree m right.Read (known_index known k)) (sym (denied right.Read k) ∙ open_to) in
-    slice_get-map (value_at run m known) (below (length (marked known known))) k
-    ∙ ap (option_map (value_at run m known)) (below_at (length (marked known known)) k within)
-    ∙ ap Some (value_of (is_readable (kind_at run.design.tree (known_index known k))) (is_none (denial_at run.design.tree m right.Read (known_index known k))) readable_is undenied)
-  where
+-- a condition that is so has the first branch
+branch_true : {X : Type 0} (b : Bool) (x y : X) → b ≡ true → (if b then x else y) ≡ x
+branch_true true x y e = refl
+branch_true false x y e = absurd (cc)
+
+-- and one that is not the other
+branch_false : {X : Type 0} (b : Bool) (x y : X) → b ≡ false → (if b then x else y) ≡ y
+branch_false true x y e = absurd (cc)
+branch_false false x y e = refl
+
+-- what is no Bool of two is the other
+both_true : (a b : Bool) → a ≡ true → b ≡ true → (a && b) ≡ true
+both_true true true e f = refl
+both_true true false e f = absurd (cc)
+both_true false b e f = absurd (cc)
+
+module _ (run : sim.State) (design : Elaborated) (its : run.design ≡ design) (m : Member) (known : List Bool) (long : length known ≡ length design.tree.nodes)
+    (denied : (r : _) (k : ℕ) → denied_seen (known_view design m known) r k ≡ option_map (words_of design.tree) (denial_at design.tree m r (known_index known k))) (k : ℕ)
+    (open_to : denied_seen (known_view design m known) right.Read k ≡ None) (readable : is_readable (kind_seen (known_view design m known) k) ≡ true) where
+  -- the kind of an object in a view is its own
+  kind_is : kind_at design.tree (known_index known k) ≡ kind_seen (known_view design m known) k
+  kind_is = sym (ap (option_map (λ n. n.kind)) (node_seen design m known k long) ∙ by_node (slice_get design.tree.nodes (known_index known k))) where
     by_node : (node : Option Node) → option_map (λ n. n.kind) (option_map (seen_node design m) node) ≡ option_map (λ (n : Node). n.kind) node
     by_node None = refl
     by_node (Some node) = refl
 
-    value_of : (a b : Bool) → a ≡ true → b ≡ true → (if a && b then Some (slice_index_or run.values (known_index known k) (Unknown ∷ [])) else None) ≡ Some (slice_index_or run.values (known_index known k) (Unknown ∷ []))
-    value_of true true e f = refl
-    value_of true false e f = absurd (cc)
-    value_of false b e f = absurd (cc)
+  -- what may be read is there
+  is_within : k < length (marked known known)
+  is_within =
+      let l = readable_within (known_view design m known).nodes k readable in
+      let many = length-map (marked known design.tree.nodes) (seen_node design m) in
+      let same = marked_count known known design.tree.nodes refl long in
+      omega (arith, l, many, same)
 
--- ---- sessions of others
+  -- its value is seen
+  value_is : value_seen run m known k ≡ Some (slice_index_or run.values (known_index known k) (Unknown ∷ []))
+  value_is =
+      let readable_is : is_readable (kind_at run.design.tree (known_index known k)) ≡ true =
+      ap (λ (d : Elaborated). is_readable (kind_at d.tree (known_index known k))) its ∙ ap is_readable kind_is ∙ readable in
+      let undenied : is_none (denial_at run.design.tree m right.Read (known_index known k)) ≡ true =
+      ap (λ (d : Elaborated). is_none (denial_at d.tree m right.Read (known_index known k))) its
+      ∙ none_again (words_of design.tree) (denial_at design.tree m right.Read (known_index known k)) (sym (denied right.Read k) ∙ open_to) in
+      branch_true (is_readable (kind_at run.design.tree (known_index known k)) && is_none (denial_at run.design.tree m right.Read (known_index known k)))
+      (Some (slice_index_or run.values (known_index known k) (Unknown ∷ []))) None
+      (both_true (is_readable (kind_at run.design.tree (known_index known k))) (is_none (denial_at run.design.tree m right.Read (known_index known k))) readable_is undenied)
+
+  -- it goes to the user unless it is marked
+  pub goes_by : (marks : List Bool) → slice_get (values_but marks run m known) k
+      ≡ Some (if unwrap_or (slice_get marks (known_index known k)) false then None else Some (slice_index_or run.values (known_index known k) (Unknown ∷ [])))
+  goes_by marks =
+      let value : ℕ → Option (List Bit) = λ j. if unwrap_or (slice_get marks (known_index known j)) false then None else value_seen run m known j in
+      slice_get-map value (below (length (marked known known))) k
+      ∙ ap (option_map value) (below_at (length (marked known known)) k is_within)
+      ∙ ap (λ v. Some (if unwrap_or (slice_get marks (known_index known k)) false then None else v)) value_is
+
+-- the values that go to a user are those of what he may read
+pub values_are : (run : sim.State) (design : Elaborated) → run.design ≡ design → (m : Member) (known : List Bool) → (long : length known ≡ length design.tree.nodes)
+    → ((r : _) (k : ℕ) → denied_seen (known_view design m known) r k ≡ option_map (words_of design.tree) (denial_at design.tree m r (known_index known k)))
+    → AreValues design run.values m known (values_seen run m known)
+values_are run design its m known long denied k open_to readable = goes_by run design its m known long denied k open_to readable []
+
+-- ---- values that go on being known
 
 -- numbers that differ
 not_equal : (a b : ℕ) → (a == b) ≡ false → b ≡ a → ⊥
 not_equal a b e same = let self : (a == b) ≡ true = grind (arith, same) in absurd (cc)
+
+-- what is set is there
+get_set : {X : Type 0} (xs : List X) (i : ℕ) (x y : X) → slice_get xs i ≡ Some y → slice_get (slice_set xs i x) i ≡ Some x
+get_set [] i x y e = absurd (cc)
+get_set (z ∷ xs) zero x y e = refl
+get_set (z ∷ xs) (suc i) x y e = get_set xs i x y e
+
+-- what is not set stays
+get_kept : {X : Type 0} (xs : List X) (i j : ℕ) (x : X) → (j ≡ i → ⊥) → slice_get (slice_set xs i x) j ≡ slice_get xs j
+get_kept [] i j x n = refl
+get_kept (y ∷ xs) zero zero x n = absurd (n refl)
+get_kept (y ∷ xs) zero (suc j) x n = refl
+get_kept (y ∷ xs) (suc i) zero x n = refl
+get_kept (y ∷ xs) (suc i) (suc j) x n = get_kept xs i j x (λ e. n (ap suc e))
+
+-- what stands at an index
+index_get : {X : Type 0} (xs : List X) (i : ℕ) (x d : X) → slice_get xs i ≡ Some x → slice_index_or xs i d ≡ x
+index_get [] i x d e = absurd (cc)
+index_get (y ∷ xs) zero x d e = cc
+index_get (y ∷ xs) (suc i) x d e = index_get xs i x d e
+
+-- two numbers are the same or not
+same_or_not : (n k : ℕ) → (n ≡ k) ⊎ (k ≡ n → ⊥)
+same_or_not n k = by_test (n == k) refl where
+  by_test : (b : Bool) → (n == k) ≡ b → (n ≡ k) ⊎ (k ≡ n → ⊥)
+  by_test true e = inl (same_number n k e)
+  by_test false e = inr (not_equal n k e)
+
+-- a value that came stays
+came_stays : (moved : List ℕ) (before came : List (Option (List Bit))) (k : ℕ) (bits : List Bit) → slice_get came k ≡ Some (Some bits) → slice_get (granted_values moved before came) k ≡ Some (Some bits)
+came_stays [] before came k bits at = at
+came_stays (n ∷ moved) [] came k bits at = at
+came_stays (n ∷ moved) (v ∷ before) came k bits at =
+    came_stays moved before (with_known came n v) k bits
+    (elim (same_or_not n k) [
+      | inl same ↦
+          ap (λ i. slice_get (with_known came i v) k) same
+          ∙ get_set came k (come_or_known (slice_index_or came k None) v) (Some bits) at
+          ∙ ap (λ c. Some (come_or_known c v)) (index_get came k (Some bits) None at)
+      | inr other ↦ get_kept came n k (come_or_known (slice_index_or came n None) v) other ∙ at
+    ])
+
+-- a value that was known of each number that became this one is known of it, where none came
+known_stays : (moved : List ℕ) (before came : List (Option (List Bit))) (k : ℕ) (bits : List Bit) → ((i : ℕ) → slice_get moved i ≡ Some k → slice_get before i ≡ Some (Some bits))
+    → slice_get came k ≡ Some None → (i : ℕ) → slice_get moved i ≡ Some k → slice_get (granted_values moved before came) k ≡ Some (Some bits)
+known_stays [] before came k bits were none i there = absurd (cc)
+known_stays (n ∷ moved) [] came k bits were none i there = absurd (let never = were i there in cc)
+known_stays (n ∷ moved) (v ∷ before) came k bits were none i there =
+    elim (same_or_not n k) [
+      | inl same ↦
+          let value : Some v ≡ Some (Some bits) = were 0 (ap Some same) in
+          let known : v ≡ Some bits = cc in
+          came_stays moved before (with_known came n v) k bits
+          (ap (λ j. slice_get (with_known came j v) k) same
+          ∙ get_set came k (come_or_known (slice_index_or came k None) v) None none
+          ∙ ap (λ c. Some (come_or_known c v)) (index_get came k None None none)
+          ∙ ap Some known)
+      | inr other ↦
+          known_stays moved before (with_known came n v) k bits (λ j at. were (suc j) at)
+          (get_kept came n k (come_or_known (slice_index_or came n None) v) other ∙ none) (before_first i there other).0 (before_first i there other).1
+    ]
+  where
+    before_first : (i : ℕ) → slice_get (n ∷ moved) i ≡ Some k → (k ≡ n → ⊥) → (j : ℕ) × (slice_get moved j ≡ Some k)
+    before_first zero at other = absurd (other (let same : n ≡ k = cc in sym same))
+    before_first (suc j) at other = (j, at)
+
+-- what is marked as known and not denied is both
+marked_both : (a : Option Bool) (b : Bool) → (unwrap_or a false && b) ≡ true → (a ≡ Some true) × (b ≡ true)
+marked_both (Some true) true e = (refl, refl)
+marked_both (Some true) false e = absurd (cc)
+marked_both (Some false) b e = absurd (cc)
+marked_both None b e = absurd (cc)
+
+-- a mark of a list by numbers
+mark_at : (f : ℕ → Bool) (n o : ℕ) → unwrap_or (slice_get (map f (below n)) o) false ≡ true → f o ≡ true
+mark_at f n o e =
+    elim (cases_lt o n) [
+      | inl less ↦ sym (ap (λ (x : Option Bool). unwrap_or x false) (slice_get-map f (below n) o ∙ ap (option_map f) (below_at n o less))) ∙ e
+      | inr more ↦
+          let long = length-map (below n) f in
+          let count = below_length n in
+          absurd (let none = past (map f (below n)) o (omega (arith, long, count, more)) in let never : false ≡ true = sym (ap (λ (x : Option Bool). unwrap_or x false) none) ∙ e in cc)
+    ]
+  where
+    past : (xs : List Bool) (i : ℕ) → length xs ≤ i → slice_get xs i ≡ None
+    past [] i l = refl
+    past (x ∷ xs) zero l = absurd (omega arith)
+    past (x ∷ xs) (suc i) l = past xs i (omega arith)
+
+-- the number of an object that was known before is that which it has now
+moved_at : (tree : Tree) (m : Member) (known : List Bool) (nodes : List Node) → length known ≡ length nodes → (i k : ℕ) → slice_get (moved_numbers known (known_also tree m known nodes)) i ≡ Some k
+    → (i < length (marked known known)) × (known_index known i ≡ known_index (known_also tree m known nodes) k)
+moved_at tree m known nodes e i k at =
+    elim (cases_lt i (length (marked known known))) [
+      | inl less ↦
+          let now = known_also tree m known nodes in
+          let form : ℕ → ℕ = λ j. option_map_or (λ n. n) (number_in now (known_index known j)) 0 in
+          let marks = now_more tree m known nodes e (known_index known i) (index_marked known i less) in
+          let (j, number) = marked_number now (known_index known i) marks in
+          let item : slice_get (moved_numbers known now) i ≡ Some j =
+          slice_get-map form (below (length (marked known known))) i ∙ ap (option_map form) (below_at (length (marked known known)) i less) ∙ ap (λ n. Some (option_map_or (λ (x : ℕ). x) n 0)) number in
+          let same : Some j ≡ Some k = sym item ∙ at in
+          let is : j ≡ k = cc in
+          (less, sym (number_index now (known_index known i) j number) ∙ ap (known_index now) is)
+      | inr more ↦
+          let now = known_also tree m known nodes in
+          let long : length (moved_numbers known now) ≡ length (marked known known) =
+          length-map (below (length (marked known known))) (λ j. option_map_or (λ n. n) (number_in now (known_index known j)) 0) ∙ below_length (length (marked known known)) in
+          absurd (let none = past (moved_numbers known now) i (omega (arith, long, more)) in let never : None ≡ Some k = sym none ∙ at in cc)
+    ]
+  where
+    past : (xs : List ℕ) (i : ℕ) → length xs ≤ i → slice_get xs i ≡ None
+    past [] i l = refl
+    past (x ∷ xs) zero l = absurd (omega arith)
+    past (x ∷ xs) (suc i) l = past xs i (omega arith)
+
+-- an object of which a number is known now was known before by one
+number_before : (tree : Tree) (m : Member) (known : List Bool) (nodes : List Node) → length known ≡ length nodes → (k : ℕ) → k < length (marked (known_also tree m known nodes) (known_also tree m known nodes))
+    → slice_get known (known_index (known_also tree m known nodes) k) ≡ Some true → (i : ℕ) × (slice_get (moved_numbers known (known_also tree m known nodes)) i ≡ Some k)
+number_before tree m known nodes e k within mark =
+    let now = known_also tree m known nodes in
+    let form : ℕ → ℕ = λ j. option_map_or (λ n. n) (number_in now (known_index known j)) 0 in
+    let (i, number) = marked_number known (known_index now k) mark in
+    let index = number_index known (known_index now k) i number in
+    let less : i < length (marked known known) = number_within known (known_index now k) i number in
+    let inside : known_index now k < length now = get_within now (known_index now k) (index_marked now k within) in (
+      i,
+      slice_get-map form (below (length (marked known known))) i ∙ ap (option_map form) (below_at (length (marked known known)) i less)
+          ∙ ap (λ o. Some (option_map_or (λ (x : ℕ). x) (number_in now o) 0)) index
+          ∙ ap (λ n. Some (option_map_or (λ (x : ℕ). x) n 0)) (index_number now k inside),
+    )
+  where
+    get_within : (marks : List Bool) (o : ℕ) → slice_get marks o ≡ Some true → o < length marks
+    get_within [] o at = absurd (cc)
+    get_within (b ∷ marks) zero at = omega arith
+    get_within (b ∷ marks) (suc o) at = let rest = get_within marks o at in omega (arith, rest)
+
+    number_within : (marks : List Bool) (o i : ℕ) → number_in marks o ≡ Some i → i < length (marked marks marks)
+    number_within marks o i at = go marks marks o i refl at where
+      next : (xs ys : List Bool) (o i : ℕ) (n : Option ℕ) → length xs ≡ length ys → number_in xs o ≡ n → option_map suc n ≡ Some i
+          → ((j : ℕ) → number_in xs o ≡ Some j → j < length (marked xs ys)) → i < suc (length (marked xs ys))
+      next xs ys o i None long at e h = absurd (cc)
+      next xs ys o i (Some j) long at e h = let same : suc j ≡ i = cc in let l = h j at in omega (arith, same, l)
+
+      go : (xs ys : List Bool) (o i : ℕ) → length xs ≡ length ys → number_in xs o ≡ Some i → i < length (marked xs ys)
+      go [] ys o i long at = absurd (cc)
+      go (b ∷ xs) [] o i long at = absurd (cc)
+      go (true ∷ xs) (y ∷ ys) zero i long at = let same : 0 ≡ i = cc in omega (arith, same)
+      go (false ∷ xs) (y ∷ ys) zero i long at = absurd (cc)
+      go (true ∷ xs) (y ∷ ys) (suc o) i long at = next xs ys o i (number_in xs o) (omega (arith, long)) refl at (λ j is. go xs ys o j (omega (arith, long)) is)
+      go (false ∷ xs) (y ∷ ys) (suc o) i long at = go xs ys o i (omega (arith, long)) at
+
+-- what is none stays none
+none_stays : {A B : Type 0} (f : A → B) (x : Option A) → is_none x ≡ true → option_map f x ≡ None
+none_stays f None e = refl
+none_stays f (Some x) e = absurd (cc)
+
+module _ (run : sim.State) (design : Elaborated) (its : run.design ≡ design) (envelopes : AllInEnvelopes design.tree) (old m : Member) (known : List Bool) (long : length known ≡ length design.tree.nodes)
+    (before : List (Option (List Bit))) (are : AreValues design run.values old known before) (k : ℕ)
+    (open_to : denied_seen (known_view design m (known_also design.tree m known design.tree.nodes)) right.Read k ≡ None)
+    (readable : is_readable (kind_seen (known_view design m (known_also design.tree m known design.tree.nodes)) k) ≡ true) where
+  abbrev now : List Bool
+  now = known_also design.tree m known design.tree.nodes
+
+  abbrev marks : List Bool
+  marks = read_marks design.tree old known
+
+  abbrev o : ℕ
+  o = known_index now k
+
+  abbrev bits : List Bit
+  bits = slice_index_or run.values o (Unknown ∷ [])
+
+  long_now : length now ≡ length design.tree.nodes
+  long_now = now_long design.tree m known design.tree.nodes long
+
+  denied_now : (r : _) (j : ℕ) → denied_seen (known_view design m now) r j ≡ option_map (words_of design.tree) (denial_at design.tree m r (known_index now j))
+  denied_now r j = denied_seen_at design m now long_now envelopes r j
+
+  came : slice_get (values_but marks run m now) k ≡ Some (if unwrap_or (slice_get marks o) false then None else Some bits)
+  came = goes_by run design its m now long_now denied_now k open_to readable marks
+
+  -- the kind in the view of before is the object's, too
+  kind_before : (i : ℕ) → kind_at design.tree (known_index known i) ≡ kind_seen (known_view design old known) i
+  kind_before i = sym (ap (option_map (λ n. n.kind)) (node_seen design old known i long) ∙ by_node (slice_get design.tree.nodes (known_index known i))) where
+    by_node : (node : Option Node) → option_map (λ n. n.kind) (option_map (seen_node design old) node) ≡ option_map (λ (n : Node). n.kind) node
+    by_node None = refl
+    by_node (Some node) = refl
+
+  -- a value that he could read before is known of each number that became this one
+  were : is_none (denial_at design.tree old right.Read o) ≡ true → (i : ℕ) → slice_get (moved_numbers known now) i ≡ Some k → slice_get before i ≡ Some (Some bits)
+  were undenied i at =
+      let index : known_index known i ≡ o = (moved_at design.tree m known design.tree.nodes long i k at).1 in
+      are i
+      (denied_seen_at design old known long envelopes right.Read i ∙ ap (λ x. option_map (words_of design.tree) (denial_at design.tree old right.Read x)) index
+      ∙ none_stays (words_of design.tree) (denial_at design.tree old right.Read o) undenied)
+      (sym (ap is_readable (kind_before i)) ∙ ap (λ x. is_readable (kind_at design.tree x)) index
+      ∙ ap is_readable (kind_is run design its m now long_now denied_now k open_to readable) ∙ readable)
+      ∙ ap (λ x. Some (Some (slice_index_or run.values x (Unknown ∷ [])))) index
+
+  -- so a value that he may read is known, whether it came or not
+  value_kept : (b : Bool) → unwrap_or (slice_get marks o) false ≡ b → slice_get (granted_values (moved_numbers known now) before (values_but marks run m now)) k ≡ Some (Some bits)
+  value_kept false e =
+      came_stays (moved_numbers known now) before (values_but marks run m now) k bits
+      (came ∙ ap Some (branch_false (unwrap_or (slice_get marks o) false) None (Some bits) e))
+  value_kept true e =
+      let (there, undenied) = marked_both (slice_get known o) (is_none (denial_at design.tree old right.Read o)) (mark_at (is_read design.tree old known) (length known) o e) in
+      let (i, at) = number_before design.tree m known design.tree.nodes long k (is_within run design its m now long_now denied_now k open_to readable) there in
+      known_stays (moved_numbers known now) before (values_but marks run m now) k bits (were undenied)
+      (came ∙ ap Some (branch_true (unwrap_or (slice_get marks o) false) None (Some bits) e)) i at
+
+-- the values after a change of grants are those of what a user may read then: what he may newly read came, and the rest he knew
+pub kept_values_are : (run : sim.State) (design : Elaborated) → run.design ≡ design → AllInEnvelopes design.tree → (old m : Member) (known : List Bool) → length known ≡ length design.tree.nodes
+    → (before : List (Option (List Bit))) → AreValues design run.values old known before
+    → (let now : List Bool = known_also design.tree m known design.tree.nodes in
+    AreValues design run.values m now (granted_values (moved_numbers known now) before (values_but (read_marks design.tree old known) run m now)))
+kept_values_are run design its envelopes old m known long before are k open_to readable =
+    value_kept run design its envelopes old m known long before are k open_to readable
+    (unwrap_or (slice_get (read_marks design.tree old known) (known_index (known_also design.tree m known design.tree.nodes) k)) false) refl
+
+-- ---- sessions of others
 
 -- they differ the other way round
 swapped : (a b : ℕ) → (a == b) ≡ false → (b == a) ≡ false
@@ -374,25 +620,29 @@ granted_other design u s known p is change v other =
 pub granted_own : (design : Elaborated) (u : ℕ) (s : State) (known : List Bool) (p : Part) → IsPartOf design u s known p → (change : GrantChange) → u < length s.policy.members
     → let t : State = granted_to s change u in
     let now : List Bool = known_also t.run.design.tree (member_at t.policy.members u) known t.run.design.tree.nodes in
-    IsPartOf design u t now (part_granted p (granted_of u t known now change))
+    IsPartOf design u t now (part_granted p (granted_of u s t known now change))
 granted_own design u s known p is change within =
     subst (λ (d : Elaborated). (let t : State = granted_to s change u in
     let now : List Bool = known_also d.tree (member_at t.policy.members u) known d.tree.nodes in
-    IsPartOf design u t now (part_granted p (granted_of u t known now change)))) (sym is.its_design) (in_design design u s known p is change within)
+    IsPartOf design u t now (part_granted p (granted_of u s t known now change)))) (sym is.its_design) (in_design design u s known p is change within)
   where
     in_design : (design : Elaborated) (u : ℕ) (s : State) (known : List Bool) (p : Part) → IsPartOf design u s known p → (change : GrantChange) → u < length s.policy.members
         → (let t : State = granted_to s change u in
         let now : List Bool = known_also design.tree (member_at t.policy.members u) known design.tree.nodes in
-        IsPartOf design u t now (part_granted p (granted_of u t known now change)))
+        IsPartOf design u t now (part_granted p (granted_of u s t known now change)))
     in_design design u s known p is change within =
         let policy = regranted s.policy u change.envelope change.access in
         let m = member_at policy.members u in
         let t = granted_to s change u in
         let now = known_also design.tree m known design.tree.nodes in
-        let g = granted_of u t known now change in
+        let g = granted_of u s t known now change in
         let long = now_long design.tree m known design.tree.nodes is.is_known.long in
         let denied = denied_seen_at design m now long is.is_known.envelopes in
         let view : g.view ≡ known_view design m now = ap (λ (d : Elaborated). known_view d m now) is.its_design in
+        let old = member_at s.policy.members u in
+        let values_now : AreValues design s.run.values m now (granted_values g.moved p.values g.values) =
+        subst (λ (d : Elaborated). AreValues design s.run.values m now (granted_values (moved_numbers known now) p.values (values_but (read_marks d.tree old known) s.run m now))) (sym is.its_design)
+        (kept_values_are s.run design is.its_design is.is_known.envelopes old m known is.is_known.long p.values is.is_known.are_values) in
         let count : length g.view.nodes ≡ length (marked now design.tree.nodes) =
         ap (λ (v : View). length v.nodes) view ∙ length-map (marked now design.tree.nodes) (seen_node design m) in
         let mv = moved_to g.moved (length g.view.nodes) in
@@ -410,7 +660,7 @@ granted_own design u s known p is change within =
             envelopes = is.is_known.envelopes;
             differ = is.is_known.differ;
             covers = now_covers design.tree m known design.tree.nodes is.is_known.long;
-            are_values = values_are s.run design is.its_design m now long denied;
+            are_values = values_now;
           };
           counts = is.counts ∙ sym (length-set s.policy.members u (regranted_user change.envelope change.access (member_at s.policy.members u)));
           opens = is.opens;

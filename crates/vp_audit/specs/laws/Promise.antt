@@ -214,7 +214,7 @@ follows_by opening design u s known p is e none comes =
     }) =
     ap (λ (g : Option GrantChange). part_after p (record {
       own_event = own_event;
-      granted = option_map (granted_of u t known (known_after u s t known e)) g;
+      granted = option_map (granted_of u s t known (known_after u s t known e)) g;
       change = change_seen s.run.design.tree m known (changed s e);
       time = other_number s.run.time t.run.time;
       finished = other_flag s.run.finished t.run.finished;
@@ -251,17 +251,17 @@ grant_case opening design u s known p is change (Some v) at = by_test (v == u) r
       let t_is : t ≡ granted_to s change u = ap (λ (n : Option ℕ). option_map_or (granted_to s change) n s) his in
       let now_is : known_after u s t known (event.Grant change) ≡ known_also t.run.design.tree (member_at t.policy.members u) known t.run.design.tree.nodes =
       ap (λ g. option_map_or (λ (x : GrantChange). known_also t.run.design.tree (member_at t.policy.members u) known t.run.design.tree.nodes) g known) regrant in
-      let part_is : part_after p (item_at opening u s known (event.Grant change)) ≡ part_granted p (granted_of u t known (known_after u s t known (event.Grant change)) change) =
+      let part_is : part_after p (item_at opening u s known (event.Grant change)) ≡ part_granted p (granted_of u s t known (known_after u s t known (event.Grant change)) change) =
       ap (λ (g : Option GrantChange). part_after p (record (item_at opening u s known (event.Grant change)) {
-        granted = option_map (granted_of u t known (known_after u s t known (event.Grant change))) g;
+        granted = option_map (granted_of u s t known (known_after u s t known (event.Grant change))) g;
       })) regrant in
       let base = granted_own design u s known p is change (user_within s.policy.members change.user u his) in
       record {
         part =
             subst (λ q. IsPartOf design u t (known_after u s t known (event.Grant change)) q) (sym part_is)
-            (subst (λ ks. IsPartOf design u t ks (part_granted p (granted_of u t known ks change))) (sym now_is)
+            (subst (λ ks. IsPartOf design u t ks (part_granted p (granted_of u s t known ks change))) (sym now_is)
             (subst (λ (x : State). (let now : List Bool = known_also x.run.design.tree (member_at x.policy.members u) known x.run.design.tree.nodes in
-            IsPartOf design u x now (part_granted p (granted_of u x known now change)))) (sym t_is) base));
+            IsPartOf design u x now (part_granted p (granted_of u s x known now change)))) (sym t_is) base));
         replied = refl;
       }
 

@@ -137,23 +137,23 @@ module _ (opening : Opening) (design : Elaborated) (u : ℕ) (s : State) (known 
         marked_count now now t.run.design.tree.nodes refl (now_long t.run.design.tree (member_at t.policy.members u) known t.run.design.tree.nodes long)
         ∙ sym (length-map (marked now t.run.design.tree.nodes) (seen_node t.run.design (member_at t.policy.members u)))
 
-    by_now : (change : GrantChange) → Renumbers p (granted_of u t known now change)
+    by_now : (change : GrantChange) → Renumbers p (granted_of u s t known now change)
     by_now change = record {
       long = moved_length t.run.design.tree (member_at t.policy.members u) known t.run.design.tree.nodes long ∙ as_seen;
       rise = moved_rise t.run.design.tree (member_at t.policy.members u) known t.run.design.tree.nodes long;
-      among = subst (λ (c : ℕ). list_all (λ n. nat_lt n c) (granted_of u t known now change).moved ≡ true) as_seen_now
+      among = subst (λ (c : ℕ). list_all (λ n. nat_lt n c) (granted_of u s t known now change).moved ≡ true) as_seen_now
           (moved_within t.run.design.tree (member_at t.policy.members u) known t.run.design.tree.nodes long);
     }
 
     by_change : (x : Option GrantChange) → regrant_of u s.policy e ≡ x → Renumbers p g
     by_change None none =
-        let never : None ≡ Some g = sym (ap (option_map (granted_of u t known (known_after u s t known e))) none) ∙ at in
+        let never : None ≡ Some g = sym (ap (option_map (granted_of u s t known (known_after u s t known e))) none) ∙ at in
         absurd (cc)
     by_change (Some change) some =
         let now_is : known_after u s t known e ≡ now = ap (λ x. option_map_or (λ (y : GrantChange). now) x known) some in
-        let there : Some (granted_of u t known (known_after u s t known e) change) ≡ Some g = sym (ap (option_map (granted_of u t known (known_after u s t known e))) some) ∙ at in
-        let same : granted_of u t known (known_after u s t known e) change ≡ g = cc in
-        subst (Renumbers p) same (subst (λ ks. Renumbers p (granted_of u t known ks change)) (sym now_is) (by_now change))
+        let there : Some (granted_of u s t known (known_after u s t known e) change) ≡ Some g = sym (ap (option_map (granted_of u s t known (known_after u s t known e))) some) ∙ at in
+        let same : granted_of u s t known (known_after u s t known e) change ≡ g = cc in
+        subst (Renumbers p) same (subst (λ ks. Renumbers p (granted_of u s t known ks change)) (sym now_is) (by_now change))
 
   -- a change of grants is taken up
   takes_change : AreWithin p → (x : Option GrantItem) → ((g : GrantItem) → x ≡ Some g → Renumbers p g) → takes_by p None x ≡ true

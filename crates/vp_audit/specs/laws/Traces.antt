@@ -35,7 +35,7 @@ grant_of_another opening u s known change v his other =
     let run : t.run ≡ s.run = ap (λ (n : Option ℕ). (let x : State = option_map_or (granted_to s change) n s in x.run)) his in
     ap (λ (g : Option GrantChange). item_if (record {
       own_event = None;
-      granted = option_map (granted_of u t known now) g;
+      granted = option_map (granted_of u s t known now) g;
       change = None;
       time = other_number s.run.time t.run.time;
       finished = other_flag s.run.finished t.run.finished;
