@@ -3,7 +3,7 @@ ghost use Rattle.std.specs.Prelude.{IfSome};
 ghost use Rattle.std.specs.Arc.{arc_value};
 ghost use Rattle.vp_answer.specs.declared.reply.Reply.TheVariants as replies;
 ghost use Rattle.vp_hub.specs.declared.receipt.SessionRequest.TheVariants as requests;
-ghost use Rattle.vp_text.specs.Refusals.{Explains, MayExplain};
+ghost use Rattle.vp_text.specs.Refusals.{Explains};
 ghost use Rattle.vp_world.specs.declared.event.Event.TheVariants as event;
 ghost use Rattle.vp_world.specs.declared.error.WorldError.TheVariants.{NoMemory};
 ghost use Rattle.vp_world.specs.Events.{IsWellFormed};
@@ -96,6 +96,22 @@ fn open_request(alloc: Global, user: &Text, token: &Text) -> Result<SessionReque
     })
 }
 
+/// The receipts of a new pass, with room for the first, and the request that opens its session. Takes memory.
+fn new_receipts(
+    alloc: Global,
+    user: &Text,
+    token: &Text,
+) -> Result<(Vec<Receipt>, SessionRequest), AllocError>
+    ensures none { IfOk result (λ new. new.0.items ≡ []) }
+    ensures room { IfOk result (λ new. vec_len new.0 < vec_capacity new.0) }
+    ensures request { IfOk result (λ new. new.1 ≡ requests.Open user.now token.now) }
+{
+    let mut receipts = Vec::new(alloc);
+    receipts.reserve(1)?;
+    let request = open_request(alloc, user, token)?;
+    Ok((receipts, request))
+}
+
 impl<L: NamesOpening> Desk<L> {
     /// A desk with a world in which nothing has happened, and a new ledger with a part for each entry that the log may get, and one
     /// more.
@@ -149,8 +165,8 @@ impl<L: NamesOpening> Desk<L> {
         Ok(reply)
     }
 
-    /// Opens a session for a user, and gives its pass. Refused by the world (1403: 1302, 1301, 1304), or out of memory, which
-    /// leaves the desk as it was.
+    /// Opens a session for a user, and gives its pass. Refused by the world (1403: 1302, 1301, 1304, then out of memory), which leaves the
+    /// desk as it was.
     pub fn open(&mut self, user: Text, token: Text) -> Result<Pass<L>, HubError>
         ensures accepted { OnOk result
             (refused_by self.old.world (event.Open user token) ≡ None) }
@@ -161,12 +177,14 @@ impl<L: NamesOpening> Desk<L> {
             receipt_of self.old (event.Open user token) (requests.Open user token) ∷ []) }
         ensures share { IfOk result (λ p. (p.amount ≡ 1) × (p.parts ≡ 1)) }
         ensures refused { IfErr result
-            (MayExplain out_of_memory (refusal_of self.old (event.Open user token))) }
+            (Explains out_of_memory (refusal_of self.old (event.Open user token))) }
         ensures unchanged { OnErr result (self.new ≡ self.old) }
     {
-        let mut receipts = Vec::new(self.alloc);
-        receipts.reserve(1)?;
-        let request = open_request(self.alloc, &user, &token)?;
+        let Ok((mut receipts, request)) = new_receipts(self.alloc, &user, &token) else {
+            // The world's own refusal comes before out of memory.
+            self.world.check_open(user.as_str(), token.as_str())?;
+            return Err(HubError::from(WorldError::NoMemory));
+        };
         let index = self.world.log().len();
         let reply = self.world.apply(Event::Open { user, token })?;
         let Reply::Opened(session) = reply else {

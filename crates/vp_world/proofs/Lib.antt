@@ -12,3 +12,4 @@ pub mod Outcomes
 pub mod Jobs
 pub mod Booking
 pub mod Reached
+pub mod HiddenNames

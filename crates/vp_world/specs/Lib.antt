@@ -12,6 +12,7 @@ pub mod Worlds
 pub mod UserObservers
 pub mod Races
 pub mod History
+pub mod HiddenNames
 pub mod Shown
 pub mod Marks
 pub mod Given

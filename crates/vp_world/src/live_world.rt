@@ -211,7 +211,8 @@ impl LiveWorld {
 
     /// The goal does not reach the time of the next event.
     fn is_next_past_goal(&self) -> bool
-        ensures { result ≡ is_next_past_goal self.now.state.goal (sim.next_time self.now.state.run) }
+        ensures { result
+            ≡ is_next_past_goal self.now.state.goal (sim.next_time self.now.state.run) }
     {
         let Some(goal) = self.goal else {
             return true;

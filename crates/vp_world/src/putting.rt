@@ -63,7 +63,8 @@ pub fn answer_query(
     query: &Query,
 ) -> Result<AnswerWithChange, WorldError>
     requires { Fits policy.now run.old.simulation.design.tree }
-    ensures given { let observation = observer_in run.old book.now policy.now session.old.session_state.user in IfOk result
+    ensures given { let user = session.old.session_state.user in
+        let observation = observer_in run.old book.now policy.now user in IfOk result
         (Gives (respond observation session.old.session_state query.now)
         run.old run.new session.new.session_state) }
     ensures id { session.new.id ≡ session.old.id }

@@ -1,4 +1,4 @@
-ghost use Rattle.std.specs.Prelude.{◌≡◌, [], option_copied, IfOk, IfSome, IsOkUnless};
+ghost use Rattle.std.specs.Prelude.{◌≡◌, [], option_copied, IfErr, IfOk, IfSome, IsOkUnless, None, OnOk, Some};
 ghost use Rattle.std.specs.Arc.{arc_value};
 ghost use Rattle.std.specs.List.{All};
 ghost use Rattle.vp_policy.specs.PolicyState.{Fits};
@@ -6,7 +6,8 @@ ghost use Rattle.vp_world.specs.declared.event.Event.TheVariants as event;
 ghost use Rattle.vp_world.specs.declared.error.WorldError.TheVariants.{NoMemory};
 ghost use Rattle.vp_race.specs.Recording.{kept_of, next_job};
 ghost use Rattle.vp_world.specs.Events.{IsWellFormed};
-ghost use Rattle.vp_world.specs.History.{Applies, IsLegal, IsReached, answered_by, is_log_full, state_after};
+ghost use Rattle.vp_world.specs.HiddenNames.{HidesAlike};
+ghost use Rattle.vp_world.specs.History.{Applies, IsLegal, IsReached, answered_by, is_log_full, refused_by, state_after};
 
 use crate::entry::{Asked, Entry, LoggedEvent, Login, add_step};
 use crate::error::WorldError;
@@ -85,16 +86,30 @@ impl World {
         self.log.len() >= self.present.log_limit()
     }
 
+    /// Why an Open of a user would be refused but for memory: the refusals of `apply`. Takes no memory.
+    pub fn check_open(&self, user: &str, token: &str) -> Result<(), WorldError>
+        ensures accepted { OnOk result
+            (refused_by self.now (event.Open user.now token.now) ≡ None) }
+        ensures refused { IfErr result
+            (λ e. refused_by self.now (event.Open user.now token.now) ≡ Some e) }
+    {
+        self.present.admit(user, token, self.is_full())?;
+        Ok(())
+    }
+
     /// Lets an event happen, answers it, and adds it to the log. An Open is refused by a wrong name or token (1302), too many
     /// sessions (1301) or a full log (1304); an Ask and a Close by a session that is not open (1303) or a full log; a Grant by
     /// another token than the operator's (1310), a user (1311) or an envelope (1312) that is not there, or a full log; a Step and an
     /// Advance by a full log, by a goal that does not reach so far (1305) or by the simulation (1308); a TakeJob by a full log or
-    /// where no kept segment is left to be handed out (1306); a Book by a full log or by the book (1309); and each for want of
-    /// memory (1307). A refusal leaves the world as it was.
+    /// where no kept segment is left to be handed out (1306); a Book by a full log or by the book (1309); and each when out of
+    /// memory (1307). A refusal leaves the world as it was. A name that is hidden from a session's user is answered as one that is not
+    /// there.
+    #[tactic(auto, using(crate::proofs::HiddenNames::hides_if))]
     pub fn apply(&mut self, event: Event) -> Result<Reply, WorldError>
         requires { IsWellFormed self.old.opening.design event }
         ensures applied { Applies self.old event result self.new }
         ensures reply { IfOk result (λ reply. reply ≡ answered_by self.old event) }
+        ensures hidden { IfOk result (HidesAlike self.old event) }
     {
         match event {
             Event::Open { user, token } => self.apply_open(user, token),
