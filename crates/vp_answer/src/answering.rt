@@ -316,7 +316,8 @@ fn race<E: Observe>(session: &Session, observation: &E, number: u64) -> Result<A
 fn let_run<E: Observe>(observation: &E, until: u64) -> Answer
     requires { E.is_sound observation.now }
     ensures { (session_state : SessionState)
-        → IsGiven (respond (E.observer observation.now) session_state (query.Run until)) session_state result }
+        → let observation = E.observer observation.now in
+        IsGiven (respond observation session_state (query.Run until)) session_state result }
 {
     if observation.may_run() {
         Answer {
@@ -339,7 +340,8 @@ fn let_run<E: Observe>(observation: &E, until: u64) -> Answer
 fn time<E: Observe>(observation: &E) -> Answer
     requires { E.is_sound observation.now }
     ensures { (session_state : SessionState)
-        → IsGiven (respond (E.observer observation.now) session_state query.Time) session_state result }
+        → let observation = E.observer observation.now in
+        IsGiven (respond observation session_state query.Time) session_state result }
 {
     let time = observation.time();
     let finished = observation.finished();

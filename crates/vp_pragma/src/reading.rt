@@ -252,7 +252,8 @@ fn apply_first<'a>(
     ensures more { IfOk result (λ next. IfSome next
         (λ r. (n : ℕ) → after_all line.entry reading.old
         (effects_from pragma line.entry.text.now (suc n) (placed rest.entry))
-        ≡ after_all line.entry reading.new (effects_from pragma line.entry.text.now n (placed r)))) }
+        ≡ after_all line.entry reading.new
+        (effects_from pragma line.entry.text.now n (placed r)))) }
     ensures fault { IfErr result (λ e. (n : ℕ)
         → MayExplain NoMemory (result_err (after_all line.entry reading.old
         (effects_from pragma line.entry.text.now (suc n) (placed rest.entry)))) e) }
@@ -451,7 +452,8 @@ fn read_token(
     requires place { place < length tokens.now }
     requires few { length tokens.now ≤ TEXT_LIMIT }
     requires before_next { IsBefore tokens.now (place + 1) before_next }
-    requires line { (d : Token) → before_next.line ≡ pragma_line (slice_index_or tokens.now place d) }
+    requires line { (d : Token) → before_next.line
+        ≡ pragma_line (slice_index_or tokens.now place d) }
     requires room { HasRoom reading.old }
     ensures room { OnOk result (HasRoom reading.new) }
     ensures done { let after = after_left text.now tokens.now reading.old before place

@@ -40,8 +40,10 @@ pub fn finding_at(
     second: &Sim,
     object: ObjectId,
 ) -> Result<Option<Finding>, RaceError>
-    requires first { after_choices orders.now.segment.start orders.now.segment.order ≡ Some first.now }
-    requires second { after_choices orders.now.segment.start orders.now.second ≡ Some second.now }
+    requires first { let segment = orders.now.segment in
+        after_choices segment.start segment.order ≡ Some first.now }
+    requires second { let segment = orders.now.segment in
+        after_choices segment.start orders.now.second ≡ Some second.now }
     ensures found { IfOk result (λ f. f ≡ (if differs first.now second.now object.0
         then Some (finding_of orders.now.segment orders.now.second object.0) else None)) }
     ensures memory { IsOkUnless result NoMemory }
@@ -76,8 +78,8 @@ fn pair_of(
       segment = arc_value segment.now;
       second = choices.items;
     }) }
-    ensures first { OnOk result
-        (after_choices (arc_value segment.now).start (arc_value segment.now).order ≡ Some first.new) }
+    ensures first { let segment = arc_value segment.now in OnOk result
+        (after_choices segment.start segment.order ≡ Some first.new) }
     ensures second { OnOk result
         (after_choices (arc_value segment.now).start choices.items ≡ Some second.new) }
     ensures over { OnOk result (is_over second.new ≡ true) }

@@ -80,8 +80,10 @@ impl Findings {
         second: &Sim,
         object: ObjectId,
     ) -> Result<(), RaceError>
-        requires first { after_choices orders.now.segment.start orders.now.segment.order ≡ Some first.now }
-        requires second { after_choices orders.now.segment.start orders.now.second ≡ Some second.now }
+        requires first { let segment = orders.now.segment in
+            after_choices segment.start segment.order ≡ Some first.now }
+        requires second { let segment = orders.now.segment in
+            after_choices segment.start orders.now.second ≡ Some second.now }
         requires within { object.0 < self.old.objects }
         ensures found { OnOk result (self.new.findings ≡ self.old.findings
             ++ (if differs first.now second.now object.0
@@ -106,8 +108,10 @@ impl Findings {
         first: &Sim,
         second: &Sim,
     ) -> Result<(), RaceError>
-        requires first { after_choices orders.now.segment.start orders.now.segment.order ≡ Some first.now }
-        requires second { after_choices orders.now.segment.start orders.now.second ≡ Some second.now }
+        requires first { let segment = orders.now.segment in
+            after_choices segment.start segment.order ≡ Some first.now }
+        requires second { let segment = orders.now.segment in
+            after_choices segment.start orders.now.second ≡ Some second.now }
         requires objects { self.old.objects ≡ length first.now.design.tree.nodes }
         ensures found { OnOk result (self.new.findings ≡ self.old.findings
             ++ found_after orders.now.segment (objects_of self.old.findings) first.now

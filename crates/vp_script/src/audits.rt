@@ -64,8 +64,8 @@ fn log_explanation(
     requires right { IsRight script_session.now.world.opening }
     requires design { script_session.now.world.opening.design ≡ checked.now }
     requires policy { script_session.now.world.opening.policy ≡ policy.now }
-    ensures explanation { IfOk result (λ text. text
-        ≡ explanation_if explain script_session.now.world.opening user.0 script_session.now.world.log) }
+    ensures explanation { let world = script_session.now.world in IfOk result
+        (λ text. text ≡ explanation_if explain world.opening user.0 world.log) }
     ensures refused { IsOkUnless result NoMemory }
 {
     if !explain {
@@ -113,8 +113,8 @@ fn run_to_end<R: Read>(
         → RunsTo out_of_memory opening
         (R.remaining reader.old.inner) (R.remaining reader.new.inner)
         (script_of script_session.new)) }
-    ensures opening { OnOk result
-        ((script_of script_session.new).world.opening ≡ (script_of script_session.old).world.opening) }
+    ensures opening { OnOk result ((script_of script_session.new).world.opening
+        ≡ (script_of script_session.old).world.opening) }
     ensures stopped { IfErr result (λ fault. (opening : Opening)
         → script_of script_session.old ≡ opened opening
         → EndsRunBy opening (R.remaining reader.old.inner) (R.remaining reader.new.inner) fault) }

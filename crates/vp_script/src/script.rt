@@ -70,8 +70,8 @@ pub(crate) fn script_session_of(
     policy: Policy,
 ) -> Result<ScriptSession, ServeFault>
     requires { Fits policy (arc_value checked).tree }
-    ensures script { IfOk result
-        (λ script_session. script_of script_session ≡ opened (opening_of (arc_value checked) policy)) }
+    ensures script { IfOk result (λ script_session. script_of script_session
+        ≡ opened (opening_of (arc_value checked) policy)) }
     ensures refused { IfErr result (λ e. e ≡ fault.World error.NoMemory) }
 {
     Ok(ScriptSession::new(alloc, world_of(alloc, checked, policy)?))
