@@ -1,8 +1,8 @@
 -- What the tables of a design that is built answer is what its tree answers.
 use Rattle.std.proofs.Common.{◌≡◌, ℕ, zero, suc, ◌+◌, ◌-◌, ◌<◌, ◌≤◌, Bool, true, false, cond, List, [], ◌∷◌, ◌++◌, length, map, filter, position, get_or, take, slice_get, slice_index_or, Option, Some, None, refl, sym, ap, subst, ◌∙◌, arith}
-use Rattle.std.specs.Prelude.{◌==◌, All, IfSome, MatchOption, option_map}
+use Rattle.std.specs.Prelude.{◌==◌, All, IfSome, MatchOption, nat_eq, option_map}
 use Rattle.std.specs.List.{list_any}
-use Rattle.std.specs.Option.{option_and_then, option_map_or}
+use Rattle.std.specs.Option.{option_and_then, option_eq, option_map_or}
 use Rattle.std.specs.Str.{bytes_eq}
 use Rattle.std.proofs.lemmas.List.{append-nil, length-append, length-map}
 use Rattle.std.proofs.lemmas.Option.{slice_get_within, slice_get-get_or, slice_get-map}
@@ -23,12 +23,13 @@ use Rattle.vp_elab.specs.declared.object.TheConstants.{OBJECT_LIMIT}
 use Rattle.vp_elab.specs.declared.object.Object.{Object}
 use Rattle.vp_elab.specs.declared.object.ObjectId.{ObjectId}
 use Rattle.vp_elab.specs.Tree.{declared_in as declared_in_scope}
-use Rattle.vp_elab.specs.Tree.{AreAlike, Node, Step, Tree, below, declared_envelopes, Named, definition_at, envelopes_in, find_in, find_named, first_of, name_at, named_in, names_of, node_name, seen_from, step_rights_at, step_rights_in}
+use Rattle.vp_elab.specs.Tree.{AreAlike, Node, Step, Tree, below, declared_envelopes, Named, definition_at, envelopes_in, find_in, find_named, first_of, is_declared_in, name_at, named_in, names_of, node_name, scope_names, seen_from, step_rights_at, step_rights_in}
 use Rattle.vp_elab.specs.Elaboration.{further_limit, item_kind, item_range, lowest_of, root_step, width_of}
 use Rattle.vp_elab.specs.Objects.{AreObjects, Declared, StandsFor, declared_in, is_of, module_name_at}
 use Rattle.vp_elab.specs.Sizes.{capped, size, slots_from, slots_in, total, whole_size}
 use Rattle.vp_elab.specs.Built.{Elaborated, IsBuilt, IsFoundAs, design_of}
 use Rattle.vp_elab.specs.Items.{instantiated_at, node_item, parent_of}
+use Rattle.vp_elab.proofs.Contained.{declared_in_parent, declared_nowhere}
 use Rattle.vp_elab.proofs.Entries.{Entry, Inner, Top, entries_within, module_at, node_at, object_at, path_at, top_entries, within_nodes, within_objects}
 use Rattle.vp_elab.proofs.Found.{at_mapped, child_found, child_nothing, leaf_nothing, path_is, root_after, root_first, root_other, root_unknown}
 use Rattle.vp_elab.proofs.Items.{inner_item, instance_same, item_inner, item_top, parent_same, position_mapped}
@@ -274,6 +275,19 @@ module _ (source : Source) (protection : Protection) (tables : Tables) (scopes :
       ap (λ (xs : List Object). option_map (λ (q : ObjectId). q.0) (option_and_then (λ (x : Object). x.parent) (slice_get xs id))) (is ∙ made_is)
       ∙ ap (λ (x : Option Object). option_map (λ (q : ObjectId). q.0) (option_and_then (λ (x : Object). x.parent) x)) (slice_get-map (object_at source envelopes) all id)
       ∙ parent_by id (slice_get all id) refl
+
+  -- the scope in which it is declared
+  pub declared_some : (os : List Object) (id : ℕ) (o : Object) (scope : Option ℕ) → os ≡ objects.all → Some o ≡ slice_get os id → option_eq nat_eq (option_map (λ (q : ObjectId). q.0) o.parent) scope ≡ is_declared_in d.tree.nodes scope id
+  declared_some os id o scope is found =
+      let it = entry_of os id o is found in
+      ap (λ (x : Object). option_eq nat_eq (option_map (λ (q : ObjectId). q.0) x.parent) scope) (sym it.2)
+      ∙ sym (declared_in_parent source envelopes once all placed id it.0 scope it.1)
+      ∙ ap (λ (ns : List Node). is_declared_in ns scope id) nodes_are
+
+  pub declared_none : (os : List Object) (id : ℕ) (scope : Option ℕ) → os ≡ objects.all → None ≡ slice_get os id → false ≡ is_declared_in d.tree.nodes scope id
+  declared_none os id scope is found =
+      sym (declared_nowhere source envelopes once all placed id (scope_names nodes scope) (no_entry os id is found))
+      ∙ ap (λ (ns : List Node). is_declared_in ns scope id) nodes_are
 
   -- ---- what is found
 

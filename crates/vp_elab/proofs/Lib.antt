@@ -24,5 +24,6 @@ pub mod TreeRows
 pub mod Items
 pub mod Rising
 pub mod Listed
+pub mod Contained
 pub mod Listing
 pub mod FullNames

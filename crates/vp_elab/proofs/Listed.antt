@@ -22,12 +22,13 @@ use Rattle.vp_elab.proofs.Found.{child_of, found_entry, nothing_named, path_is, 
 use Rattle.vp_elab.proofs.Named.{module_index}
 use Rattle.vp_elab.proofs.Placed.{AllFrom, Good, at_after, full_size, root_slot, slot, take_front}
 use Rattle.vp_elab.proofs.Rising.{In, filtered_is, passing_at, passing_read, starts, starts_at, starts_after, starts_read, starts_rise}
-use Rattle.vp_elab.proofs.Scopes.{filter_none, step_last, step_read}
+use Rattle.vp_elab.proofs.Scopes.{step_last, step_read}
+use Rattle.vp_elab.specs.laws.Children.{filter_none}
 use Rattle.vp_elab.proofs.Marks.{filter_below_same}
 use Rattle.vp_elab.proofs.Stable.{total-append}
 use Rattle.vp_elab.proofs.Unique.{good_at}
 
-some_there : {X : Type 0} (o : Option X) → is_some o ≡ true → (x : X) × (o ≡ Some x)
+pub some_there : {X : Type 0} (o : Option X) → is_some o ≡ true → (x : X) × (o ≡ Some x)
 some_there None h = absurd cc
 some_there (Some x) h = (x, refl)
 

@@ -15,6 +15,7 @@ use Rattle.vp_modules.specs.Refusals.{twice_in}
 use Rattle.vp_pragma.specs.declared.envelope.Envelope.{Envelope}
 use Rattle.vp_pragma.specs.Envelopes.{envelope_at}
 use Rattle.vp_elab.specs.declared.object.Object.{Object}
+use Rattle.vp_elab.specs.laws.Children.{filter_none}
 use Rattle.vp_elab.specs.Tree.{Node, Step, below, declared_in, names_of, step_in}
 use Rattle.vp_elab.specs.Elaboration.{item_step, root_step, tops}
 use Rattle.vp_elab.proofs.Distinct.{bytes_eq-self}
@@ -60,11 +61,6 @@ any_filter p t (x ∷ xs) = any_filter_by p x (t x) (filter t xs) ∙ ap (λ b. 
 both : (a b : Bool) → (a && b) ≡ true → (a ≡ true) × (b ≡ true)
 both true b h = (refl, h)
 both false b h = absurd cc
-
--- where nothing passes, nothing is left
-pub filter_none : (xs : List ℕ) → filter (λ e. false) xs ≡ []
-filter_none [] = refl
-filter_none (x ∷ xs) = filter_none xs
 
 passes_by : (p : Step → Bool) (o : Option Step) → option_map_or p o false ≡ true → (s : Step) × (o ≡ Some s) × (p s ≡ true)
 passes_by p None h = absurd cc

@@ -219,6 +219,10 @@ children_named nodes scope = filter (λ id. option_map_or (is_in scope) (slice_g
 abbrev pub children_of : List Node → Option ℕ → List ℕ
 children_of nodes scope = option_map_or (children_named nodes) (scope_names nodes scope) []
 
+-- the object of a number is declared in a scope; none is in an object that is not there (clause 12.5)
+abbrev pub is_declared_in : List Node → Option ℕ → ℕ → Bool
+is_declared_in nodes scope id = option_map_or (λ names. option_map_or (is_in names) (slice_get nodes id) false) (scope_names nodes scope) false
+
 -- the numbers of the envelopes of what is declared in a scope, rising, each once; none where the object is not there
 abbrev pub declared_envelopes : Tree → Option ℕ → List ℕ
 declared_envelopes tree scope = option_map_or (envelopes_in tree) (scope_names tree.nodes scope) []

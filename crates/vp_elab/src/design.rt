@@ -7,7 +7,7 @@ ghost use Rattle.vp_pragma.specs.Envelopes.{object_of};
 ghost use Rattle.vp_pragma.specs.Reading.{viewport_of};
 ghost use Rattle.vp_pragma.specs.Rights.{nothing};
 ghost use Rattle.vp_source.specs.Whole.{AreWhole};
-ghost use Rattle.vp_elab.specs.Tree.{AreAlike, author_in, children_of, declared_envelopes, find_in, first_of, full_name_at, matches_at, name_at, node_envelope, step_rights_at};
+ghost use Rattle.vp_elab.specs.Tree.{AreAlike, author_in, children_of, declared_envelopes, find_in, first_of, full_name_at, is_declared_in, matches_at, name_at, node_envelope, step_rights_at};
 ghost use Rattle.vp_elab.specs.Objects.{AreObjects, StandsFor, module_name_at};
 ghost use Rattle.vp_elab.specs.Built.{IsBuilt, IsElaborated, ItemsAreFound, design_of, shown};
 ghost use Rattle.vp_modules.specs.ModuleRefusals as modules;
@@ -144,7 +144,8 @@ fn slot_at(objects: &[Object], scopes: &[Scope], id: ObjectId, index: usize) -> 
 
 /// What viewports open of the item of an index in the module of an object.
 fn child_step_rights(objects: &[Object], scopes: &[Scope], id: ObjectId, index: u32) -> StepRights
-    ensures { shown result ≡ option_map_or (λ s. slice_index_or s.all_step_rights index (nothing, None))
+    ensures { shown result
+        ≡ option_map_or (λ s. slice_index_or s.all_step_rights index (nothing, None))
         (option_and_then (slice_get scopes.now)
         (option_and_then (λ o. o.scope) (slice_get objects.now id.0))) (nothing, None) }
 {
@@ -479,6 +480,18 @@ impl Design {
         match scope_at(objects, self.scopes.as_slice(), id) {
             Some(scope) => objects_after(alloc, id, scope.slots()),
             None => Ok(Sequence::from_vec(Vec::new(alloc))),
+        }
+    }
+
+    /// An object is declared in a module, or is a top module; nothing is declared in an object that is no module, and in one
+    /// that is not there (clause 12.5).
+    pub fn is_declared_in(&self, scope: Option<ObjectId>, id: ObjectId) -> bool
+        ensures { result
+            ≡ is_declared_in self.now.tree.nodes (option_map (λ o. o.0) scope) id.0 }
+    {
+        match object_at(self.objects.all.as_slice(), id) {
+            Some(object) => object.parent == scope,
+            None => false,
         }
     }
 
