@@ -1,4 +1,4 @@
-ghost use Rattle.std.specs.Prelude.{◌≡◌, ◌⊎◌, [], None, option_map, IfErr, IfOk, IfSome, OnErr, OnOk, is_err, is_none, false, true};
+ghost use Rattle.std.specs.Prelude.{◌≡◌, ◌⊎◌, ◌||◌, [], None, option_map, IfErr, IfOk, IfSome, OnErr, OnOk, is_err, is_none, false, true};
 ghost use Rattle.std.specs.Arc.{arc_value};
 ghost use Rattle.std.specs.List.{All};
 ghost use Rattle.vp_race.specs.Recording.{next_job};
@@ -294,8 +294,7 @@ impl ScriptSession {
 
     /// At some time there was no memory for a request or to let the simulation run on; or memory was missing elsewhere.
     pub fn is_out_of_memory_or(&self, elsewhere: bool) -> bool
-        ensures here { self.now.out_of_memory ≡ true → result ≡ true }
-        ensures elsewhere { elsewhere ≡ true → result ≡ true }
+        ensures { result ≡ (elsewhere || self.now.out_of_memory) }
     {
         elsewhere || self.out_of_memory
     }

@@ -1,7 +1,7 @@
 // The line that is being read, and what becomes of it.
-ghost use Rattle.std.specs.Prelude.{◌≡◌, ◌⊎◌, ◌++◌, [], length, nat_lt, ℕ, List, IsErrOf};
+ghost use Rattle.std.specs.Prelude.{◌≡◌, ◌⊎◌, ◌||◌, ◌++◌, [], length, nat_lt, ℕ, List, IsErrOf};
 ghost use Rattle.vp_wire.specs.Dialogue.{error_line, turn_of};
-ghost use Rattle.vp_wire.specs.Reading.{IsBegun, StaysTrue, is_no_memory, text_of, turn_by};
+ghost use Rattle.vp_wire.specs.Reading.{IsBegun, is_no_memory, text_of, turn_by};
 
 use crate::dialogue::Stage;
 use crate::error::WireError;
@@ -38,8 +38,7 @@ impl LineError {
 
     /// It is that there is no memory, or that was so before.
     pub fn is_no_memory_or(self, before: bool) -> bool
-        ensures before { StaysTrue before result }
-        ensures now { StaysTrue (is_no_memory self) result }
+        ensures { result ≡ (before || is_no_memory self) }
     {
         before || matches!(self, LineError::NoMemory)
     }

@@ -1,5 +1,6 @@
 use Rattle.std.proofs.Common.{rules, ◌≡◌, ◌∙◌, false, refl, subst, sym, true}
 use Rattle.std.specs.Prelude.{is_err}
+use Rattle.std.proofs.lemmas.Bool.{or_left, or_right}
 use Rattle.vp_script.specs.Keeping.{is_no_memory}
 use Rattle.vp_script.specs.Scripts.{Applied, event_of}
 use Rattle.vp_script.proofs.Serving.{answered_now}
@@ -22,4 +23,4 @@ returns-else-is_err c =
     let run : is_err c.run.result ≡ false = search rules in
     let missing = c.is_out_of_memory_or-self.ensures in
     answered_now c.args.self.now _ asked c.args.request answer _ applied c.session_after-self.ensures c.run.ensures
-    missing.here (λ was. missing.elsewhere (c.is_no_memory.ensures ∙ was)) (λ was. let clash : true ≡ false = sym was ∙ run in cc)
+    (λ was. missing ∙ or_right _ _ was) (λ was. missing ∙ or_left _ _ (c.is_no_memory.ensures ∙ was)) (λ was. let clash : true ≡ false = sym was ∙ run in cc)
