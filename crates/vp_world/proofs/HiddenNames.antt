@@ -3,13 +3,12 @@ use Rattle.std.proofs.Common.{◌≡◌, ◌∙◌, ℕ, Bool, true, false, List
 use Rattle.std.specs.Prelude.{if◌then◌else◌, option_and_then, option_map}
 use Rattle.vp_text.specs.Texts.{parts}
 use Rattle.vp_pragma.specs.declared.rights.Right.TheVariants as right
-use Rattle.vp_elab.specs.declared.object.ObjectId.{ObjectId}
 use Rattle.vp_policy.proofs.Laws.{looks_alike}
 use Rattle.vp_policy.specs.declared.denial.Look.{Look}
 use Rattle.vp_policy.specs.Denials.{DenialText}
 use Rattle.vp_policy.specs.Filter.{look_in, stops_in}
 use Rattle.vp_policy.specs.Users.{Member, member_at}
-use Rattle.vp_vpi.specs.Calls.{allowed, handle_of, is_module, object_found, or_refusal, scope_of, then_by, undenied}
+use Rattle.vp_vpi.specs.Calls.{allowed, handle_of, is_module, object_found, scope_of, then_by, undenied}
 use Rattle.vp_vpi.specs.Observers.{Observer, lookup_of}
 use Rattle.vp_vpi.specs.SessionStates.{SessionState, object_of}
 use Rattle.vp_vpi.specs.declared.error.VpiError.{VpiError}
@@ -18,10 +17,8 @@ use Rattle.vp_answer.specs.Answers.{Response, made, response_by}
 use Rattle.vp_answer.specs.OpenSessions.{OpenSessionState}
 use Rattle.vp_answer.specs.declared.query.Query.TheVariants as query
 use Rattle.vp_answer.specs.declared.reply.Reply.{Reply}
-use Rattle.vp_answer.specs.declared.request.SessionId.{SessionId}
 use Rattle.vp_world.specs.declared.error.WorldError.{WorldError}
 use Rattle.vp_world.specs.declared.event.Event.{Event}
-use Rattle.vp_world.specs.declared.event.Event.TheVariants as event
 use Rattle.vp_world.specs.HiddenNames.{HidesAlike, scope_in, stop_in, stop_of}
 use Rattle.vp_world.specs.History.{answered_by, asked, observer_at, session_of, state_after}
 use Rattle.vp_world.specs.Worlds.{State, WorldLog}

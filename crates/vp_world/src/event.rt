@@ -7,7 +7,7 @@ use vp_text::{Shared, Text};
 pub enum Event {
     /// A user opens a session.
     Open { user: Text, token: Text },
-    /// A session asks; the query is neither `Open` nor `Close` nor `Grant`.
+    /// A session asks.
     Ask { session: SessionId, query: Query },
     /// A session is closed.
     Close { session: SessionId },

@@ -72,7 +72,7 @@ get_same (y ∷ xs) zero x h = refl
 get_same (y ∷ xs) (suc k) x h = get_same xs k x (omega arith)
 
 -- and at another
-get_other : {X : Type 0} (xs : List X) (p k : ℕ) (x : X) → (k ≡ p → ⊥) → slice_get (slice_set xs p x) k ≡ slice_get xs k
+pub get_other : {X : Type 0} (xs : List X) (p k : ℕ) (x : X) → (k ≡ p → ⊥) → slice_get (slice_set xs p x) k ≡ slice_get xs k
 get_other [] p k x h = refl
 get_other (y ∷ ys) zero zero x h = absurd (h refl)
 get_other (y ∷ ys) zero (suc k) x h = refl

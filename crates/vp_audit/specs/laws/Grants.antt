@@ -37,7 +37,7 @@ use Rattle.vp_replay.specs.Parts.{Part, come_or_known, granted_session, granted_
 use Rattle.vp_audit.specs.Projections.{granted_of, is_read, moved_numbers, number_in, read_marks, value_seen, values_but, values_seen}
 use Rattle.vp_replay.specs.Seen.{denied_seen, kind_seen}
 use Rattle.vp_audit.specs.laws.Alike.{AreValues, IsKnown}
-use Rattle.vp_audit.specs.laws.After.{AreWatched, index_number, number_index}
+use Rattle.vp_audit.specs.laws.After.{AreWatched, get_other, index_number, number_index}
 use Rattle.vp_replay.specs.laws.Denials.{AllInEnvelopes, denied_seen_at, node_seen}
 use Rattle.vp_answer.proofs.Lists.{map_same}
 use Rattle.vp_audit.specs.laws.Events.{AllWatched, AreNamed, AreSessions, IsPartOf, filter_form, is_of, map_alike, map_all, map_twice, part_following, same_number, session_under}
@@ -325,14 +325,6 @@ get_set [] i x y e = absurd (cc)
 get_set (z ∷ xs) zero x y e = refl
 get_set (z ∷ xs) (suc i) x y e = get_set xs i x y e
 
--- what is not set stays
-get_kept : {X : Type 0} (xs : List X) (i j : ℕ) (x : X) → (j ≡ i → ⊥) → slice_get (slice_set xs i x) j ≡ slice_get xs j
-get_kept [] i j x n = refl
-get_kept (y ∷ xs) zero zero x n = absurd (n refl)
-get_kept (y ∷ xs) zero (suc j) x n = refl
-get_kept (y ∷ xs) (suc i) zero x n = refl
-get_kept (y ∷ xs) (suc i) (suc j) x n = get_kept xs i j x (λ e. n (ap suc e))
-
 -- what stands at an index
 index_get : {X : Type 0} (xs : List X) (i : ℕ) (x d : X) → slice_get xs i ≡ Some x → slice_index_or xs i d ≡ x
 index_get [] i x d e = absurd (cc)
@@ -357,7 +349,7 @@ came_stays (n ∷ moved) (v ∷ before) came k bits at =
           ap (λ i. slice_get (with_known came i v) k) same
           ∙ get_set came k (come_or_known (slice_index_or came k None) v) (Some bits) at
           ∙ ap (λ c. Some (come_or_known c v)) (index_get came k (Some bits) None at)
-      | inr other ↦ get_kept came n k (come_or_known (slice_index_or came n None) v) other ∙ at
+      | inr other ↦ get_other came n k (come_or_known (slice_index_or came n None) v) other ∙ at
     ])
 
 -- a value that was known of each number that became this one is known of it, where none came
@@ -377,7 +369,7 @@ known_stays (n ∷ moved) (v ∷ before) came k bits were none i there =
           ∙ ap Some known)
       | inr other ↦
           known_stays moved before (with_known came n v) k bits (λ j at. were (suc j) at)
-          (get_kept came n k (come_or_known (slice_index_or came n None) v) other ∙ none) (before_first i there other).0 (before_first i there other).1
+          (get_other came n k (come_or_known (slice_index_or came n None) v) other ∙ none) (before_first i there other).0 (before_first i there other).1
     ]
   where
     before_first : (i : ℕ) → slice_get (n ∷ moved) i ≡ Some k → (k ≡ n → ⊥) → (j : ℕ) × (slice_get moved j ≡ Some k)
