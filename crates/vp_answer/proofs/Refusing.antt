@@ -3,7 +3,7 @@ use Rattle.std.proofs.Common.{◌≡◌, ◌≢◌, Result, Ok, Err, inl, inr, s
 use Rattle.std.specs.Prelude.{IfOk, OnOk}
 use Rattle.vp_vpi.specs.declared.error.VpiError.{VpiError}
 use Rattle.vp_vpi.specs.declared.error.VpiError.TheVariants as vpi
-use Rattle.vp_vpi.specs.Calls.{Explains, ExplainsIteration, Iterated, Refuses}
+use Rattle.vp_vpi.specs.Calls.{Explains, Iterated, Refuses}
 use Rattle.vp_vpi.specs.SessionStates.{SessionState, with_handles}
 use Rattle.vp_answer.specs.declared.answering.Answer.{Answer}
 use Rattle.vp_answer.specs.declared.reply.Reply.{Reply}
@@ -67,20 +67,6 @@ refused_gives session_state new given due e r same told answer reason =
     refusal_gives session_state new given due e r same (refused_explains due e told) answer reason
 
 -- ---- iterations
-
--- an error that explains an iteration, and is not out of memory, explains it as an answer
-iteration_explains : (due : Result Iterated VpiError) (e : VpiError) → ExplainsIteration due e → e ≢ vpi.NoMemory → Explains due e
-iteration_explains (Err vpi.TooManyHandles) e told other = elim told [ inl is ↦ is | inr allocation_error ↦ absurd (other allocation_error) ]
-iteration_explains due e told other = told
-
--- the answer to an iteration that a session refuses is given by the refusal
-pub iteration_refused_gives :
-    {X : Type 0} (session_state new : SessionState) (given : Iterated → Response) (due : Result Iterated VpiError) (e : VpiError) (r : Result Answer X)
-    → new ≡ session_state → ExplainsIteration due e → IfOk r (λ a. a ≡ plain (refused e)) → OnOk r (e ≢ vpi.NoMemory)
-    → IfOk r (IsGiven (response_by session_state given due) new)
-iteration_refused_gives session_state new given due e (Err allocation_error) same told answer reason = tt
-iteration_refused_gives session_state new given due e (Ok a) same told answer reason =
-    refusal_given_by session_state new given due e a same (iteration_explains due e told reason) answer reason
 
 -- the answer to an iteration that is found is given by it
 pub iteration_gives :

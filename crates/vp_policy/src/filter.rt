@@ -165,7 +165,7 @@ impl Policy {
     }
 
     /// An object is listed to a user.
-    pub(crate) fn is_listed(&self, user: UserId, object: ObjectId) -> bool
+    pub fn is_listed(&self, user: UserId, object: ObjectId) -> bool
         ensures { result
             ≡ is_listed_at self.now.tree (member_at self.now.members user.0) object.0 }
     {

@@ -1,20 +1,21 @@
 // Scopes, and the objects in them by their names.
-ghost use Rattle.std.specs.Prelude.{◌≡◌, ◌++◌, ◌∷◌, [], IfOk, IsTrue, OnErr, map};
+ghost use Rattle.std.specs.Prelude.{◌≡◌, ◌++◌, ◌∷◌, [], ℕ, IfOk, IsTrue, OnErr, filter, length, map};
 ghost use Rattle.vp_text.specs.Texts.{parts};
 ghost use Rattle.vp_policy.specs.SeenObjects.{path_to};
+ghost use Rattle.vp_vpi.specs.Calls.{is_of};
 ghost use Rattle.vp_vpi.specs.Lookups.{found_shown, is_denial};
 ghost use Rattle.vp_vpi.specs.Observers.{Absent};
 ghost use Rattle.vp_replay.specs.Objects.{names_to};
-ghost use Rattle.vp_replay.specs.Seen.{closed_seen, find_listed_seen, find_seen, is_in_seen, is_named_seen, listed_in_seen, unlisted_seen, walk_seen};
+ghost use Rattle.vp_replay.specs.Seen.{closed_seen, find_listed_seen, find_seen, is_in_seen, is_named_seen, kind_seen, listed_in_seen, unlisted_seen, walk_seen};
 
 use crate::denials::{author, barrier_by_grant};
-use crate::path::{is_listed, last_step, object_at};
+use crate::path::{is_listed, kind, last_step, object_at};
 use std::alloc::{AllocError, Global};
-use vp_elab::ObjectId;
+use vp_elab::{Kind, ObjectId};
 use vp_policy::{DenialText, View};
 use vp_pragma::Right;
 use vp_text::{Sequence, first_part};
-use vp_vpi::Found;
+use vp_vpi::{Found, is_of};
 
 /// The same names lead to two scopes.
 fn is_same_scope(view: &View, first: Option<u32>, second: Option<u32>) -> bool
@@ -153,4 +154,21 @@ pub fn listed(
         }
     }
     Ok(Sequence::from_vec(ids))
+}
+
+/// How many objects of a kind are listed in a scope.
+pub fn count_listed(view: &View, wanted: Kind, scope: Option<u32>) -> usize
+    ensures { let is_wanted = λ (o : ℕ). is_of wanted (kind_seen view.now o) in
+        result ≡ length (filter is_wanted (listed_in_seen view.now scope)) }
+{
+    let mut count = 0;
+    for number in 0..view.count() {
+        if is_in(view, scope, number)
+            && is_listed(view, number)
+            && is_of(wanted, kind(view, number))
+        {
+            count += 1;
+        }
+    }
+    count
 }

@@ -4,8 +4,8 @@ ghost use Rattle.vp_replay.specs.Objects.{known_value};
 ghost use Rattle.vp_replay.specs.Seen.{observer_seen};
 
 use crate::denials::denied;
-use crate::names::{closed, listed, look};
-use crate::path::{full_name, name, object_at};
+use crate::names::{closed, count_listed, listed, look};
+use crate::path::{full_name, kind, name, object_at};
 use crate::races::{lines_of, race_details};
 use std::alloc::{AllocError, Global};
 use vp_bits::Bits;
@@ -89,6 +89,10 @@ impl Observe for PartObserver<'_> {
         listed(alloc, self.view, number_of(scope))
     }
 
+    fn count_listed(&self, kind: Kind, scope: Option<ObjectId>) -> usize {
+        count_listed(self.view, kind, number_of(scope))
+    }
+
     fn closed(&self, alloc: Global, scope: Option<ObjectId>) -> Result<Sequence<u8>, AllocError> {
         let numbers = Vec::from_slice(alloc, closed(self.view, number_of(scope)))?;
         Ok(Sequence::from_vec(numbers))
@@ -104,7 +108,7 @@ impl Observe for PartObserver<'_> {
     }
 
     fn kind(&self, object: ObjectId) -> Option<Kind> {
-        Some(object_at(self.view, object.0)?.kind)
+        kind(self.view, object.0)
     }
 
     fn width(&self, object: ObjectId) -> u32 {

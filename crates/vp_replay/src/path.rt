@@ -4,9 +4,10 @@ ghost use Rattle.vp_pragma.specs.Rights.{has};
 ghost use Rattle.vp_elab.specs.Tree.{dotted};
 ghost use Rattle.vp_policy.specs.SeenObjects.{node_after, own_step, path_to};
 ghost use Rattle.vp_replay.specs.Objects.{before, most_steps};
-ghost use Rattle.vp_replay.specs.Seen.{last_name, listed_seen, names_seen, path_seen};
+ghost use Rattle.vp_replay.specs.Seen.{kind_seen, last_name, listed_seen, names_seen, path_seen};
 
 use std::alloc::{AllocError, Global};
+use vp_elab::Kind;
 use vp_policy::{SeenObject, View};
 use vp_pragma::Right;
 use vp_text::Text;
@@ -17,6 +18,13 @@ pub fn object_at(view: &View, number: u32) -> Option<&SeenObject>
         (λ o. slice_get nodes number ≡ Some (node_after (take number nodes) o.now)) }
 {
     view.objects().get(number as usize)
+}
+
+/// The kind of the object of a number; none where no object is.
+pub fn kind(view: &View, number: u32) -> Option<Kind>
+    ensures { result ≡ kind_seen view.now number }
+{
+    Some(object_at(view, number)?.kind)
 }
 
 /// The number of the module in which the object of a number is declared, if it stands before it.

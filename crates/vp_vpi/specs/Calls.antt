@@ -284,9 +284,3 @@ Refuses (Err refusal) e = Tells refusal e
 abbrev pub Explains : {A : Type 0} → Result A VpiError → VpiError → Type 0
 Explains (Ok x) e = e ≡ error.NoMemory
 Explains (Err refusal) e = Tells refusal e
-
--- an error reports the refusal of an iteration; out of memory may stand in the place of an iteration, too, and of too many handles,
--- since what is listed is found first, which takes memory
-abbrev pub ExplainsIteration : Result Iterated VpiError → VpiError → Type 0
-ExplainsIteration (Err error.TooManyHandles) e = (e ≡ error.TooManyHandles) ⊎ (e ≡ error.NoMemory)
-ExplainsIteration due e = Explains due e

@@ -90,7 +90,7 @@ fn is_same(first: Kind, second: Kind) -> bool
 }
 
 /// An object is there and of a kind.
-fn is_of(kind: Kind, found: Option<Kind>) -> bool
+pub fn is_of(kind: Kind, found: Option<Kind>) -> bool
     ensures { result ≡ is_of kind found }
 {
     match found {
@@ -107,8 +107,9 @@ pub fn of_kind<E: Observe>(
     objects: &[ObjectId],
 ) -> Result<Sequence<ObjectId>, AllocError>
     requires { E.is_sound observation.now }
-    ensures { IfOk result (λ ids. map (λ o. o.0) ids
-        ≡ filter (λ o. is_of kind ((E.observer observation.now).kind o)) (map (λ o. o.0) objects.now)) }
+    ensures { let observation = E.observer observation.now in
+        IfOk result (λ ids. map (λ o. o.0) ids
+        ≡ filter (λ o. is_of kind (observation.kind o)) (map (λ o. o.0) objects.now)) }
 {
     let mut ids = Vec::new(alloc);
     for object in objects {

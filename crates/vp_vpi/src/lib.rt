@@ -11,7 +11,7 @@ mod races;
 mod session;
 
 pub use error::VpiError;
-pub use iteration::{Iteration, ListedObject, Listing};
+pub use iteration::{Iteration, ListedObject, Listing, is_of};
 pub use observer::{Found, Observe};
 pub use property::{NumberProperty, PutValue, TextProperty, VectorWord};
 pub use races::{RaceDetails, RaceLine, ShownRace};

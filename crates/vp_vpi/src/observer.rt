@@ -1,6 +1,6 @@
 // What a session looks up: where its names lead, what is denied, and what it may know of the objects.
-ghost use Rattle.std.specs.Prelude.{◌≡◌, ℕ, None, Option, map, option_map, IfOk, IsSome, IsTrue, OnErr};
-ghost use Rattle.vp_vpi.specs.Calls.{lines_of, race_details, shown_at};
+ghost use Rattle.std.specs.Prelude.{◌≡◌, ℕ, None, Option, length, map, option_map, IfOk, IsSome, IsTrue, OnErr};
+ghost use Rattle.vp_vpi.specs.Calls.{lines_of, listed_of, race_details, shown_at};
 ghost use Rattle.vp_vpi.specs.Lookups.{found_shown, is_denial};
 ghost use Rattle.vp_vpi.specs.Observers.{Observer};
 
@@ -48,6 +48,12 @@ pub trait Observe {
         requires { is_sound self.now }
         ensures { let scope : Option ℕ = option_map (λ o. o.0) scope in IfOk result
             (λ ids. map (λ o. o.0) ids ≡ (observer self.now).listed scope) };
+
+    /// How many objects of a kind are listed in a scope.
+    fn count_listed(&self, kind: Kind, scope: Option<ObjectId>) -> usize
+        requires { is_sound self.now }
+        ensures { let scope : Option ℕ = option_map (λ o. o.0) scope in
+            result ≡ length (listed_of (observer self.now) kind scope) };
 
     /// The numbers of the envelopes that are closed in a scope, rising. Takes memory.
     fn closed(&self, alloc: Global, scope: Option<ObjectId>) -> Result<Sequence<u8>, AllocError>

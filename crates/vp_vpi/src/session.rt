@@ -1,7 +1,7 @@
 ghost use Rattle.std.specs.Option.{option_flatten};
-ghost use Rattle.std.specs.Prelude.{◌≡◌, [], count_by, is_some, length, map, None, option_map, slice_get, slice_set, Ok, IfErr, IfOk, IsOkAnd, IsOkUnless, IsSome, IsTrue, OnErr, OnOk};
+ghost use Rattle.std.specs.Prelude.{◌≡◌, ℕ, [], count_by, is_some, length, map, List, None, Option, option_map, slice_get, slice_set, Ok, IfErr, IfOk, IsOkAnd, IsOkUnless, IsSome, IsTrue, OnErr, OnOk};
 ghost use Rattle.vp_vpi.specs.Lookups.{found_shown};
-ghost use Rattle.vp_vpi.specs.Calls.{Explains, ExplainsIteration, Refuses, allowed, handle_of, iterated, iteration, listed_of, number_of, object_found, put_of, same_of, scope_of, text_at, text_of, value_of};
+ghost use Rattle.vp_vpi.specs.Calls.{Explains, Refuses, allowed, handle_of, iterated, iteration, iteration_in_room, listed_of, number_of, object_found, put_of, same_of, scope_of, text_at, text_of, value_of};
 ghost use Rattle.vp_vpi.specs.SessionStates.{has_room, new_session_state, next_handle, object_of, with_handle, with_handles, without_handle};
 
 mod callbacks;
@@ -150,7 +150,8 @@ impl Session {
         handle: Option<u32>,
     ) -> Result<Option<ObjectId>, VpiError>
         requires { E.is_sound observation.now }
-        ensures ok { IfOk result (λ scope. scope_of (E.observer observation.now) self.now.handles handle
+        ensures ok { let observation = E.observer observation.now in
+            IfOk result (λ scope. scope_of observation self.now.handles handle
             ≡ Ok (option_map (λ o. o.0) scope)) }
         ensures refused { IfErr result
             (λ e. Refuses (scope_of (E.observer observation.now) self.now.handles handle) e) }
@@ -191,7 +192,8 @@ impl Session {
         ensures ok { IfOk result
             (λ o. handle_of (E.observer observation.now) self.now.handles scope name.now ≡ Ok o.0) }
         ensures refused { IfErr result
-            (λ e. Refuses (handle_of (E.observer observation.now) self.now.handles scope name.now) e) }
+            (λ e. let observation = E.observer observation.now in
+            Refuses (handle_of observation self.now.handles scope name.now) e) }
     {
         let above = self.scope(observation, scope)?;
         match observation.find(self.alloc, above, name) {
@@ -216,7 +218,8 @@ impl Session {
             (IsOkAnd (handle_of (E.observer observation.now) self.old.handles scope name.now)
             (λ o. self.new ≡ with_handle o self.old)) }
         ensures refused { IfErr result
-            (λ e. Explains (handle_of (E.observer observation.now) self.old.handles scope name.now) e) }
+            (λ e. let observation = E.observer observation.now in
+            Explains (handle_of observation self.old.handles scope name.now) e) }
         ensures unchanged { OnErr result (self.new ≡ self.old) }
     {
         let object = self.named(observation, scope, name)?;
@@ -249,7 +252,8 @@ impl Session {
     ) -> Result<Iteration, AllocError>
         requires sound { E.is_sound observation.now }
         requires room { IsTrue (has_room (length objects.now) self.now.handles) }
-        ensures iteration { IfOk result (λ i. i ≡ iteration (E.observer observation.now) self.now.handles
+        ensures iteration { let observation = E.observer observation.now in
+            IfOk result (λ i. i ≡ iteration observation self.now.handles
             (option_map (λ o. o.0) scope) (map (λ o. o.0) objects.now)) }
         ensures count { IfOk result (λ i. length i.handles ≡ length objects.now) }
     {
@@ -258,9 +262,30 @@ impl Session {
         Iteration::new(self.alloc, observation, closed, last, objects)
     }
 
+    /// Why there is no iteration over the objects of a kind in a scope, where memory was missing for their list: too many handles
+    /// (1105), or else out of memory (1107).
+    fn refusal_without_list<E: Observe>(
+        &self,
+        observation: &E,
+        kind: Kind,
+        scope: Option<ObjectId>,
+    ) -> VpiError
+        requires { E.is_sound observation.now }
+        ensures { let observation = E.observer observation.now in
+            let scope : Option ℕ = option_map (λ o. o.0) scope in
+            let objects = listed_of observation kind scope in
+            Explains (iteration_in_room observation self.now.handles scope objects) result }
+    {
+        if self.has_room(observation.count_listed(kind, scope)) {
+            VpiError::NoMemory
+        } else {
+            VpiError::TooManyHandles
+        }
+    }
+
     /// An iteration over the objects of a kind in the scope of a handle, or over the top modules: of a list that is made at once,
     /// with a new handle of each object. `scan` makes the handles. Refused where the scope is no handle (1101), may not be listed (1109)
-    /// or is no module (1102), with too many handles (1105), or out of memory (1107), which may come before 1105.
+    /// or is no module (1102), with too many handles (1105), or out of memory (1107).
     pub fn iterate<E: Observe>(
         &self,
         observation: &E,
@@ -271,11 +296,13 @@ impl Session {
         ensures ok { IfOk result
             (λ i. iterated (E.observer observation.now) self.now.handles kind scope ≡ Ok i) }
         ensures room { IfOk result (λ i. IsTrue (has_room (length i.handles) self.now.handles)) }
-        ensures refused { IfErr result (λ e. ExplainsIteration
-            (iterated (E.observer observation.now) self.now.handles kind scope) e) }
+        ensures refused { IfErr result
+            (λ e. Explains (iterated (E.observer observation.now) self.now.handles kind scope) e) }
     {
         let above = self.scope(observation, scope)?;
-        let objects = self.listed(observation, kind, above)?;
+        let Ok(objects) = self.listed(observation, kind, above) else {
+            return Err(self.refusal_without_list(observation, kind, above));
+        };
         if !self.has_room(objects.len()) {
             return Err(VpiError::TooManyHandles);
         }
@@ -304,8 +331,8 @@ impl Session {
         requires { E.is_sound observation.now }
         ensures ok { IfOk result (λ n. number_of (E.observer observation.now) property
             (object_of self.now.handles handle) ≡ Ok n) }
-        ensures refused { IfErr result (λ e. Refuses (number_of (E.observer observation.now) property
-            (object_of self.now.handles handle)) e) }
+        ensures refused { let observation = E.observer observation.now in IfErr result
+            (λ e. Refuses (number_of observation property (object_of self.now.handles handle)) e) }
     {
         let object = self.allowed(observation, handle, Right::List)?;
         match (property, observation.kind(object)) {

@@ -1,6 +1,7 @@
 pub mod ShownRaces
 pub mod Designs
 pub mod Counting
+pub mod ListedCounts
 pub mod Standings
 pub mod Noticing
 pub mod Marks

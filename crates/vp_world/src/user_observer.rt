@@ -1,8 +1,11 @@
 // What a user looks up of a simulation and a book of races, by a policy.
-ghost use Rattle.std.specs.Prelude.{◌≡◌, filter, option_copied, IfOk};
+ghost use Rattle.std.specs.Prelude.{◌≡◌, ◌&&◌, ℕ, Option, filter, option_copied, option_map, IfOk};
+ghost use Rattle.vp_elab.specs.Tree.{is_declared_in};
+ghost use Rattle.vp_policy.specs.Filter.{is_listed_at};
 ghost use Rattle.vp_policy.specs.PolicyState.{Fits};
 ghost use Rattle.vp_policy.specs.Users.{member_at};
-ghost use Rattle.vp_vpi.specs.Calls.{line_of, shown_at};
+ghost use Rattle.vp_vpi.specs.Calls.{is_of, line_of, shown_at};
+ghost use Rattle.vp_vpi.specs.Observers.{kind_at};
 ghost use Rattle.vp_world.specs.Races.{is_shown, observer_with, race_seen};
 
 use crate::shown_races::{is_race_shown, seen_race};
@@ -13,7 +16,7 @@ use vp_policy::{DenialText, Look, Policy, UserId};
 use vp_pragma::Right;
 use vp_race::{Book, Finding, Sim};
 use vp_text::{Sequence, Text};
-use vp_vpi::{Found, Observe, RaceDetails, RaceLine};
+use vp_vpi::{Found, Observe, RaceDetails, RaceLine, is_of};
 
 /// At most so many races are reported in one list.
 const RACE_LIMIT: usize = 100;
@@ -52,6 +55,21 @@ impl UserObserver<'_> {
             result ≡ is_shown self.now.policy.now.tree member finding.now }
     {
         is_race_shown(self.policy, self.user, finding)
+    }
+
+    /// An object of a kind is declared in a scope, and listed to the user.
+    fn is_listed_in(&self, kind: Kind, scope: Option<ObjectId>, object: ObjectId) -> bool
+        ensures { let tree = self.now.sim.now.design.tree in
+            let member = member_at self.now.policy.now.members self.now.user.0 in
+            let scope : Option ℕ = option_map (λ o. o.0) scope in
+            result ≡ (is_declared_in tree.nodes scope object.0
+            && (is_listed_at self.now.policy.now.tree member object.0
+            && is_of kind (kind_at tree object.0))) }
+    {
+        let design = self.sim.design();
+        design.is_declared_in(scope, object)
+            && self.policy.is_listed(self.user, object)
+            && is_of(kind, design.kind(object))
     }
 
     /// A race in the user's list, by its number there; or out of memory.
@@ -126,6 +144,16 @@ impl Observe for UserObserver<'_> {
             Ok(objects) => Ok(objects),
             Err(_) => Err(AllocError),
         }
+    }
+
+    fn count_listed(&self, kind: Kind, scope: Option<ObjectId>) -> usize {
+        let mut count = 0;
+        for number in 0..self.sim.design().count() {
+            if self.is_listed_in(kind, scope, ObjectId(number)) {
+                count += 1;
+            }
+        }
+        count
     }
 
     fn closed(&self, alloc: Global, scope: Option<ObjectId>) -> Result<Sequence<u8>, AllocError> {
