@@ -1,7 +1,7 @@
 """Out of memory at each growth in turn: a shim over the C library's allocator (tools/refuse-growth.c) refuses the first growth of a run, then the second,
 and so on. Each run ends by itself, and what it prints is that of a run without a refusal up to a fault of out of memory or a request that is answered
-`no memory`. Where the simulation lacks memory it goes on before the next request, so the values after a run are as ever. python3 -m unittest, in this
-folder, over the program of test_loddrume. It wants the machine's C compiler, and is skipped where there is none.
+`no memory`. Where the simulation or a search lacks memory it goes on before the next request, so the values and the races after a run are as ever.
+python3 -m unittest, in this folder, over the program of test_loddrume. It wants the machine's C compiler, and is skipped where there is none.
 """
 
 import json
@@ -129,6 +129,18 @@ class Growths(unittest.TestCase):
         design = "module top; reg [3:0] r; initial begin r = 4'd1; while (r < 4'd6) #1 r = r + 4'd1; end endmodule"
         rules = '{"users":[{"name":"u0","token":"t","open":"list+read+watch","run":true}]}'
         self.check(["run", *self.write(design, rules)], script=[json.dumps(request) for request in requests])
+
+    def test_races(self) -> None:
+        requests = [
+            {"op": "open", "user": "u0", "token": "t"},
+            {"op": "run", "until": 10},
+            {"op": "races"},
+            {"op": "race", "no": 1},
+            {"op": "races", "from": 2},
+            {"op": "time"},
+        ]
+        rules = '{"users":[{"name":"u0","token":"t","open":"list+read+watch+race","run":true}]}'
+        self.check(["run", *self.write(RACE, rules)], script=[json.dumps(request) for request in requests])
 
     def test_view(self) -> None:
         self.check(["view", *self.write(envelopes(3, "acme"), policy(2, 2)), "u1"])

@@ -135,10 +135,10 @@ module _ (opening : Opening) (unread still_unread : Option (List ℕ)) where
   module _ (out_of_memory : Bool) (following : Script) (runs : RunsTo out_of_memory opening unread still_unread following) where
     -- after a run its log is audited
     pub audit_after :
-        (began : following.world.opening ≡ opening) (explain : Bool) (user : ℕ) (audited : Audited) → audited ≡ audited_of explain out_of_memory following.world.opening user following.world.log
+        (began : following.running.world.opening ≡ opening) (explain : Bool) (user : ℕ) (audited : Audited) → audited ≡ audited_of explain out_of_memory following.running.world.opening user following.running.world.log
         → IsAuditAfter explain opening user unread still_unread audited
     audit_after began explain user audited is =
-        let log = following.world.log in
+        let log = following.running.world.log in
         let told : out_of_memory ≡ audited.out_of_memory = sym (ap (λ (a : Audited). a.out_of_memory) is) in
         record {
           following = following;

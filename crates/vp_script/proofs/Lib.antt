@@ -1,6 +1,6 @@
 pub mod Cuts
 pub mod BundleRows
-pub mod Running
+pub mod Turns
 pub mod Serving
 pub mod Bundling
 pub mod Openings

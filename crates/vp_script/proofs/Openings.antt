@@ -1,5 +1,5 @@
 -- How the world of a script began stays as it was.
-use Rattle.std.proofs.Common.{◌≡◌, ◌∙◌, ℕ, zero, suc, Bool, true, List, [], ◌∷◌, Option, Some, None, refl, subst, inl, inr, ap}
+use Rattle.std.proofs.Common.{◌≡◌, ◌∙◌, ℕ, zero, suc, Bool, false, true, List, [], ◌∷◌, Option, Some, None, refl, subst, inl, inr, ap}
 use Rattle.std.specs.Prelude.{is_none}
 use Rattle.vp_race.specs.Segments.{FindingState}
 use Rattle.vp_answer.specs.declared.request.Call.TheVariants as call
@@ -15,7 +15,7 @@ use Rattle.vp_wire.specs.declared.dialogue.Stage.{Stage}
 use Rattle.vp_wire.specs.declared.dialogue.Stage.TheVariants.{Before, Open, Closed}
 use Rattle.vp_wire.specs.Dialogue.{Answers, AnswersAll, Calls, Closes, Point, Tells, Turn, turn_of}
 use Rattle.vp_script.specs.Scripts.{Applied, AppliedBy, Happen, IsAnswered, Running, Runs, Resumes, Script, Serves, ServesNow, next_event, searched, turned_by, with_event_if}
-use Rattle.vp_script.proofs.Running.{opening_if, which}
+use Rattle.vp_script.proofs.Turns.{opening_if, which}
 
 -- an event leaves it, by its refusal
 by_refusal : (out_of_memory : Bool) (refusal : Option WorldError) (w v : WorldLog) (e : Event) (answer : Reply) → AppliedBy out_of_memory refusal w e answer v → v.opening ≡ w.opening
@@ -24,7 +24,7 @@ by_refusal out_of_memory None w v e answer (inl (told, same)) = ap (λ (u : Worl
 by_refusal out_of_memory None w v e answer (inr (missing, told, same)) = ap (λ (u : WorldLog). u.opening) same
 
 -- so does a request, whether there is an event of it or not
-applied_keeps : (out_of_memory : Bool) (e : Option Event) (w v : WorldLog) (answer : Reply) → Applied out_of_memory e w answer v → v.opening ≡ w.opening
+pub applied_keeps : (out_of_memory : Bool) (e : Option Event) (w v : WorldLog) (answer : Reply) → Applied out_of_memory e w answer v → v.opening ≡ w.opening
 applied_keeps out_of_memory None w v answer (told, same) = ap (λ (u : WorldLog). u.opening) same
 applied_keeps out_of_memory (Some e) w v answer applied = by_refusal out_of_memory (refused_by w e) w v e answer applied
 
@@ -44,46 +44,46 @@ happen_keeps zero r q same = ap (λ (p : Running). p.world.opening) same
 happen_keeps (suc n) r q (p, before, last) = turn_keeps p.world p.found q last ∙ happen_keeps n r p before
 
 -- and a run of the simulation
-runs_keep : (out_of_memory : Bool) (w v : WorldLog) → Runs out_of_memory w v → v.opening ≡ w.opening
-runs_keep out_of_memory w v (n, rest, happened, ends) = happen_keeps n (record { world = w; found = [] }) (record { world = v; found = rest }) happened
+runs_keep : (out_of_memory : Bool) (r q : Running) → Runs out_of_memory r q → q.world.opening ≡ r.world.opening
+runs_keep out_of_memory r q (n, happened, ends) = happen_keeps n r q happened
 
 -- so a request that is served leaves it
-serves_now_keeps : (out_of_memory : Bool) (before after : Script) (r : Request) (answer : Reply) → ServesNow out_of_memory before r answer after → after.world.opening ≡ before.world.opening
+serves_now_keeps : (out_of_memory : Bool) (before after : Script) (r : Request) (answer : Reply) → ServesNow out_of_memory before r answer after → after.running.world.opening ≡ before.running.world.opening
 serves_now_keeps out_of_memory before after r answer s =
-    runs_keep out_of_memory s.asked after.world s.runs ∙ applied_keeps out_of_memory _ before.world s.asked answer s.applied
+    runs_keep out_of_memory s.asked after.running s.runs ∙ applied_keeps out_of_memory _ before.running.world s.asked.world answer s.applied
 
-resumes_keep : (out_of_memory : Bool) (w v : WorldLog) → Resumes out_of_memory w v → v.opening ≡ w.opening
-resumes_keep out_of_memory w v (inl same) = ap (λ (u : WorldLog). u.opening) same
-resumes_keep out_of_memory w v (inr (lacking, runs)) = runs_keep true w v runs
+resumes_keep : (out_of_memory : Bool) (r q : Running) → Resumes out_of_memory r q → q.world.opening ≡ r.world.opening
+resumes_keep out_of_memory r q (inl same) = ap (λ (p : Running). p.world.opening) same
+resumes_keep out_of_memory r q (inr (lacking, runs)) = runs_keep false r q runs
 
-serves_keeps : (out_of_memory : Bool) (before after : Script) (r : Request) (answer : Reply) → Serves out_of_memory before r answer after → after.world.opening ≡ before.world.opening
+serves_keeps : (out_of_memory : Bool) (before after : Script) (r : Request) (answer : Reply) → Serves out_of_memory before r answer after → after.running.world.opening ≡ before.running.world.opening
 serves_keeps out_of_memory before after r answer (inl (ready, resumes, s)) =
-    serves_now_keeps out_of_memory (record before { world = ready }) after r answer s ∙ resumes_keep out_of_memory before.world ready resumes
-serves_keeps out_of_memory before after r answer (inr (lacking, told, session, runs)) = runs_keep true before.world after.world runs
+    serves_now_keeps out_of_memory (record before { running = ready }) after r answer s ∙ resumes_keep out_of_memory before.running ready resumes
+serves_keeps out_of_memory before after r answer (inr (lacking, told, session, runs)) = runs_keep true before.running after.running runs
 
 -- the opening at a point of a dialogue
 module _ (out_of_memory : Bool) where
-  line_keeps : (turn : Turn) (p q : Point Script) (reply_line : List ℕ) → Answers out_of_memory (Serves out_of_memory) turn p reply_line q → q.caller.world.opening ≡ p.caller.world.opening
-  line_keeps (Tells text) p q reply_line (told, same) = ap (λ (o : Point Script). o.caller.world.opening) same
+  line_keeps : (turn : Turn) (p q : Point Script) (reply_line : List ℕ) → Answers out_of_memory (Serves out_of_memory) turn p reply_line q → q.caller.running.world.opening ≡ p.caller.running.world.opening
+  line_keeps (Tells text) p q reply_line (told, same) = ap (λ (o : Point Script). o.caller.running.world.opening) same
   line_keeps (Calls r) p q reply_line (inl asked) = serves_keeps out_of_memory p.caller q.caller r asked.reply asked.called
-  line_keeps (Calls r) p q reply_line (inr (told, same)) = ap (λ (o : Point Script). o.caller.world.opening) same
+  line_keeps (Calls r) p q reply_line (inr (told, same)) = ap (λ (o : Point Script). o.caller.running.world.opening) same
 
-  lines_keep : (lines reply_lines : List (List ℕ)) (p q : Point Script) → AnswersAll out_of_memory (Serves out_of_memory) lines p reply_lines q → q.caller.world.opening ≡ p.caller.world.opening
-  lines_keep [] [] p q same = ap (λ (o : Point Script). o.caller.world.opening) same
+  lines_keep : (lines reply_lines : List (List ℕ)) (p q : Point Script) → AnswersAll out_of_memory (Serves out_of_memory) lines p reply_lines q → q.caller.running.world.opening ≡ p.caller.running.world.opening
+  lines_keep [] [] p q same = ap (λ (o : Point Script). o.caller.running.world.opening) same
   lines_keep [] (t ∷ reply_lines) p q none = absurd none
   lines_keep (line ∷ lines) [] p q none = absurd none
   lines_keep (line ∷ lines) (t ∷ reply_lines) p q (next, one, more) =
       lines_keep lines reply_lines next q more ∙ line_keeps (turn_of p.stage line) p next t one
 
-  close_keeps : (stage : Stage) (c d : Script) → Closes (Serves out_of_memory) stage c d → d.world.opening ≡ c.world.opening
-  close_keeps Before c d same = ap (λ (s : Script). s.world.opening) same
+  close_keeps : (stage : Stage) (c d : Script) → Closes (Serves out_of_memory) stage c d → d.running.world.opening ≡ c.running.world.opening
+  close_keeps Before c d same = ap (λ (s : Script). s.running.world.opening) same
   close_keeps Open c d (reply, served) = serves_keeps out_of_memory c d (request.Call call.Close) reply served
-  close_keeps Closed c d same = ap (λ (s : Script). s.world.opening) same
+  close_keeps Closed c d same = ap (λ (s : Script). s.running.world.opening) same
 
 -- after a script over an input the world is still one that began so
 pub answered_keeps :
     {unread still_unread held holds : Option (List ℕ)} (out_of_memory : Bool) (script following : Script) (lines : ℕ) → IsAnswered out_of_memory script following unread still_unread held holds lines
-    → following.world.opening ≡ script.world.opening
+    → following.running.world.opening ≡ script.running.world.opening
 answered_keeps out_of_memory script following lines a =
     close_keeps out_of_memory a.end.stage a.end.caller following a.closes
     ∙ lines_keep out_of_memory a.whole.dialogue.lines a.whole.dialogue.reply_lines (record { stage = Before; caller = script }) a.end a.whole.dialogue.answers

@@ -1,12 +1,9 @@
 -- A kept script serves as the script says.
-use Rattle.std.proofs.Common.{inl, inr, ◌≡◌, ◌∙◌, ℕ, Bool, true, false, List, [], ◌∷◌, Option, Some, None, Result, Ok, Err, ap, refl}
-use Rattle.std.specs.Prelude.{OnErr, OnOk, is_err}
+use Rattle.std.proofs.Common.{inl, inr, ◌≡◌, ◌∙◌, ℕ, Bool, true, List, [], ◌∷◌, Option, Some, None, ap}
 use Rattle.vp_wire.specs.declared.dialogue.Stage.{Stage}
 use Rattle.vp_wire.specs.declared.dialogue.Stage.TheVariants.{Before, Open, Closed}
 use Rattle.vp_answer.specs.declared.request.Request.{Request}
-use Rattle.vp_answer.specs.declared.reply.Refusal.TheVariants as refusal
 use Rattle.vp_answer.specs.declared.reply.Reply.{Reply}
-use Rattle.vp_answer.specs.declared.reply.Reply.TheVariants as reply
 use Rattle.vp_world.specs.declared.error.WorldError.{WorldError}
 use Rattle.vp_world.specs.declared.event.Event.{Event}
 use Rattle.vp_world.specs.History.{refused_by}
@@ -18,12 +15,13 @@ use Rattle.vp_wire.specs.Lines.{line_of}
 use Rattle.vp_wire.specs.Reading.{StaysTrue}
 use Rattle.vp_wire.proofs.Answering.{still_reply_line}
 use Rattle.vp_script.specs.declared.script_session.ScriptSession.{ScriptSession}
-use Rattle.vp_script.specs.Keeping.{Keeps, KeepsNow, is_no_memory, script_of}
-use Rattle.vp_script.specs.Scripts.{Applied, AppliedBy, IsAnswered, IsStopped, Resumes, Runs, Script, Serves, ServesNow, event_of, session_after}
+use Rattle.vp_script.specs.Keeping.{Keeps, KeepsNow, script_of}
+use Rattle.vp_script.specs.Pending.{is_no_memory}
+use Rattle.vp_script.specs.Scripts.{Applied, AppliedBy, IsAnswered, IsStopped, Resumes, Running, Runs, Script, Serves, ServesNow, event_of, session_after}
 
 -- a run in which memory was not lacking is one in which it may have been
-pub runs_more : (a b : Bool) (w v : WorldLog) → (a ≡ true → b ≡ true) → Runs a w v → Runs b w v
-runs_more a b w v up (n, rest, happened, ends) = (n, rest, happened, elim ends [ inl out_of_memory ↦ inl (up out_of_memory) | inr refused ↦ inr refused ])
+pub runs_more : (a b : Bool) (r q : Running) → (a ≡ true → b ≡ true) → Runs a r q → Runs b r q
+runs_more a b r q up (n, happened, ends) = (n, happened, elim ends [ inl out_of_memory ↦ inl (up out_of_memory) | inr refused ↦ inr refused ])
 
 -- so of what a world does with an event, by its refusal, and with an event, if there is one
 applied_by_more : (a b : Bool) (refused : Option WorldError) (w v : WorldLog) (e : Event) (answer : Reply) → (a ≡ true → b ≡ true) → AppliedBy a refused w e answer v → AppliedBy b refused w e answer v
@@ -38,56 +36,35 @@ applied_more a b (Some e) w v answer up applied = applied_by_more a b (refused_b
 serves_now_more : (a b : Bool) (before after : Script) (r : Request) (answer : Reply) → (a ≡ true → b ≡ true) → ServesNow a before r answer after → ServesNow b before r answer after
 serves_now_more a b before after r answer up s = record {
   asked = s.asked;
-  applied = applied_more a b (event_of before.session r) before.world s.asked answer up s.applied;
+  applied = applied_more a b (event_of before.session r) before.running.world s.asked.world answer up s.applied;
+  found = s.found;
   session = s.session;
-  runs = runs_more a b s.asked after.world up s.runs;
+  runs = runs_more a b s.asked after.running up s.runs;
 }
 
-resumes_more : (a b : Bool) (w v : WorldLog) → (a ≡ true → b ≡ true) → Resumes a w v → Resumes b w v
-resumes_more a b w v up (inl same) = inl same
-resumes_more a b w v up (inr (lacking, runs)) = inr (up lacking, runs)
+resumes_more : (a b : Bool) (r q : Running) → (a ≡ true → b ≡ true) → Resumes a r q → Resumes b r q
+resumes_more a b r q up (inl same) = inl same
+resumes_more a b r q up (inr (lacking, runs)) = inr (up lacking, runs)
 
 serves_more : (a b : Bool) (before after : Script) (r : Request) (answer : Reply) → (a ≡ true → b ≡ true) → Serves a before r answer after → Serves b before r answer after
 serves_more a b before after r answer up (inl (ready, resumes, s)) =
-    inl (ready, resumes_more a b before.world ready up resumes, serves_now_more a b (record before { world = ready }) after r answer up s)
+    inl (ready, resumes_more a b before.running ready up resumes, serves_now_more a b (record before { running = ready }) after r answer up s)
 serves_more a b before after r answer up (inr (lacking, told, session, runs)) = inr (up lacking, told, session, runs)
-
--- what holds at an error, and what holds at success
-pub if_err : {T E P : Type 0} (r : Result T E) → is_err r ≡ true → OnErr r P → P
-if_err (Ok x) none p = absurd (cc)
-if_err (Err e) is p = p
-
-pub if_ok : {T E P : Type 0} (r : Result T E) → is_err r ≡ false → OnOk r P → P
-if_ok (Ok x) is p = p
-if_ok (Err e) none p = absurd (cc)
 
 -- a request is answered, and then the simulation runs; that memory was missing for either is remembered
 pub answered_now :
-    (k l : ScriptSession) (asked : WorldLog) (r : Request) (answer : Reply) (lacks : Bool) → Applied (is_no_memory answer) (event_of k.session r) k.world answer asked
-    → l.session ≡ session_after k.session answer → Runs lacks asked l.world
+    (k l : ScriptSession) (asked : Running) (r : Request) (answer : Reply) (lacks : Bool) → Applied (is_no_memory answer) (event_of k.session r) k.running.world answer asked.world
+    → asked.found ≡ k.running.found → l.session ≡ session_after k.session answer → Runs lacks asked l.running
     → StaysTrue k.out_of_memory l.out_of_memory → StaysTrue (is_no_memory answer) l.out_of_memory → StaysTrue lacks l.out_of_memory → KeepsNow k r answer l
-answered_now k l asked r answer lacks applied session runs stays missing lacking = record {
+answered_now k l asked r answer lacks applied found session runs stays missing lacking = record {
   serves = record {
     asked = asked;
-    applied = applied_more (is_no_memory answer) l.out_of_memory (event_of k.session r) k.world asked answer missing applied;
+    applied = applied_more (is_no_memory answer) l.out_of_memory (event_of k.session r) k.running.world asked.world answer missing applied;
+    found = found;
     session = session;
-    runs = runs_more lacks l.out_of_memory asked l.world lacking runs;
+    runs = runs_more lacks l.out_of_memory asked l.running lacking runs;
   };
   out_of_memory = stays;
-}
-
--- a request that is answered after the simulation went on
-pub served_on : (k l : ScriptSession) (ready : WorldLog) (r : Request) (answer : Reply) → Resumes k.out_of_memory k.world ready → KeepsNow (record k { world = ready }) r answer l → Keeps k r answer l
-served_on k l ready r answer resumes now = record {
-  serves = inl (ready, resumes_more k.out_of_memory l.out_of_memory k.world ready now.out_of_memory resumes, now.serves);
-  out_of_memory = now.out_of_memory;
-}
-
--- a request that is not asked, since memory is lacking
-pub not_served : (k : ScriptSession) (after : WorldLog) (r : Request) → k.out_of_memory ≡ true → Runs true k.world after → Keeps k r (reply.Error refusal.NoMemory) (record k { world = after })
-not_served k after r lacking runs = record {
-  serves = inr (lacking, refl, refl, runs);
-  out_of_memory = λ same. same;
 }
 
 -- the point of a script that is kept

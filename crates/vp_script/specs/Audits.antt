@@ -42,7 +42,7 @@ pub record RunsTo (out_of_memory : Bool) (opening : Opening) (unread still_unrea
 pub record IsAuditAfter (explain : Bool) (opening : Opening) (user : ℕ) (unread still_unread : Option (List ℕ)) (audited : Audited) : Type 0 where
   pub following : Script
   pub runs : RunsTo audited.out_of_memory opening unread still_unread following
-  pub is : audited ≡ audited_of explain audited.out_of_memory opening user following.world.log
+  pub is : audited ≡ audited_of explain audited.out_of_memory opening user following.running.world.log
 
 -- a text and a policy file open a script, and the user of a name in the file has this number
 pub record OpensFor (text policy name : List ℕ) (opening : Opening) (user : ℕ) : Type 0 where

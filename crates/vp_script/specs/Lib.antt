@@ -3,6 +3,7 @@ pub mod Bundles
 pub mod Designs
 pub mod Scripts
 pub mod Keeping
+pub mod Pending
 pub mod Views
 pub mod Audits
 pub mod Failure

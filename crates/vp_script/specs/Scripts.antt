@@ -1,5 +1,5 @@
 -- A script: the lines of one session with a world, in which the simulation runs after each request (profile).
-use Rattle.std.specs.Prelude.{◌≡◌, ◌⊎◌, ◌<◌, ◌≤◌, IsUtf8, length, ℕ, zero, suc, Bool, true, if◌then◌else◌, List, [], ◌∷◌, Option, Some, None, is_none, Ok}
+use Rattle.std.specs.Prelude.{◌≡◌, ◌⊎◌, ◌<◌, ◌≤◌, IsUtf8, length, ℕ, zero, suc, Bool, true, false, if◌then◌else◌, List, [], ◌∷◌, Option, Some, None, is_none, Ok}
 use Rattle.std.specs.Option.{option_map_or}
 use Rattle.std.specs.Result.{result_err}
 use Rattle.vp_text.specs.Refusals.{MayExplain}
@@ -102,16 +102,14 @@ Happen (suc n) r q = (p : Running) × Happen n r p × (turned p ≡ Some q)
 
 -- the simulation runs, and what it does is searched for races, until nothing happens next; or, where memory may have been lacking, up to what
 -- there was none for
-abbrev pub Runs : (out_of_memory : Bool) → WorldLog → WorldLog → Type 0
-Runs out_of_memory w v =
-    (n : ℕ) × (rest : List FindingState) × Happen n (record { world = w; found = [] }) (record { world = v; found = rest })
-    × ((out_of_memory ≡ true) ⊎ (turned (record { world = v; found = rest }) ≡ None))
+abbrev pub Runs : (out_of_memory : Bool) → Running → Running → Type 0
+Runs out_of_memory r q = (n : ℕ) × Happen n r q × ((out_of_memory ≡ true) ⊎ (turned q ≡ None))
 
 -- ---- a script
 
--- a world, and the session that the script has opened, if it has
+-- a world with the races that are still to be booked, and the session that the script has opened, if it has
 pub record Script : Type 0 where
-  pub world : WorldLog
+  pub running : Running
   pub session : Option SessionId
 
 -- the event of a request
@@ -129,24 +127,25 @@ session_after session answer = session
 
 -- a script's request is answered by the world, and then the simulation runs; where memory was not missing, neither lacked any
 pub record ServesNow (out_of_memory : Bool) (before : Script) (r : Request) (answer : Reply) (after : Script) : Type 0 where
-  pub asked : WorldLog
-  pub applied : Applied out_of_memory (event_of before.session r) before.world answer asked
+  pub asked : Running
+  pub applied : Applied out_of_memory (event_of before.session r) before.running.world answer asked.world
+  pub found : asked.found ≡ before.running.found
   pub session : after.session ≡ session_after before.session answer
-  pub runs : Runs out_of_memory asked after.world
+  pub runs : Runs out_of_memory asked after.running
 
--- where memory was lacking, the simulation may go on before the next request
-abbrev pub Resumes : (out_of_memory : Bool) → WorldLog → WorldLog → Type 0
-Resumes out_of_memory w v = (v ≡ w) ⊎ ((out_of_memory ≡ true) × Runs true w v)
+-- where memory was lacking, the simulation may go on before the next request, until nothing happens next
+abbrev pub Resumes : (out_of_memory : Bool) → Running → Running → Type 0
+Resumes out_of_memory r q = (q ≡ r) ⊎ ((out_of_memory ≡ true) × Runs false r q)
 
 -- while memory is lacking there, a request is answered so, and not asked
 abbrev pub LacksMemory : (out_of_memory : Bool) → Script → Reply → Script → Type 0
 LacksMemory out_of_memory before answer after =
-    (out_of_memory ≡ true) × (answer ≡ reply.Error refusal.NoMemory) × (after.session ≡ before.session) × Runs true before.world after.world
+    (out_of_memory ≡ true) × (answer ≡ reply.Error refusal.NoMemory) × (after.session ≡ before.session) × Runs true before.running after.running
 
 -- a request of a script is served: first the simulation goes on where memory was lacking for it
 abbrev pub Serves : (out_of_memory : Bool) → Script → Request → Reply → Script → Type 0
 Serves out_of_memory before r answer after =
-    ((ready : WorldLog) × Resumes out_of_memory before.world ready × ServesNow out_of_memory (record before { world = ready }) r answer after)
+    ((ready : Running) × Resumes out_of_memory before.running ready × ServesNow out_of_memory (record before { running = ready }) r answer after)
     ⊎ LacksMemory out_of_memory before answer after
 
 -- a world that began so, in which nothing has happened
@@ -155,7 +154,7 @@ new_world opening = record { opening = opening; log = [] }
 
 -- the script of a world that has opened no session
 abbrev pub begun : WorldLog → Script
-begun world = record { world = world; session = None }
+begun world = record { running = record { world = world; found = [] }; session = None }
 
 -- a script in which nothing has happened
 abbrev pub opened : Opening → Script

@@ -40,10 +40,11 @@ fn log_audit(
     script_session: &ScriptSession,
     user: UserId,
 ) -> Result<Audit, ServeFault>
-    requires right { IsRight script_session.now.world.opening }
-    requires design { script_session.now.world.opening.design ≡ checked.now }
-    requires policy { script_session.now.world.opening.policy ≡ policy.now }
-    ensures audit { IfOk result (λ audit. audit ≡ audit_of user.0 script_session.now.world.log) }
+    requires right { IsRight script_session.now.running.world.opening }
+    requires design { script_session.now.running.world.opening.design ≡ checked.now }
+    requires policy { script_session.now.running.world.opening.policy ≡ policy.now }
+    ensures audit { let world = script_session.now.running.world in
+        IfOk result (λ audit. audit ≡ audit_of user.0 world.log) }
     ensures refused { IsOkUnless result NoMemory }
 {
     match audit_user(alloc, checked, policy, script_session.log(), user) {
@@ -61,10 +62,10 @@ fn log_explanation(
     user: UserId,
     explain: bool,
 ) -> Result<Option<Text>, ServeFault>
-    requires right { IsRight script_session.now.world.opening }
-    requires design { script_session.now.world.opening.design ≡ checked.now }
-    requires policy { script_session.now.world.opening.policy ≡ policy.now }
-    ensures explanation { let world = script_session.now.world in IfOk result
+    requires right { IsRight script_session.now.running.world.opening }
+    requires design { script_session.now.running.world.opening.design ≡ checked.now }
+    requires policy { script_session.now.running.world.opening.policy ≡ policy.now }
+    ensures explanation { let world = script_session.now.running.world in IfOk result
         (λ text. text ≡ explanation_if explain world.opening user.0 world.log) }
     ensures refused { IsOkUnless result NoMemory }
 {
@@ -87,11 +88,11 @@ fn log_audited(
     explain: bool,
     out_of_memory: bool,
 ) -> Result<Audited, ServeFault>
-    requires right { IsRight script_session.now.world.opening }
-    requires design { script_session.now.world.opening.design ≡ checked.now }
-    requires policy { script_session.now.world.opening.policy ≡ policy.now }
+    requires right { IsRight script_session.now.running.world.opening }
+    requires design { script_session.now.running.world.opening.design ≡ checked.now }
+    requires policy { script_session.now.running.world.opening.policy ≡ policy.now }
     ensures audited { IfOk result (λ audited. audited ≡ audited_of explain out_of_memory
-        script_session.now.world.opening user.0 script_session.now.world.log) }
+        script_session.now.running.world.opening user.0 script_session.now.running.world.log) }
     ensures refused { IsOkUnless result NoMemory }
 {
     Ok(Audited {
@@ -113,8 +114,8 @@ fn run_to_end<R: Read>(
         → RunsTo out_of_memory opening
         (R.remaining reader.old.inner) (R.remaining reader.new.inner)
         (script_of script_session.new)) }
-    ensures opening { OnOk result ((script_of script_session.new).world.opening
-        ≡ (script_of script_session.old).world.opening) }
+    ensures opening { OnOk result ((script_of script_session.new).running.world.opening
+        ≡ (script_of script_session.old).running.world.opening) }
     ensures stopped { IfErr result (λ fault. (opening : Opening)
         → script_of script_session.old ≡ opened opening
         → EndsRunBy opening (R.remaining reader.old.inner) (R.remaining reader.new.inner) fault) }

@@ -6,6 +6,7 @@ mod bundle;
 mod error;
 mod failure;
 mod files;
+mod running;
 mod script;
 mod script_session;
 mod sources;

@@ -5,8 +5,8 @@ use Rattle.vp_script.specs.Scripts.{IsOpened, Script, begun, greatest}
 
 -- it has the greatest limits
 pub limits_of : (text policy : List ℕ) (w : WorldLog) → IsOpened text policy (begun w) → w.opening.limits ≡ greatest
-limits_of text policy w o = ap (λ (s : Script). s.world.opening.limits) o.fresh
+limits_of text policy w o = ap (λ (s : Script). s.running.world.opening.limits) o.fresh
 
 -- and an empty log
 pub log_of : (text policy : List ℕ) (w : WorldLog) → IsOpened text policy (begun w) → w.log ≡ []
-log_of text policy w o = ap (λ (s : Script). s.world.log) o.fresh
+log_of text policy w o = ap (λ (s : Script). s.running.world.log) o.fresh

@@ -9,7 +9,7 @@ use Rattle.vp_script.proofs.audits.log_audit.Goals as goal
 
 pub returns-in-Ok-clause-audit : goal.returns-in-Ok-clause-audit
 returns-in-Ok-clause-audit c =
-    let w : WorldLog = c.args.script_session.now.world in
+    let w : WorldLog = c.args.script_session.now.running.world in
     let u = c.args.user.0 in
     let log : List Entry = c.log.result.now in
     let legal : IsLegal w.opening [] log = subst (IsLegal w.opening []) (sym c.log.ensures.log) c.log.ensures.legal in

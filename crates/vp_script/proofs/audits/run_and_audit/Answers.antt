@@ -17,21 +17,21 @@ returns-in_err-out_of_memory-clause-refused g c =
 
 pub log_audited-requires-clause-right : goal.log_audited-requires-clause-right
 log_audited-requires-clause-right g c =
-    subst IsRight (sym ((c.in_ok-out_of_memory.ensures {u = tt}).opening ∙ ap (λ (s : Script). s.world.opening) c.requires.fresh)) c.requires.right
+    subst IsRight (sym ((c.in_ok-out_of_memory.ensures {u = tt}).opening ∙ ap (λ (s : Script). s.running.world.opening) c.requires.fresh)) c.requires.right
 
 pub log_audited-requires-clause-design : goal.log_audited-requires-clause-design
 log_audited-requires-clause-design g c =
-    ap (λ (o : Opening). o.design) ((c.in_ok-out_of_memory.ensures {u = tt}).opening ∙ ap (λ (s : Script). s.world.opening) c.requires.fresh)
+    ap (λ (o : Opening). o.design) ((c.in_ok-out_of_memory.ensures {u = tt}).opening ∙ ap (λ (s : Script). s.running.world.opening) c.requires.fresh)
 
 pub log_audited-requires-clause-policy : goal.log_audited-requires-clause-policy
 log_audited-requires-clause-policy g c =
-    ap (λ (o : Opening). o.policy) ((c.in_ok-out_of_memory.ensures {u = tt}).opening ∙ ap (λ (s : Script). s.world.opening) c.requires.fresh)
+    ap (λ (o : Opening). o.policy) ((c.in_ok-out_of_memory.ensures {u = tt}).opening ∙ ap (λ (s : Script). s.running.world.opening) c.requires.fresh)
 
 pub returns-clause-audit : goal.returns-clause-audit
 returns-clause-audit g c =
     let opening = opening_of c.args.checked.now c.args.policy.now in
     let runs = (c.in_ok-out_of_memory.ensures {u = tt}).ran opening c.requires.fresh in
-    let began = (c.in_ok-out_of_memory.ensures {u = tt}).opening ∙ ap (λ (s : Script). s.world.opening) c.requires.fresh in
+    let began = (c.in_ok-out_of_memory.ensures {u = tt}).opening ∙ ap (λ (s : Script). s.running.world.opening) c.requires.fresh in
     IfOk-weaker c.log_audited.result _ _
     (λ audited is. audit_after opening _ _ _ (script_of c.run_to_end.new.script_session) runs began c.args.explain c.args.user.0 audited is)
     c.log_audited.ensures.audited

@@ -1,10 +1,11 @@
 -- The simulation runs until nothing happens next, at the latest where the log is full.
-use Rattle.std.proofs.Common.{◌≡◌, ◌∙◌, ℕ, zero, suc, ◌+◌, ◌-◌, ◌<◌, ◌≤◌, All, Bool, true, false, List, [], ◌∷◌, length, Option, Some, None, refl, sym, subst, inl, inr, ap, arith}
+use Rattle.std.proofs.Common.{◌≡◌, ◌∙◌, ℕ, zero, suc, ◌+◌, ◌-◌, ◌<◌, ◌≤◌, All, Bool, true, false, List, [], ◌∷◌, ◌++◌, length, Option, Some, None, refl, sym, subst, inl, inr, ap, arith}
 use Rattle.std.specs.Prelude.{◌⊎◌, if◌then◌else◌, is_none, slice_get, drop}
 use Rattle.std.specs.Option.{option_map_or}
 use Rattle.std.proofs.lemmas.Bool.{leb-false}
 use Rattle.std.proofs.lemmas.List.{length-append}
 use Rattle.std.proofs.lemmas.List.Elements.{All-drop}
+use Rattle.vp_elab.specs.Built.{Elaborated}
 use Rattle.vp_race.specs.Recording.{next_job}
 use Rattle.vp_race.specs.Search.{found}
 use Rattle.vp_race.specs.Segments.{Run, FindingState}
@@ -15,7 +16,7 @@ use Rattle.vp_world.specs.declared.error.WorldError.{WorldError}
 use Rattle.vp_world.specs.declared.error.WorldError.TheVariants as error
 use Rattle.vp_world.specs.History.{is_log_full, refusal_of, refusal_of_job, refused_by, state_after, with_entry}
 use Rattle.vp_world.specs.Worlds.{WorldLog, Opening, State}
-use Rattle.vp_script.specs.Keeping.{GoesOn, GoesOnBy}
+use Rattle.vp_script.specs.Pending.{ArePending, HappensTo, pending}
 use Rattle.vp_script.specs.Scripts.{Happen, Running, Runs, next_event, next_event_by, searched, seed_count, step_limit, turned, turned_by, with_event_if}
 
 -- an event of the simulation that is accepted finds the log not full
@@ -100,13 +101,13 @@ turn_no_more w (f ∷ fs) q h =
     let e : record { world = with_event_if w (event.Book f); found = fs } ≡ q = cc in
     subst (λ (r : Running). room r.world ≤ room w) e (no_more_if w (event.Book f) (is_none (refused_by w (event.Book f))))
 
--- where something happens in a world without races to be booked, there is less room after it
-pub happened_less : (n : ℕ) (w : WorldLog) (q : Running) → Happen (suc n) (record { world = w; found = [] }) q → room q.world < room w
-happened_less zero w q (p, same, last) =
-    turn_less w q (subst (λ (r : Running). turned r ≡ Some q) same last)
-happened_less (suc n) w q (p, before, last) =
-    let less = happened_less n w p before in
-    omega (arith, less, turn_no_more p.world p.found q last)
+-- so much that happens gives none
+pub room_kept : (n : ℕ) (r q : Running) → Happen n r q → room q.world ≤ room r.world
+room_kept zero r q same = subst (λ (p : Running). room p.world ≤ room r.world) (sym same) (omega arith)
+room_kept (suc n) r q (p, before, last) =
+    let kept = room_kept n r p before in
+    let more = turn_no_more p.world p.found q last in
+    omega (arith, kept, more)
 
 -- what happens one after another, and what happens after that
 pub happen_then : (n m : ℕ) (r p q : Running) → Happen n r p → Happen m p q → Happen (m + n) r q
@@ -153,9 +154,9 @@ first_of (y ∷ ys) x h = let e : y ≡ x = cc in ap (λ z. z ∷ ys) e
 
 -- the first of some races is booked
 pub booked_next :
-    (r : Running) (w v : WorldLog) (found : List FindingState) (f : FindingState) → (n : ℕ) × Happen n r (record { world = w; found = found })
+    (r : Running) (w v : WorldLog) (found : List FindingState) (f : FindingState) → HappensTo r (record { world = w; found = found })
     → Some f ≡ slice_get found 0 → v ≡ with_event_if w (event.Book f)
-    → (n : ℕ) × Happen n r (record { world = v; found = drop 1 found })
+    → HappensTo r (record { world = v; found = drop 1 found })
 booked_next r w v found f (n, happened) there is =
     let before : Happen n r (record { world = w; found = f ∷ drop 1 found }) =
     subst (λ (fs : List FindingState). Happen n r (record { world = w; found = fs })) (first_of found f there) happened in
@@ -175,73 +176,74 @@ booked_designs w v e found is all =
     subst (λ (o : Opening). All (λ (f : FindingState). f.segment.start.design ≡ o.design) (drop 1 found)) same
     (All-drop (λ (f : FindingState). f.segment.start.design ≡ w.opening.design) 1 found all)
 
--- ---- a job
+-- ---- one thing after another
+
+-- what happens, and what happens after that
+pub happens_then : (r p q : Running) → HappensTo r p → HappensTo p q → HappensTo r q
+happens_then r p q (n, h) (m, k) = (m + n, happen_then n m r p q h k)
 
 -- one thing happens
-one : (r q : Running) → turned r ≡ Some q → Happen 1 r q
-one r q h = (r, refl, h)
+pub happens_next : (r p q : Running) → HappensTo r p → turned p ≡ Some q → HappensTo r q
+happens_next r p q (n, h) next = (suc n, (p, h, next))
 
--- what is found in a segment, where it is the next job
-pub searched_is : (w : WorldLog) (run : Run) → Some run ≡ next_job (state_after w.opening w.log).segments → searched w ≡ found run step_limit seed_count
-searched_is w run is = ap (λ (o : Option Run). option_map_or (λ r. found r step_limit seed_count) o []) (sym is)
+-- what is found in a segment that is taken, where it is the next job
+pub searched_is : (w : WorldLog) (run : Run) → Some run ≡ next_job (state_after w.opening w.log).segments → found run step_limit seed_count ≡ searched w
+searched_is w run is = ap (λ (o : Option Run). option_map_or (λ r. found r step_limit seed_count) o []) is
 
 -- a job is taken
-job_taken :
-    (w u : WorldLog) (fs : List FindingState) → (refused_by w event.TakeJob ≡ None) × (u ≡ with_entry w event.TakeJob) → searched w ≡ fs
-    → Happen 1 (record { world = w; found = [] }) (record { world = u; found = fs })
-job_taken w u fs (none, entered) is =
-    let first : Running = record { world = w; found = [] } in
-    let by_search : Happen 1 first (record { world = with_entry w event.TakeJob; found = fs }) =
-    subst (λ (fs' : List FindingState). Happen 1 first (record { world = with_entry w event.TakeJob; found = fs' })) is (one first (record { world = with_entry w event.TakeJob; found = searched w }) (turn_job w none)) in
-    subst (λ (u' : WorldLog). Happen 1 first (record { world = u'; found = fs })) (sym entered) by_search
+pub job_taken :
+    (w v : WorldLog) (fs : List FindingState) → (refused_by w event.TakeJob ≡ None) × (v ≡ with_entry w event.TakeJob) → fs ≡ searched w
+    → turned (record { world = w; found = [] }) ≡ Some (record { world = v; found = fs })
+job_taken w v fs (none, entered) is =
+    turn_job w none ∙ ap (λ (u : WorldLog). Some (record { world = u; found = searched w })) (sym entered)
+    ∙ ap (λ (gs : List FindingState). Some (record { world = v; found = gs })) (sym is)
 
--- and then what is found is booked
-pub job_then :
-    (out_of_memory : Bool) (w u v : WorldLog) (fs : List FindingState) → (refused_by w event.TakeJob ≡ None) × (u ≡ with_entry w event.TakeJob) → searched w ≡ fs
-    → GoesOn out_of_memory (record { world = u; found = fs }) v → GoesOn out_of_memory (record { world = w; found = [] }) v
-job_then out_of_memory w u v fs taken is (n, rest, happened, end) =
-    (n + 1, rest, happen_then 1 n (record { world = w; found = [] }) (record { world = u; found = fs }) (record { world = v; found = rest }) (job_taken w u fs taken is) happened, end)
+-- the next event happens
+pub next_happened :
+    (w v : WorldLog) → is_none (refused_by w event.TakeJob) ≡ false → refused_by w (next_event w) ≡ None → v ≡ with_entry w (next_event w)
+    → turned (record { world = w; found = [] }) ≡ Some (record { world = v; found = [] })
+next_happened w v no_job none is = turn_next w no_job none ∙ ap (λ (u : WorldLog). Some (record { world = u; found = [] })) (sym is)
 
--- all that is found is booked
-pub job_done :
-    (w u v : WorldLog) (fs : List FindingState) → (refused_by w event.TakeJob ≡ None) × (u ≡ with_entry w event.TakeJob) → searched w ≡ fs
-    → GoesOn false (record { world = u; found = fs }) v → GoesOnBy w v
-job_done w u v fs taken is (n, rest, happened, inl allocation_error) = absurd (cc)
-job_done w u v fs taken is (n, rest, happened, inr all) =
-    let first : Running = record { world = w; found = [] } in
-    let following = happen_then 1 n first (record { world = u; found = fs }) (record { world = v; found = rest }) (job_taken w u fs taken is) happened in
-    let same : n + 1 ≡ suc n = omega arith in (
-      n,
-      subst (λ (k : ℕ). Happen k first (record { world = v; found = [] })) same
-          (subst (λ (rest' : List FindingState). Happen (n + 1) first (record { world = v; found = rest' })) all following),
-    )
-
--- where memory is lacking, nothing may happen
-pub nothing : (w : WorldLog) → GoesOn true (record { world = w; found = [] }) w
-nothing w = (0, [], refl, inl refl)
+-- a job takes of the room
+pub less_by_turn : (w v : WorldLog) (fs : List FindingState) → turned (record { world = w; found = [] }) ≡ Some (record { world = v; found = fs }) → room v < room w
+less_by_turn w v fs next = turn_less w (record { world = v; found = fs }) next
 
 -- ---- a run
 
--- a run that a search takes on
-pub run_searched : (w u v : WorldLog) → (n : ℕ) × Happen n (record { world = w; found = [] }) (record { world = u; found = [] }) → GoesOnBy u v → (n : ℕ) × Happen n (record { world = w; found = [] }) (record { world = v; found = [] })
-run_searched w u v (n, happened) (m, more) = (suc m + n, happen_then n (suc m) _ _ _ happened more)
-
--- a run that the next event takes on
-pub run_continues :
-    (w u v : WorldLog) → (n : ℕ) × Happen n (record { world = w; found = [] }) (record { world = u; found = [] }) → is_none (refused_by u event.TakeJob) ≡ false
-    → refused_by u (next_event u) ≡ None → v ≡ with_entry u (next_event u)
-    → (n : ℕ) × Happen n (record { world = w; found = [] }) (record { world = v; found = [] })
-run_continues w u v (n, happened) no_job none is =
-    (suc n, (record { world = u; found = [] }, happened, turn_next u no_job none ∙ ap (λ (u' : WorldLog). Some (record { world = u'; found = [] })) (sym is)))
-
 -- a run that ends when out of memory
-pub run_out_of_memory : (w u v : WorldLog) → (n : ℕ) × Happen n (record { world = w; found = [] }) (record { world = u; found = [] }) → GoesOn true (record { world = u; found = [] }) v → Runs true w v
-run_out_of_memory w u v (n, happened) (m, rest, more, end) = (m + n, rest, happen_then n m _ _ _ happened more, inl refl)
+pub run_out_of_memory : (r q : Running) → HappensTo r q → Runs true r q
+run_out_of_memory r q (n, happened) = (n, happened, inl refl)
 
 -- a run that the world ends
-pub run_over : (w u : WorldLog) → (n : ℕ) × Happen n (record { world = w; found = [] }) (record { world = u; found = [] }) → is_none (refused_by u event.TakeJob) ≡ false → is_none (refused_by u (next_event u)) ≡ false → Runs false w u
-run_over w u (n, happened) no_job no_event = (n, [], happened, inr (turn_none u no_job no_event))
+pub run_over : (r : Running) (w : WorldLog) → HappensTo r (record { world = w; found = [] }) → is_none (refused_by w event.TakeJob) ≡ false → is_none (refused_by w (next_event w)) ≡ false → Runs false r (record { world = w; found = [] })
+run_over r w (n, happened) no_job no_event = (n, happened, inr (turn_none w no_job no_event))
 
--- a search takes of the room
-pub less_by_search : (w v : WorldLog) → GoesOnBy w v → room v < room w
-less_by_search w v (n, happened) = happened_less n w (record { world = v; found = [] }) happened
+-- lists one after the other
+pub join_one : {X : Type 0} (xs : List X) (x : X) (ys : List X) → (xs ++ x ∷ []) ++ ys ≡ xs ++ x ∷ ys
+join_one [] x ys = refl
+join_one (y ∷ xs) x ys = ap (λ zs. y ∷ zs) (join_one xs x ys)
+
+-- ---- races that are still to be booked
+
+-- those of a segment are of its design
+pub designs_of : (run : Run) (design : Elaborated) (fs : List FindingState) → run.start.design ≡ design → All (λ (f : FindingState). f.segment ≡ run) fs → All (λ (f : FindingState). f.segment.start.design ≡ design) fs
+designs_of run design fs same all k f within = ap (λ (r : Run). r.start.design) (all k f within) ∙ same
+
+-- an entry leaves the design
+pub pending_entered : (w v : WorldLog) (e : Event) (segment : Option Run) (fs : List FindingState) → v ≡ with_entry w e → ArePending w.opening.design segment fs → ArePending v.opening.design segment fs
+pending_entered w v e segment fs entered is = subst (λ (u : WorldLog). ArePending u.opening.design segment fs) (sym entered) is
+
+-- where no segment is to be searched and nothing was found, nothing is to be booked
+pub none_pending : (segment : Option Run) (fs : List FindingState) → segment ≡ None → fs ≡ [] → pending segment fs ≡ []
+none_pending segment fs none nothing = ap (λ (o : Option Run). pending o fs) none ∙ nothing
+
+pub nothing_pending : (design : Elaborated) (segment : Option Run) (fs : List FindingState) → segment ≡ None → fs ≡ [] → ArePending design segment fs
+nothing_pending design segment fs none nothing =
+    subst (λ (o : Option Run). ArePending design o fs) (sym none)
+    (subst (λ (gs : List FindingState). All (λ (f : FindingState). f.segment.start.design ≡ design) gs) (sym nothing) (λ k f within. absurd (omega (arith, within))))
+
+-- all races are booked
+pub all_booked :
+    (r : Running) (w : WorldLog) (segment : Option Run) (fs : List FindingState) → HappensTo r (record { world = w; found = pending segment fs }) → segment ≡ None → fs ≡ []
+    → HappensTo r (record { world = w; found = [] })
+all_booked r w segment fs h none nothing = subst (λ (gs : List FindingState). HappensTo r (record { world = w; found = gs })) (none_pending segment fs none nothing) h

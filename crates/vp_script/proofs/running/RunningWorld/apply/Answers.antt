@@ -1,0 +1,11 @@
+use Rattle.std.proofs.Common.{option_map, subst, sym}
+use Rattle.std.specs.Arc.{arc_value}
+use Rattle.vp_world.specs.Worlds.{Opening}
+use Rattle.vp_script.specs.Pending.{ArePending}
+use Rattle.vp_script.proofs.Openings.{applied_keeps}
+use Rattle.vp_script.proofs.running.RunningWorld.apply.Goals as goal
+
+pub invariant_of-self : goal.invariant_of-self
+invariant_of-self c =
+    let s = c.self.inside in
+    subst (λ (o : Opening). ArePending o.design (option_map arc_value s.segment) s.findings.items) (sym (applied_keeps _ c.args.event s.world c.applied.new.world c.applied.result c.applied.ensures)) c.self.invariant
