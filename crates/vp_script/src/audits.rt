@@ -201,7 +201,7 @@ fn script_audit<R: Read>(
         &mut script_session,
         reader,
     );
-    // Dropped by a call, so that how a keeper is dropped is no part of this function's proof.
+    // Dropped by a call, so that how a session is dropped is no part of this function's proof.
     drop(script_session);
     audited
 }

@@ -143,7 +143,7 @@ pub fn run_script<R: Read, W: Write>(
 {
     let mut script_session = opened(alloc, design, policy)?;
     let ran = answered(alloc, &mut script_session, reader, writer);
-    // Dropped by a call, so that how a keeper is dropped is no part of this function's proof.
+    // Dropped by a call, so that how a session is dropped is no part of this function's proof.
     drop(script_session);
     match ran {
         Ok(ran) => Ok(ran),

@@ -111,7 +111,8 @@ impl Machine {
             (slice_index_or self.old.state.remaining process None) ≡ Goes self.new.state change) }
         ensures refused { IfErr result (Explains NoMemory (refusal_in
             (run_procedure (tables_of self.old.state.design) (with_activation self.old.state) k
-            process instance repeats body (slice_index_or self.old.state.remaining process None)))) }
+            process instance repeats body
+            (slice_index_or self.old.state.remaining process None)))) }
         ensures unchanged { OnErr result (self.new.state ≡ self.old.state) }
     {
         let Some(next) = self.next_of(process) else {
@@ -187,10 +188,12 @@ impl Machine {
     fn check_turn(&self, process: usize, instance: ObjectId) -> Result<(), SimError>
         ensures ok { OnOk result ((k : ℕ) → (repeats : Bool) → (body : ℕ)
             → IsStep (run_procedure (tables_of self.now.state.design)
-            (with_activation self.now.state) k process instance repeats body (slice_index_or self.now.state.remaining process None))) }
+            (with_activation self.now.state) k process instance repeats body
+            (slice_index_or self.now.state.remaining process None))) }
         ensures refused { IfErr result (λ e. (k : ℕ) → (repeats : Bool) → (body : ℕ)
             → run_procedure (tables_of self.now.state.design)
-            (with_activation self.now.state) k process instance repeats body (slice_index_or self.now.state.remaining process None)
+            (with_activation self.now.state) k process instance repeats body
+            (slice_index_or self.now.state.remaining process None)
             ≡ Refuses e) }
     {
         let Some(next) = self.next_of(process) else {
