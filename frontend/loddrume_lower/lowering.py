@@ -247,18 +247,26 @@ class Lowering:
     # ---- where outputs go
 
     def _place_registers(self) -> None:
-        """Makes a reg of each net of the original whose bits registers drive, or that has an initial value and no
-        driver."""
-        for piece in self._nets.pieces:
-            if piece.direction == "input" or piece.kind == "reg":
-                continue
-            keys = [self._drivers[bit][0] for bit in piece.bits if isinstance(bit, int) and bit in self._drivers]
-            kinds = {self._outputs[key].kind for key in keys}
-            is_own = all(
-                self._nets.owner.get(bit) == (piece, at) for at, bit in enumerate(piece.bits) if isinstance(bit, int)
-            )
-            if is_own and ((kinds and kinds <= set(REGISTERS)) or (not kinds and set(piece.initial) - {"x"})):
-                piece.kind = "reg"
+        """Makes a reg of each net of the original whose bits registers drive, and of one without a driver that has an
+        initial value, or is a reg of the original that nothing but an `initial` assigns."""
+        unassigned = self._module.unassigned_regs()
+        for name, pieces in self._public.items():
+            for piece in pieces:
+                if piece.direction != "input" and piece.kind != "reg" and self._is_own(piece):
+                    kinds = self._kinds_of_drivers(piece)
+                    is_set = bool(set(piece.initial) - {"x"})
+                    if kinds <= set(REGISTERS) if kinds else is_set or name in unassigned:
+                        piece.kind = "reg"
+
+    def _is_own(self, piece: Piece) -> bool:
+        """Whether each bit of a piece is a constant or its own."""
+        return all(
+            self._nets.owner.get(bit) == (piece, at) for at, bit in enumerate(piece.bits) if isinstance(bit, int)
+        )
+
+    def _kinds_of_drivers(self, piece: Piece) -> Set[str]:
+        keys = [self._drivers[bit][0] for bit in piece.bits if isinstance(bit, int) and bit in self._drivers]
+        return {self._outputs[key].kind for key in keys}
 
     def _aim(self, key: Tuple[str, str], output: _Output) -> None:
         """Finds targets for an output: whole pieces, bits of a reg, or helpers."""

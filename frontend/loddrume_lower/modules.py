@@ -19,7 +19,7 @@ _REGIONS = {
     "covergroup": "endgroup",
 }
 _PROCEDURES = ("always", "initial", "always_comb", "always_ff", "always_latch", "final")
-_NETS = ("wire", "tri", "wand", "wor", "tri0", "tri1", "triand", "trior", "supply0", "supply1", "logic")
+_STORING = ("reg", "integer", "time", "logic")
 
 
 @dataclass
@@ -32,6 +32,7 @@ class Item:
     targets: Set[str] = field(default_factory=set)
     # Parameters, genvars, functions and tasks; nets are not among them.
     declared: Set[str] = field(default_factory=set)
+    memories: Set[str] = field(default_factory=set)
 
     @property
     def file(self) -> str:
@@ -40,6 +41,10 @@ class Item:
     @property
     def line(self) -> int:
         return self.tokens[0].line
+
+    def words(self) -> Set[str]:
+        """The names that it has."""
+        return {token.text.lstrip("\\") for token in self.tokens if token.kind in ("name", "escaped")}
 
 
 @dataclass
@@ -57,6 +62,14 @@ class Module:
     def places(self) -> Set[int]:
         """The envelopes that stand in the module."""
         return {item.place for item in self.items} - {self.place}
+
+    def unassigned_regs(self) -> Set[str]:
+        """The regs that nothing assigns but an `initial`."""
+        regs: Set[str] = set()
+        for item in self.items:
+            if item.kind in _STORING:
+                regs |= _declared_by(_without_attributes(item.tokens)[1:], item.kind)
+        return regs.difference(*(item.targets for item in self.items if item.kind != "initial"))
 
 
 @dataclass
@@ -268,11 +281,11 @@ class Splitter:
 
 
 def refuse_values_across(layout: Layout) -> None:
-    """Refuses a parameter of an envelope that is used outside of it, and a function or task that is called from
-    another side.
+    """Refuses a parameter of an envelope that is used outside of it, a function or task that is called from another
+    side, and a memory that is read or written from another side.
 
-    Yosys puts the value of a parameter, and the body of a function, where they are used, and no place tells
-    them from what stands there.
+    Yosys puts the value of a parameter, and the body of a function, where they are used, and makes regs of a small
+    memory; no place tells them from what stands there.
     """
     for module in layout.modules.values():
         if not module.places():
@@ -280,22 +293,23 @@ def refuse_values_across(layout: Layout) -> None:
         _refuse_ports_inside(module)
         for home in module.items:
             for name in home.declared:
-                is_called = home.kind in ("function", "task")
-                for item in module.items:
-                    if item.place == home.place or not (home.place != module.place or is_called):
-                        continue
-                    token = next(
-                        (
-                            token
-                            for token in item.tokens
-                            if token.text.lstrip("\\") == name and token.kind in ("name", "escaped")
-                        ),
-                        None,
-                    )
-                    if token:
-                        what = f"the {home.kind} {name}"
-                        advice = f"move it, or declare it on that side too; it is declared at {home.file}:{home.line}"
-                        raise Refusal(token.file, token.line, f"{what} is used across a border of an envelope", advice)
+                if home.place != module.place or home.kind in ("function", "task"):
+                    _refuse_across(module, home, f"{home.kind} {name}", "move it, or declare it on that side too")
+            for name in home.memories:
+                _refuse_across(module, home, f"memory {name}", "read and write it on the side of its declaration")
+
+
+def _refuse_across(module: Module, home: Item, what: str, advice: str) -> None:
+    """Refuses what an item declares, by its kind and name, where an item of another place has the name."""
+    for item in module.items:
+        for token in item.tokens if item.place != home.place else ():
+            if token.kind in ("name", "escaped") and token.text.lstrip("\\") == what.split(" ")[1]:
+                raise Refusal(
+                    token.file,
+                    token.line,
+                    f"the {what} is used across a border of an envelope",
+                    f"{advice}; it is declared at {home.file}:{home.line}",
+                )
 
 
 def _refuse_ports_inside(module: Module) -> None:
@@ -335,8 +349,10 @@ def _without_attributes(tokens: List[Token]) -> List[Token]:
 
 
 def _name_targets(item: Item) -> None:
-    """Finds by tokens which names an item assigns, and which parameters, functions and tasks it declares."""
+    """Finds by tokens which names an item assigns, and which parameters, functions, tasks and memories it declares."""
     tokens = _without_attributes(item.tokens)
+    if item.kind in (*_STORING, "wire"):
+        item.memories = _memories(tokens)
     for at, token in enumerate(tokens):
         if token.text in ("parameter", "localparam", "genvar", "function", "task") and token.kind == "name":
             item.declared |= _declared_by(tokens[at + 1 :], token.text)
@@ -366,6 +382,18 @@ def _declared_by(tokens: List[Token], word: str) -> Set[str]:
             names.add(token.text.lstrip("\\"))
             if word in ("function", "task"):
                 break
+    return names
+
+
+def _memories(tokens: List[Token]) -> Set[str]:
+    """The names that a declaration gives a range after the name."""
+    names: Set[str] = set()
+    depth = 0
+    for before, token, following in zip(tokens, tokens[1:], tokens[2:]):
+        depth += {"(": 1, "[": 1, "{": 1, ")": -1, "]": -1, "}": -1}.get(before.text, 0)
+        is_declared = before.text in (tokens[0].text, "signed", "]", ",") and token.text != "signed"
+        if not depth and is_declared and token.kind in ("name", "escaped") and following.text == "[":
+            names.add(token.text.lstrip("\\"))
     return names
 
 

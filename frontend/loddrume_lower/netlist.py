@@ -117,7 +117,6 @@ class Bufferer:
             return lines
         netlist = _known(lines)
         _refuse_large_memories(lines, module, self._places)
-        _refuse_divided_memories(lines, module, self._places)
         out: List[str] = []
         for line in _with_constants(_with_initial_values(lines)):
             buffered = self._buffer(line[10:], netlist, module) if line.startswith("  connect ") else None
@@ -155,32 +154,6 @@ class Bufferer:
         name = targets[0].split(" ")[0].lstrip("\\")
         _, (file, line) = self._places.place_of_target(name, module, self._kinds, "the assignment of")
         return f"{file}:{line}.1-{line}.2"
-
-
-def _refuse_divided_memories(lines: List[str], module: Module, places: Places) -> None:
-    """Refuses a memory that is declared on one side of a border and read or written on another."""
-    if not module.places():
-        return
-    found: Dict[str, Set[int]] = {}
-    source, kind = "", ""
-    for line in lines:
-        if line.startswith("  attribute \\src "):
-            source = line.split('"')[1]
-        elif line.startswith("  memory "):
-            found.setdefault(line.split()[-1], set()).update(places.envelopes(source))
-        elif line.startswith("  cell "):
-            kind = line.split()[1]
-        elif line.startswith("    parameter \\MEMID ") and kind.startswith("$mem"):
-            name = line.split('"')[1].replace("\\\\", "\\")
-            found.setdefault(name, set()).update(places.envelopes(source))
-            if len(found[name]) > 1:
-                file, where = places.origin(source) or (module.file, module.line)
-                raise Refusal(
-                    file,
-                    where,
-                    f"the memory {name[1:]} is used across a border of an envelope",
-                    "read and write it on the side of its declaration",
-                )
 
 
 def _refuse_large_memories(lines: List[str], module: Module, places: Places) -> None:

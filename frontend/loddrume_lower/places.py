@@ -5,7 +5,7 @@ from __future__ import annotations
 import re
 from typing import Callable, Dict, Iterable, Optional, Set, Tuple
 
-from .modules import Layout, Module
+from .modules import Layout, Module, instantiated
 from .refusal import Refusal
 
 _RANGE = re.compile(r"^(?P<file>.*):(?P<first>\d+)(?:\.\d+)?(?:-(?P<last>\d+)(?:\.\d+)?)?$")
@@ -74,6 +74,8 @@ class Places:
         """The one place at which items of some kinds assign a name, with the file and line of the first."""
         last = re.sub(r"\[-?\d+\]", "", name).split(".")[-1]
         items = [item for item in module.items if last in item.targets and _is_kind(item.kind, kinds)]
+        # An output of another width than its net: Yosys assigns the rest.
+        items = items or [item for item in module.items if last in item.words() and instantiated(item)]
         found: Dict[int, Tuple[str, int]] = {}
         for item in items:
             found.setdefault(item.place, (item.file, item.line))

@@ -65,6 +65,25 @@ class StoredDesigns(unittest.TestCase):
         )
 
 
+    def test_a_reg_that_nothing_assigns_stays_a_reg(self) -> None:
+        text = (
+            "module m(input c);\n  parameter P = 1;\n  reg [1:0] idle; wire open;\n  integer number, index;\n"
+            "  initial for (number = 0; number < P; number = number + 1) ;\n"
+            "  always @(posedge c) for (index = 0; index < P; index = index + 1) ;\nendmodule\n"
+        )
+        widths = {"idle": 2, "open": 1, "number": 32, "index": 32}
+        source = {"src": "design.v:3.1-3.2"}
+        nets = {
+            name: {"hide_name": 0, "bits": list(range(at, at + width)), "attributes": source}
+            for at, (name, width) in zip((3, 5, 6, 38), widths.items())
+        }
+        nets["c"] = {"hide_name": 0, "bits": [2], "attributes": source}
+        ports = {"c": {"direction": "input", "bits": [2]}}
+        made = assembled("m", text, {"modules": {"m": {"ports": ports, "cells": {}, "netnames": nets, "attributes": {}}}})
+        for declared in ("reg [1:0] idle;", "wire open;", "reg [31:0] number;", "wire [31:0] index;"):
+            self.assertIn(f"  {declared}", made.text)
+
+
 class Envelopes(unittest.TestCase):
     """What stands inside stays inside."""
 

@@ -100,6 +100,10 @@ class Refusals(unittest.TestCase):
                 f"function f; input a; f = a; endfunction\n{BEGIN}wire w = f(1);\n{END}",
                 "design.v:4: the function f is used across a border",
             ),
+            (
+                f"reg [7:0] few [0:3], q;\n{BEGIN}wire w = few[0];\n{END}",
+                "design.v:4: the memory few is used across a border of an envelope; read and write it",
+            ),
         ):
             with self.subTest(words):
                 self.refused(
@@ -112,6 +116,8 @@ class Refusals(unittest.TestCase):
         read = f"module m(input q);\n{BEGIN}wire w = q;\n{END}endmodule\n"
         refuse_values_across(layout_of(read))
         refuse_values_across(layout_of(f"module m;\nlocalparam K = 3;\n{BEGIN}wire [K:0] w;\n{END}endmodule\n"))
+        nets = "reg signed [7:0] q;\nwire v = q[0], u = {v, q[1]};\n"
+        refuse_values_across(layout_of(f"module m;\n{nets}{BEGIN}wire w = q[0];\n{END}endmodule\n"))
 
     def test_a_macro_of_an_envelope(self) -> None:
         text = f"module m;\n{BEGIN}`define K 3\nlocalparam A = `K;\n{END}localparam B = `K;\nendmodule\n"
@@ -136,17 +142,12 @@ class Refusals(unittest.TestCase):
     def buffered(self, text: str, rtlil: str) -> str:
         return Bufferer(Places(layout_of(text))).rewrite(rtlil, ASSIGNING)
 
-    def test_memories(self) -> None:
-        text = f"module m;\nreg [7:0] big [0:4095];\n{BEGIN}wire w;\n{END}endmodule\n"
-        rtlil = 'module \\m\n  attribute \\src "design.v:2.1-2.2"\n  memory width 8 size {} \\big\n{}end\n'
+    def test_a_large_memory(self) -> None:
+        text = "module m;\nreg [7:0] big [0:4095];\nendmodule\n"
+        rtlil = 'module \\m\n  attribute \\src "design.v:2.1-2.2"\n  memory width 8 size 4096 \\big\nend\n'
         self.refused(
-            lambda: self.buffered(text, rtlil.format(4096, "")),
+            lambda: self.buffered(text, rtlil),
             "design.v:2: the memory big of 4096 words; make it smaller: at most 1024 words",
-        )
-        read = '  attribute \\src "design.v:4.1-4.2"\n  cell $memrd $r\n    parameter \\MEMID "\\\\big"\n  end\n'
-        self.refused(
-            lambda: self.buffered(text, rtlil.format(4, read)),
-            "design.v:4: the memory big is used across a border of an envelope",
         )
 
     def test_an_assignment_on_both_sides(self) -> None:
@@ -161,6 +162,11 @@ class Refusals(unittest.TestCase):
         text = f"module m(output y);\n{BEGIN}assign y = 1'b1;\n{END}endmodule\n"
         made = self.buffered(text, "module \\m\n  wire output 1 \\y\n  connect \\y 1'1\nend\n")
         self.assertIn('attribute \\src "design.v:3.1-3.2"\n  cell $pos $buffer$1\n', made)
+
+    def test_an_output_of_another_width_keeps_the_place_of_its_instance(self) -> None:
+        text = f"module m(output [1:0] y);\nchild a();\n{BEGIN}child b(.q(y));\n{END}endmodule\n"
+        made = self.buffered(text, "module \\m\n  wire width 2 output 1 \\y\n  connect \\y [1] 1'0\nend\n")
+        self.assertIn('attribute \\src "design.v:4.1-4.2"\n  cell $pos $buffer$1\n', made)
 
     # ---- the netlist
 

@@ -4,11 +4,11 @@
     compare.py SOURCES PROGRAM FOLDER [NAME ..]
 
 SOURCES is a folder with the Debian source packages, one folder each (see fetch.sh); PROGRAM is vp_served;
-FOLDER takes what is made. Each design is lowered. Then 1,000 cycles of random inputs, with the reset first, run
-in both simulators, and all names that the map keeps are compared, bit by bit, at each cycle. `results.json` in
-FOLDER has a record for each design, and `table.md` the table. First Icarus runs the lowered text too: where under
-90 percent of the bits are known in both, each reg is set to a random value before the first cycle. Then the server
-runs it. With `iverilog` as PROGRAM it does not: that is quick, and tells nothing of the server.
+FOLDER takes what is made. Each design is lowered. Then 1,000 cycles of inputs, with the reset first, run in both
+simulators, and all names that the map keeps are compared, bit by bit, at each cycle. Inputs are random, but for what
+stimuli.py has. `results.json` in FOLDER has a record for each design, and `table.md` the table. First Icarus runs the
+lowered text too: where under 90 percent of the bits are known in both, each reg without an initial value is set to a
+random one before the first cycle. Then the server runs it. With `iverilog` as PROGRAM it does not: that is quick, and tells nothing of the server.
 """
 
 from __future__ import annotations
@@ -23,13 +23,14 @@ import sys
 import time
 from dataclasses import dataclass, field
 from pathlib import Path
-from typing import Any, Dict, Iterator, List, Optional, Tuple
+from typing import Any, Dict, Iterator, List, Optional, Set, Tuple
 
 HERE = Path(__file__).resolve().parent
 sys.path.insert(0, str(HERE.parents[1] / "frontend"))
 
 from loddrume_lower.front import Result, lower, write  # noqa: E402
 from loddrume_lower.refusal import Refusal  # noqa: E402
+from stimuli import STIMULI  # noqa: E402
 
 CYCLES = 1000
 SETTLE = 4
@@ -122,6 +123,8 @@ def stimulus(ports: List[Port], design: Design) -> List[Dict[str, str]]:
     result = []
     for cycle in range(CYCLES):
         values = {port.name: format(chance.getrandbits(port.width), f"0{port.width}b") for port in inputs}
+        for name, given in STIMULI.get(design.name, {}).items():
+            values[name] = given if isinstance(given, str) else given(chance)
         if design.reset:
             name, level = design.reset
             values[name] = level if cycle < RESET_CYCLES else "10"[int(level)]
@@ -458,29 +461,55 @@ def part_served(
 def declared_regs(text: str) -> Dict[str, Dict[str, int]]:
     """The regs that each module of a lowered text declares, with their widths."""
     found: Dict[str, Dict[str, int]] = {}
-    text = re.sub(r"//[^\n]*|/\*.*?\*/", "", text, flags=re.DOTALL)
-    for module in re.finditer(r"\bmodule\s+([\w$]+)(.*?)\bendmodule\b", text, re.DOTALL):
-        regs = found.setdefault(module[1], {})
-        for reg in re.finditer(r"\breg\b\s*(?:\[\s*(\d+)\s*:\s*(\d+)\s*\])?\s*([\w$]+(?:\s*,\s*[\w$]+)*)", module[2]):
+    for module, body in bodies(text):
+        regs = found.setdefault(module, {})
+        for reg in re.finditer(r"\breg\b\s*(?:\[\s*(\d+)\s*:\s*(\d+)\s*\])?\s*([\w$]+(?:\s*,\s*[\w$]+)*)", body):
             for name in map(str.strip, reg[3].split(",")):
                 if name not in ("input", "output", "inout", "wire", "reg"):
                     regs[name] = int(reg[1]) - int(reg[2]) + 1 if reg[1] else 1
     return found
 
 
-def regs_of(result: Result, kept: Dict[str, List[str]], seed: str) -> Tuple[Dict[str, str], Dict[str, str]]:
-    """A random value for each kept reg of one part: by its name in the original, and by its path in the lowered
-    text."""
+def initial_regs(text: str) -> Dict[str, Set[str]]:
+    """The regs of each module that an `initial` assigns."""
+    found: Dict[str, Set[str]] = {}
+    for module, body in bodies(text):
+        for one, block in re.findall(r"\binitial\s+(?:(?!begin\b)([^;]*;)|begin\b(.*?)\bend\b)", body, re.DOTALL):
+            names = re.findall(r"([\w$]+)\s*(?:\[[^\]]*\]\s*)?<?=", one or block)
+            found.setdefault(module, set()).update(names)
+    return found
+
+
+def bodies(text: str) -> List[Tuple[str, str]]:
+    """The modules of a text: the name and what follows it, without comments."""
+    text = re.sub(r"//[^\n]*|/\*.*?\*/", "", text, flags=re.DOTALL)
+    return re.findall(r"\bmodule\s+([\w$]+)(.*?)\bendmodule\b", text, re.DOTALL)
+
+
+def regs_of(result: Result, kept: Dict[str, List[str]]) -> Dict[str, Tuple[str, str, int]]:
+    """The kept regs of one part, by their names in the original: the module, the path in the lowered text and the
+    width."""
     declared = declared_regs(result.text)
     modules = dict(modules_of(result.names, result.names["top"], "dut"))
-    chance = random.Random(seed)
-    old: Dict[str, str] = {}
-    new: Dict[str, str] = {}
+    found: Dict[str, Tuple[str, str, int]] = {}
     for name, parts in kept.items():
         path, _, last = parts[0].rpartition(".")
         width = declared.get(modules[path], {}).get(last)
         if len(parts) == 1 and width:
-            old[name] = new[parts[0]] = format(chance.getrandbits(width), f"0{width}b")
+            found[name] = modules[path], parts[0], width
+    return found
+
+
+def random_values(result: Result, kept: Dict[str, List[str]], seed: str) -> Tuple[Dict[str, str], Dict[str, str]]:
+    """A random value for each reg that has no initial one: by its name in the original, and by its path in the
+    lowered text."""
+    initial = initial_regs(result.text)
+    chance = random.Random(seed)
+    old: Dict[str, str] = {}
+    new: Dict[str, str] = {}
+    for name, (module, path, width) in regs_of(result, kept).items():
+        if path.rpartition(".")[2] not in initial.get(module, ()):
+            old[name] = new[path] = format(chance.getrandbits(width), f"0{width}b")
     return old, new
 
 
@@ -488,11 +517,11 @@ def state_of(result: Result, kept: Dict[str, List[str]]) -> Dict[str, str]:
     """The path of each reg of the lowered text, by its name in the original. Nothing, where a reg has no name of the
     original for it alone, or where something waits for a clock that falls."""
     declared = declared_regs(result.text)
-    names = list(regs_of(result, kept, "")[0])
+    regs = regs_of(result, kept)
     total = sum(len(declared.get(module, {})) for _, module in modules_of(result.names, result.names["top"], "dut"))
-    if len(names) < total or "negedge" in result.text:
+    if len(regs) < total or "negedge" in result.text:
         return {}
-    return {name: f"loddrume_bench.{kept[name][0]}" for name in names}
+    return {name: f"loddrume_bench.{path}" for name, (_, path, _) in regs.items()}
 
 
 def modules_of(names: Dict[str, Any], module: str, path: str) -> Iterator[Tuple[str, str]]:
@@ -588,7 +617,7 @@ def simulate(
     cycles = stimulus(ports, design)
     kept = dict(names_of(result.names, result.names["top"], "dut", "dut"))
     all_names = len(kept)
-    old, new = regs_of(result, kept, design.name) if setting else ({}, {})
+    old, new = random_values(result, kept, design.name) if setting else ({}, {})
     found, theirs = icarus(design, sources, ports, list(kept), cycles, old, folder)
     kept = {name: kept[name] for name in found}
     began = time.monotonic()
