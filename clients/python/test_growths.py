@@ -1,9 +1,11 @@
 """Out of memory at each growth in turn: a shim over the C library's allocator (tools/refuse-growth.c) refuses the first growth of a run, then the second,
 and so on. Each run ends by itself, and what it prints is that of a run without a refusal up to a fault of out of memory or a request that is answered
-`no memory`. Where the simulation or a search lacks memory it goes on before the next request, so the values and the races after a run are as ever.
+`no memory`. Where the simulation or a search lacks memory it goes on before the next request, so the values and the races after a run are as ever. A
+request that is answered `no memory` was not done: sent again it is answered as ever.
 python3 -m unittest, in this folder, over the program of test_loddrume. It wants the machine's C compiler, and is skipped where there is none.
 """
 
+import contextlib
 import json
 import os
 import re
@@ -102,6 +104,48 @@ class Growths(unittest.TestCase):
         self.assertEqual([fault for fault in found if fault], [])
         return count
 
+    def reply_to(self, program: "subprocess.Popen[str]", request: str) -> str:
+        """What a program that runs answers a line."""
+        assert program.stdin and program.stdout
+        with contextlib.suppress(BrokenPipeError):
+            program.stdin.write(request + "\n")
+            program.stdin.flush()
+        return program.stdout.readline().rstrip("\n")
+
+    def lost_by(self, growth: int, words: Sequence[str], requests: Sequence[str], wanted: Sequence[str]) -> Optional[str]:
+        """What is lost where a growth is refused, and a request that is answered `no memory` is sent again; nothing where it is right."""
+        env = {**os.environ, "LD_PRELOAD": str(self.shim), "REFUSE_GROWTH": str(growth)}
+        program = subprocess.Popen(
+            [PROGRAM, *words],
+            cwd=self.folder,
+            stdin=subprocess.PIPE,
+            stdout=subprocess.PIPE,
+            stderr=subprocess.DEVNULL,
+            encoding="utf-8",
+            env=env,
+        )
+        with program, contextlib.suppress(BrokenPipeError):
+            for request, as_ever in zip(requests, wanted):
+                reply = self.reply_to(program, request)
+                if reply == REFUSED:
+                    reply = self.reply_to(program, request)
+                if ends_by_memory(reply):
+                    break
+                if reply != as_ever:
+                    program.kill()
+                    return f"growth {growth}: {request} {reply}"
+        return None
+
+    def check_sent_again(self, words: Sequence[str], requests: Sequence[str]) -> None:
+        """Each growth of a run is refused in turn, and what is answered `no memory` is sent again: it is answered as ever."""
+        lines = "".join(request + "\n" for request in requests)
+        wanted = self.run_refusing(0, words, lines).stdout.splitlines()
+        self.assertEqual(len(wanted), len(requests))
+        count = self.growths(words, lines)
+        with ThreadPoolExecutor(BESIDE) as pool:
+            found = list(pool.map(lambda growth: self.lost_by(growth, words, requests, wanted), range(1, count + 1)))
+        self.assertEqual([fault for fault in found if fault], [])
+
     def write(self, design: str, rules: str) -> Tuple[str, str]:
         """Files of a design and a policy, by their names."""
         (self.folder / "design.v").write_text(design)
@@ -141,6 +185,27 @@ class Growths(unittest.TestCase):
         ]
         rules = '{"users":[{"name":"u0","token":"t","open":"list+read+watch+race","run":true}]}'
         self.check(["run", *self.write(RACE, rules)], script=[json.dumps(request) for request in requests])
+
+    def test_stored_script_sent_again(self) -> None:
+        design, rules, script = (TOP / "crates" / "vp_served" / "stdin").read_text().split("%%\n")
+        self.check_sent_again(["run", *self.write(design, rules)], script.splitlines())
+
+    def test_races_and_notices_sent_again(self) -> None:
+        requests = [
+            {"op": "open", "user": "u0", "token": "t"},
+            {"op": "handle", "name": "top.a"},
+            {"op": "iterate", "kind": "vpiReg"},
+            {"op": "watch", "h": 1},
+            {"op": "run", "until": 10},
+            {"op": "poll"},
+            {"op": "races"},
+            {"op": "race", "no": 1},
+            {"op": "unwatch", "cb": 1},
+            {"op": "free", "h": 2},
+            {"op": "close"},
+        ]
+        rules = '{"users":[{"name":"u0","token":"t","open":"list+read+watch+race","run":true}]}'
+        self.check_sent_again(["run", *self.write(RACE, rules)], [json.dumps(request) for request in requests])
 
     def test_view(self) -> None:
         self.check(["view", *self.write(envelopes(3, "acme"), policy(2, 2)), "u1"])

@@ -1,8 +1,9 @@
-ghost use Rattle.std.specs.Prelude.{◌≡◌, ◌≤◌, ◌<◌, ◌+◌, ◌^◌, ◌%◌, [], ℕ, List, None, Option, Some, IfErr, IfOk, IfSome, OnOk, false, option_map, IsErrOf, MatchResult, length, not, vec_items};
+ghost use Rattle.std.specs.Prelude.{◌≡◌, ◌≤◌, ◌<◌, ◌+◌, ◌^◌, ◌%◌, [], ℕ, List, None, Option, Some, IfErr, IfOk, IfSome, OnOk, false, option_map, IsErrOf, IsOkUnless, MatchResult, length, not, vec_items};
 ghost use Rattle.std.specs.Io.KnownBytes.{IsAtEnd};
 ghost use Rattle.vp_answer.specs.declared.request.Request.{Request};
 ghost use Rattle.vp_answer.specs.declared.reply.Reply.{Reply};
 ghost use Rattle.vp_wire.specs.Dialogue.{Answers, Asked, Closes, IsDialogue, IsWhole, Point, Stops, is_grant, is_opening, stage_after, turn_of, turn_of_request};
+ghost use Rattle.vp_wire.specs.Lines.{line_of};
 ghost use Rattle.vp_wire.specs.Failures.{failures_after, one_more, reader_failures, writer_failures};
 ghost use Rattle.vp_wire.specs.Reading.{Finishes, Goes, IsBegun, Progress, Takes, AnswersLine, is_closing, lacks_memory, point_of, remaining_size, reply_text, turn_by};
 
@@ -20,6 +21,9 @@ pub const TURN_LIMIT: u32 = 16_777_216;
 
 /// How many bytes are read at once.
 const CHUNK: usize = 8_192;
+
+/// So many bytes are set aside for a reply's line before its request is asked, since what was done can't be asked again.
+const SPARE: usize = 65_536;
 
 /// Who answers requests.
 pub trait Caller {
@@ -99,12 +103,28 @@ fn is_closing(request: &Request) -> bool
     matches!(request, Request::Call(Call::Close))
 }
 
+/// The line of a reply. Where there is no memory for it, what was set aside for it is given up.
+fn line_by(alloc: Global, reply: &Reply, spare: Vec<u8>) -> Result<Vec<u8>, LineError>
+    ensures line { IfOk result (λ line. line.items ≡ line_of reply.now) }
+    ensures refused { IsOkUnless result LineError.NoMemory }
+{
+    if let Ok(line) = reply_line(alloc, reply) {
+        return Ok(line);
+    }
+    drop(spare);
+    match reply_line(alloc, reply) {
+        Ok(line) => Ok(line),
+        Err(_) => Err(LineError::NoMemory),
+    }
+}
+
 /// The stage after a request that the caller is asked, and the line of the reply.
 fn ask<C: Caller>(
     alloc: Global,
     stage: Stage,
     request: Request,
     caller: &mut C,
+    spare: Vec<u8>,
 ) -> (Stage, Result<Vec<u8>, LineError>)
     ensures { Asked (lacks_memory result.1) C.calls request
         (record { stage = stage; caller = caller.old }) (reply_text vec_items result.1)
@@ -113,10 +133,7 @@ fn ask<C: Caller>(
     let opens = is_opening(&request);
     let closes = is_closing(&request);
     let reply = caller.call(request);
-    let line = match reply_line(alloc, &reply) {
-        Ok(line) => Ok(line),
-        Err(_) => Err(LineError::NoMemory),
-    };
+    let line = line_by(alloc, &reply, spare);
     (stage.after(opens, closes, &reply), line)
 }
 
@@ -161,7 +178,10 @@ impl Dialogue {
             Ok(request) => request,
             Err(error) => return Err(error),
         };
-        let (stage, line) = ask(self.alloc, self.stage, request, caller);
+        let Ok(spare) = Vec::with_capacity(self.alloc, SPARE) else {
+            return Err(LineError::NoMemory);
+        };
+        let (stage, line) = ask(self.alloc, self.stage, request, caller, spare);
         self.stage = stage;
         line
     }
