@@ -2,7 +2,9 @@ use std::alloc::{AllocError, Global};
 use std::io;
 use std::io::BufRead;
 use vp_audit::Audit;
-use vp_script::{Audited, ServeFault, audit_script, bundle_refused, run_bundle};
+use vp_script::{
+    Audited, Ran, SEED_COUNT, ServeFault, audit_script, bundle_refused, run_bundle, run_script,
+};
 use vp_wire::Counted;
 
 /// The count and the text of a line that stands for so many copies of the text, after its mark.
@@ -78,6 +80,8 @@ pub struct Case {
     pub name: String,
     bundle: String,
     audits: Vec<Audits>,
+    /// So many seeds are tried by each search.
+    seeds: u64,
     /// The diagnostic of its fault is printed as well.
     diagnosed: bool,
     pub wanted: String,
@@ -91,6 +95,7 @@ impl Case {
             name: String::from_str(alloc, name)?,
             bundle: String::new(alloc),
             audits: Vec::new(alloc),
+            seeds: SEED_COUNT,
             diagnosed: false,
             wanted: String::new(alloc),
             in_bundle: true,
@@ -109,6 +114,8 @@ impl Case {
             self.wanted.push('\n')?;
         } else if line == "%!" {
             self.diagnosed = true;
+        } else if let Some(seeds) = line.strip_prefix("%= ") {
+            self.seeds = seeds.parse().unwrap_or(SEED_COUNT);
         } else if let Some(user) = line.strip_prefix("%@ ") {
             self.add_audit(alloc, user, false)?;
         } else if let Some(user) = line.strip_prefix("%? ") {
@@ -125,10 +132,29 @@ impl Case {
         Ok(self.audits.push(Audits { user, explain })?)
     }
 
+    /// Runs the bundle; its script alone where another number of seeds is tried.
+    fn run_into(&self, alloc: Global, writer: &mut Counted<Vec<u8>>) -> Result<Ran, ServeFault> {
+        if self.seeds == SEED_COUNT {
+            return run_bundle(alloc, self.bundle.as_bytes(), writer);
+        }
+        let Some((design, policy, script)) = parts(self.bundle.as_str()) else {
+            return Err(ServeFault::BadBundle);
+        };
+        let mut reader = Counted::new(script.as_bytes());
+        run_script(
+            alloc,
+            self.seeds,
+            design,
+            policy.as_bytes(),
+            &mut reader,
+            writer,
+        )
+    }
+
     /// What the bundle prints: the replies, and the line of the fault that ends it, if one does.
     fn run(&self, alloc: Global) -> Result<String, AllocError> {
         let mut writer = Counted::new(Vec::new(alloc));
-        let ran = run_bundle(alloc, self.bundle.as_bytes(), &mut writer);
+        let ran = self.run_into(alloc, &mut writer);
         let mut printed = String::from_utf8_lossy(alloc, &writer.inner)?;
         match ran {
             Ok(ran) => add_memory(&mut printed, ran.out_of_memory)?,
@@ -164,6 +190,7 @@ impl Case {
         let Audits { user, explain } = audits;
         match audit_script(
             alloc,
+            self.seeds,
             design,
             policy.as_bytes(),
             user.as_str(),

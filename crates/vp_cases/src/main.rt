@@ -16,7 +16,7 @@ use std::io::{BufRead, BufReader};
 use std::rt::Files;
 use std::{env, fs, io};
 use vp_hub::{HubError, ServerError};
-use vp_script::{Failure, audit_files, check_files, run_files, view_files};
+use vp_script::{Failure, SEED_COUNT, audit_files, check_files, run_files, view_files};
 
 /// Prints what came of the lines of a kind.
 fn print_tally<R: Print>(rt: &R, kind: &str, tally: &Tally) -> io::Result<()> {
@@ -95,7 +95,7 @@ fn print_run<R: AllocGlobal + Files + Input + Print>(
     policy: &str,
 ) -> io::Result<()> {
     println!(rt; "{design}, {policy}:")?;
-    match run_files(rt, design, policy) {
+    match run_files(rt, design, policy, SEED_COUNT as u32) {
         Ok(_) => Ok(()),
         Err(refused) => print_fault(rt, &refused),
     }
@@ -137,7 +137,7 @@ fn print_audit<R: AllocGlobal + Files + Input + Print>(
     user: &str,
 ) -> io::Result<()> {
     println!(rt; "audit {design}, {policy}, {user}:")?;
-    match audit_files(rt, design, policy, user, false) {
+    match audit_files(rt, design, policy, user, SEED_COUNT as u32, false) {
         Ok(audited) => rt.print(audit_lines(rt.alloc(), audited)?.as_str()),
         Err(refused) => print_fault(rt, &refused),
     }

@@ -21,6 +21,9 @@ const MOST_WORKERS: u32 = 16;
 /// The most connections after which `serve` may end.
 const MOST_SESSIONS: u32 = 4_294_967_295;
 
+/// The most orders that a script's search tries of a time slot.
+const MOST_SEEDS: u32 = 16;
+
 const ABOUT: &str =
     "Answers questions about a Verilog design, to each user what the policy lets him see.";
 
@@ -86,13 +89,29 @@ fn user_word<'a>(alloc: Global) -> Arg<'a> {
     word(alloc, "USER", "The name of a user of the policy", true)
 }
 
+/// A number between two others, by a name.
+fn number_word<'a>(alloc: Global, name: &'static str, least: u32, most: u32) -> Arg<'a> {
+    Arg::new(alloc, name)
+        .long(name)
+        .value_parser(ValueParser::Unsigned(u64::from(least), u64::from(most)))
+        .action(ArgAction::Set)
+}
+
+/// How many orders a script's search tries of a time slot.
+fn seeds_word<'a>(alloc: Global) -> Arg<'a> {
+    number_word(alloc, "seeds", 0, MOST_SEEDS)
+        .default_value("16")
+        .help("How many other orders are tried of each time slot, to find races; 0: none")
+}
+
 /// The words of `run`.
 fn run_words<'a>(alloc: Global) -> Result<clap::Command<'a>, AllocError> {
     clap::Command::new(alloc, "run")
         .about("Runs a script over a design under a policy")
         .after_help(RUN_HELP)
         .arg(design_word(alloc))?
-        .arg(policy_word(alloc, true))
+        .arg(policy_word(alloc, true))?
+        .arg(seeds_word(alloc))
 }
 
 /// The words of `check`.
@@ -130,15 +149,8 @@ fn audit_words<'a>(alloc: Global) -> Result<clap::Command<'a>, AllocError> {
         .arg(design_word(alloc))?
         .arg(policy_word(alloc, true))?
         .arg(user_word(alloc))?
+        .arg(seeds_word(alloc))?
         .arg(explain_word(alloc))
-}
-
-/// A number between two others, by a name.
-fn number_word<'a>(alloc: Global, name: &'static str, least: u32, most: u32) -> Arg<'a> {
-    Arg::new(alloc, name)
-        .long(name)
-        .value_parser(ValueParser::Unsigned(u64::from(least), u64::from(most)))
-        .action(ArgAction::Set)
 }
 
 /// The words of `serve`.
@@ -237,6 +249,7 @@ fn asked<'a>(matches: &ArgMatches<'a>) -> Option<words::Command<'a>>
         return Some(words::Command::Run {
             design: run.get_str("DESIGN").unwrap_or(""),
             policy: run.get_str("POLICY").unwrap_or(""),
+            seeds: number(run, "seeds", 0, MOST_SEEDS)?,
         });
     }
     if let Some(check) = matches.subcommand_matches("check") {
@@ -250,6 +263,7 @@ fn asked<'a>(matches: &ArgMatches<'a>) -> Option<words::Command<'a>>
             design: audit.get_str("DESIGN").unwrap_or(""),
             policy: audit.get_str("POLICY").unwrap_or(""),
             user: audit.get_str("USER").unwrap_or(""),
+            seeds: number(audit, "seeds", 0, MOST_SEEDS)?,
             explain: audit.get_flag("explain"),
         });
     }

@@ -7,6 +7,8 @@ pub enum Command<'a> {
     Run {
         design: &'a str,
         policy: &'a str,
+        /// So many orders are tried of each time slot.
+        seeds: u32,
     },
     /// To read a design, and a policy if there is one, and to report the first fault.
     Check {
@@ -24,6 +26,8 @@ pub enum Command<'a> {
         design: &'a str,
         policy: &'a str,
         user: &'a str,
+        /// So many orders are tried of each time slot.
+        seeds: u32,
         explain: bool,
     },
     /// To serve a design under a policy to whoever connects to a port.

@@ -16,7 +16,7 @@ use Rattle.vp_world.specs.Worlds.{Opening}
 use Rattle.vp_wire.specs.declared.error.WireError.{WireError}
 use Rattle.vp_script.specs.Audits.{EndsAuditBy, EndsOpenedBy, EndsRunBy, IsAuditAfter, IsAudited, IsOutOfMemory, OpensFor, RunsTo, audited_of}
 use Rattle.vp_design.specs.Designs.{IsDesignOf, text_limit}
-use Rattle.vp_script.specs.Scripts.{IsAnswered, IsOpened, IsStopped, Script, opened, opening_of}
+use Rattle.vp_script.specs.Scripts.{IsAnswered, IsOpened, IsStopped, Script, new_world, opened, opening_of}
 use Rattle.vp_script.specs.Views.{Gives, IsUntoldUnder}
 
 -- the design of a text is elaborated of right modules
@@ -58,14 +58,14 @@ module _ (text bytes : List ℕ) (design : Elaborated) (policy : PolicyState) (r
   right_of = right_by text design policy read.of read.for_it
 
   -- and a script opens with them
-  pub opens_with : IsOpened text bytes (opened (opening_of design policy))
+  pub opens_with : IsOpened text bytes (new_world (opening_of design policy))
   opens_with = record {
     design = design;
     is_design = read.of;
     fits = read.fits;
     file = file_in policy;
     is_file = read.is_file;
-    fresh = ap (λ (p : PolicyState). opened (opening_of design p)) (policy_is policy design.tree read.for_it);
+    fresh = ap (λ (p : PolicyState). new_world (opening_of design p)) (policy_is policy design.tree read.for_it);
   }
 
   -- the policy's file gives its users
@@ -84,68 +84,76 @@ module _ (text bytes : List ℕ) (design : Elaborated) (policy : PolicyState) (r
   allocation_error name fault.TooLong h = absurd h
   allocation_error name fault.NoSuchUser h = absurd h
 
-  module _ (name : List ℕ) (unread still_unread : Option (List ℕ)) where
+  module _ (seeds : ℕ) (name : List ℕ) (unread still_unread : Option (List ℕ)) where
     -- before the script: the policy file is refused, or has no such user
-    untold : (f : ServeFault) → IsUntoldUnder bytes name design f → still_unread ≡ unread → EndsAuditBy text bytes name unread still_unread f
+    untold : (f : ServeFault) → IsUntoldUnder bytes name design f → still_unread ≡ unread → EndsAuditBy seeds text bytes name unread still_unread f
     untold f refused still = inl (inr (design, read.of, refused), still)
 
-    pub no_such_user : (f : ServeFault) → f ≡ fault.NoSuchUser → user_of policy.members name ≡ None → still_unread ≡ unread → EndsAuditBy text bytes name unread still_unread f
+    pub no_such_user : (f : ServeFault) → f ≡ fault.NoSuchUser → user_of policy.members name ≡ None → still_unread ≡ unread → EndsAuditBy seeds text bytes name unread still_unread f
     no_such_user f is none still =
-        subst (λ (g : ServeFault). EndsAuditBy text bytes name unread still_unread g) (sym is) (untold fault.NoSuchUser (inr (file_in policy, gives, none)) still)
+        subst (λ (g : ServeFault). EndsAuditBy seeds text bytes name unread still_unread g) (sym is) (untold fault.NoSuchUser (inr (file_in policy, gives, none)) still)
 
     module _ (user : ℕ) (named : user_of policy.members name ≡ Some user) where
       opens_for : OpensFor text bytes name (opening_of design policy) user
       opens_for = record { opens = opens_with; named = named }
 
-      pub audited : (explain : Bool) (audited : Audited) → IsAuditAfter explain (opening_of design policy) user unread still_unread audited → IsAudited explain text bytes name unread still_unread audited
+      pub audited : (explain : Bool) (audited : Audited) → IsAuditAfter seeds explain (opening_of design policy) user unread still_unread audited → IsAudited seeds explain text bytes name unread still_unread audited
       audited explain given is = record { opening = opening_of design policy; user = user; opens = opens_for; following = is }
 
       -- after its beginning
-      pub ended : (f : ServeFault) → EndsOpenedBy (opening_of design policy) unread still_unread f → EndsAuditBy text bytes name unread still_unread f
+      pub ended : (f : ServeFault) → EndsOpenedBy seeds (opening_of design policy) unread still_unread f → EndsAuditBy seeds text bytes name unread still_unread f
       ended f (inl (lacks, still)) = untold f (allocation_error name f lacks) still
       ended f (inr ends) = inr (opening_of design policy, user, opens_for, ends)
 
--- of a design that is lent comes what comes of its owner's
-module _ (lent own : Elaborated) (same : lent ≡ own) (policy : PolicyState) (unread still_unread : Option (List ℕ)) where
+-- of a design that is lent comes what comes of its owner's, and of a script's seeds what comes of those that were asked for
+module _ (lent own : Elaborated) (same : lent ≡ own) (tried seeds : ℕ) (asked : tried ≡ seeds) (policy : PolicyState) (unread still_unread : Option (List ℕ)) where
   pub audit_of_own :
-      (explain : Bool) (user : ℕ) (audited : Audited) → IsAuditAfter explain (opening_of lent policy) user unread still_unread audited
-      → IsAuditAfter explain (opening_of own policy) user unread still_unread audited
-  audit_of_own explain user audited is = subst (λ (d : Elaborated). IsAuditAfter explain (opening_of d policy) user unread still_unread audited) same is
+      (explain : Bool) (user : ℕ) (audited : Audited) → IsAuditAfter tried explain (opening_of lent policy) user unread still_unread audited
+      → IsAuditAfter seeds explain (opening_of own policy) user unread still_unread audited
+  audit_of_own explain user audited is =
+      subst (λ (n : ℕ). IsAuditAfter n explain (opening_of own policy) user unread still_unread audited) asked
+      (subst (λ (d : Elaborated). IsAuditAfter tried explain (opening_of d policy) user unread still_unread audited) same is)
 
-  pub ends_own : (f : ServeFault) → EndsRunBy (opening_of lent policy) unread still_unread f → EndsOpenedBy (opening_of own policy) unread still_unread f
-  ends_own f ends = inr (subst (λ (d : Elaborated). EndsRunBy (opening_of d policy) unread still_unread f) same ends)
+  pub ends_own : (f : ServeFault) → EndsRunBy tried (opening_of lent policy) unread still_unread f → EndsOpenedBy seeds (opening_of own policy) unread still_unread f
+  ends_own f ends =
+      inr (subst (λ (n : ℕ). EndsRunBy n (opening_of own policy) unread still_unread f) asked
+      (subst (λ (d : Elaborated). EndsRunBy tried (opening_of d policy) unread still_unread f) same ends))
 
 -- a script that opens with a design and a policy, which are lent
-pub opens_lent : (script : Script) (own lent : Elaborated) (policy : PolicyState) → script ≡ opened (opening_of own policy) → own ≡ lent → script ≡ opened (opening_of lent policy)
-opens_lent script own lent policy opens same = opens ∙ ap (λ (d : Elaborated). opened (opening_of d policy)) same
+pub opens_lent :
+    (seeds : ℕ) (script : Script) (own lent : Elaborated) (policy : PolicyState) → script ≡ opened seeds (opening_of own policy) → own ≡ lent
+    → script ≡ opened script.running.seeds (opening_of lent policy)
+opens_lent seeds script own lent policy opens same =
+    let kept : seeds ≡ script.running.seeds = sym (ap (λ (s : Script). s.running.seeds) opens) in
+    opens ∙ ap (λ (d : Elaborated). opened seeds (opening_of d policy)) same ∙ ap (λ (n : ℕ). opened n (opening_of lent policy)) kept
 
-module _ (opening : Opening) (unread still_unread : Option (List ℕ)) where
-  module _ (script : Script) (opens : script ≡ opened opening) where
+module _ (seeds : ℕ) (opening : Opening) (unread still_unread : Option (List ℕ)) where
+  module _ (script : Script) (opens : script ≡ opened seeds opening) where
     -- a script that opens so is run
-    pub runs_to : (out_of_memory : Bool) (following : Script) (lines : ℕ) → IsAnswered out_of_memory script following unread still_unread None None lines → RunsTo out_of_memory opening unread still_unread following
+    pub runs_to : (out_of_memory : Bool) (following : Script) (lines : ℕ) → IsAnswered out_of_memory script following unread still_unread None None lines → RunsTo seeds out_of_memory opening unread still_unread following
     runs_to out_of_memory following lines answered = record {
       lines = lines;
       answered = subst (λ (s : Script). IsAnswered out_of_memory s following unread still_unread None None lines) opens answered;
     }
 
     -- or has stopped
-    pub stops : (e : WireError) → IsStopped e script unread still_unread None None → EndsRunBy opening unread still_unread (fault.Lines e)
+    pub stops : (e : WireError) → IsStopped e script unread still_unread None None → EndsRunBy seeds opening unread still_unread (fault.Lines e)
     stops e stopped = subst (λ (s : Script). IsStopped e s unread still_unread None None) opens stopped
 
-  module _ (out_of_memory : Bool) (following : Script) (runs : RunsTo out_of_memory opening unread still_unread following) where
+  module _ (out_of_memory : Bool) (following : Script) (runs : RunsTo seeds out_of_memory opening unread still_unread following) where
     -- after a run its log is audited
     pub audit_after :
         (began : following.running.world.opening ≡ opening) (explain : Bool) (user : ℕ) (audited : Audited) → audited ≡ audited_of explain out_of_memory following.running.world.opening user following.running.world.log
-        → IsAuditAfter explain opening user unread still_unread audited
+        → IsAuditAfter seeds explain opening user unread still_unread audited
     audit_after began explain user audited is =
         let log = following.running.world.log in
         let told : out_of_memory ≡ audited.out_of_memory = sym (ap (λ (a : Audited). a.out_of_memory) is) in
         record {
           following = following;
-          runs = subst (λ (b : Bool). RunsTo b opening unread still_unread following) told runs;
+          runs = subst (λ (b : Bool). RunsTo seeds b opening unread still_unread following) told runs;
           is = is ∙ ap (λ (o : Opening). audited_of explain out_of_memory o user log) began ∙ ap (λ (b : Bool). audited_of explain b opening user log) told;
         }
 
     -- or memory is lacking for that
-    pub lacks_after : (f : ServeFault) → f ≡ fault.NoMemory → EndsRunBy opening unread still_unread f
-    lacks_after f is = subst (EndsRunBy opening unread still_unread) (sym is) (out_of_memory, following, runs)
+    pub lacks_after : (f : ServeFault) → f ≡ fault.NoMemory → EndsRunBy seeds opening unread still_unread f
+    lacks_after f is = subst (EndsRunBy seeds opening unread still_unread) (sym is) (out_of_memory, following, runs)

@@ -7,7 +7,7 @@ use Rattle.vp_script.specs.declared.error.ServeFault.TheVariants as fault
 use Rattle.vp_script.specs.Bundles.{cut_of}
 use Rattle.vp_design.specs.Designs.{text_limit}
 use Rattle.vp_script.specs.Failure.{HasDesignText}
-use Rattle.vp_script.specs.Scripts.{EndsBundleBy, EndsBy, HasParts, IsBadBundle, IsBundle, IsScript, Parts, bundle_limit}
+use Rattle.vp_script.specs.Scripts.{EndsBundleBy, EndsBy, HasParts, IsBadBundle, IsBundle, IsScript, Parts, bundle_limit, seed_count}
 
 -- what a cut that was found gives
 cut_found : {A : Type 0} (now : A → List ℕ × List ℕ) (r : Option A) (a : A) (o : Option (List ℕ × List ℕ)) → option_map now r ≡ o → r ≡ Some a → o ≡ Some (now a)
@@ -47,25 +47,25 @@ module _ (bundle : List ℕ) (parts : Parts) (has : HasParts bundle parts) where
 
   module _ (text : IsUtf8 parts.text) (held holds : Option (List ℕ)) (own input : List ℕ) (is_text : own ≡ parts.text) (is_input : input ≡ parts.input) where
     -- the script of a bundle, which has read all of it
-    pub bundle_script : (out_of_memory : Bool) (still : List ℕ) (lines : ℕ) → IsScript out_of_memory own parts.policy (Some input) (Some still) held holds lines → IsBundle out_of_memory bundle held holds lines
+    pub bundle_script : (out_of_memory : Bool) (still : List ℕ) (lines : ℕ) → IsScript seed_count out_of_memory own parts.policy (Some input) (Some still) held holds lines → IsBundle out_of_memory bundle held holds lines
     bundle_script out_of_memory still lines script =
-        let first = subst (λ (t : List ℕ). IsScript out_of_memory t parts.policy (Some input) (Some still) held holds lines) is_text script in
-        let whole = subst (λ (t : List ℕ). IsScript out_of_memory parts.text parts.policy (Some t) (Some still) held holds lines) is_input first in
+        let first = subst (λ (t : List ℕ). IsScript seed_count out_of_memory t parts.policy (Some input) (Some still) held holds lines) is_text script in
+        let whole = subst (λ (t : List ℕ). IsScript seed_count out_of_memory parts.text parts.policy (Some t) (Some still) held holds lines) is_input first in
         record {
           parts = parts;
           has = has;
           text = text;
-          script = subst (λ (t : List ℕ). IsScript out_of_memory parts.text parts.policy (Some parts.input) (Some t) held holds lines) whole.answered.whole.at_end whole;
+          script = subst (λ (t : List ℕ). IsScript seed_count out_of_memory parts.text parts.policy (Some parts.input) (Some t) held holds lines) whole.answered.whole.at_end whole;
         }
 
     -- the fault of its script
-    pub bundle_fault : (still : Option (List ℕ)) (f : ServeFault) → EndsBy own parts.policy (Some input) still held holds f → EndsBundleBy bundle held holds f
+    pub bundle_fault : (still : Option (List ℕ)) (f : ServeFault) → EndsBy seed_count own parts.policy (Some input) still held holds f → EndsBundleBy bundle held holds f
     bundle_fault still f ends =
-        let first = subst (λ (t : List ℕ). EndsBy t parts.policy (Some input) still held holds f) is_text ends in
+        let first = subst (λ (t : List ℕ). EndsBy seed_count t parts.policy (Some input) still held holds f) is_text ends in
         inr (record {
           parts = parts;
           has = has;
           text = text;
           still_unread = still;
-          ends = subst (λ (t : List ℕ). EndsBy parts.text parts.policy (Some t) still held holds f) is_input first;
+          ends = subst (λ (t : List ℕ). EndsBy seed_count parts.text parts.policy (Some t) still held holds f) is_input first;
         })

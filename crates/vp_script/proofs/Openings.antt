@@ -14,7 +14,7 @@ use Rattle.vp_world.specs.Worlds.{WorldLog}
 use Rattle.vp_wire.specs.declared.dialogue.Stage.{Stage}
 use Rattle.vp_wire.specs.declared.dialogue.Stage.TheVariants.{Before, Open, Closed}
 use Rattle.vp_wire.specs.Dialogue.{Answers, AnswersAll, Calls, Closes, Point, Tells, Turn, turn_of}
-use Rattle.vp_script.specs.Scripts.{Applied, AppliedBy, Happen, IsAnswered, Running, Runs, Resumes, Script, Serves, ServesNow, next_event, searched, turned_by, with_event_if}
+use Rattle.vp_script.specs.Scripts.{Applied, AppliedBy, Happen, IsAnswered, Running, Runs, Resumes, Script, Serves, ServesNow, next_event, searched, turned_by, with_event_if, with_world}
 use Rattle.vp_script.proofs.Turns.{opening_if, which}
 
 -- an event leaves it, by its refusal
@@ -29,19 +29,19 @@ applied_keeps out_of_memory None w v answer (told, same) = ap (λ (u : WorldLog)
 applied_keeps out_of_memory (Some e) w v answer applied = by_refusal out_of_memory (refused_by w e) w v e answer applied
 
 -- and what happens next
-turn_keeps : (w : WorldLog) (found : List FindingState) (q : Running) → turned_by w found ≡ Some q → q.world.opening ≡ w.opening
-turn_keeps w [] q h =
-    elim (which (is_none (refused_by w event.TakeJob)) (is_none (refused_by w (next_event w))) (record { world = with_entry w event.TakeJob; found = searched w }) (record { world = with_entry w (next_event w); found = [] }) q h) [
+turn_keeps : (seeds : ℕ) (w : WorldLog) (found : List FindingState) (q : Running) → turned_by seeds w found ≡ Some q → q.world.opening ≡ w.opening
+turn_keeps seeds w [] q h =
+    elim (which (is_none (refused_by w event.TakeJob)) (is_none (refused_by w (next_event w))) (record { world = with_entry w event.TakeJob; found = searched seeds w; seeds = seeds }) (record { world = with_entry w (next_event w); found = []; seeds = seeds }) q h) [
       | inl (b, e) ↦ subst (λ (r : Running). r.world.opening ≡ w.opening) e refl
       | inr (c, e) ↦ subst (λ (r : Running). r.world.opening ≡ w.opening) e refl
     ]
-turn_keeps w (f ∷ fs) q h =
-    let e : record { world = with_event_if w (event.Book f); found = fs } ≡ q = cc in
+turn_keeps seeds w (f ∷ fs) q h =
+    let e : record { world = with_event_if w (event.Book f); found = fs; seeds = seeds } ≡ q = cc in
     subst (λ (r : Running). r.world.opening ≡ w.opening) e (opening_if w (event.Book f) (is_none (refused_by w (event.Book f))))
 
 happen_keeps : (n : ℕ) (r q : Running) → Happen n r q → q.world.opening ≡ r.world.opening
 happen_keeps zero r q same = ap (λ (p : Running). p.world.opening) same
-happen_keeps (suc n) r q (p, before, last) = turn_keeps p.world p.found q last ∙ happen_keeps n r p before
+happen_keeps (suc n) r q (p, before, last) = turn_keeps p.seeds p.world p.found q last ∙ happen_keeps n r p before
 
 -- and a run of the simulation
 runs_keep : (out_of_memory : Bool) (r q : Running) → Runs out_of_memory r q → q.world.opening ≡ r.world.opening
@@ -50,7 +50,7 @@ runs_keep out_of_memory r q (n, happened, ends) = happen_keeps n r q happened
 -- so a request that is served leaves it
 serves_now_keeps : (out_of_memory : Bool) (before after : Script) (r : Request) (answer : Reply) → ServesNow out_of_memory before r answer after → after.running.world.opening ≡ before.running.world.opening
 serves_now_keeps out_of_memory before after r answer s =
-    runs_keep out_of_memory s.asked after.running s.runs ∙ applied_keeps out_of_memory _ before.running.world s.asked.world answer s.applied
+    runs_keep out_of_memory (with_world before.running s.asked) after.running s.runs ∙ applied_keeps out_of_memory _ before.running.world s.asked answer s.applied
 
 resumes_keep : (out_of_memory : Bool) (r q : Running) → Resumes out_of_memory r q → q.world.opening ≡ r.world.opening
 resumes_keep out_of_memory r q (inl same) = ap (λ (p : Running). p.world.opening) same

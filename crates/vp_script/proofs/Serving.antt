@@ -1,5 +1,5 @@
 -- A kept script serves as the script says.
-use Rattle.std.proofs.Common.{inl, inr, ◌≡◌, ◌∙◌, ℕ, Bool, true, List, [], ◌∷◌, Option, Some, None, ap}
+use Rattle.std.proofs.Common.{inl, inr, ◌≡◌, ◌∙◌, ℕ, Bool, true, List, [], ◌∷◌, Option, Some, None, ap, subst}
 use Rattle.vp_wire.specs.declared.dialogue.Stage.{Stage}
 use Rattle.vp_wire.specs.declared.dialogue.Stage.TheVariants.{Before, Open, Closed}
 use Rattle.vp_answer.specs.declared.request.Request.{Request}
@@ -17,7 +17,7 @@ use Rattle.vp_wire.proofs.Answering.{still_reply_line}
 use Rattle.vp_script.specs.declared.script_session.ScriptSession.{ScriptSession}
 use Rattle.vp_script.specs.Keeping.{Keeps, KeepsNow, script_of}
 use Rattle.vp_script.specs.Pending.{is_no_memory}
-use Rattle.vp_script.specs.Scripts.{Applied, AppliedBy, IsAnswered, IsStopped, Resumes, Running, Runs, Script, Serves, ServesNow, event_of, session_after}
+use Rattle.vp_script.specs.Scripts.{Applied, AppliedBy, IsAnswered, IsStopped, Resumes, Running, Runs, Script, Serves, ServesNow, event_of, session_after, with_world}
 
 -- a run in which memory was not lacking is one in which it may have been
 pub runs_more : (a b : Bool) (r q : Running) → (a ≡ true → b ≡ true) → Runs a r q → Runs b r q
@@ -36,10 +36,9 @@ applied_more a b (Some e) w v answer up applied = applied_by_more a b (refused_b
 serves_now_more : (a b : Bool) (before after : Script) (r : Request) (answer : Reply) → (a ≡ true → b ≡ true) → ServesNow a before r answer after → ServesNow b before r answer after
 serves_now_more a b before after r answer up s = record {
   asked = s.asked;
-  applied = applied_more a b (event_of before.session r) before.running.world s.asked.world answer up s.applied;
-  found = s.found;
+  applied = applied_more a b (event_of before.session r) before.running.world s.asked answer up s.applied;
   session = s.session;
-  runs = runs_more a b s.asked after.running up s.runs;
+  runs = runs_more a b (with_world before.running s.asked) after.running up s.runs;
 }
 
 resumes_more : (a b : Bool) (r q : Running) → (a ≡ true → b ≡ true) → Resumes a r q → Resumes b r q
@@ -54,15 +53,14 @@ serves_more a b before after r answer up (inr (lacking, told, session, runs)) = 
 -- a request is answered, and then the simulation runs; that memory was missing for either is remembered
 pub answered_now :
     (k l : ScriptSession) (asked : Running) (r : Request) (answer : Reply) (lacks : Bool) → Applied (is_no_memory answer) (event_of k.session r) k.running.world answer asked.world
-    → asked.found ≡ k.running.found → l.session ≡ session_after k.session answer → Runs lacks asked l.running
+    → asked ≡ with_world k.running asked.world → l.session ≡ session_after k.session answer → Runs lacks asked l.running
     → StaysTrue k.out_of_memory l.out_of_memory → StaysTrue (is_no_memory answer) l.out_of_memory → StaysTrue lacks l.out_of_memory → KeepsNow k r answer l
-answered_now k l asked r answer lacks applied found session runs stays missing lacking = record {
+answered_now k l asked r answer lacks applied kept session runs stays missing lacking = record {
   serves = record {
-    asked = asked;
+    asked = asked.world;
     applied = applied_more (is_no_memory answer) l.out_of_memory (event_of k.session r) k.running.world asked.world answer missing applied;
-    found = found;
     session = session;
-    runs = runs_more lacks l.out_of_memory asked l.running lacking runs;
+    runs = subst (λ (r : Running). Runs l.out_of_memory r l.running) kept (runs_more lacks l.out_of_memory asked l.running lacking runs);
   };
   out_of_memory = stays;
 }

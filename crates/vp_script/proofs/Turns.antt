@@ -17,7 +17,7 @@ use Rattle.vp_world.specs.declared.error.WorldError.TheVariants as error
 use Rattle.vp_world.specs.History.{is_log_full, refusal_of, refusal_of_job, refused_by, state_after, with_entry}
 use Rattle.vp_world.specs.Worlds.{WorldLog, Opening, State}
 use Rattle.vp_script.specs.Pending.{ArePending, HappensTo, pending}
-use Rattle.vp_script.specs.Scripts.{Happen, Running, Runs, next_event, next_event_by, searched, seed_count, step_limit, turned, turned_by, with_event_if}
+use Rattle.vp_script.specs.Scripts.{Happen, Running, Runs, next_event, next_event_by, searched, step_limit, turned, turned_by, with_event_if}
 
 -- an event of the simulation that is accepted finds the log not full
 not_full : (opening : Opening) (s : State) (full : Bool) (stepped : Option WorldError) → refusal_of opening full s (next_event_by stepped) ≡ None → full ≡ false
@@ -87,18 +87,18 @@ which false true x y q h = let e : y ≡ q = cc in inr (refl, e)
 which false false x y q h = absurd (cc)
 
 -- what happens next takes of the room, where no race is still to be booked
-turn_less : (w : WorldLog) (q : Running) → turned_by w [] ≡ Some q → room q.world < room w
-turn_less w q h =
-    elim (which (is_none (refused_by w event.TakeJob)) (is_none (refused_by w (next_event w))) (record { world = with_entry w event.TakeJob; found = searched w }) (record { world = with_entry w (next_event w); found = [] }) q h) [
+turn_less : (seeds : ℕ) (w : WorldLog) (q : Running) → turned_by seeds w [] ≡ Some q → room q.world < room w
+turn_less seeds w q h =
+    elim (which (is_none (refused_by w event.TakeJob)) (is_none (refused_by w (next_event w))) (record { world = with_entry w event.TakeJob; found = searched seeds w; seeds = seeds }) (record { world = with_entry w (next_event w); found = []; seeds = seeds }) q h) [
       | inl (b, e) ↦ subst (λ (r : Running). room r.world < room w) e (less_by_job w (none_of (refused_by w event.TakeJob) b))
       | inr (c, e) ↦ subst (λ (r : Running). room r.world < room w) e (less_room w (none_of (refused_by w (next_event w)) c))
     ]
 
 -- and gives none where one is
-turn_no_more : (w : WorldLog) (found : List FindingState) (q : Running) → turned_by w found ≡ Some q → room q.world ≤ room w
-turn_no_more w [] q h = omega (arith, turn_less w q h)
-turn_no_more w (f ∷ fs) q h =
-    let e : record { world = with_event_if w (event.Book f); found = fs } ≡ q = cc in
+turn_no_more : (seeds : ℕ) (w : WorldLog) (found : List FindingState) (q : Running) → turned_by seeds w found ≡ Some q → room q.world ≤ room w
+turn_no_more seeds w [] q h = omega (arith, turn_less seeds w q h)
+turn_no_more seeds w (f ∷ fs) q h =
+    let e : record { world = with_event_if w (event.Book f); found = fs; seeds = seeds } ≡ q = cc in
     subst (λ (r : Running). room r.world ≤ room w) e (no_more_if w (event.Book f) (is_none (refused_by w (event.Book f))))
 
 -- so much that happens gives none
@@ -106,7 +106,7 @@ pub room_kept : (n : ℕ) (r q : Running) → Happen n r q → room q.world ≤ 
 room_kept zero r q same = subst (λ (p : Running). room p.world ≤ room r.world) (sym same) (omega arith)
 room_kept (suc n) r q (p, before, last) =
     let kept = room_kept n r p before in
-    let more = turn_no_more p.world p.found q last in
+    let more = turn_no_more p.seeds p.world p.found q last in
     omega (arith, kept, more)
 
 -- what happens one after another, and what happens after that
@@ -120,19 +120,19 @@ happen_then n (suc m) r p q h (between, before, last) =
     subst (λ (k : ℕ). Happen k r q) same more
 
 -- the next event of the simulation happens, where there is no job
-pub turn_next : (w : WorldLog) → is_none (refused_by w event.TakeJob) ≡ false → refused_by w (next_event w) ≡ None
-    → turned (record { world = w; found = [] }) ≡ Some (record { world = with_entry w (next_event w); found = [] })
-turn_next w no_job none = rw (no_job, is_none_of (refused_by w (next_event w)) none) refl
+pub turn_next : (seeds : ℕ) (w : WorldLog) → is_none (refused_by w event.TakeJob) ≡ false → refused_by w (next_event w) ≡ None
+    → turned (record { world = w; found = []; seeds = seeds }) ≡ Some (record { world = with_entry w (next_event w); found = []; seeds = seeds })
+turn_next seeds w no_job none = rw (no_job, is_none_of (refused_by w (next_event w)) none) refl
 
 -- a job is taken and searched
-pub turn_job : (w : WorldLog) → refused_by w event.TakeJob ≡ None
-    → turned (record { world = w; found = [] }) ≡ Some (record { world = with_entry w event.TakeJob; found = searched w })
-turn_job w none = rw (is_none_of (refused_by w event.TakeJob) none) refl
+pub turn_job : (seeds : ℕ) (w : WorldLog) → refused_by w event.TakeJob ≡ None
+    → turned (record { world = w; found = []; seeds = seeds }) ≡ Some (record { world = with_entry w event.TakeJob; found = searched seeds w; seeds = seeds })
+turn_job seeds w none = rw (is_none_of (refused_by w event.TakeJob) none) refl
 
 -- nothing happens where neither is accepted
-pub turn_none : (w : WorldLog) → is_none (refused_by w event.TakeJob) ≡ false → is_none (refused_by w (next_event w)) ≡ false
-    → turned (record { world = w; found = [] }) ≡ None
-turn_none w no_job no_event = rw (no_job, no_event) refl
+pub turn_none : (seeds : ℕ) (w : WorldLog) → is_none (refused_by w event.TakeJob) ≡ false → is_none (refused_by w (next_event w)) ≡ false
+    → turned (record { world = w; found = []; seeds = seeds }) ≡ None
+turn_none seeds w no_job no_event = rw (no_job, no_event) refl
 
 -- ---- what is booked
 
@@ -154,13 +154,14 @@ first_of (y ∷ ys) x h = let e : y ≡ x = cc in ap (λ z. z ∷ ys) e
 
 -- the first of some races is booked
 pub booked_next :
-    (r : Running) (w v : WorldLog) (found : List FindingState) (f : FindingState) → HappensTo r (record { world = w; found = found })
+    (seeds : ℕ) (r : Running) (w v : WorldLog) (found : List FindingState) (f : FindingState)
+    → HappensTo r (record { world = w; found = found; seeds = seeds })
     → Some f ≡ slice_get found 0 → v ≡ with_event_if w (event.Book f)
-    → HappensTo r (record { world = v; found = drop 1 found })
-booked_next r w v found f (n, happened) there is =
-    let before : Happen n r (record { world = w; found = f ∷ drop 1 found }) =
-    subst (λ (fs : List FindingState). Happen n r (record { world = w; found = fs })) (first_of found f there) happened in
-    (suc n, (record { world = w; found = f ∷ drop 1 found }, before, ap (λ (u : WorldLog). Some (record { world = u; found = drop 1 found })) (sym is)))
+    → HappensTo r (record { world = v; found = drop 1 found; seeds = seeds })
+booked_next seeds r w v found f (n, happened) there is =
+    let before : Happen n r (record { world = w; found = f ∷ drop 1 found; seeds = seeds }) =
+    subst (λ (fs : List FindingState). Happen n r (record { world = w; found = fs; seeds = seeds })) (first_of found f there) happened in
+    (suc n, (record { world = w; found = f ∷ drop 1 found; seeds = seeds }, before, ap (λ (u : WorldLog). Some (record { world = u; found = drop 1 found; seeds = seeds })) (sym is)))
 
 -- a race that is booked leaves how the world began
 pub opening_if : (w : WorldLog) (e : Event) (b : Bool) → (if b then with_entry w e else w).opening ≡ w.opening
@@ -187,26 +188,28 @@ pub happens_next : (r p q : Running) → HappensTo r p → turned p ≡ Some q �
 happens_next r p q (n, h) next = (suc n, (p, h, next))
 
 -- what is found in a segment that is taken, where it is the next job
-pub searched_is : (w : WorldLog) (run : Run) → Some run ≡ next_job (state_after w.opening w.log).segments → found run step_limit seed_count ≡ searched w
-searched_is w run is = ap (λ (o : Option Run). option_map_or (λ r. found r step_limit seed_count) o []) is
+pub searched_is : (seeds : ℕ) (w : WorldLog) (run : Run) → Some run ≡ next_job (state_after w.opening w.log).segments → found run step_limit seeds ≡ searched seeds w
+searched_is seeds w run is = ap (λ (o : Option Run). option_map_or (λ r. found r step_limit seeds) o []) is
 
 -- a job is taken
 pub job_taken :
-    (w v : WorldLog) (fs : List FindingState) → (refused_by w event.TakeJob ≡ None) × (v ≡ with_entry w event.TakeJob) → fs ≡ searched w
-    → turned (record { world = w; found = [] }) ≡ Some (record { world = v; found = fs })
-job_taken w v fs (none, entered) is =
-    turn_job w none ∙ ap (λ (u : WorldLog). Some (record { world = u; found = searched w })) (sym entered)
-    ∙ ap (λ (gs : List FindingState). Some (record { world = v; found = gs })) (sym is)
+    (seeds : ℕ) (w v : WorldLog) (fs : List FindingState) → (refused_by w event.TakeJob ≡ None) × (v ≡ with_entry w event.TakeJob) → fs ≡ searched seeds w
+    → turned (record { world = w; found = []; seeds = seeds }) ≡ Some (record { world = v; found = fs; seeds = seeds })
+job_taken seeds w v fs (none, entered) is =
+    turn_job seeds w none ∙ ap (λ (u : WorldLog). Some (record { world = u; found = searched seeds w; seeds = seeds })) (sym entered)
+    ∙ ap (λ (gs : List FindingState). Some (record { world = v; found = gs; seeds = seeds })) (sym is)
 
 -- the next event happens
 pub next_happened :
-    (w v : WorldLog) → is_none (refused_by w event.TakeJob) ≡ false → refused_by w (next_event w) ≡ None → v ≡ with_entry w (next_event w)
-    → turned (record { world = w; found = [] }) ≡ Some (record { world = v; found = [] })
-next_happened w v no_job none is = turn_next w no_job none ∙ ap (λ (u : WorldLog). Some (record { world = u; found = [] })) (sym is)
+    (seeds : ℕ) (w v : WorldLog) → is_none (refused_by w event.TakeJob) ≡ false → refused_by w (next_event w) ≡ None → v ≡ with_entry w (next_event w)
+    → turned (record { world = w; found = []; seeds = seeds }) ≡ Some (record { world = v; found = []; seeds = seeds })
+next_happened seeds w v no_job none is = turn_next seeds w no_job none ∙ ap (λ (u : WorldLog). Some (record { world = u; found = []; seeds = seeds })) (sym is)
 
 -- a job takes of the room
-pub less_by_turn : (w v : WorldLog) (fs : List FindingState) → turned (record { world = w; found = [] }) ≡ Some (record { world = v; found = fs }) → room v < room w
-less_by_turn w v fs next = turn_less w (record { world = v; found = fs }) next
+pub less_by_turn :
+    (seeds : ℕ) (w v : WorldLog) (fs : List FindingState) → turned (record { world = w; found = []; seeds = seeds }) ≡ Some (record { world = v; found = fs; seeds = seeds })
+    → room v < room w
+less_by_turn seeds w v fs next = turn_less seeds w (record { world = v; found = fs; seeds = seeds }) next
 
 -- ---- a run
 
@@ -215,8 +218,11 @@ pub run_out_of_memory : (r q : Running) → HappensTo r q → Runs true r q
 run_out_of_memory r q (n, happened) = (n, happened, inl refl)
 
 -- a run that the world ends
-pub run_over : (r : Running) (w : WorldLog) → HappensTo r (record { world = w; found = [] }) → is_none (refused_by w event.TakeJob) ≡ false → is_none (refused_by w (next_event w)) ≡ false → Runs false r (record { world = w; found = [] })
-run_over r w (n, happened) no_job no_event = (n, happened, inr (turn_none w no_job no_event))
+pub run_over :
+    (seeds : ℕ) (r : Running) (w : WorldLog) → HappensTo r (record { world = w; found = []; seeds = seeds })
+    → is_none (refused_by w event.TakeJob) ≡ false → is_none (refused_by w (next_event w)) ≡ false
+    → Runs false r (record { world = w; found = []; seeds = seeds })
+run_over seeds r w (n, happened) no_job no_event = (n, happened, inr (turn_none seeds w no_job no_event))
 
 -- lists one after the other
 pub join_one : {X : Type 0} (xs : List X) (x : X) (ys : List X) → (xs ++ x ∷ []) ++ ys ≡ xs ++ x ∷ ys
@@ -234,8 +240,8 @@ pub pending_entered : (w v : WorldLog) (e : Event) (segment : Option Run) (fs : 
 pending_entered w v e segment fs entered is = subst (λ (u : WorldLog). ArePending u.opening.design segment fs) (sym entered) is
 
 -- where no segment is to be searched and nothing was found, nothing is to be booked
-pub none_pending : (segment : Option Run) (fs : List FindingState) → segment ≡ None → fs ≡ [] → pending segment fs ≡ []
-none_pending segment fs none nothing = ap (λ (o : Option Run). pending o fs) none ∙ nothing
+pub none_pending : (seeds : ℕ) (segment : Option Run) (fs : List FindingState) → segment ≡ None → fs ≡ [] → pending seeds segment fs ≡ []
+none_pending seeds segment fs none nothing = ap (λ (o : Option Run). pending seeds o fs) none ∙ nothing
 
 pub nothing_pending : (design : Elaborated) (segment : Option Run) (fs : List FindingState) → segment ≡ None → fs ≡ [] → ArePending design segment fs
 nothing_pending design segment fs none nothing =
@@ -244,6 +250,8 @@ nothing_pending design segment fs none nothing =
 
 -- all races are booked
 pub all_booked :
-    (r : Running) (w : WorldLog) (segment : Option Run) (fs : List FindingState) → HappensTo r (record { world = w; found = pending segment fs }) → segment ≡ None → fs ≡ []
-    → HappensTo r (record { world = w; found = [] })
-all_booked r w segment fs h none nothing = subst (λ (gs : List FindingState). HappensTo r (record { world = w; found = gs })) (none_pending segment fs none nothing) h
+    (seeds : ℕ) (r : Running) (w : WorldLog) (segment : Option Run) (fs : List FindingState)
+    → HappensTo r (record { world = w; found = pending seeds segment fs; seeds = seeds }) → segment ≡ None → fs ≡ []
+    → HappensTo r (record { world = w; found = []; seeds = seeds })
+all_booked seeds r w segment fs h none nothing =
+    subst (λ (gs : List FindingState). HappensTo r (record { world = w; found = gs; seeds = seeds })) (none_pending seeds segment fs none nothing) h

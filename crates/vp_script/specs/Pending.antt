@@ -6,7 +6,7 @@ use Rattle.vp_race.specs.Segments.{FindingState, Run}
 use Rattle.vp_answer.specs.declared.reply.Refusal.TheVariants as refusal
 use Rattle.vp_answer.specs.declared.reply.Reply.{Reply}
 use Rattle.vp_answer.specs.declared.reply.Reply.TheVariants as reply
-use Rattle.vp_script.specs.Scripts.{Happen, Running, seed_count, step_limit}
+use Rattle.vp_script.specs.Scripts.{Happen, Running, step_limit}
 
 -- a reply is that there is no memory
 abbrev pub is_no_memory : Reply → Bool
@@ -14,9 +14,9 @@ is_no_memory (reply.Error refusal.NoMemory) = true
 is_no_memory answer = false
 
 -- the races that are still to be booked: those of a segment that is still to be searched, or else those that were found
-abbrev pub pending : Option Run → List FindingState → List FindingState
-pending None findings = findings
-pending (Some segment) findings = found segment step_limit seed_count
+abbrev pub pending : (seeds : ℕ) → Option Run → List FindingState → List FindingState
+pending seeds None findings = findings
+pending seeds (Some segment) findings = found segment step_limit seeds
 
 -- they are of a design; and while a segment is still to be searched nothing else is to be booked
 abbrev pub ArePending : Elaborated → Option Run → List FindingState → Type 0

@@ -60,40 +60,43 @@ next_event_by stepped = event.Step 0
 abbrev pub next_event : WorldLog → Event
 next_event w = next_event_by (refused_by w (event.Step 0))
 
--- a search tries so many seeds, by orders of at most so many steps (profile)
+-- a search tries so many seeds, where nothing else is said, by orders of at most so many steps (profile)
 abbrev pub seed_count : ℕ
 seed_count = 16
 
 abbrev pub step_limit : ℕ
 step_limit = 10000
 
--- a world, and the races that were found and are still to be booked
+-- a world, the races that were found and are still to be booked, and how many seeds a search tries
 pub record Running : Type 0 where
   pub world : WorldLog
   pub found : List FindingState
+  pub seeds : ℕ
 
 -- a world with an event, if it does not refuse it
 abbrev pub with_event_if : WorldLog → Event → WorldLog
 with_event_if w e = if is_none (refused_by w e) then with_entry w e else w
 
 -- what is found in the segment that is the next job of a world, if there is one
-abbrev pub searched : WorldLog → List FindingState
-searched w =
-    option_map_or (λ run. found run step_limit seed_count) (next_job (state_after w.opening w.log).segments) []
+abbrev pub searched : (seeds : ℕ) → WorldLog → List FindingState
+searched seeds w =
+    option_map_or (λ run. found run step_limit seeds) (next_job (state_after w.opening w.log).segments) []
 
 -- what happens next: a race that was found is booked, unless the world refuses it; else, if there is a job, it is taken and its segment is
 -- searched; else the next event of the simulation happens; nothing, where the world refuses that
-abbrev pub turned_by : WorldLog → (found : List FindingState) → Option Running
-turned_by w (f ∷ fs) = Some (record { world = with_event_if w (event.Book f); found = fs })
-turned_by w [] =
+abbrev pub turned_by : (seeds : ℕ) → WorldLog → (found : List FindingState) → Option Running
+turned_by seeds w (f ∷ fs) = Some (record { world = with_event_if w (event.Book f); found = fs; seeds = seeds })
+turned_by seeds w [] =
     if is_none (refused_by w event.TakeJob)
-    then Some (record { world = with_entry w event.TakeJob; found = searched w })
+    then Some (record { world = with_entry w event.TakeJob; found = searched seeds w; seeds = seeds })
     else
-    if is_none (refused_by w (next_event w)) then Some (record { world = with_entry w (next_event w); found = [] }) else None
+    if is_none (refused_by w (next_event w))
+    then Some (record { world = with_entry w (next_event w); found = []; seeds = seeds })
+    else None
 
 -- the same of a world that runs
 abbrev pub turned : Running → Option Running
-turned r = turned_by r.world r.found
+turned r = turned_by r.seeds r.world r.found
 
 -- so much happens, each the next
 abbrev pub Happen : ℕ → Running → Running → Type 0
@@ -125,13 +128,16 @@ abbrev pub session_after : Option SessionId → Reply → Option SessionId
 session_after session (reply.Opened id) = Some id
 session_after session answer = session
 
+-- the same with another world
+abbrev pub with_world : Running → WorldLog → Running
+with_world r w = record { world = w; found = r.found; seeds = r.seeds }
+
 -- a script's request is answered by the world, and then the simulation runs; where memory was not missing, neither lacked any
 pub record ServesNow (out_of_memory : Bool) (before : Script) (r : Request) (answer : Reply) (after : Script) : Type 0 where
-  pub asked : Running
-  pub applied : Applied out_of_memory (event_of before.session r) before.running.world answer asked.world
-  pub found : asked.found ≡ before.running.found
+  pub asked : WorldLog
+  pub applied : Applied out_of_memory (event_of before.session r) before.running.world answer asked
   pub session : after.session ≡ session_after before.session answer
-  pub runs : Runs out_of_memory asked after.running
+  pub runs : Runs out_of_memory (with_world before.running asked) after.running
 
 -- where memory was lacking, the simulation may go on before the next request, until nothing happens next
 abbrev pub Resumes : (out_of_memory : Bool) → Running → Running → Type 0
@@ -153,12 +159,12 @@ abbrev pub new_world : Opening → WorldLog
 new_world opening = record { opening = opening; log = [] }
 
 -- the script of a world that has opened no session
-abbrev pub begun : WorldLog → Script
-begun world = record { running = record { world = world; found = [] }; session = None }
+abbrev pub begun : (seeds : ℕ) → WorldLog → Script
+begun seeds world = record { running = record { world = world; found = []; seeds = seeds }; session = None }
 
 -- a script in which nothing has happened
-abbrev pub opened : Opening → Script
-opened opening = begun (new_world opening)
+abbrev pub opened : (seeds : ℕ) → Opening → Script
+opened seeds opening = begun seeds (new_world opening)
 
 -- ---- a script over a reader and a writer
 
@@ -170,14 +176,14 @@ greatest = record { log = 4194304; book = 65536; sessions = 64 }
 abbrev pub opening_of : Elaborated → PolicyState → Opening
 opening_of design policy = record { design = design; policy = policy; limits = greatest }
 
--- a script is that of a text and a policy file, in a fresh world in which nothing has happened
-pub record IsOpened (text policy : List ℕ) (script : Script) : Type 0 where
+-- a world is that of a text and a policy file, and nothing has happened in it
+pub record IsOpened (text policy : List ℕ) (world : WorldLog) : Type 0 where
   pub design : Elaborated
   pub is_design : IsDesignOf text design
   pub fits : length policy ≤ text_limit
   pub file : PolicyFile
   pub is_file : file_of (length design.tree.authors) policy ≡ Ok file
-  pub fresh : script ≡ opened (opening_of design (policy_for design.tree file))
+  pub fresh : world ≡ new_world (opening_of design (policy_for design.tree file))
 
 -- a script over an input has read it to the end, so many lines, and each was answered what the script answers it; and it is this script
 -- after that. Where memory was not missing, each line was asked and reported, and after each the simulation ran until nothing happened
@@ -187,12 +193,12 @@ pub record IsAnswered (out_of_memory : Bool) (script following : Script) (unread
   pub whole : IsWhole out_of_memory (Serves out_of_memory) unread still_unread held holds script end lines
   pub closes : Closes (Serves out_of_memory) end.stage end.caller following
 
--- the script of a text and a policy file over an input
-pub record IsScript (out_of_memory : Bool) (text policy : List ℕ) (unread still_unread held holds : Option (List ℕ)) (lines : ℕ) : Type 0 where
-  pub script : Script
-  pub opened : IsOpened text policy script
+-- the script of a text and a policy file over an input, whose searches try so many seeds
+pub record IsScript (seeds : ℕ) (out_of_memory : Bool) (text policy : List ℕ) (unread still_unread held holds : Option (List ℕ)) (lines : ℕ) : Type 0 where
+  pub world : WorldLog
+  pub opened : IsOpened text policy world
   pub following : Script
-  pub answered : IsAnswered out_of_memory script following unread still_unread held holds lines
+  pub answered : IsAnswered out_of_memory (begun seeds world) following unread still_unread held holds lines
 
 -- ---- faults
 
@@ -227,10 +233,10 @@ pub record EndsUnopened (text policy : List ℕ) (unread still_unread held holds
 
 -- the fault that ended a script over an input: of the text, then of the policy file, then of the reader or the writer; or memory is
 -- lacking to open it
-abbrev pub EndsBy : List ℕ → List ℕ → (unread still_unread held holds : Option (List ℕ)) → ServeFault → Type 0
-EndsBy text policy unread still_unread held holds (fault.Lines e) =
-    (script : Script) × IsOpened text policy script × IsStopped e script unread still_unread held holds
-EndsBy text policy unread still_unread held holds f = EndsUnopened text policy unread still_unread held holds f
+abbrev pub EndsBy : (seeds : ℕ) → List ℕ → List ℕ → (unread still_unread held holds : Option (List ℕ)) → ServeFault → Type 0
+EndsBy seeds text policy unread still_unread held holds (fault.Lines e) =
+    (world : WorldLog) × IsOpened text policy world × IsStopped e (begun seeds world) unread still_unread held holds
+EndsBy seeds text policy unread still_unread held holds f = EndsUnopened text policy unread still_unread held holds f
 
 -- ---- bundles
 
@@ -265,7 +271,7 @@ pub record IsBundle (out_of_memory : Bool) (bundle : List ℕ) (held holds : Opt
   pub parts : Parts
   pub has : HasParts bundle parts
   pub text : IsUtf8 parts.text
-  pub script : IsScript out_of_memory parts.text parts.policy (Some parts.input) (Some []) held holds lines
+  pub script : IsScript seed_count out_of_memory parts.text parts.policy (Some parts.input) (Some []) held holds lines
 
 -- the fault of a bundle before its script: it is too long; it has no two lines `%%`; its design is too long; it is no text. Each where
 -- those before it are not
@@ -283,7 +289,7 @@ pub record EndsPartsBy (bundle : List ℕ) (held holds : Option (List ℕ)) (f :
   pub has : HasParts bundle parts
   pub text : IsUtf8 parts.text
   pub still_unread : Option (List ℕ)
-  pub ends : EndsBy parts.text parts.policy (Some parts.input) still_unread held holds f
+  pub ends : EndsBy seed_count parts.text parts.policy (Some parts.input) still_unread held holds f
 
 -- the fault that ended a bundle: its own, before which nothing was written, or that of its script
 abbrev pub EndsBundleBy : List ℕ → (held holds : Option (List ℕ)) → ServeFault → Type 0

@@ -1,5 +1,5 @@
 // Audits: whether what a user was shown by a script is what comes of what he can know.
-ghost use Rattle.std.specs.Prelude.{◌≡◌, IfErr, IfOk, IsOkUnless, OnOk};
+ghost use Rattle.std.specs.Prelude.{◌≡◌, ℕ, IfErr, IfOk, IsOkUnless, OnOk};
 ghost use Rattle.std.specs.Arc.{arc_value};
 ghost use Rattle.vp_audit.specs.Openings.{IsRight};
 ghost use Rattle.vp_policy.specs.PolicyState.{Fits};
@@ -110,15 +110,15 @@ fn run_to_end<R: Read>(
     reader: &mut Counted<R>,
 ) -> Result<bool, ServeFault>
     ensures ran { IfOk result (λ out_of_memory. (opening : Opening)
-        → script_of script_session.old ≡ opened opening
-        → RunsTo out_of_memory opening
+        → (seeds : ℕ) → script_of script_session.old ≡ opened seeds opening
+        → RunsTo seeds out_of_memory opening
         (R.remaining reader.old.inner) (R.remaining reader.new.inner)
         (script_of script_session.new)) }
     ensures opening { OnOk result ((script_of script_session.new).running.world.opening
         ≡ (script_of script_session.old).running.world.opening) }
     ensures stopped { IfErr result (λ fault. (opening : Opening)
-        → script_of script_session.old ≡ opened opening
-        → EndsRunBy opening (R.remaining reader.old.inner) (R.remaining reader.new.inner) fault) }
+        → (seeds : ℕ) → script_of script_session.old ≡ opened seeds opening
+        → EndsRunBy seeds opening (R.remaining reader.old.inner) (R.remaining reader.new.inner) fault) }
 {
     let mut nowhere = Counted::new(io::sink());
     match answered(alloc, script_session, reader, &mut nowhere) {
@@ -127,19 +127,20 @@ fn run_to_end<R: Read>(
     }
 }
 
-/// A fresh script of a design and a policy, which the caller keeps; or out of memory.
+/// A fresh script of a design and a policy, whose searches try so many seeds; or out of memory.
 fn script_session_for(
     alloc: Global,
+    seeds: u64,
     checked: &Arc<Checked>,
     policy: &Policy,
 ) -> Result<ScriptSession, ServeFault>
     requires { Fits policy.now (arc_value checked.now).tree }
     ensures script { IfOk result (λ script_session. script_of script_session
-        ≡ opened (opening_of (arc_value checked.now) policy.now)) }
+        ≡ opened seeds (opening_of (arc_value checked.now) policy.now)) }
     ensures refused { IfErr result IsOutOfMemory }
 {
     let own_policy = policy.try_clone(alloc, checked.design())?;
-    script_session_of(alloc, Arc::try_clone(checked)?, own_policy)
+    script_session_of(alloc, seeds, Arc::try_clone(checked)?, own_policy)
 }
 
 /// Runs a fresh script, which the caller keeps, over a reader, and audits a user after it; or the fault of the reader, or out of memory at
@@ -154,11 +155,13 @@ fn run_and_audit<R: Read>(
     reader: &mut Counted<R>,
 ) -> Result<Audited, ServeFault>
     requires right { IsRight (opening_of checked.now policy.now) }
-    requires fresh { script_of script_session.old ≡ opened (opening_of checked.now policy.now) }
-    ensures audit { IfOk result (λ audited. IsAuditAfter explain
+    requires fresh { script_of script_session.old
+        ≡ opened script_session.old.running.seeds (opening_of checked.now policy.now) }
+    ensures audit { IfOk result (λ audited. IsAuditAfter script_session.old.running.seeds explain
         (opening_of checked.now policy.now) user.0
         (R.remaining reader.old.inner) (R.remaining reader.new.inner) audited) }
-    ensures refused { IfErr result (λ fault. EndsRunBy (opening_of checked.now policy.now)
+    ensures refused { IfErr result (λ fault. EndsRunBy script_session.old.running.seeds
+        (opening_of checked.now policy.now)
         (R.remaining reader.old.inner) (R.remaining reader.new.inner) fault) }
 {
     let out_of_memory = run_to_end(alloc, script_session, reader)?;
@@ -173,10 +176,11 @@ fn run_and_audit<R: Read>(
     )
 }
 
-/// Runs a fresh script of a design and a policy over a reader, and audits a user after it; or the fault of the reader, or out of
+/// Runs a fresh script of a design and a policy, whose searches try so many seeds, over a reader, and audits a user after it; or the fault of the reader, or out of
 /// memory, before anything was read or at the end of the input.
 fn script_audit<R: Read>(
     alloc: Global,
+    seeds: u64,
     checked: &Arc<Checked>,
     policy: &Policy,
     user: UserId,
@@ -184,14 +188,14 @@ fn script_audit<R: Read>(
     reader: &mut Counted<R>,
 ) -> Result<Audited, ServeFault>
     requires { IsRight (opening_of (arc_value checked.now) policy.now) }
-    ensures audit { IfOk result (λ audited. IsAuditAfter explain
+    ensures audit { IfOk result (λ audited. IsAuditAfter seeds explain
         (opening_of (arc_value checked.now) policy.now) user.0
         (R.remaining reader.old.inner) (R.remaining reader.new.inner) audited) }
-    ensures refused { IfErr result (λ fault. EndsOpenedBy
+    ensures refused { IfErr result (λ fault. EndsOpenedBy seeds
         (opening_of (arc_value checked.now) policy.now)
         (R.remaining reader.old.inner) (R.remaining reader.new.inner) fault) }
 {
-    let mut script_session = script_session_for(alloc, checked, policy)?;
+    let mut script_session = script_session_for(alloc, seeds, checked, policy)?;
     let audited = run_and_audit(
         alloc,
         checked,
@@ -212,19 +216,20 @@ fn script_audit<R: Read>(
 /// anything is read or at the end of the input (905, 1307, 1607).
 pub fn audit_script<R: Read>(
     alloc: Global,
+    seeds: u64,
     design: &str,
     policy: &[u8],
     user: &str,
     explain: bool,
     reader: &mut Counted<R>,
 ) -> Result<Audited, ServeFault>
-    ensures audit { IfOk result (λ audited. IsAudited explain design.now policy.now user.now
+    ensures audit { IfOk result (λ audited. IsAudited seeds explain design.now policy.now user.now
         (R.remaining reader.old.inner) (R.remaining reader.new.inner) audited) }
-    ensures refused { IfErr result (λ fault. EndsAuditBy design.now policy.now user.now
+    ensures refused { IfErr result (λ fault. EndsAuditBy seeds design.now policy.now user.now
         (R.remaining reader.old.inner) (R.remaining reader.new.inner) fault) }
 {
     let checked = checked(alloc, design)?;
     let policy = policy_of(alloc, policy, checked.design())?;
     let user = policy.user(user).ok_or(ServeFault::NoSuchUser)?;
-    script_audit(alloc, &checked, &policy, user, explain, reader)
+    script_audit(alloc, seeds, &checked, &policy, user, explain, reader)
 }

@@ -4,7 +4,7 @@ ghost use Rattle.vp_script.specs.Bundles.{cut_of};
 ghost use Rattle.vp_script.specs.Scripts.{EndsBundleBy, IsBundle};
 
 use crate::error::ServeFault;
-use crate::script::{Ran, run_script};
+use crate::script::{Ran, SEED_COUNT, run_script};
 use crate::sources::{BUNDLE_LIMIT, text_of};
 use std::alloc::Global;
 use std::io::Write;
@@ -54,5 +54,5 @@ pub fn run_bundle<W: Write>(
     let (policy, script) = cut(rest).ok_or(ServeFault::BadBundle)?;
     let text = text_of(design, ServeFault::BadBundle)?;
     let mut reader = Counted::new(script);
-    run_script(alloc, text, policy, &mut reader, writer)
+    run_script(alloc, SEED_COUNT, text, policy, &mut reader, writer)
 }

@@ -112,12 +112,13 @@ pub fn view_files<R: AllocGlobal + Files>(
     ))
 }
 
-/// Runs the script of standard input over the files of a design and a policy; a file that can't be read is `ReadFailed`
-/// (1602), and then the faults are those of `run_script`.
+/// Runs the script of standard input over the files of a design and a policy, and searches by so many seeds; a file that can't be
+/// read is `ReadFailed` (1602), and then the faults are those of `run_script`.
 pub fn run_files<R: AllocGlobal + Files + Input + Print>(
     rt: &R,
     design: &str,
     policy: &str,
+    seeds: u32,
 ) -> Result<Ran, Failure> {
     let alloc = rt.alloc();
     let files = SourceFiles::read(rt, design, policy)?;
@@ -129,6 +130,7 @@ pub fn run_files<R: AllocGlobal + Files + Input + Print>(
     ))?);
     run_script(
         alloc,
+        u64::from(seeds),
         sources.design,
         sources.policy,
         &mut reader,
@@ -137,13 +139,14 @@ pub fn run_files<R: AllocGlobal + Files + Input + Print>(
     .map_err(|fault| sources.refused(alloc, fault))
 }
 
-/// Audits the user of a name by the script of standard input over the files of a design and a policy; a file that can't be read is
-/// `ReadFailed` (1602), and then the faults are those of `audit_script`.
+/// Audits the user of a name by the script of standard input over the files of a design and a policy, whose searches try so many
+/// seeds; a file that can't be read is `ReadFailed` (1602), and then the faults are those of `audit_script`.
 pub fn audit_files<R: AllocGlobal + Files + Input>(
     rt: &R,
     design: &str,
     policy: &str,
     user: &str,
+    seeds: u32,
     explain: bool,
 ) -> Result<Audited, Failure> {
     let alloc = rt.alloc();
@@ -152,6 +155,7 @@ pub fn audit_files<R: AllocGlobal + Files + Input>(
     let mut reader = Counted::new(rt.reader());
     audit_script(
         alloc,
+        u64::from(seeds),
         sources.design,
         sources.policy,
         user,

@@ -1,5 +1,5 @@
 // A world whose simulation runs, and what it does is searched for races.
-ghost use Rattle.std.specs.Prelude.{◌≡◌, ◌++◌, ◌⊎◌, [], None, Some, option_map, IfErr, IfOk, IfSome, OnErr, OnOk, is_err, is_none, false, true};
+ghost use Rattle.std.specs.Prelude.{◌≡◌, ◌++◌, ◌⊎◌, ℕ, [], None, Some, option_map, IfErr, IfOk, IfSome, OnErr, OnOk, is_err, is_none, false, true};
 ghost use Rattle.std.specs.Arc.{arc_value};
 ghost use Rattle.std.specs.List.{All};
 ghost use Rattle.vp_elab.specs.Built.{Elaborated};
@@ -9,7 +9,7 @@ ghost use Rattle.vp_world.specs.History.{Applies, IsLegal, refused_by, with_entr
 ghost use Rattle.vp_world.specs.declared.error.WorldError.TheVariants.{NoMemory};
 ghost use Rattle.vp_world.specs.declared.event.Event.TheVariants as event;
 ghost use Rattle.vp_script.specs.Pending.{ArePending, HappensTo, is_no_memory, pending};
-ghost use Rattle.vp_script.specs.Scripts.{Applied, Runs, next_event, searched, seed_count, step_limit, turned, with_event_if};
+ghost use Rattle.vp_script.specs.Scripts.{Applied, Runs, next_event, searched, step_limit, turned, with_event_if, with_world};
 
 use std::alloc::{AllocError, Global};
 use std::collections::VecDeque;
@@ -21,10 +21,7 @@ use vp_sim::SimError;
 use vp_text::Shared;
 use vp_world::{Entry, Event, World, WorldError};
 
-/// A search tries so many seeds.
-const SEED_COUNT: u64 = 16;
-
-/// By orders of at most so many steps.
+/// A search tries orders of at most so many steps.
 const STEP_LIMIT: u64 = 10_000;
 
 /// What a world answers to an event, if there is one, or says where it refuses it.
@@ -97,8 +94,9 @@ fn book(world: &mut World, finding: Shared<Finding>) -> Result<(), AllocError>
 /// Books these races, one after another, each unless the world refuses it; or as many as there is memory for.
 fn book_all(world: &mut World, findings: &mut VecDeque<Shared<Finding>>) -> Result<(), AllocError>
     requires { All (λ f. f.segment.start.design ≡ world.old.opening.design) findings.old.items }
-    ensures happened { HappensTo (record { world = world.old; found = findings.old.items })
-        (record { world = world.new; found = findings.new.items }) }
+    ensures happened { (seeds : ℕ)
+        → HappensTo (record { world = world.old; found = findings.old.items; seeds = seeds })
+        (record { world = world.new; found = findings.new.items; seeds = seeds }) }
     ensures all { OnOk result (findings.new.items ≡ []) }
     ensures designs { All (λ f. f.segment.start.design ≡ world.new.opening.design)
         findings.new.items }
@@ -111,14 +109,18 @@ fn book_all(world: &mut World, findings: &mut VecDeque<Shared<Finding>>) -> Resu
     Ok(())
 }
 
-/// The races of a segment, to be booked; or out of memory.
-fn races_of(alloc: Global, segment: &Arc<Segment>) -> Result<VecDeque<Shared<Finding>>, AllocError>
+/// The races of a segment that so many seeds show, to be booked; or out of memory.
+fn races_of(
+    alloc: Global,
+    seeds: u64,
+    segment: &Arc<Segment>,
+) -> Result<VecDeque<Shared<Finding>>, AllocError>
     ensures found { IfOk result (λ races. races.items
-        ≡ found (arc_value segment.now) step_limit seed_count) }
+        ≡ found (arc_value segment.now) step_limit seeds) }
     ensures segment { IfOk result (λ races. All (λ f. f.segment ≡ arc_value segment.now)
         races.items) }
 {
-    let Ok(findings) = search(alloc, segment, SEED_COUNT, STEP_LIMIT, &OpenGate) else {
+    let Ok(findings) = search(alloc, segment, seeds, STEP_LIMIT, &OpenGate) else {
         return Err(AllocError);
     };
     let mut findings = VecDeque::from(findings);
@@ -132,11 +134,12 @@ fn races_of(alloc: Global, segment: &Arc<Segment>) -> Result<VecDeque<Shared<Fin
 /// Searches the segment that is still to be searched, if there is one; or out of memory, which leaves all as it was.
 fn find(
     alloc: Global,
+    seeds: u64,
     segment: &mut Option<Arc<Segment>>,
     findings: &mut VecDeque<Shared<Finding>>,
 ) -> Result<(), AllocError>
     ensures found { OnOk result (findings.new.items
-        ≡ pending (option_map arc_value segment.old) findings.old.items) }
+        ≡ pending seeds (option_map arc_value segment.old) findings.old.items) }
     ensures searched { OnOk result (segment.new ≡ None) }
     ensures designs { (design : Elaborated)
         → ArePending design (option_map arc_value segment.old) findings.old.items
@@ -147,7 +150,7 @@ fn find(
     let Some(unsearched) = &*segment else {
         return Ok(());
     };
-    *findings = races_of(alloc, unsearched)?;
+    *findings = races_of(alloc, seeds, unsearched)?;
     *segment = None;
     Ok(())
 }
@@ -155,6 +158,7 @@ fn find(
 /// Books all races that are still to be booked; or as many as there is memory for.
 fn book_pending(
     alloc: Global,
+    seeds: u64,
     world: &mut World,
     segment: &mut Option<Arc<Segment>>,
     findings: &mut VecDeque<Shared<Finding>>,
@@ -163,31 +167,39 @@ fn book_pending(
         findings.old.items }
     ensures happened { HappensTo (record {
       world = world.old;
-      found = pending (option_map arc_value segment.old) findings.old.items;
+      found = pending seeds (option_map arc_value segment.old) findings.old.items;
+      seeds = seeds;
     }) (record {
       world = world.new;
-      found = pending (option_map arc_value segment.new) findings.new.items;
+      found = pending seeds (option_map arc_value segment.new) findings.new.items;
+      seeds = seeds;
     }) }
     ensures all { OnOk result ((segment.new ≡ None) × (findings.new.items ≡ [])) }
     ensures pending { ArePending world.new.opening.design (option_map arc_value segment.new)
         findings.new.items }
 {
-    find(alloc, segment, findings)?;
+    find(alloc, seeds, segment, findings)?;
     book_all(world, findings)
 }
 
-/// The segment of the next job, to be searched; none where there is no job, or where the run never had a choice in it, since nothing
-/// is found there. Takes memory.
-fn unsearched(alloc: Global, world: &World) -> Result<Option<Arc<Segment>>, AllocError>
+/// A search by so many seeds may find a race in a segment: there is a seed, and the run had a choice there.
+fn may_find(seeds: u64, segment: &Segment) -> bool
+    ensures { result ≡ false → found segment.now step_limit seeds ≡ [] }
+{
+    seeds > 0 && segment.has_choice()
+}
+
+/// The segment of the next job, to be searched; none where there is no job, or where no search finds anything in it. Takes memory.
+fn unsearched(alloc: Global, seeds: u64, world: &World) -> Result<Option<Arc<Segment>>, AllocError>
     ensures found { IfOk result
-        (λ segment. pending (option_map arc_value segment) [] ≡ searched world.now) }
+        (λ segment. pending seeds (option_map arc_value segment) [] ≡ searched seeds world.now) }
     ensures pending { IfOk result (λ segment.
         ArePending world.now.opening.design (option_map arc_value segment) []) }
 {
     let Some(segment) = world.next_job() else {
         return Ok(None);
     };
-    if !segment.has_choice() {
+    if !may_find(seeds, segment) {
         return Ok(None);
     }
     let segment = segment.try_clone(alloc)?;
@@ -198,6 +210,7 @@ fn unsearched(alloc: Global, world: &World) -> Result<Option<Arc<Segment>>, Allo
 /// searched. Or out of memory, which leaves all as it was.
 fn take_job(
     alloc: Global,
+    seeds: u64,
     world: &mut World,
     segment: &mut Option<Arc<Segment>>,
 ) -> Result<bool, AllocError>
@@ -205,14 +218,15 @@ fn take_job(
         → (is_none (refused_by world.old event.TakeJob) ≡ false) × (world.new ≡ world.old)
         × (segment.new ≡ segment.old)) }
     ensures some { IfOk result (λ taken. taken ≡ true
-        → (turned (record { world = world.old; found = [] }) ≡ Some (record {
+        → (turned (record { world = world.old; found = []; seeds = seeds }) ≡ Some (record {
           world = world.new;
-          found = pending (option_map arc_value segment.new) [];
+          found = pending seeds (option_map arc_value segment.new) [];
+          seeds = seeds;
         }))
         × ArePending world.new.opening.design (option_map arc_value segment.new) []) }
     ensures unchanged { OnErr result ((world.new ≡ world.old) × (segment.new ≡ segment.old)) }
 {
-    let next = unsearched(alloc, world)?;
+    let next = unsearched(alloc, seeds, world)?;
     if !tried(world, Event::TakeJob)? {
         return Ok(false);
     }
@@ -223,6 +237,7 @@ fn take_job(
 /// Lets the simulation run as far as the world lets it, and searches what it does for races; or until there is no memory.
 fn run(
     alloc: Global,
+    seeds: u64,
     world: &mut World,
     segment: &mut Option<Arc<Segment>>,
     findings: &mut VecDeque<Shared<Finding>>,
@@ -231,17 +246,19 @@ fn run(
         findings.old.items }
     ensures runs { Runs (is_err result) (record {
       world = world.old;
-      found = pending (option_map arc_value segment.old) findings.old.items;
+      found = pending seeds (option_map arc_value segment.old) findings.old.items;
+      seeds = seeds;
     }) (record {
       world = world.new;
-      found = pending (option_map arc_value segment.new) findings.new.items;
+      found = pending seeds (option_map arc_value segment.new) findings.new.items;
+      seeds = seeds;
     }) }
     ensures pending { ArePending world.new.opening.design (option_map arc_value segment.new)
         findings.new.items }
 {
     loop {
-        book_pending(alloc, world, segment, findings)?;
-        if take_job(alloc, world, segment)? {
+        book_pending(alloc, seeds, world, segment, findings)?;
+        if take_job(alloc, seeds, world, segment)? {
             continue;
         }
         match run_next(world) {
@@ -257,6 +274,8 @@ fn run(
 pub struct RunningWorld {
     alloc: Global,
     world: World,
+    /// A search tries so many seeds.
+    seeds: u64,
     /// The segment that is still to be searched.
     segment: Option<Arc<Segment>>,
     /// What was found in the last that was searched, and is still to be booked.
@@ -273,7 +292,8 @@ impl Model for RunningWorld {
 
     ghost view = { λ r. record {
       world = r.world;
-      found = pending (option_map arc_value r.segment) r.findings.items;
+      found = pending r.seeds (option_map arc_value r.segment) r.findings.items;
+      seeds = r.seeds;
     } };
 
     ghost invariant = { λ r. ArePending r.world.opening.design (option_map arc_value r.segment)
@@ -281,13 +301,14 @@ impl Model for RunningWorld {
 }
 
 impl RunningWorld {
-    /// A world of which no race is to be booked.
-    pub fn new(alloc: Global, world: World) -> RunningWorld
-        ensures { result ≡ record { world = world; found = [] } }
+    /// A world of which no race is to be booked, and whose searches try so many seeds.
+    pub fn new(alloc: Global, seeds: u64, world: World) -> RunningWorld
+        ensures { result ≡ record { world = world; found = []; seeds = seeds } }
     {
         RunningWorld {
             alloc,
             world,
+            seeds,
             segment: None,
             findings: VecDeque::new(alloc),
         }
@@ -305,7 +326,7 @@ impl RunningWorld {
     pub fn apply(&mut self, event: Option<Event>) -> Reply
         requires { IfSome event (IsWellFormed self.old.world.opening.design) }
         ensures applied { Applied (is_no_memory result) event self.old.world result self.new.world }
-        ensures found { self.new.found ≡ self.old.found }
+        ensures kept { self.new ≡ with_world self.old self.new.world }
     {
         applied(&mut self.world, event)
     }
@@ -316,6 +337,7 @@ impl RunningWorld {
     {
         run(
             self.alloc,
+            self.seeds,
             &mut self.world,
             &mut self.segment,
             &mut self.findings,

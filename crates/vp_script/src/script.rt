@@ -22,6 +22,9 @@ use vp_policy::{Policy, read_policy};
 use vp_wire::{Counted, WireError, session};
 use vp_world::{Limits, World};
 
+/// A search tries so many seeds, where nothing else is said.
+pub const SEED_COUNT: u64 = 16;
+
 /// How a script ended: at the end of its input.
 #[derive(Clone, Copy, Debug, PartialEq, Eq)]
 pub struct Ran {
@@ -63,25 +66,25 @@ fn world_of(alloc: Global, checked: Arc<Checked>, policy: Policy) -> Result<Worl
     Ok(World::new(alloc, checked, policy, Limits::GREATEST)?)
 }
 
-/// A fresh world of a design and a policy, whose script has no session yet; or out of memory.
+/// A fresh world of a design and a policy, whose script has no session yet and whose searches try so many seeds; or out of memory.
 pub(crate) fn script_session_of(
     alloc: Global,
+    seeds: u64,
     checked: Arc<Checked>,
     policy: Policy,
 ) -> Result<ScriptSession, ServeFault>
     requires { Fits policy (arc_value checked).tree }
     ensures script { IfOk result (λ script_session. script_of script_session
-        ≡ opened (opening_of (arc_value checked) policy)) }
+        ≡ opened seeds (opening_of (arc_value checked) policy)) }
     ensures refused { IfErr result (λ e. e ≡ fault.World error.NoMemory) }
 {
-    Ok(ScriptSession::new(alloc, world_of(alloc, checked, policy)?))
+    Ok(ScriptSession::new(alloc, seeds, world_of(alloc, checked, policy)?))
 }
 
 /// A world of the text of a design and the file of a policy, with the greatest limits, in which nothing has happened; or the first
 /// fault of the design, then of the policy, as `run_script` reports them; or out of memory (905, 1307, 1607).
 pub fn fresh_world(alloc: Global, design: &str, policy: &[u8]) -> Result<World, ServeFault>
-    ensures world { IfOk result
-        (λ world. IsOpened design.now policy.now (begun world)) }
+    ensures world { IfOk result (λ world. IsOpened design.now policy.now world) }
     ensures refused { IfErr result (λ fault. IsUnopened design.now policy.now fault) }
 {
     let checked = checked(alloc, design)?;
@@ -89,13 +92,21 @@ pub fn fresh_world(alloc: Global, design: &str, policy: &[u8]) -> Result<World, 
     world_of(alloc, checked, policy)
 }
 
-/// A fresh script of the text of a design and the file of a policy; or the first fault of the design, then of the policy.
-fn opened(alloc: Global, design: &str, policy: &[u8]) -> Result<ScriptSession, ServeFault>
+/// A fresh script of the text of a design and the file of a policy, whose searches try so many seeds; or the first fault of the
+/// design, then of the policy.
+fn opened(
+    alloc: Global,
+    seeds: u64,
+    design: &str,
+    policy: &[u8],
+) -> Result<ScriptSession, ServeFault>
+    ensures world { IfOk result
+        (λ script. IsOpened design.now policy.now script.running.world) }
     ensures script { IfOk result
-        (λ script. IsOpened design.now policy.now (script_of script)) }
+        (λ script. script_of script ≡ begun seeds script.running.world) }
     ensures refused { IfErr result (λ fault. IsUnopened design.now policy.now fault) }
 {
-    Ok(ScriptSession::new(alloc, fresh_world(alloc, design, policy)?))
+    Ok(ScriptSession::new(alloc, seeds, fresh_world(alloc, design, policy)?))
 }
 
 /// Answers the lines of a reader by a script, up to the end of the input; or the fault of the reader or the writer.
@@ -124,24 +135,26 @@ pub(crate) fn answered<R: Read, W: Write>(
 
 /// Answers the lines of a reader about a design under a policy, up to the end of the input; or the first fault: of the design, then of
 /// the policy, before which nothing is read and nothing written; then of the reader or the writer; or out of memory to begin (1607).
+/// Each time slot in which the run had a choice is searched for races by so many seeds, `SEED_COUNT` in a bundle.
 pub fn run_script<R: Read, W: Write>(
     alloc: Global,
+    seeds: u64,
     design: &str,
     policy: &[u8],
     reader: &mut Counted<R>,
     writer: &mut Counted<W>,
 ) -> Result<Ran, ServeFault>
-    ensures script { IfOk result (λ ran. IsScript ran.out_of_memory design.now policy.now
+    ensures script { IfOk result (λ ran. IsScript seeds ran.out_of_memory design.now policy.now
         (R.remaining reader.old.inner) (R.remaining reader.new.inner)
         (W.contents writer.old.inner) (W.contents writer.new.inner) ran.lines) }
-    ensures fault { IfErr result (λ fault. EndsBy design.now policy.now
+    ensures fault { IfErr result (λ fault. EndsBy seeds design.now policy.now
         (R.remaining reader.old.inner) (R.remaining reader.new.inner)
         (W.contents writer.old.inner) (W.contents writer.new.inner) fault) }
     // A text has one design.
     ensures one_design { (d e : Elaborated) → IsDesignOf design.now d → IsDesignOf design.now e
         → d ≡ e }
 {
-    let mut script_session = opened(alloc, design, policy)?;
+    let mut script_session = opened(alloc, seeds, design, policy)?;
     let ran = answered(alloc, &mut script_session, reader, writer);
     // Dropped by a call, so that how a session is dropped is no part of this function's proof.
     drop(script_session);

@@ -53,16 +53,16 @@ pub struct ScriptSession {
 }
 
 impl ScriptSession {
-    /// A world whose session is not open yet.
-    pub fn new(alloc: Global, world: World) -> ScriptSession
+    /// A world whose session is not open yet, and whose searches try so many seeds.
+    pub fn new(alloc: Global, seeds: u64, world: World) -> ScriptSession
         ensures { result ≡ record {
-          running = record { world = world; found = [] };
+          running = record { world = world; found = []; seeds = seeds };
           session = None;
           out_of_memory = false;
         } }
     {
         ScriptSession {
-            running: RunningWorld::new(alloc, world),
+            running: RunningWorld::new(alloc, seeds, world),
             session: None,
             out_of_memory: false,
         }

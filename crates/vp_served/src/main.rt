@@ -122,7 +122,13 @@ where
 {
     let alloc = rt.alloc();
     match command(alloc, words) {
-        Ok(Command::Run { design, policy }) => run_status(rt, run_files(rt, design, policy)),
+        Ok(
+            Command::Run {
+                design,
+                policy,
+                seeds,
+            },
+        ) => run_status(rt, run_files(rt, design, policy, seeds)),
         Ok(Command::Check { design, policy }) => fault_status(rt, check_files(rt, design, policy)),
         Ok(
             Command::View {
@@ -136,9 +142,10 @@ where
                 design,
                 policy,
                 user,
+                seeds,
                 explain,
             },
-        ) => audit_status(rt, audit_files(rt, design, policy, user, explain)),
+        ) => audit_status(rt, audit_files(rt, design, policy, user, seeds, explain)),
         Ok(
             Command::Serve {
                 design,

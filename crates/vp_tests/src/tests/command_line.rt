@@ -16,7 +16,17 @@ fn words(alloc: Global, line: &str) -> Vec<String> {
 fn asked(alloc: Global, line: &str) -> &'static str {
     match command(alloc, &words(alloc, line)) {
         Ok(Command::Bundle) => "bundle",
-        Ok(Command::Run { design, policy }) if design == "d.v" && policy == "p.json" => "run",
+        Ok(
+            Command::Run {
+                design,
+                policy,
+                seeds,
+            },
+        ) if design == "d.v" && policy == "p.json" => match seeds {
+            16 => "run",
+            0 => "run without a search",
+            _ => "run other",
+        },
         Ok(
             Command::Check {
                 design,
@@ -41,11 +51,14 @@ fn asked(alloc: Global, line: &str) -> &'static str {
                 design,
                 policy,
                 user,
+                seeds,
                 explain,
             },
-        ) if design == "d.v" && policy == "p.json" && user == "ann" => {
-            if explain { "audit explained" } else { "audit" }
-        }
+        ) if design == "d.v" && policy == "p.json" && user == "ann" => match (seeds, explain) {
+            (16, true) => "audit explained",
+            (16, false) => "audit",
+            _ => "audit other",
+        },
         Ok(
             Command::Serve {
                 design,
@@ -67,9 +80,15 @@ fn asked(alloc: Global, line: &str) -> &'static str {
 
 #[test]
 fn command_lines(rt: HostRuntime) {
-    let rows: [(&str, &str); 31] = [
+    let rows: [(&str, &str); 37] = [
         ("vp_served", "bundle"),
         ("vp_served run d.v p.json", "run"),
+        ("vp_served run d.v p.json --seeds 16", "run"),
+        ("vp_served run d.v p.json --seeds=0", "run without a search"),
+        ("vp_served run --seeds 3 d.v p.json", "run other"),
+        ("vp_served run d.v p.json --seeds 17", "misuse"),
+        ("vp_served run d.v p.json --seeds x", "misuse"),
+        ("vp_served audit d.v p.json ann --seeds 0", "audit other"),
         ("vp_served check d.v", "check"),
         ("vp_served check d.v p.json", "check both"),
         ("vp_served view d.v p.json ann", "view"),

@@ -14,8 +14,8 @@ returns-in_err-user-clause-refused g c =
     let read = read_of c.args.design.now c.args.policy.now (arc_value c.in_ok-checked.checked) c.design.result.now c.in_ok-policy.policy (c.in_ok-checked.ensures {u = tt}).design (c.design.ensures ∙ c.deref.ensures) policy.fits policy.file policy.design in
     let none : user_of c.in_ok-policy.policy.members c.args.user.now ≡ None = search rules in
     let missing : c.in_err-user.field-0.0 ≡ fault.NoSuchUser = search rules in
-    told_as _ (EndsAuditBy c.args.design.now c.args.policy.now c.args.user.now _ _) c.from_residual-in_err-user.result c.from_residual-in_err-user.ensures.1
-    (λ f told. no_such_user _ _ _ _ read c.args.user.now _ _ f (told ∙ missing) none refl)
+    told_as _ (EndsAuditBy c.args.seeds c.args.design.now c.args.policy.now c.args.user.now _ _) c.from_residual-in_err-user.result c.from_residual-in_err-user.ensures.1
+    (λ f told. no_such_user _ _ _ _ read c.args.seeds c.args.user.now _ _ f (told ∙ missing) none refl)
 
 pub script_audit-requires : goal.script_audit-requires
 script_audit-requires g c =
@@ -28,11 +28,11 @@ returns-clause-audit g c =
     let policy = c.in_ok-policy.ensures {u = tt} in
     let read = read_of c.args.design.now c.args.policy.now (arc_value c.in_ok-checked.checked) c.design.result.now c.in_ok-policy.policy (c.in_ok-checked.ensures {u = tt}).design (c.design.ensures ∙ c.deref.ensures) policy.fits policy.file policy.design in
     let named : user_of c.in_ok-policy.policy.members c.args.user.now ≡ Some c.in_ok-user.user.0 = search rules in
-    IfOk-weaker c.script_audit.result _ _ (λ given is. audited _ _ _ _ read c.args.user.now _ _ c.in_ok-user.user.0 named c.args.explain given is) c.script_audit.ensures.audit
+    IfOk-weaker c.script_audit.result _ _ (λ given is. audited _ _ _ _ read c.args.seeds c.args.user.now _ _ c.in_ok-user.user.0 named c.args.explain given is) c.script_audit.ensures.audit
 
 pub returns-clause-refused : goal.returns-clause-refused
 returns-clause-refused g c =
     let policy = c.in_ok-policy.ensures {u = tt} in
     let read = read_of c.args.design.now c.args.policy.now (arc_value c.in_ok-checked.checked) c.design.result.now c.in_ok-policy.policy (c.in_ok-checked.ensures {u = tt}).design (c.design.ensures ∙ c.deref.ensures) policy.fits policy.file policy.design in
     let named : user_of c.in_ok-policy.policy.members c.args.user.now ≡ Some c.in_ok-user.user.0 = search rules in
-    IfErr-weaker c.script_audit.result _ _ (λ f ends. ended _ _ _ _ read c.args.user.now _ _ c.in_ok-user.user.0 named f ends) c.script_audit.ensures.refused
+    IfErr-weaker c.script_audit.result _ _ (λ f ends. ended _ _ _ _ read c.args.seeds c.args.user.now _ _ c.in_ok-user.user.0 named f ends) c.script_audit.ensures.refused

@@ -1,11 +1,13 @@
-use Rattle.std.proofs.Common.{◌≡◌, All, length}
+use Rattle.std.proofs.Common.{◌≡◌, ℕ, All, length}
 use Rattle.vp_script.specs.Pending.{HappensTo}
 use Rattle.vp_script.proofs.running.book_all.Given as goal
 
 -- some of the races are booked, and the others are still of the world's design
 abbrev pub invariant-loop-first : goal.invariant-loop-first
 invariant-loop-first l = record {
-  happened : HappensTo (record { world = l.fn.world; found = l.fn.findings.items }) (record { world = l.world; found = l.findings.items });
+  happened :
+      (seeds : ℕ) → HappensTo (record { world = l.fn.world; found = l.fn.findings.items; seeds = seeds })
+      (record { world = l.world; found = l.findings.items; seeds = seeds });
   designs : All (λ f. f.segment.start.design ≡ l.world.opening.design) l.findings.items;
 }
 

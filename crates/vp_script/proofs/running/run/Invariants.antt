@@ -8,8 +8,8 @@ use Rattle.vp_script.proofs.running.run.Given as goal
 abbrev pub invariant-loop-world : goal.invariant-loop-world
 invariant-loop-world l = record {
   happened :
-      HappensTo (record { world = l.fn.world; found = pending (option_map arc_value l.fn.segment) l.fn.findings.items })
-      (record { world = l.world; found = pending (option_map arc_value l.segment) l.findings.items });
+      HappensTo (record { world = l.fn.world; found = pending l.fn.seeds (option_map arc_value l.fn.segment) l.fn.findings.items; seeds = l.fn.seeds })
+      (record { world = l.world; found = pending l.fn.seeds (option_map arc_value l.segment) l.findings.items; seeds = l.fn.seeds });
   pending : ArePending l.world.opening.design (option_map arc_value l.segment) l.findings.items;
 }
 

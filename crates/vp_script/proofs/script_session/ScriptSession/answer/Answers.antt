@@ -13,7 +13,7 @@ returns-then-is_err c =
     let world = c.args.self.now.running.world in
     let applied : Applied (is_no_memory answer) (event_of c.args.self.now.session c.args.request) world answer asked.world =
     subst (λ e. Applied (is_no_memory answer) e world answer asked.world) c.event_of-event.ensures.event c.apply-reply.ensures.applied in
-    answered_now c.args.self.now _ asked c.args.request answer _ applied c.apply-reply.ensures.found c.session_after-self.ensures c.run.ensures
+    answered_now c.args.self.now _ asked c.args.request answer _ applied c.apply-reply.ensures.kept c.session_after-self.ensures c.run.ensures
     (λ was. refl) (λ was. refl) (λ was. refl)
 
 pub returns-else-is_err : goal.returns-else-is_err
@@ -25,5 +25,5 @@ returns-else-is_err c =
     subst (λ e. Applied (is_no_memory answer) e world answer asked.world) c.event_of-event.ensures.event c.apply-reply.ensures.applied in
     let run : is_err c.run.result ≡ false = search rules in
     let missing = c.is_out_of_memory_or-self.ensures in
-    answered_now c.args.self.now _ asked c.args.request answer _ applied c.apply-reply.ensures.found c.session_after-self.ensures c.run.ensures
+    answered_now c.args.self.now _ asked c.args.request answer _ applied c.apply-reply.ensures.kept c.session_after-self.ensures c.run.ensures
     (λ was. missing ∙ or_right _ _ was) (λ was. missing ∙ or_left _ _ (c.is_no_memory.ensures ∙ was)) (λ was. let clash : true ≡ false = sym was ∙ run in cc)
