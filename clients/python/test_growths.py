@@ -24,6 +24,7 @@ from test_loddrume import PROGRAM, RACE, TOP
 # The numbers of out of memory, by docs/FORMATS.md.
 OUT_OF_MEMORY = {206, 310, 404, 510, 604, 905, 1307, 1403, 1507, 1607}
 REFUSED = '{"error":"no memory"}'
+MISSING = "there was no memory for a line or to let the simulation run on"
 FAULT = re.compile(r"fault (\d+) line 0")
 # So many runs go on at once.
 BESIDE = os.cpu_count() or 1
@@ -124,7 +125,7 @@ class Growths(unittest.TestCase):
             encoding="utf-8",
             env=env,
         )
-        with program, contextlib.suppress(BrokenPipeError):
+        with contextlib.suppress(BrokenPipeError), program:
             for request, as_ever in zip(requests, wanted):
                 reply = self.reply_to(program, request)
                 if reply == REFUSED:
@@ -145,6 +146,14 @@ class Growths(unittest.TestCase):
         with ThreadPoolExecutor(BESIDE) as pool:
             found = list(pool.map(lambda growth: self.lost_by(growth, words, requests, wanted), range(1, count + 1)))
         self.assertEqual([fault for fault in found if fault], [])
+
+    def misaudited_by(self, growth: int, words: Sequence[str], lines: str, wanted: str) -> Optional[str]:
+        """What is wrong with an audit of which a growth is refused; nothing where it is as ever, a fault, or `same` of fewer replies, as is reported."""
+        run = self.run_refusing(growth, words, lines)
+        if run.returncode == 1 and ends_by_memory(run.stdout.rstrip("\n")):
+            return None
+        fewer = run.stdout.startswith("same ") and int(run.stdout[5:]) <= int(wanted[5:]) and MISSING in run.stderr
+        return None if run.returncode == 0 and (run.stdout == wanted or fewer) else f"growth {growth}: {run.stdout!r} {run.stderr!r}"
 
     def write(self, design: str, rules: str) -> Tuple[str, str]:
         """Files of a design and a policy, by their names."""
@@ -206,6 +215,16 @@ class Growths(unittest.TestCase):
         ]
         rules = '{"users":[{"name":"u0","token":"t","open":"list+read+watch+race","run":true}]}'
         self.check_sent_again(["run", *self.write(RACE, rules)], [json.dumps(request) for request in requests])
+
+    def test_audits(self) -> None:
+        design, rules, lines = (TOP / "crates" / "vp_served" / "stdin").read_text().split("%%\n")
+        for more in ([], ["--explain"]):
+            words = ["audit", *self.write(design, rules), "ann", *more]
+            wanted = self.run_refusing(0, words, lines).stdout
+            self.assertEqual(wanted, "same 10\n")
+            with ThreadPoolExecutor(BESIDE) as pool:
+                found = list(pool.map(lambda growth: self.misaudited_by(growth, words, lines, wanted), range(1, self.growths(words, lines) + 1)))
+            self.assertEqual([fault for fault in found if fault], [])
 
     def test_view(self) -> None:
         self.check(["view", *self.write(envelopes(3, "acme"), policy(2, 2)), "u1"])
