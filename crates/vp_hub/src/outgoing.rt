@@ -1,9 +1,11 @@
+ghost use Rattle.std.specs.Io.{WritesAtMost};
+
 use std::io;
 use std::io::{ErrorKind, Write};
 use std::net::TcpStream;
 use std::time::{Clock, Duration, Instant};
 
-/// A client is waited for so many times, each for a part of his silence: so a write of which he took a front at once does not begin it anew.
+/// A silence is waited out in so many parts: a write of which a front was taken at once then returns within one of them, not after all.
 const WAITS: u32 = 10;
 
 /// What goes to a client. He may take nothing of a reply for a time, and all of it must be taken within another, be it byte by byte.
@@ -15,6 +17,8 @@ pub(crate) struct Outgoing<'a, R: Clock> {
     patience: Duration,
     /// When the reply began of which something is left to be taken.
     start: Option<Instant>,
+    /// A write has failed. None is tried after it: a buffer that is dropped would wait for the client once more.
+    has_failed: bool,
 }
 
 impl<'a, R: Clock> Outgoing<'a, R> {
@@ -31,6 +35,7 @@ impl<'a, R: Clock> Outgoing<'a, R> {
             wait: silence / WAITS,
             patience,
             start: None,
+            has_failed: false,
         }
     }
 
@@ -50,10 +55,11 @@ impl<'a, R: Clock> Outgoing<'a, R> {
             self.start = None;
         }
     }
-}
 
-impl<R: Clock> Write for Outgoing<'_, R> {
-    fn write(&mut self, bytes: &[u8]) -> io::Result<usize> {
+    /// Sends some of these bytes, as many as he takes at once, and fails where he takes none in time.
+    fn send(&mut self, bytes: &[u8]) -> io::Result<usize>
+        ensures { WritesAtMost result bytes.now }
+    {
         let remaining = self.remaining()?;
         // Where no time remains, this is an error: a stream takes no time of 0.
         self.stream
@@ -70,6 +76,21 @@ impl<R: Clock> Write for Outgoing<'_, R> {
             }
         }
         Err(io::Error::new(ErrorKind::TimedOut, "nothing of a reply was read"))
+    }
+}
+
+impl<R: Clock> Write for Outgoing<'_, R> {
+    fn write(&mut self, bytes: &[u8]) -> io::Result<usize> {
+        if self.has_failed {
+            return Err(ErrorKind::BrokenPipe.into());
+        }
+        let sent = self.send(bytes);
+        if let Err(error) = &sent
+            && error.kind() != ErrorKind::Interrupted
+        {
+            self.has_failed = true;
+        }
+        sent
     }
 
     fn flush(&mut self) -> io::Result<()> {
