@@ -26,6 +26,15 @@ idle() {
     echo 'module top; reg never; reg [31:0] count; initial count = 0; always #1 count = count + 1;'
     for i in $(seq 1000); do echo "reg r$i; always @(never) r$i = 1;"; done
 }
+# 32 continuous assignments, each of which adds one to the one before it, after a counter that a clock drives.
+assigns() {
+    echo 'module top; reg clock; reg [15:0] s0; initial begin clock = 0; s0 = 0; end always #1 clock = ~clock; always @(posedge clock) s0 = s0 + 1;'
+    last=s0
+    for i in $(seq 32); do
+        echo "wire [15:0] w$i; assign w$i = $last + 1;"
+        last=w$i
+    done
+}
 # A counter beside so many regs.
 counter() {
     echo 'module top; reg [31:0] count; initial count = 0; always #1 count = count + 1;'
