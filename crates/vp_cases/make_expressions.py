@@ -15,6 +15,9 @@ An assignment on which the two differ is replaced by another and counted, where 
 - of an index the lowest 32 bits count, where one with a 1 above them is out of range and one with an x or z there unknown: x is
   read, and nothing is written (5.2.1).
 
+Programs of make_programs.py have one more: a constant 0 that is shifted by an unknown bit of a localparam stays 0, where the
+standard says x (5.1.12).
+
 Any other difference ends the script, with the case.
 
 Signed operands: the only ones are decimal numbers without a base, below 2^31. They have 32 bits of which the greatest is
@@ -39,7 +42,8 @@ ROUND = 40  # assignments before source regs get new values
 LIMIT = 64  # bits of a vector, a literal and braces
 GREATEST_INDEX = 65535
 LONGEST = 240  # characters of an expression
-KEEPS_Z, CUTS_INDEX = "merge of two z", "index of over 32 bits"  # departures of Icarus
+# Departures of Icarus.
+KEEPS_Z, CUTS_INDEX, SHIFTS_NOTHING = "merge of two z", "index of over 32 bits", "constant 0 shifted by a bit of a localparam"
 
 # How tightly operators bind (table 5-4): 0 is ?:, those of one operand 11.
 LEVELS = {"*": 10, "+": 9, "-": 9, "<<": 8, ">>": 8, "<": 7, "<=": 7, ">": 7, ">=": 7, "==": 6, "!=": 6, "===": 6, "!==": 6,
@@ -265,12 +269,31 @@ def unary(operator, a):
     return Node(text, UNARY, a.size, a.is_signed, value)
 
 
+def without_literals(text):
+    return re.sub(r"'\s*[bdoh]\s*[0-9a-fxz?_]+", "", text, flags=re.IGNORECASE)
+
+
+def is_constant(text):
+    """Of an expression: it reads nothing but localparams, whose names begin with P."""
+    return all(name[0] == "P" for name in re.findall(r"[A-Za-z]\w*", without_literals(text)))
+
+
+def selects_constant(text):
+    """Of an expression: it selects a bit or a part of a localparam."""
+    return re.search(r"\bP\w*\[", without_literals(text)) is not None
+
+
 def binary(operator, a, b):
     level = LEVELS[operator]
     text = between(grouped(a, level), operator, grouped(b, level + 1))
     common = max(a.size, b.size)
     if operator in SHIFTS:
-        return Node(text, level, a.size, a.is_signed, lambda e, size: shifted(operator, a.value(e, size), b.own(e)))
+        def value(e, size):
+            digits, amount = a.value(e, size), b.own(e)
+            if SHIFTS_NOTHING in e.departures and not is_known(amount) and is_constant(a.text) and selects_constant(b.text):
+                return "0" * size if set(digits) == {"0"} else "x" * size
+            return shifted(operator, digits, amount)
+        return Node(text, level, a.size, a.is_signed, value)
     if operator in RELATIONS + EQUALITIES:
         function = related if operator in RELATIONS else equality
         return Node(text, level, 1, False,

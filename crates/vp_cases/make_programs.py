@@ -27,7 +27,7 @@ What is expected is computed here, by a simulator of IEEE Std 1364-2005, clauses
 its active events, statement by statement; they must agree. A program in which Icarus departs from the standard in one of the ways that
 make_expressions.py and make_hierarchy.py name, or in one of these, is left out and counted; any other difference ends the script:
 
-- KEEPS_Z and CUTS_INDEX of make_expressions.py, SIZES_ALONE of make_hierarchy.py;
+- KEEPS_Z, CUTS_INDEX and SHIFTS_NOTHING of make_expressions.py, SIZES_ALONE of make_hierarchy.py;
 - WAITS_NESTED, SKIPS_IDLE and LOSES_SELECT of simulate_programs.py, which holds the simulator.
 
 Not made, since the profile leaves it out: all that the grammar of docs/FORMATS.md leaves out. Not made though the profile has it: races; strings of several
@@ -43,7 +43,7 @@ from collections import Counter
 from dataclasses import dataclass, field, replace
 from itertools import combinations
 
-from make_expressions import (CUTS_INDEX, KEEPS_Z, POLICY, REDUCTIONS, Assignment, Environment, Maker, base_mark, binary, bit_select,
+from make_expressions import (CUTS_INDEX, KEEPS_Z, POLICY, REDUCTIONS, SHIFTS_NOTHING, Assignment, Environment, Maker, base_mark, binary, bit_select,
                               braces, choice, constant, is_known, mixed_literal, of_number, part_select, plain_number, random_part, random_width,
                               sized_literal, sized_number, target_index, truth, unary, unknown_literal, whole, written)
 from make_hierarchy import SIZES_ALONE, Declared, Driver, Instance, Module, connections, declare
@@ -56,7 +56,7 @@ LONGEST = 70  # characters of an expression
 LINES = 20, 150
 MOST_INSTANCES = 9
 ORDERS = 3  # in which a program is run here, one of them first come first served
-DEPARTURES = [SIZES_ALONE, KEEPS_Z, CUTS_INDEX, WAITS_NESTED, LOSES_SELECT, SKIPS_IDLE]
+DEPARTURES = [SIZES_ALONE, KEEPS_Z, CUTS_INDEX, SHIFTS_NOTHING, WAITS_NESTED, LOSES_SELECT, SKIPS_IDLE]
 
 CLOCK, START, RESET, BEAT, WAVE = "ck", "go", "rst", "beat", "e0"
 OUTSIDE = "outside"
