@@ -37,21 +37,21 @@ none_leads : (choices : List ℕ) (e : State) → followed None choices ≡ Some
 none_leads choices e h = cc
 
 -- a choice that leads on is one of the eligible events
-first_small : (s : State) (k : ℕ) (ks : List ℕ) (e : State) → followed (Some s) (k ∷ ks) ≡ Some e → nat_lt 1 (length (eligible s)) ≡ false → k ≡ 0
+pub first_small : (s : State) (k : ℕ) (ks : List ℕ) (e : State) → followed (Some s) (k ∷ ks) ≡ Some e → nat_lt 1 (length (eligible s)) ≡ false → k ≡ 0
 first_small s zero ks e h one = refl
 first_small s (suc k) ks e h one =
     let few : length (eligible s) ≤ 1 = ltb-false 1 (length (eligible s)) one in
     let none = beyond_refuses s (suc k) (omega (arith, few)) in
     absurd (none_leads ks e (followed_at None (reached (step s (suc k))) ks (sym none) ∙ h))
 
-left_false : (a b : Bool) → (a || b) ≡ false → (a ≡ false) × (b ≡ false)
+pub left_false : (a b : Bool) → (a || b) ≡ false → (a ≡ false) × (b ≡ false)
 left_false true b h = cc
 left_false false b h = (refl, h)
 
 stopped : (s : State) (k : ℕ) (ks : List ℕ) (e : State) → is_over s ≡ true → followed (Some s) (k ∷ ks) ≡ Some e → ⊥
 stopped s k ks e over h = none_leads ks e (followed_at None (reached (step s k)) ks (sym (over_refuses s k over)) ∙ h)
 
-some_same : (s e : State) → Some s ≡ Some e → s ≡ e
+pub some_same : (s e : State) → Some s ≡ Some e → s ≡ e
 some_same s e h = cc
 
 over_as : (s e : State) → followed (Some s) [] ≡ Some e → is_over e ≡ true → is_over s ≡ true
@@ -75,7 +75,7 @@ only start order others end whole c other =
 
 -- ---- what was chosen, one step more
 
-chose_nil : (o : Option State) → chose_from o [] ≡ false
+pub chose_nil : (o : Option State) → chose_from o [] ≡ false
 chose_nil None = refl
 chose_nil (Some s) = refl
 

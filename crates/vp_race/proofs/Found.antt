@@ -124,7 +124,7 @@ none_of true b h = ap not h
 none_of false b h = refl
 
 -- nothing differs from itself
-same_differs : (s : State) (object : ℕ) → differs s s object ≡ false
+pub same_differs : (s : State) (object : ℕ) → differs s s object ≡ false
 same_differs s object = none_of (is_signal s object) (same_bits (value_of s object) (value_of s object)) ((same_bits-Decides (value_of s object) (value_of s object)).1 refl)
 
 and_false : (a b : Bool) → a ≡ false → (a && b) ≡ false

@@ -4,6 +4,10 @@ pub mod Apart
 pub mod Refused
 pub mod Trying
 pub mod Alone
+pub mod Forcing
+pub mod Closing
+pub mod Carrying
+pub mod Matching
 pub mod Found
 pub mod Numbering
 pub mod Standing

@@ -1,5 +1,5 @@
 -- What choices beside the run's are refused for, and where they are a race.
-use Rattle.std.proofs.Common.{◌≡◌, ◌≢◌, ◌∙◌, ℕ, ◌&&◌, Bool, true, false, not, if◌then◌else◌, List, Option, Some, None, inl, inr, refl, sym, ap, subst}
+use Rattle.std.proofs.Common.{◌≡◌, ◌≢◌, ◌∙◌, ◌++◌, ◌∷◌, [], ℕ, ◌&&◌, Bool, true, false, not, if◌then◌else◌, List, Option, Some, None, inl, inr, refl, sym, ap, subst}
 use Rattle.vp_bits.specs.declared.bit.Bit.{Bit}
 use Rattle.std.specs.Option.{option_map_or}
 use Rattle.vp_race.specs.Segments.{choices_refusal}
@@ -9,12 +9,14 @@ use Rattle.vp_bits.specs.laws.Words.{same_bits-Decides}
 use Rattle.vp_elab.specs.declared.object.ObjectId.{ObjectId}
 use Rattle.vp_operand.specs.Values.{no_value}
 use Rattle.vp_race.specs.declared.error.RaceError.{RaceError}
-use Rattle.vp_race.specs.declared.error.RaceError.TheVariants.{NoMemory, NotComplete, SameValue}
-use Rattle.vp_race.specs.Orders.{HasEnd, IsOrder, after_choices, differs, is_over, is_signal, value_of}
+use Rattle.vp_race.specs.declared.error.RaceError.TheVariants.{NoMemory, NotAnOrder, NotComplete, SameValue}
+use Rattle.vp_race.specs.Orders.{HasEnd, IsOrder, after_choices, differs, followed, is_over, is_signal, reached, value_of}
 use Rattle.vp_race.specs.Segments.{AreApart, Beside, Run, apart, check_refusal, order_refusal, refusal_after, value_after}
+use Rattle.vp_race.proofs.Alone.{over_refuses}
 use Rattle.vp_race.proofs.Apart.{signal_as}
+use Rattle.vp_race.proofs.Found.{same_differs}
 use Rattle.vp_race.proofs.Designs.{after_design, one_end}
-use Rattle.vp_sim.specs.States.{State}
+use Rattle.vp_sim.specs.States.{State, step}
 
 -- the refusal after two orders that lead to states
 refusal_at : (segment : Run) (choices : List ℕ) (object : ℕ) (first end : State) → after_choices segment.start segment.order ≡ Some first → after_choices segment.start choices ≡ Some end → check_refusal segment choices object ≡ refusal_after (Some first) (Some end) object
@@ -134,3 +136,42 @@ pub order_refused : (segment : Run) (choices : List ℕ) (object : ℕ) (first :
 order_refused segment choices object first e leads h =
     subst (λ (o : Option State). MayExplain NoMemory (refusal_after o (after_choices segment.start choices) object) e) (sym leads)
     (order_refused_by first (after_choices segment.start choices) object e h)
+
+-- ---- a time slot without a choice
+
+by_over : (over differ : Bool) (e : RaceError) → (if over then None else Some NotComplete) ≡ Some e → (if not over then Some NotComplete else if differ then None else Some SameValue) ≡ Some e
+by_over true differ e h = none_due e h
+by_over false differ e h = h
+
+by_order : (first : State) (o : Option State) (object : ℕ) (e : RaceError) → order_refusal o ≡ Some e → refusal_after (Some first) o object ≡ Some e
+by_order first None object e h = h
+by_order first (Some end) object e h = by_over (is_over end) (differs first end object) e h
+
+-- choices that are no order are no race, for the same reason
+pub as_no_order : (segment : Run) (choices : List ℕ) (object : ℕ) (e : RaceError) → HasEnd segment.start segment.order → order_refusal (after_choices segment.start choices) ≡ Some e → check_refusal segment choices object ≡ Some e
+as_no_order segment choices object e whole h =
+    ap (λ (o : Option State). refusal_after o (after_choices segment.start choices) object) whole.is_order.leads
+    ∙ by_order whole.end (after_choices segment.start choices) object e h
+
+-- the run's own order is no race
+pub own_order : (segment : Run) (choices : List ℕ) (object : ℕ) → HasEnd segment.start segment.order → choices ≡ segment.order → check_refusal segment choices object ≡ Some SameValue
+own_order segment choices object whole own =
+    let leads = whole.is_order.leads in
+    decided segment choices object whole.end whole.end leads (ap (after_choices segment.start) own ∙ leads) whole.is_order.over
+    ∙ ap (λ (b : Bool). if b then None else Some SameValue) (same_differs whole.end object)
+
+followed_on : (o : Option State) (ks js : List ℕ) → followed o (ks ++ js) ≡ followed (followed o ks) js
+followed_on None ks js = refl
+followed_on (Some s) [] js = refl
+followed_on (Some s) (k ∷ ks) js = followed_on (reached (step s k)) ks js
+
+past_end : (s : State) (k : ℕ) (ks : List ℕ) → is_over s ≡ true → followed (Some s) (k ∷ ks) ≡ None
+past_end s k ks over = ap (λ (o : Option State). followed o ks) (over_refuses s k over)
+
+-- and there is no step after it
+pub after_own_order : (segment : Run) (choices : List ℕ) (k : ℕ) (ks : List ℕ) (object : ℕ) → HasEnd segment.start segment.order → choices ≡ segment.order ++ k ∷ ks → check_refusal segment choices object ≡ Some NotAnOrder
+after_own_order segment choices k ks object whole more =
+    let none : after_choices segment.start choices ≡ None =
+    ap (after_choices segment.start) more ∙ followed_on (Some segment.start) segment.order (k ∷ ks)
+    ∙ ap (λ (o : Option State). followed o (k ∷ ks)) whole.is_order.leads ∙ past_end whole.end k ks whole.is_order.over in
+    as_no_order segment choices object NotAnOrder whole (ap order_refusal none)

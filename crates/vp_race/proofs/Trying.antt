@@ -42,7 +42,7 @@ tried_over zero seed number s h = ap (λ (b : Bool). if b then Some [] else None
 tried_over (suc n) seed number s h =
     ap (λ (b : Bool). if b then Some [] else option_map (λ ks. choice seed (next_number number) (length (eligible s)) ∷ ks) (tried_from n seed (next_number number) (reached (step s (choice seed (next_number number) (length (eligible s))))))) h
 
-tried_on : (n seed number : ℕ) (s : State) (k : ℕ) → is_over s ≡ false → k ≡ choice seed (next_number number) (length (eligible s)) → tried_from (suc n) seed number (Some s) ≡ option_map (λ ks. k ∷ ks) (tried_from n seed (next_number number) (reached (step s k)))
+pub tried_on : (n seed number : ℕ) (s : State) (k : ℕ) → is_over s ≡ false → k ≡ choice seed (next_number number) (length (eligible s)) → tried_from (suc n) seed number (Some s) ≡ option_map (λ ks. k ∷ ks) (tried_from n seed (next_number number) (reached (step s k)))
 tried_on n seed number s k h e =
     ap (λ (b : Bool). if b then Some [] else option_map (λ ks. choice seed (next_number number) (length (eligible s)) ∷ ks) (tried_from n seed (next_number number) (reached (step s (choice seed (next_number number) (length (eligible s))))))) h
     ∙ ap (λ (c : ℕ). option_map (λ ks. c ∷ ks) (tried_from n seed (next_number number) (reached (step s c)))) (sym e)

@@ -1,5 +1,5 @@
 -- Orders of the events of a time slot, and races between them (clause 11.4.2: of the active events any may be next).
-use Rattle.std.specs.Prelude.{◌≡◌, ◌≢◌, ℕ, ◌&&◌, ◌||◌, nat_lt, Bool, true, false, not, List, [], ◌∷◌, length, Option, Some, None, slice_get, slice_index_or}
+use Rattle.std.specs.Prelude.{◌≡◌, ◌≢◌, ℕ, ◌&&◌, ◌||◌, nat_lt, Bool, true, false, not, List, [], ◌∷◌, length, Option, Some, None, if◌then◌else◌, option_map, slice_get, slice_index_or}
 use Rattle.std.specs.Option.{option_map_or}
 use Rattle.vp_elab.specs.declared.object.Kind.{Kind}
 use Rattle.vp_elab.specs.declared.object.Kind.TheVariants as kind
@@ -51,11 +51,6 @@ chose_from (Some s) (k ∷ ks) = nat_lt 1 (length (eligible s)) || chose_from (r
 abbrev pub has_choice : State → (choices : List ℕ) → Bool
 has_choice start choices = chose_from (Some start) choices
 
--- choices are an order of the time slot of a state, and so much is known of whether there was ever another choice
-pub record IsRun (start : State) (choices : List ℕ) (several : Bool) : Type 0 where
-  pub has_end : HasEnd start choices
-  pub choice : several ≡ has_choice start choices
-
 -- the processes whose events an order takes, by their objects, from a state on that was reached
 abbrev pub sources_from : Option State → (choices : List ℕ) → List ObjectId
 sources_from None choices = []
@@ -65,6 +60,29 @@ sources_from (Some s) (k ∷ ks) = source_of s k ∷ sources_from (reached (step
 -- the processes whose events an order takes, by their objects
 abbrev pub sources_of : State → (choices : List ℕ) → List ObjectId
 sources_of s choices = sources_from (Some s) choices
+
+-- the first choice of an order: the processes whose events it took before, by their objects, and the state in which it first could have
+-- taken another event
+pub record FirstChoice : Type 0 where
+  pub sources : List ObjectId
+  pub state : State
+
+-- a first choice after one step more
+abbrev pub with_source : (source : ObjectId) → FirstChoice → FirstChoice
+with_source source first = record { sources = source ∷ first.sources; state = first.state }
+
+-- the first choice of an order, from a state on that was reached, if it has one
+abbrev pub first_choice_from : Option State → (choices : List ℕ) → Option FirstChoice
+first_choice_from None choices = None
+first_choice_from (Some s) [] = None
+first_choice_from (Some s) (k ∷ ks) =
+    if nat_lt 1 (length (eligible s))
+    then Some (record { sources = []; state = s })
+    else option_map (with_source (source_of s k)) (first_choice_from (reached (step s k)) ks)
+
+-- the first choice of an order, if it has one
+abbrev pub first_choice : State → (choices : List ℕ) → Option FirstChoice
+first_choice start choices = first_choice_from (Some start) choices
 
 -- ---- races
 

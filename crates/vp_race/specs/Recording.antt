@@ -1,9 +1,11 @@
 -- A simulation whose time slots are recorded as segments (profile).
-use Rattle.std.specs.Prelude.{◌≡◌, ℕ, ◌-◌, ◌≤◌, ◌==◌, ◌||◌, suc, nat_lt, Bool, if◌then◌else◌, List, [], ◌∷◌, ◌++◌, Option, Some, None, IfSome}
+use Rattle.std.specs.Prelude.{◌≡◌, ℕ, ◌-◌, ◌≤◌, ◌==◌, suc, nat_lt, true, false, if◌then◌else◌, List, [], ◌∷◌, ◌++◌, length, replicate, Option, Some, None, IfSome}
 use Rattle.std.specs.List.{find}
+use Rattle.std.specs.Option.{option_map_or}
 use Rattle.circular_buffer.specs.Buffer.{keep_last}
-use Rattle.vp_sim.specs.States.{State}
-use Rattle.vp_race.specs.Orders.{after_choices, has_choice, is_over}
+use Rattle.vp_elab.specs.declared.object.ObjectId.{ObjectId}
+use Rattle.vp_sim.specs.States.{State, eligible, source_of, step}
+use Rattle.vp_race.specs.Orders.{HasEnd, after_choices, has_choice, is_over, reached}
 use Rattle.vp_race.specs.Segments.{Run}
 
 -- a segment that is not closed: the state with which it began, and what the run chose since
@@ -86,37 +88,82 @@ abbrev pub AreNumbered : (from : ℕ) → List Run → Type 0
 AreNumbered from [] = Unit {0}
 AreNumbered from (run ∷ runs) = (run.number ≡ from) × AreNumbered (suc from) runs
 
--- an open segment in which the run takes a step: its start, what the run chose since, whether it ever had a choice there, and for how
--- many more choices there is room
+-- steps lead from a state that was reached to another, each of them the only one that there was; these are their processes
+abbrev pub Forced : Option State → (sources : List ObjectId) → State → Type 0
+Forced None sources end = ⊥
+Forced (Some s) [] end = s ≡ end
+Forced (Some s) (source ∷ sources) end =
+    (nat_lt 1 (length (eligible s)) ≡ false) × (source_of s 0 ≡ source) × Forced (reached (step s 0)) sources end
+
+-- what is kept from the first choice of a segment on: the processes of the steps before it, its state, what the run chose from there on,
+-- and for how many more choices there is room
+pub record Chosen : Type 0 where
+  pub sources : List ObjectId
+  pub state : State
+  pub order : List ℕ
+  pub room : ℕ
+
+-- what the run chose: first as often as it had no choice, and then this
+abbrev pub order_from : (forced : ℕ) → Option Chosen → List ℕ
+order_from forced None = replicate forced 0
+order_from forced (Some c) = replicate (length c.sources) 0 ++ c.order
+
+-- a first choice of a segment that began so: forced steps lead to a state in which something is left to do, and there are several events
+pub record BeginsWith (start : State) (c : Chosen) : Type 0 where
+  pub forced : Forced (Some start) c.sources c.state
+  pub several : nat_lt 1 (length (eligible c.state)) ≡ true
+  pub unfinished : is_over c.state ≡ false
+
+-- an open segment in which the run takes a step: its start, the processes of its steps where none had a choice, for how many more of
+-- them there is room, and what is kept from its first choice on
 pub record Begun : Type 0 where
   pub start : State
-  pub order : List ℕ
-  pub has_choice : Bool
+  pub sources : List ObjectId
   pub room : ℕ
+  pub chosen : Option Chosen
 
 -- there is room for one choice more
 abbrev pub HasRoom : Option Begun → Type 0
 HasRoom None = ⊥
-HasRoom (Some begun) = 1 ≤ begun.room
+HasRoom (Some begun) = 1 ≤ option_map_or (λ (c : Chosen). c.room) begun.chosen begun.room
+
+-- where the run has a choice now, its first one is kept
+abbrev pub IsKept : Option Begun → State → Type 0
+IsKept None s = ⊥
+IsKept (Some begun) s = begun.chosen ≡ None → is_over s ≡ false → nat_lt 1 (length (eligible s)) ≡ false
 
 -- the open segment at a state, if the run took a step in it, and if not
 abbrev pub opened_by : Option Begun → State → Opened
 opened_by None s = opened_at s
-opened_by (Some begun) s = record { start = begun.start; order = begun.order }
+opened_by (Some begun) s = record { start = begun.start; order = order_from (length begun.sources) begun.chosen }
 
 -- what the run chose leads from the segment's start to the state at which it stands
-pub record Leads (s : State) (begun : Begun) : Type 0 where
-  pub reached : after_choices begun.start begun.order ≡ Some s
-  pub choice : begun.has_choice ≡ has_choice begun.start begun.order
+abbrev pub LeadsTo : State → (start : State) → (sources : List ObjectId) → Option Chosen → Type 0
+LeadsTo s start sources None = Forced (Some start) sources s
+LeadsTo s start sources (Some c) = BeginsWith start c × (after_choices c.state c.order ≡ Some s)
 
 -- the same, if the run took a step
 abbrev pub Stands : Option Begun → State → Type 0
-Stands begun s = IfSome begun (Leads s)
+Stands begun s = IfSome begun (λ (b : Begun). LeadsTo s b.start b.sources b.chosen)
 
--- one more choice, where there is one of several or not
-abbrev pub with_choice : Begun → (choice : ℕ) → (several : Bool) → Begun
-with_choice begun choice several = record begun {
-  order = begun.order ++ choice ∷ [];
-  has_choice = begun.has_choice || several;
-  room = begun.room - 1;
-}
+-- one choice more, of the event of a process, where this is kept
+abbrev pub with_choice_in : Begun → Option Chosen → (choice : ℕ) → (source : ObjectId) → Begun
+with_choice_in begun None choice source =
+    record begun { sources = begun.sources ++ source ∷ []; room = begun.room - 1; chosen = None }
+with_choice_in begun (Some c) choice source =
+    record begun { chosen = Some (record c { order = c.order ++ choice ∷ []; room = c.room - 1 }) }
+
+-- the same
+abbrev pub with_choice : Begun → (choice : ℕ) → (source : ObjectId) → Begun
+with_choice begun choice source = with_choice_in begun begun.chosen choice source
+
+-- a closed segment, from its start: where the run never had a choice these are the only steps, and else it had one at the first choice
+abbrev pub IsClosed : (start : State) → (forced : ℕ) → Option Chosen → Type 0
+IsClosed start forced None = HasEnd start (replicate forced 0) × (has_choice start (replicate forced 0) ≡ false)
+IsClosed start forced (Some c) = BeginsWith start c × HasEnd c.state c.order
+
+-- a segment's first choice, and what the run chose from there on
+pub record IsFirstOf (run : Run) (c : Chosen) : Type 0 where
+  pub begins : BeginsWith run.start c
+  pub order : run.order ≡ replicate (length c.sources) 0 ++ c.order
+  pub has_end : HasEnd c.state c.order

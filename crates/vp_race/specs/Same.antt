@@ -12,6 +12,8 @@ use Rattle.vp_strata.specs.Queues.{Queue}
 use Rattle.vp_sim.specs.Waiting.{Waiting}
 use Rattle.vp_sim.specs.Waiting.TheVariants as wait
 use Rattle.vp_sim.specs.States.{State}
+use Rattle.vp_elab.specs.declared.object.ObjectId.{ObjectId}
+use Rattle.vp_race.specs.Orders.{FirstChoice, first_choice}
 use Rattle.vp_race.specs.Segments.{Run}
 
 -- two truth values are the same
@@ -67,6 +69,18 @@ same_state a b =
     (a.time == b.time) && same_bool a.finished b.finished && pointwise same_bits a.values b.values
     && pointwise same_place a.remaining b.remaining && pointwise same_wait a.waiting b.waiting && same_queue a.queue b.queue
 
--- two segments of one design are the same
+-- the objects of two processes are the same
+abbrev pub same_object : ObjectId → ObjectId → Bool
+same_object a b = a.0 == b.0
+
+-- two orders of one design have the same first choice, or both have none
+abbrev pub same_choice : Option FirstChoice → Option FirstChoice → Bool
+same_choice None None = true
+same_choice (Some a) (Some b) = pointwise same_object a.sources b.sources && same_state a.state b.state
+same_choice _ _ = false
+
+-- two segments of one design are the same: they have one number, one order, and one first choice, so they have the same races
 abbrev pub same_run : Run → Run → Bool
-same_run a b = (a.number == b.number) && pointwise nat_eq a.order b.order && same_state a.start b.start
+same_run a b =
+    (a.number == b.number) && pointwise nat_eq a.order b.order
+    && same_choice (first_choice a.start a.order) (first_choice b.start b.order)

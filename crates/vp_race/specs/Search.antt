@@ -14,6 +14,11 @@ use Rattle.vp_race.specs.Segments.{Run, FindingState, check_refusal}
 abbrev pub next_number : ℕ → ℕ
 next_number number = (number * 6364136223846793005 + 1442695040888963407) % 2 ^ 64
 
+-- the number so many turns after one
+abbrev pub number_after : (turns : ℕ) → ℕ → ℕ
+number_after zero number = number
+number_after (suc turns) number = number_after turns (next_number number)
+
 -- which of so many events is taken, by the seed and its next number: the seed 0 takes the last of those that a choice of 32 bits can name
 abbrev pub choice : (seed : ℕ) → (number : ℕ) → (count : ℕ) → ℕ
 choice seed number count = if seed == 0 then min (count - 1) (2 ^ 32 - 1) else (number / 2 ^ 33) % count
@@ -28,6 +33,10 @@ tried_from (suc limit) seed number (Some s) =
     then Some []
     else option_map (λ ks. choice seed (next_number number) (length (eligible s)) ∷ ks)
     (tried_from limit seed (next_number number) (reached (step s (choice seed (next_number number) (length (eligible s))))))
+
+-- what is tried after these choices, from them on
+abbrev pub tried_after : (choices : List ℕ) → Option (List ℕ) → Option (List ℕ)
+tried_after choices rest = option_map (λ ks. choices ++ ks) rest
 
 -- the order of a seed from a state on, if it has one of at most so many steps
 abbrev pub tried : (start : State) → (limit : ℕ) → (seed : ℕ) → Option (List ℕ)

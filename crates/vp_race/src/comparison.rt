@@ -1,13 +1,17 @@
-ghost use Rattle.std.specs.Prelude.{◌≡◌, if◌then◌else◌, true, None, Some, IfErr, IfOk, OnOk, IsOkUnless};
+ghost use Rattle.std.specs.Prelude.{◌≡◌, ◌++◌, ℕ, List, length, replicate, if◌then◌else◌, false, true, None, Some, IfErr, IfOk, OnOk, IsOkUnless};
 ghost use Rattle.std.specs.Arc.{arc_value};
 ghost use Rattle.vp_text.specs.Refusals.{MayExplain};
 ghost use Rattle.vp_race.specs.declared.error.RaceError.TheVariants.{NoMemory};
-ghost use Rattle.vp_race.specs.Orders.{after_choices, differs, is_over};
+ghost use Rattle.vp_elab.specs.declared.object.ObjectId.{ObjectId};
+ghost use Rattle.vp_sim.specs.States.{State};
+ghost use Rattle.vp_race.specs.Orders.{after_choices, differs, has_choice, is_over};
+ghost use Rattle.vp_race.specs.Recording.{Forced, IsFirstOf};
 ghost use Rattle.vp_race.specs.Search.{IsChecked, finding_of};
 ghost use Rattle.vp_race.specs.Segments.{apart, check_refusal, order_refusal};
 
 use crate::error::RaceError;
 use crate::finding::Finding;
+use crate::first_choice::FirstChoice;
 use crate::follow::{Order, follow, is_over, is_signal, run_order};
 use crate::pair::OrderPair;
 use crate::segment::Segment;
@@ -61,19 +65,53 @@ pub fn finding_at(
     }))
 }
 
-/// A segment with an order beside the run's, where these choices are one, by two simulations that stand at the segment's start: the first takes the run's
-/// order, and the second the other. Refused where a choice is no step's (1201), where something is left to do after the last (1202), or
+/// What these choices have after as many steps as were the only ones there were. Refused where one of them takes another event (1201), or where they end
+/// before (1202).
+fn rest_after(choices: &[u32], forced: usize) -> Result<&[u32], RaceError>
+    ensures rest { IfOk result (λ rest. choices.now ≡ replicate forced 0 ++ rest.now) }
+    ensures refused { IfErr result (λ e. (start end : State) → (sources : List ObjectId)
+        → length sources ≡ forced → Forced (Some start) sources end
+        → order_refusal (after_choices start choices.now) ≡ Some e) }
+{
+    for index in 0..choices.len().min(forced) {
+        if choices[index] != 0 {
+            return Err(RaceError::NotAnOrder);
+        }
+    }
+    match choices.get(forced..) {
+        Some(rest) => Ok(rest),
+        None => Err(RaceError::NotComplete),
+    }
+}
+
+/// Why choices are no race of a segment in which the run never had a choice.
+fn refusal_without_choice(segment: &Segment, choices: &[u32]) -> RaceError
+    requires { has_choice segment.now.start segment.now.order ≡ false }
+    ensures { (object : ℕ) → check_refusal segment.now choices.now object ≡ Some result }
+{
+    let _number = segment.number();
+    match rest_after(choices, segment.forced() as usize) {
+        Ok(rest) if rest.is_empty() => RaceError::SameValue,
+        Ok(_) => RaceError::NotAnOrder,
+        Err(error) => error,
+    }
+}
+
+/// A segment with an order beside the run's, where these choices are one, by two simulations that stand at the segment's first choice: the first takes the
+/// run's order, and the second the other. Refused where a choice is no step's (1201), where something is left to do after the last (1202), or
 /// when out of memory (1207).
 #[tactic(auto, using(crate::proofs::Refused::memory_refused, crate::proofs::Refused::choices_refused))]
 fn pair_of(
     alloc: Global,
     segment: &Arc<Segment>,
+    choice: &FirstChoice,
     first: &mut Sim,
     second: &mut Sim,
     choices: Vec<u32>,
 ) -> Result<OrderPair, RaceError>
-    requires first { first.old ≡ (arc_value segment.now).start }
-    requires second { second.old ≡ (arc_value segment.now).start }
+    requires choice { IsFirstOf (arc_value segment.now) choice.now }
+    requires first { first.old ≡ choice.now.state }
+    requires second { second.old ≡ choice.now.state }
     ensures pair { IfOk result (λ p. p ≡ record {
       segment = arc_value segment.now;
       second = choices.items;
@@ -86,10 +124,10 @@ fn pair_of(
     ensures refused { IfErr result (MayExplain NoMemory
         (order_refusal (after_choices (arc_value segment.now).start choices.items))) }
 {
-    let _order = segment.order();
-    let run = run_order(alloc, segment, first)?;
-    let mut sources = Vec::new(alloc);
-    follow(second, &choices, &mut sources)?;
+    let run = run_order(alloc, choice, first)?;
+    let rest = rest_after(&choices, choice.sources().len())?;
+    let mut sources = Vec::from_slice(alloc, choice.sources())?;
+    follow(second, rest, &mut sources)?;
     if !is_over(second) {
         return Err(RaceError::NotComplete);
     }
@@ -100,17 +138,19 @@ fn pair_of(
     })
 }
 
-/// The same as `check`, by two simulations that stand at the segment's start.
+/// The same as `check`, by two simulations that stand at the segment's first choice.
 fn check_by(
     alloc: Global,
     segment: &Arc<Segment>,
+    choice: &FirstChoice,
     first: &mut Sim,
     second: &mut Sim,
     choices: Vec<u32>,
     object: ObjectId,
 ) -> Result<Finding, RaceError>
-    requires first { first.old ≡ (arc_value segment.now).start }
-    requires second { second.old ≡ (arc_value segment.now).start }
+    requires choice { IsFirstOf (arc_value segment.now) choice.now }
+    requires first { first.old ≡ choice.now.state }
+    requires second { second.old ≡ choice.now.state }
     ensures found { IfOk result (λ f. f
         ≡ finding_of (arc_value segment.now) choices.items object.0) }
     ensures accepted { OnOk result
@@ -118,29 +158,31 @@ fn check_by(
     ensures refused { IfErr result (MayExplain NoMemory
         (check_refusal (arc_value segment.now) choices.items object.0)) }
 {
-    let _order = segment.order();
-    let orders = pair_of(alloc, segment, first, second, choices)?;
+    let _number = segment.number();
+    let orders = pair_of(alloc, segment, choice, first, second, choices)?;
     match finding_at(&orders, first, second, object)? {
         Some(finding) => Ok(finding),
         None => Err(RaceError::SameValue),
     }
 }
 
-/// The same as `check`, by a simulation that stands at the segment's start.
-fn check_beside(
+/// The same as `check`, from the segment's first choice, at which a simulation stands.
+fn check_from(
     alloc: Global,
     segment: &Arc<Segment>,
+    choice: &FirstChoice,
     first: &mut Sim,
     choices: Vec<u32>,
     object: ObjectId,
 ) -> Result<Finding, RaceError>
-    requires { first.old ≡ (arc_value segment.now).start }
+    requires choice { IsFirstOf (arc_value segment.now) choice.now }
+    requires stands { first.old ≡ choice.now.state }
     ensures { IsChecked (arc_value segment.now) choices.items object.0 result }
 {
-    let Ok(mut second) = Sim::of_kept(segment.start()) else {
+    let Ok(mut second) = Sim::of_kept(choice.state()) else {
         return Err(RaceError::NoMemory);
     };
-    check_by(alloc, segment, first, &mut second, choices, object)
+    check_by(alloc, segment, choice, first, &mut second, choices, object)
 }
 
 /// The finding of an object, where these choices are an order of the segment's time slot after which it has another value than after the
@@ -154,8 +196,11 @@ pub fn check(
 ) -> Result<Finding, RaceError>
     ensures { IsChecked (arc_value segment.now) choices.items object.0 result }
 {
-    let Ok(mut first) = Sim::of_kept(segment.start()) else {
+    let Some(choice) = segment.first_choice() else {
+        return Err(refusal_without_choice(segment, &choices));
+    };
+    let Ok(mut first) = Sim::of_kept(choice.state()) else {
         return Err(RaceError::NoMemory);
     };
-    check_beside(alloc, segment, &mut first, choices, object)
+    check_from(alloc, segment, choice, &mut first, choices, object)
 }

@@ -1,12 +1,12 @@
-ghost use Rattle.std.specs.Prelude.{◌≡◌, ◌++◌, Some, IfErr, IfOk, OnOk, IsOkUnless};
+ghost use Rattle.std.specs.Prelude.{◌≡◌, ◌++◌, length, replicate, Some, IfErr, IfOk, OnOk, IsOkUnless};
 ghost use Rattle.vp_race.specs.Segments.{choices_refusal};
 ghost use Rattle.vp_text.specs.Refusals.{MayExplain};
 ghost use Rattle.vp_race.specs.declared.error.RaceError.TheVariants.{NoMemory};
-ghost use Rattle.vp_race.specs.Orders.{after_choices, is_over, is_signal, reached, sources_of};
+ghost use Rattle.vp_race.specs.Orders.{HasEnd, after_choices, is_over, is_signal, reached, sources_of};
 ghost use Rattle.vp_sim.specs.States.{step};
 
 use crate::error::RaceError;
-use crate::segment::Segment;
+use crate::first_choice::FirstChoice;
 use std::alloc::Global;
 use vp_elab::{Kind, ObjectId};
 use vp_sim::{Sim, SimError};
@@ -68,20 +68,24 @@ pub fn follow(
     Ok(())
 }
 
-/// The order that the run took in a segment, with its sources, taken by a simulation that stands at the segment's start; or out of memory
-/// (1207).
-pub fn run_order(alloc: Global, segment: &Segment, simulation: &mut Sim) -> Result<Order, RaceError>
-    requires { simulation.old ≡ segment.now.start }
+/// The order that the run took in a segment, with its sources, from its first choice, at which a simulation stands; or out of memory (1207).
+pub fn run_order(
+    alloc: Global,
+    choice: &FirstChoice,
+    simulation: &mut Sim,
+) -> Result<Order, RaceError>
+    requires end { HasEnd choice.now.state choice.now.order }
+    requires stands { simulation.old ≡ choice.now.state }
     ensures leads { OnOk result
-        (after_choices segment.now.start segment.now.order ≡ Some simulation.new) }
-    ensures choices { IfOk result (λ o. o.choices.items ≡ segment.now.order) }
+        (after_choices choice.now.state choice.now.order ≡ Some simulation.new) }
+    ensures choices { IfOk result (λ o. o.choices.items
+        ≡ replicate (length choice.now.sources) 0 ++ choice.now.order) }
     ensures sources { IfOk result (λ o. o.sources.items
-        ≡ sources_of segment.now.start segment.now.order) }
+        ≡ choice.now.sources ++ sources_of choice.now.state choice.now.order) }
     ensures refused { IsOkUnless result NoMemory }
 {
-    let order = segment.order();
-    let choices = Vec::from_slice(alloc, order)?;
-    let mut sources = Vec::new(alloc);
-    follow(simulation, order, &mut sources)?;
+    let choices = choice.whole_order(alloc)?;
+    let mut sources = Vec::from_slice(alloc, choice.sources())?;
+    follow(simulation, choice.order(), &mut sources)?;
     Ok(Order { choices, sources })
 }

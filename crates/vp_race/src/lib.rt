@@ -9,6 +9,7 @@ mod comparison;
 mod error;
 mod finding;
 mod findings;
+mod first_choice;
 mod follow;
 mod gate;
 mod kept;
@@ -17,6 +18,7 @@ mod pair;
 mod recording;
 mod seeds;
 mod segment;
+mod start;
 mod trial;
 
 pub use book::Book;

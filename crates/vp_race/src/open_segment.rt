@@ -1,128 +1,163 @@
-ghost use Rattle.std.specs.Prelude.{◌≡◌, ◌<◌, ◌≤◌, ◌+◌, ◌^◌, [], true, None, IfOk, IsSome, OnOk, option_map};
-ghost use Rattle.vp_race.specs.Orders.{IsRun, has_choice, is_over};
-ghost use Rattle.vp_race.specs.Recording.{HasRoom, Stands, opened_by, with_choice, with_closed};
+ghost use Rattle.std.specs.Prelude.{◌≡◌, ◌<◌, ◌+◌, ◌^◌, true, None, Some, IfOk, IsSome, OnOk, option_map};
+ghost use Rattle.vp_sim.specs.States.{State};
+ghost use Rattle.vp_race.specs.Orders.{is_over};
+ghost use Rattle.vp_race.specs.Recording.{HasRoom, IsKept, Stands, opened_by, with_choice, with_closed};
 
+use crate::first_choice::FirstChoice;
+use crate::follow::is_over;
 use crate::kept::KeptSegments;
 use crate::segment::Segment;
+use crate::start::Start;
 use std::alloc::{AllocError, Global};
 use std::marker::Model;
+use std::mem::replace;
 use std::sync::Arc;
-use vp_sim::{Sim, SimCheckpoint};
+use vp_elab::ObjectId;
+use vp_sim::Sim;
 
-/// An open segment in which the run takes a step. A contract sees the state with which it began, what the run chose since, whether it ever had a
-/// choice there, and for how many more choices there is room.
+/// An open segment. A contract sees nothing where the run took no step in it, and else the state with which it began, the processes of the steps where
+/// none had a choice, and what is kept from the first choice on. The simulation is copied at the first choice alone: most segments have none.
 #[derive(Drop)]
 pub struct OpenSegment {
-    start: Arc<SimCheckpoint>,
-    order: Vec<u32>,
-    has_choice: bool,
+    alloc: Global,
+    start: Option<Start>,
+    /// Of a step without a choice it is enough to know whose event it took. The list keeps its room from one segment to the next.
+    sources: Vec<ObjectId>,
+    choice: Option<FirstChoice>,
 }
 
 impl Model for OpenSegment {
-    ghost use Rattle.std.specs.Prelude.{◌-◌};
-    ghost use Rattle.std.specs.Arc.{arc_value};
+    ghost use Rattle.std.specs.Prelude.{◌-◌, Option, option_map};
     ghost use Rattle.std.specs.Vec.{vec_capacity, vec_len};
+    ghost use Rattle.vp_sim.specs.States.{State};
     ghost use Rattle.vp_race.specs.Recording.{Begun};
 
-    ghost Value = { Begun };
+    ghost Value = { Option Begun };
 
-    ghost view = { λ b. record {
-      start = arc_value b.start;
-      order = b.order.items;
-      has_choice = b.has_choice;
-      room = vec_capacity b.order - vec_len b.order;
-    } };
+    ghost view = { λ o. option_map
+        (λ (start : State). record {
+          start = start;
+          sources = o.sources.items;
+          room = vec_capacity o.sources - vec_len o.sources;
+          chosen = o.choice;
+        })
+        o.start };
 }
 
 impl OpenSegment {
-    /// A segment begins with a simulation as it is; or an error where there is no memory.
-    fn begin(alloc: Global, simulation: &mut Sim) -> Result<OpenSegment, AllocError>
-        ensures start { IfOk result (λ b. b.start ≡ simulation.old) }
-        ensures order { IfOk result (λ b. b.order ≡ []) }
-        ensures choice { IfOk result (λ b. b.has_choice ≡ has_choice b.start b.order) }
-        ensures room { IfOk result (λ b. 1 ≤ b.room) }
+    /// A segment in which the run took no step.
+    pub fn new(alloc: Global) -> OpenSegment
+        ensures { result ≡ None }
+    {
+        OpenSegment {
+            alloc,
+            start: None,
+            sources: Vec::new(alloc),
+            choice: None,
+        }
+    }
+
+    /// A new segment, in which the run took no step.
+    pub fn clear(&mut self)
+        ensures { self.new ≡ None }
+    {
+        self.start = None;
+        self.choice = None;
+    }
+
+    /// It begins with a simulation as it is, if it is not begun; or an error where there is no memory.
+    fn begin(&mut self, simulation: &Sim) -> Result<(), AllocError>
+        requires { Stands self.old simulation.now }
+        ensures seen { opened_by self.new simulation.now ≡ opened_by self.old simulation.now }
+        ensures stands { Stands self.new simulation.now }
+        ensures begun { OnOk result (IsSome self.new) }
+    {
+        if self.start.is_some() {
+            return Ok(());
+        }
+        let start = Start::new(self.alloc, simulation)?;
+        self.sources.clear();
+        self.choice = None;
+        self.start = Some(start);
+        Ok(())
+    }
+
+    /// Where the run has its first choice now, the simulation is kept; or an error where there is no memory.
+    fn keep_choice(&mut self, simulation: &mut Sim) -> Result<(), AllocError>
+        requires stands { Stands self.old simulation.old }
+        requires begun { IsSome self.old }
+        ensures seen { opened_by self.new simulation.old ≡ opened_by self.old simulation.old }
+        ensures stands { Stands self.new simulation.old }
+        ensures begun { IsSome self.new }
+        ensures kept { OnOk result (IsKept self.new simulation.old) }
         ensures same { simulation.new ≡ simulation.old }
     {
-        let order = Vec::with_capacity(alloc, 4)?;
-        let Ok(start) = simulation.checkpoint() else {
+        if self.choice.is_some() || simulation.eligible() <= 1 || is_over(simulation) {
+            return Ok(());
+        }
+        let order = Vec::with_capacity(self.alloc, 4)?;
+        let Ok(state) = simulation.checkpoint() else {
             return Err(AllocError);
         };
-        Ok(OpenSegment {
-            start: Arc::new(alloc, start)?,
-            order,
-            has_choice: false,
-        })
+        let state = Arc::new(self.alloc, state)?;
+        let sources = replace(&mut self.sources, Vec::new(self.alloc));
+        self.choice = Some(FirstChoice::new(sources, state, order));
+        Ok(())
     }
 
     /// Makes room for one choice more; or an error where there is no memory.
     fn make_room(&mut self) -> Result<(), AllocError>
-        ensures room { OnOk result (1 ≤ self.new.room) }
-        ensures start { self.new.start ≡ self.old.start }
-        ensures order { self.new.order ≡ self.old.order }
-        ensures choice { self.new.has_choice ≡ self.old.has_choice }
+        requires { IsSome self.old }
+        ensures room { OnOk result (HasRoom self.new) }
+        ensures seen { (s : State) → opened_by self.new s ≡ opened_by self.old s }
+        ensures stands { (s : State) → Stands self.old s → Stands self.new s }
+        ensures kept { (s : State) → IsKept self.old s → IsKept self.new s }
     {
-        self.order.reserve(1)
+        match &mut self.choice {
+            Some(choice) => choice.make_room(),
+            None => self.sources.reserve(1),
+        }
     }
 
-    /// The run took the event of a choice, which was one of several or not.
-    fn note(&mut self, choice: u32, several: bool)
-        requires { 1 ≤ self.old.room }
-        ensures { self.new ≡ with_choice self.old choice several }
+    /// Makes it ready for one choice more, with a simulation: it begins if it is not begun, and keeps the simulation where the run has its first choice;
+    /// or an error where there is no memory. What is seen of it stays.
+    pub fn make_ready(&mut self, simulation: &mut Sim) -> Result<(), AllocError>
+        requires { Stands self.old simulation.old }
+        ensures room { OnOk result (HasRoom self.new) }
+        ensures kept { OnOk result (IsKept self.new simulation.old) }
+        ensures seen { opened_by self.new simulation.old ≡ opened_by self.old simulation.old }
+        ensures stands { Stands self.new simulation.old }
+        ensures same { simulation.new ≡ simulation.old }
     {
-        self.order.push_reserved(choice);
-        self.has_choice = self.has_choice || several;
+        self.begin(simulation)?;
+        self.keep_choice(simulation)?;
+        self.make_room()
     }
 
-    /// The closed segment, by its number: what the run chose is an order.
-    fn close(self, number: u64) -> Segment
-        requires { IsRun self.start self.order self.has_choice }
-        ensures { result ≡ record { number = number; start = self.start; order = self.order } }
+    /// The run took the event of a choice, of a process, if it is begun.
+    pub fn note(&mut self, choice: u32, source: ObjectId)
+        requires { HasRoom self.old }
+        ensures { self.new ≡ option_map (λ b. with_choice b choice source) self.old }
     {
-        Segment::new(number, self.start, self.order, self.has_choice)
+        match &mut self.choice {
+            Some(first) => first.note(choice),
+            None => self.sources.push_reserved(source),
+        }
     }
-}
 
-/// Begins an open segment with a simulation, if it is not begun, and makes room there for one choice more; or an error where there is no memory. What
-/// is seen of it stays.
-pub fn make_ready(
-    alloc: Global,
-    simulation: &mut Sim,
-    begun: &mut Option<OpenSegment>,
-) -> Result<(), AllocError>
-    requires { Stands begun.old simulation.old }
-    ensures room { OnOk result (HasRoom begun.new) }
-    ensures seen { opened_by begun.new simulation.old ≡ opened_by begun.old simulation.old }
-    ensures stands { Stands begun.new simulation.old }
-    ensures same { simulation.new ≡ simulation.old }
-{
-    if let Some(begun) = begun {
-        return begun.make_room();
-    }
-    *begun = Some(OpenSegment::begin(alloc, simulation)?);
-    Ok(())
-}
-
-/// The run took the event of a choice, which was one of several or not, in an open segment that is begun.
-pub fn note(begun: &mut Option<OpenSegment>, choice: u32, several: bool)
-    requires { HasRoom begun.old }
-    ensures { begun.new ≡ option_map (λ b. with_choice b choice several) begun.old }
-{
-    if let Some(begun) = begun {
-        begun.note(choice, several);
-    }
-}
-
-/// Closes an open segment that is begun, where a simulation has nothing left to do in the time slot. It gets the next number.
-pub fn close(begun: &mut Option<OpenSegment>, closed: &mut KeptSegments, simulation: &Sim)
-    requires begun { IsSome begun.old }
-    requires stands { Stands begun.old simulation.now }
-    requires over { is_over simulation.now ≡ true }
-    requires limit { closed.old.count + 1 < 2 ^ 64 }
-    ensures begun { begun.new ≡ None }
-    ensures closed { closed.new ≡ with_closed closed.old (opened_by begun.old simulation.now) }
-{
-    let number = closed.count() + 1;
-    if let Some(begun) = begun.take() {
-        closed.push(begun.close(number));
+    /// Closes it, if it is begun, where a simulation has nothing left to do in the time slot. It gets the next number.
+    pub fn close(&mut self, closed: &mut KeptSegments, simulation: &Sim)
+        requires begun { IsSome self.old }
+        requires stands { Stands self.old simulation.now }
+        requires over { is_over simulation.now ≡ true }
+        requires limit { closed.old.count + 1 < 2 ^ 64 }
+        ensures begun { self.new ≡ None }
+        ensures closed { closed.new ≡ with_closed closed.old (opened_by self.old simulation.now) }
+    {
+        let number = closed.count() + 1;
+        let forced = self.sources.len() as u64;
+        if let Some(start) = self.start.take() {
+            closed.push(Segment::new(number, start, forced, self.choice.take()));
+        }
     }
 }

@@ -7,7 +7,7 @@ ghost use Rattle.vp_race.specs.Recording.{first_segments, kept_of, next_job, wit
 
 use crate::follow::is_over;
 use crate::kept::KeptSegments;
-use crate::open_segment::{OpenSegment, close, make_ready, note};
+use crate::open_segment::OpenSegment;
 use crate::segment::Segment;
 use std::alloc::Global;
 use std::marker::Model;
@@ -20,10 +20,9 @@ use vp_sim::{Change, Checked, Sim, SimError};
 /// segments.
 #[derive(Drop)]
 pub struct Recording {
-    alloc: Global,
     simulation: Sim,
-    /// The open segment, if the run took a step in it. So puts alone keep nothing.
-    begun: Option<OpenSegment>,
+    /// Puts alone keep nothing: it begins with a step.
+    begun: OpenSegment,
     closed: KeptSegments,
     /// The number of the segment that was handed out last; 0 before the first.
     last_job: u64,
@@ -57,9 +56,8 @@ impl Recording {
         let closed = KeptSegments::new(alloc)?;
         let simulation = Sim::new(alloc, checked)?;
         Ok(Recording {
-            alloc,
             simulation,
-            begun: None,
+            begun: OpenSegment::new(alloc),
             closed,
             last_job: 0,
         })
@@ -93,16 +91,16 @@ impl Recording {
             (refusal_in (step self.old.simulation k))) }
         ensures unchanged { OnErr result (self.new ≡ self.old) }
     {
-        if make_ready(self.alloc, &mut self.simulation, &mut self.begun).is_err() {
+        if self.begun.make_ready(&mut self.simulation).is_err() {
             // The simulation's own refusal comes before out of memory.
             self.simulation.check_step(k as usize)?;
             return Err(SimError::NoMemory);
         }
-        let several = self.simulation.eligible() > 1;
+        let source = self.simulation.source(k as usize);
         let change = self.simulation.step(k as usize)?;
-        note(&mut self.begun, k, several);
+        self.begun.note(k, source);
         if is_over(&self.simulation) {
-            close(&mut self.begun, &mut self.closed, &self.simulation);
+            self.begun.close(&mut self.closed, &self.simulation);
         }
         Ok(change)
     }
@@ -118,7 +116,7 @@ impl Recording {
         ensures unchanged { OnErr result (self.new ≡ self.old) }
     {
         self.simulation.advance()?;
-        self.begun = None;
+        self.begun.clear();
         Ok(())
     }
 
@@ -134,7 +132,7 @@ impl Recording {
         ensures unchanged { OnErr result (self.new ≡ self.old) }
     {
         let change = self.simulation.put(object, value)?;
-        self.begun = None;
+        self.begun.clear();
         Ok(change)
     }
 

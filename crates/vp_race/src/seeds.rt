@@ -2,16 +2,18 @@ ghost use Rattle.std.specs.Prelude.{◌≡◌, ◌++◌, length, IfOk, OnOk, IsO
 ghost use Rattle.std.specs.Arc.{arc_value};
 ghost use Rattle.std.specs.List.{All};
 ghost use Rattle.vp_race.specs.declared.error.RaceError.TheVariants.{NoMemory};
+ghost use Rattle.vp_race.specs.Recording.{IsFirstOf};
 ghost use Rattle.vp_race.specs.Search.{IsRunOf, found, found_by, tried};
 
 use crate::error::RaceError;
 use crate::finding::Finding;
 use crate::findings::Findings;
+use crate::first_choice::FirstChoice;
 use crate::follow::{Order, run_order};
 use crate::gate::Gate;
 use crate::pair::OrderPair;
 use crate::segment::Segment;
-use crate::trial::try_into;
+use crate::trial::try_order;
 use std::alloc::Global;
 use std::sync::Arc;
 use vp_sim::Sim;
@@ -21,6 +23,7 @@ use vp_sim::Sim;
 fn try_seed(
     alloc: Global,
     segment: &Arc<Segment>,
+    choice: &FirstChoice,
     run: &Arc<Order>,
     first: &Sim,
     simulation: &mut Sim,
@@ -28,9 +31,10 @@ fn try_seed(
     seed: u64,
     findings: &mut Findings,
 ) -> Result<(), RaceError>
+    requires choice { IsFirstOf (arc_value segment.now) choice.now }
     requires run { let order = arc_value run.now in
         IsRunOf (arc_value segment.now) order.choices.items order.sources.items first.now }
-    requires design { simulation.old.design ≡ (arc_value segment.now).start.design }
+    requires design { simulation.old.design ≡ choice.now.state.design }
     requires objects { findings.old.objects ≡ length first.now.design.tree.nodes }
     ensures found { OnOk result (findings.new.findings ≡ findings.old.findings
         ++ found_by (arc_value segment.now) first.now findings.old.findings
@@ -39,17 +43,10 @@ fn try_seed(
     ensures design { simulation.new.design ≡ simulation.old.design }
     ensures memory { IsOkUnless result NoMemory }
 {
-    let _order = segment.order();
-    if simulation.restore(segment.start()).is_err() {
-        return Err(RaceError::NoMemory);
-    }
-    let mut order = Order {
-        choices: Vec::new(alloc),
-        sources: Vec::new(alloc),
-    };
-    if !try_into(simulation, &mut order, limit, seed)? {
+    let _number = segment.number();
+    let Some(order) = try_order(alloc, choice, simulation, limit, seed)? else {
         return Ok(());
-    }
+    };
     let orders = OrderPair {
         segment: Arc::try_clone(segment)?,
         first: Arc::try_clone(run)?,
@@ -62,6 +59,7 @@ fn try_seed(
 fn search_by<G: Gate>(
     alloc: Global,
     segment: &Arc<Segment>,
+    choice: &FirstChoice,
     run: &Arc<Order>,
     first: &Sim,
     simulation: &mut Sim,
@@ -69,9 +67,10 @@ fn search_by<G: Gate>(
     limit: u64,
     gate: &G,
 ) -> Result<Vec<Finding>, RaceError>
+    requires choice { IsFirstOf (arc_value segment.now) choice.now }
     requires run { let order = arc_value run.now in
         IsRunOf (arc_value segment.now) order.choices.items order.sources.items first.now }
-    requires design { simulation.old.design ≡ (arc_value segment.now).start.design }
+    requires design { simulation.old.design ≡ choice.now.state.design }
     ensures found { G.stays_open gate.now → IfOk result (λ findings. findings.items
         ≡ found (arc_value segment.now) limit seeds) }
     ensures segment { IfOk result (λ findings. All (λ f. f.segment ≡ arc_value segment.now)
@@ -87,6 +86,7 @@ fn search_by<G: Gate>(
         try_seed(
             alloc,
             segment,
+            choice,
             run,
             first,
             simulation,
@@ -99,29 +99,32 @@ fn search_by<G: Gate>(
     Ok(findings.into_vec())
 }
 
-/// The same as `search`, by a simulation that stands at the segment's start.
-fn search_beside<G: Gate>(
+/// The same as `search`, from the segment's first choice, at which a simulation stands.
+fn search_from<G: Gate>(
     alloc: Global,
     segment: &Arc<Segment>,
+    choice: &FirstChoice,
     first: &mut Sim,
     seeds: u64,
     limit: u64,
     gate: &G,
 ) -> Result<Vec<Finding>, RaceError>
-    requires { first.old ≡ (arc_value segment.now).start }
+    requires choice { IsFirstOf (arc_value segment.now) choice.now }
+    requires stands { first.old ≡ choice.now.state }
     ensures found { G.stays_open gate.now → IfOk result (λ findings. findings.items
         ≡ found (arc_value segment.now) limit seeds) }
     ensures segment { IfOk result (λ findings. All (λ f. f.segment ≡ arc_value segment.now)
         findings.items) }
     ensures memory { IsOkUnless result NoMemory }
 {
-    let run = Arc::new(alloc, run_order(alloc, segment, first)?)?;
-    let Ok(mut simulation) = Sim::of_kept(segment.start()) else {
+    let run = Arc::new(alloc, run_order(alloc, choice, first)?)?;
+    let Ok(mut simulation) = Sim::of_kept(choice.state()) else {
         return Err(RaceError::NoMemory);
     };
     search_by(
         alloc,
         segment,
+        choice,
         &run,
         first,
         &mut simulation,
@@ -147,12 +150,12 @@ pub fn search<G: Gate>(
         findings.items) }
     ensures memory { IsOkUnless result NoMemory }
 {
-    if !segment.has_choice() {
+    let Some(choice) = segment.first_choice() else {
         gate.turn();
         return Ok(Vec::new(alloc));
-    }
-    let Ok(mut first) = Sim::of_kept(segment.start()) else {
+    };
+    let Ok(mut first) = Sim::of_kept(choice.state()) else {
         return Err(RaceError::NoMemory);
     };
-    search_beside(alloc, segment, &mut first, seeds, limit, gate)
+    search_from(alloc, segment, choice, &mut first, seeds, limit, gate)
 }

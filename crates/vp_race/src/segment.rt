@@ -1,84 +1,86 @@
-ghost use Rattle.std.specs.Prelude.{◌≡◌, ℕ, [], false, IfOk};
-ghost use Rattle.std.specs.Arc.{arc_value};
-ghost use Rattle.vp_race.specs.Orders.{HasEnd, IsRun, has_choice};
+ghost use Rattle.std.specs.Prelude.{◌≡◌, ℕ, [], false, replicate, IfNone, IfOk, IfSome};
+ghost use Rattle.vp_race.specs.Orders.{HasEnd, has_choice};
+ghost use Rattle.vp_race.specs.Recording.{IsClosed, IsFirstOf, order_from};
 ghost use Rattle.vp_race.specs.Same.{same_run};
 ghost use Rattle.vp_race.specs.Search.{found};
 
+use crate::first_choice::FirstChoice;
+use crate::start::Start;
 use std::alloc::{AllocError, Global};
 use std::marker::Model;
-use std::sync::Arc;
-use vp_sim::SimCheckpoint;
 
 /// A segment of a run: what it did in a time slot, from the slot's beginning or from a put on, to the step after which nothing was left to do. A
-/// contract sees its number, the state with which it began, and the order that the run took; the order is one from that state.
+/// contract sees its number, the state with which it began, and the order that the run took; the order is one from that state. Until the run
+/// has a choice there is nothing to keep of it but how many steps it took.
 #[derive(Drop)]
 pub struct Segment {
     number: u64,
-    start: Arc<SimCheckpoint>,
-    order: Vec<u32>,
-    /// At one of its steps another event could have been taken.
-    several: bool,
+    start: Start,
+    /// How many steps the run took, if it never had a choice.
+    forced: u64,
+    choice: Option<FirstChoice>,
 }
 
 impl Model for Segment {
-    ghost use Rattle.std.specs.Arc.{arc_value};
-    ghost use Rattle.vp_race.specs.Orders.{IsRun};
+    ghost use Rattle.vp_race.specs.Recording.{IsClosed, order_from};
     ghost use Rattle.vp_race.specs.Segments.{Run};
 
     ghost Value = { Run };
 
     ghost view = { λ s. record {
       number = s.number;
-      start = arc_value s.start;
-      order = s.order.items;
+      start = s.start;
+      order = order_from s.forced s.choice;
     } };
 
-    ghost invariant = { λ s. IsRun (arc_value s.start) s.order.items s.several };
+    ghost invariant = { λ s. IsClosed s.start s.forced s.choice };
 }
 
 impl Segment {
-    /// The segment of a number, which began with a kept simulation; the run took this order from there, and had a choice or none there.
-    pub fn new(number: u64, start: Arc<SimCheckpoint>, order: Vec<u32>, several: bool) -> Segment
-        requires { IsRun (arc_value start) order.items several }
+    /// The segment of a number, which began in this state: the run had this first choice, or none in so many steps.
+    pub(crate) fn new(
+        number: u64,
+        start: Start,
+        forced: u64,
+        choice: Option<FirstChoice>,
+    ) -> Segment
+        requires { IsClosed start forced choice }
         ensures { result ≡ record {
           number = number;
-          start = arc_value start;
-          order = order.items;
+          start = start;
+          order = order_from forced choice;
         } }
     {
         Segment {
             number,
             start,
-            order,
-            several,
+            forced,
+            choice,
         }
     }
 
-    /// The same segment again, which shares its start. Takes memory for its order.
+    /// The same segment again, which shares its states. Takes memory for its choices.
     pub fn try_clone(&self, alloc: Global) -> Result<Segment, AllocError>
         ensures { IfOk result (λ s. s ≡ self.now) }
     {
-        let order = Vec::from_slice(alloc, self.order.as_slice())?;
+        let choice = match &self.choice {
+            Some(choice) => Some(choice.try_clone(alloc)?),
+            None => None,
+        };
         Ok(Segment {
             number: self.number,
-            start: Arc::try_clone(&self.start)?,
-            order,
-            several: self.several,
+            start: self.start.try_clone()?,
+            forced: self.forced,
+            choice,
         })
     }
 
     /// Its number.
     pub fn number(&self) -> u64
-        ensures { result ≡ self.now.number }
+        ensures number { result ≡ self.now.number }
+        ensures end { HasEnd self.now.start self.now.order }
     {
         self.number
-    }
-
-    /// The simulation with which it began.
-    pub fn start(&self) -> &SimCheckpoint
-        ensures { result.now ≡ self.now.start }
-    {
-        &self.start
     }
 
     /// The time of its slot, in time units.
@@ -88,23 +90,47 @@ impl Segment {
         self.start.time()
     }
 
-    /// The order that the run took.
-    pub fn order(&self) -> &[u32]
-        ensures order { result.now ≡ self.now.order }
-        ensures end { HasEnd self.now.start self.now.order }
+    /// The order that the run took. Takes memory for it.
+    pub fn order(&self, alloc: Global) -> Result<Vec<u32>, AllocError>
+        ensures { IfOk result (λ choices. choices.items ≡ self.now.order) }
     {
-        self.order.as_slice()
+        match &self.choice {
+            Some(choice) => choice.whole_order(alloc),
+            None => vec![in alloc; 0u32; self.forced as usize],
+        }
     }
 
-    /// Two segments of one design are the same. It takes time for each object and each event of their starts, and for each choice.
+    /// How many steps the run took, if it never had a choice.
+    pub(crate) fn forced(&self) -> u64
+        ensures { has_choice self.now.start self.now.order ≡ false
+            → self.now.order ≡ replicate result 0 }
+    {
+        self.forced
+    }
+
+    /// Where the run first could have taken another event, if ever.
+    pub(crate) fn first_choice(&self) -> Option<&FirstChoice>
+        ensures first { IfSome result (λ c. IsFirstOf self.now c.now) }
+        ensures none { IfNone result (has_choice self.now.start self.now.order ≡ false) }
+        ensures alone { IfNone result ((limit seeds : ℕ) → found self.now limit seeds ≡ []) }
+    {
+        self.choice.as_ref()
+    }
+
+    /// Two segments of one design are the same. It takes time for each object and each event of their first choices, and for each choice.
     pub fn is_same(&self, other: &Segment) -> bool
         requires { self.now.start.design ≡ other.now.start.design }
         ensures { result ≡ same_run self.now other.now }
     {
-        if self.number != other.number || self.order.as_slice() != other.order.as_slice() {
+        if self.number != other.number {
             return false;
         }
-        self.start.is_same(&other.start)
+        match (&self.choice, &other.choice) {
+            (Some(choice), Some(beside)) => choice.is_same(beside),
+            (None, None) => self.forced == other.forced,
+            (Some(_), None) => false,
+            (None, Some(_)) => false,
+        }
     }
 
     /// At one of its steps another event could have been taken. Where there was none at any, no search finds a race in it.
@@ -112,6 +138,6 @@ impl Segment {
         ensures choice { result ≡ has_choice self.now.start self.now.order }
         ensures alone { result ≡ false → (limit seeds : ℕ) → found self.now limit seeds ≡ [] }
     {
-        self.several
+        self.choice.is_some()
     }
 }

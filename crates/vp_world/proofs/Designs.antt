@@ -86,7 +86,7 @@ fits_put policy old new (Some p) change goes fits =
 -- ---- the kept segment of a number
 
 -- what holds of all holds of the one that is found
-found : {X : Type 0} (P : X → Type 0) (test : X → Bool) (xs : List X) → All P xs → IfSome (find test xs) P
+pub found : {X : Type 0} (P : X → Type 0) (test : X → Bool) (xs : List X) → All P xs → IfSome (find test xs) P
 found P test [] all = tt
 found P test (x ∷ xs) all =
     let rest = found P test xs (All-tail P x xs all) in

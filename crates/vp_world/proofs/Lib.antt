@@ -12,5 +12,6 @@ pub mod Logs
 pub mod Outcomes
 pub mod Jobs
 pub mod Booking
+pub mod OfDesign
 pub mod Reached
 pub mod HiddenNames

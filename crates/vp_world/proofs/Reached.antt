@@ -20,7 +20,9 @@ use Rattle.vp_world.specs.Events.{IsWellFormed}
 use Rattle.vp_world.specs.History.{IsLegal, IsReached, after, asked_at, book_refusal, closed_at, granted_to, is_log_full, opened_by, refusal_after, refusal_of, refusal_of_booking, state_asked, state_after, stepped}
 use Rattle.vp_world.specs.Worlds.{Opening, State}
 use Rattle.vp_answer.specs.OpenSessions.{OpenSessionState, index_of}
+use Rattle.vp_race.proofs.Carrying.{carried}
 use Rattle.vp_world.proofs.Logs.{state_more}
+use Rattle.vp_world.proofs.OfDesign.{kept_of_design}
 
 -- ---- what books nothing
 
@@ -70,13 +72,13 @@ not_refused false (Some e) h = absurd (cc)
 -- a race stays reached
 stays : (opening : Opening) (log : List Entry) (e : Entry) (f : FindingState) → IsReached opening log f → IsReached opening (log ++ e ∷ []) f
 stays opening log e f r = record {
-  race = r.race;
   before = r.before;
   rest = r.rest ++ e ∷ [];
   cut = ap (λ (l : List Entry). l ++ e ∷ []) r.cut ∙ append_assoc r.before r.rest (e ∷ []);
   run = r.run;
   kept = r.kept;
   same = r.same;
+  race = r.race;
 }
 
 -- and so do all
@@ -111,13 +113,13 @@ after_event opening log e (event.Book f) formed none all =
     let s = state_after opening log in
     let there = kept_there (record { races = s.book; limit = opening.limits.book }) (kept_of s.segments f.segment.number) f (not_refused (is_log_full opening log) (book_refusal opening s f) none) in
     let new : IsReached opening (log ++ e ∷ []) f = record {
-      race = formed.1;
       before = log;
       rest = e ∷ [];
       cut = refl;
       run = there.0;
       kept = there.1;
       same = there.2;
+      race = carried there.0 f formed.1 (kept_of_design opening log f.segment.number there.0 there.1 ∙ sym formed.0) there.2;
     } in
     All-push (IsReached opening (log ++ e ∷ [])) s.book f (all_stay opening log e s.book all) new
 

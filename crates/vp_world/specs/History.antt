@@ -291,15 +291,16 @@ IsLegal opening before (e ∷ log) =
     IsWellFormed opening.design e.event × (refusal_after opening before e.event ≡ None)
     × (e ≡ entry_of opening (state_after opening before) e.event) × IsLegal opening (before ++ e ∷ []) log
 
--- a race that is booked in a log: a race of its segment, which was kept after the first entries of the log
+-- a race that is booked in a log: a race of a segment that was kept under its number after the first entries of the log, and is the same
+-- as its own
 pub record IsReached (opening : Opening) (log : List Entry) (f : FindingState) : Type 0 where
-  pub race : IsRaceOf f
   pub before : List Entry
   pub rest : List Entry
   pub cut : log ≡ before ++ rest
   pub run : Run
   pub kept : kept_of (state_after opening before).segments f.segment.number ≡ Some run
   pub same : same_run run f.segment ≡ true
+  pub race : IsRaceOf (record f { segment = run })
 
 -- a world that stands so has this log: its state is that which the log leads to, and the log is legal
 pub record Keeps (w : WorldState) (log : List Entry) : Type 0 where

@@ -16,7 +16,9 @@ use Rattle.vp_strata.specs.Queues.{Queue}
 use Rattle.vp_sim.specs.Waiting.{Waiting}
 use Rattle.vp_sim.specs.Waiting.TheVariants as wait
 use Rattle.vp_sim.specs.States.{State}
-use Rattle.vp_race.specs.Same.{same_bool, same_delayed, same_event, same_place, same_queue, same_run, same_state, same_timed, same_update, same_wait}
+use Rattle.vp_race.specs.Same.{same_bool, same_choice, same_delayed, same_event, same_object, same_place, same_queue, same_run, same_state, same_timed, same_update, same_wait}
+use Rattle.vp_elab.specs.declared.object.ObjectId.{ObjectId}
+use Rattle.vp_race.specs.Orders.{FirstChoice, first_choice}
 use Rattle.vp_race.specs.Segments.{Run}
 
 decides_as : {P Q : Type 0} (b : Bool) → (P → Q) → (Q → P) → Decides b P → Decides b Q
@@ -141,32 +143,35 @@ same_state_decides a b d =
     (pointwise_decides same_bits-Decides a.values b.values)) (pointwise_decides same_place_decides a.remaining b.remaining))
     (pointwise_decides same_wait_decides a.waiting b.waiting)) (same_queue_decides a.queue b.queue))
 
-run_of : (a b : Run) → ((a.number ≡ b.number) × (a.order ≡ b.order)) × (a.start ≡ b.start) → a ≡ b
-run_of a b h = ap (λ x. record a { number = x }) h.0.0 ∙ ap (λ x. record a { number = b.number; order = x }) h.0.1 ∙ ap (λ x. record b { start = x }) h.1
+pub same_object_decides : (a b : ObjectId) → Decides (same_object a b) (a ≡ b)
+same_object_decides a b = decides_as (a.0 == b.0) (λ h. ap (λ (n : ℕ). record { 0 = n }) h) (λ e. ap (λ (o : ObjectId). o.0) e) (Decides-eqb a.0 b.0)
 
--- two segments of one design are the same exactly where they are equal
-pub same_run_decides : (a b : Run) → a.start.design ≡ b.start.design → Decides (same_run a b) (a ≡ b)
+-- two first choices are of one design, if there are two
+abbrev pub OneDesign : Option FirstChoice → Option FirstChoice → Type 0
+OneDesign (Some a) (Some b) = a.state.design ≡ b.state.design
+OneDesign _ _ = Unit {0}
+
+choice_of : (a b : FirstChoice) → (a.sources ≡ b.sources) × (a.state ≡ b.state) → a ≡ b
+choice_of a b h = ap (λ x. record a { sources = x }) h.0 ∙ ap (λ x. record b { state = x }) h.1
+
+-- two first choices of one design are the same exactly where they are equal
+pub same_choice_decides : (a b : Option FirstChoice) → OneDesign a b → Decides (same_choice a b) (a ≡ b)
+same_choice_decides None None d = (λ e. refl, λ e. refl)
+same_choice_decides None (Some b) d = never (λ e. cc)
+same_choice_decides (Some a) None d = never (λ e. cc)
+same_choice_decides (Some a) (Some b) d =
+    decides_as (pointwise same_object a.sources b.sources && same_state a.state b.state) (λ h. ap Some (choice_of a b h))
+    (λ e. let same : a ≡ b = cc in (ap (λ (c : FirstChoice). c.sources) same, ap (λ (c : FirstChoice). c.state) same))
+    (Decides-and (pointwise same_object a.sources b.sources) (same_state a.state b.state)
+    (pointwise_decides same_object_decides a.sources b.sources) (same_state_decides a.state b.state d))
+
+-- two segments of one design are the same exactly where their numbers, their orders and their first choices are equal
+pub same_run_decides :
+    (a b : Run) → OneDesign (first_choice a.start a.order) (first_choice b.start b.order)
+    → Decides (same_run a b) (((a.number ≡ b.number) × (a.order ≡ b.order)) × (first_choice a.start a.order ≡ first_choice b.start b.order))
 same_run_decides a b d =
     let order = pointwise nat_eq a.order b.order in
-    decides_as (same_run a b) (run_of a b) (λ e. ((ap (λ (r : Run). r.number) e, ap (λ (r : Run). r.order) e), ap (λ (r : Run). r.start) e))
-    (Decides-and ((a.number == b.number) && order) (same_state a.start b.start)
-    (Decides-and (a.number == b.number) order (Decides-eqb a.number b.number) (pointwise_decides Decides-eqb a.order b.order)) (same_state_decides a.start b.start d))
-
--- ---- what was compared
-
-decided_by : (r s : Bool) → (r ≡ true → s ≡ true) → (s ≡ true → r ≡ true) → r ≡ s
-decided_by true s f g = sym (f refl)
-decided_by false true f g = g refl
-decided_by false false f g = refl
-
-joined : (a b c : Bool) → a ≡ true → b ≡ true → c ≡ ((a && b) && c)
-joined a b c h k = cc
-
--- segments of one number and order are the same where their starts are
-pub runs_same :
-    (a b : Run) (r : Bool) → a.start.design ≡ b.start.design → (a.number == b.number) ≡ true → pointwise nat_eq a.order b.order ≡ true
-    → (r ≡ true → a.start ≡ b.start) → (a.start ≡ b.start → r ≡ true) → r ≡ same_run a b
-runs_same a b r d number order same differs =
-    let states = same_state_decides a.start b.start d in
-    decided_by r (same_state a.start b.start) (λ h. states.1 (same h)) (λ h. differs (states.0 h))
-    ∙ joined (a.number == b.number) (pointwise nat_eq a.order b.order) (same_state a.start b.start) number order
+    let first = same_choice (first_choice a.start a.order) (first_choice b.start b.order) in
+    Decides-and ((a.number == b.number) && order) first
+    (Decides-and (a.number == b.number) order (Decides-eqb a.number b.number) (pointwise_decides Decides-eqb a.order b.order))
+    (same_choice_decides (first_choice a.start a.order) (first_choice b.start b.order) d)

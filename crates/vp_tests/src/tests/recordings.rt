@@ -67,7 +67,11 @@ pub fn race(alloc: Global) -> Option<Arc<Segment>> {
 /// The segment of the race has the number, the time and the choices that are expected.
 fn race_is(alloc: Global, number: u64, time: u64, order: &[u32]) -> Option<bool> {
     let segment = race(alloc)?;
-    let is_expected = (segment.number(), segment.time(), segment.order()) == (number, time, order);
+    let is_expected = (
+        segment.number(),
+        segment.time(),
+        segment.order(alloc).ok()?.as_slice(),
+    ) == (number, time, order);
     drop(segment);
     Some(is_expected)
 }

@@ -75,7 +75,11 @@ fn race(alloc: Global) -> Option<Arc<Segment>> {
 /// How that segment begins: its number, its time, and whether these are its choices, of which the first comes after the put.
 fn beginning_after_put(alloc: Global, order: &[u32]) -> Option<(u64, u64, bool)> {
     let segment = race(alloc)?;
-    let beginning = (segment.number(), segment.time(), segment.order() == order);
+    let beginning = (
+        segment.number(),
+        segment.time(),
+        segment.order(alloc).ok()?.as_slice() == order,
+    );
     drop(segment);
     Some(beginning)
 }

@@ -11,7 +11,7 @@ add_name-requires c =
     let f = c.args.finding in
     let keys = c.self.inside.names.keys in
     let number : c.number-number.result ≡ f.segment.number =
-    c.number-number.ensures ∙ ap (λ (r : Run). r.number) (c.segment.ensures.segment ∙ ap (λ (t : FindingState). t.segment) c.value-2.ensures) in
+    c.number-number.ensures.number ∙ ap (λ (r : Run). r.number) (c.segment.ensures.segment ∙ ap (λ (t : FindingState). t.segment) c.value-2.ensures) in
     let object : c.object-object.result ≡ f.object = c.object-object.ensures ∙ ap (λ (t : FindingState). t.object) c.value-3.ensures in
     ap (λ n. list_any (is_name n c.object-object.result.0) keys) number
     ∙ ap (λ (o : ObjectId). list_any (is_name f.segment.number o.0) keys) object

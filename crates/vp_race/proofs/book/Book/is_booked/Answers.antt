@@ -12,7 +12,7 @@ returns c =
     let races = c.self.inside.races.items in
     c.contains.ensures
     ∙ ap (λ ks. list_any (is_name c.number.result c.object.result.0) ks) c.self.invariant
-    ∙ ap (λ n. list_any (is_name n c.object.result.0) (map name_of races)) (c.number.ensures ∙ ap (λ (r : Run). r.number) c.segment.ensures.segment)
+    ∙ ap (λ n. list_any (is_name n c.object.result.0) (map name_of races)) (c.number.ensures.number ∙ ap (λ (r : Run). r.number) c.segment.ensures.segment)
     ∙ ap (λ (o : ObjectId). list_any (is_name f.segment.number o.0) (map name_of races)) c.object.ensures
     ∙ any_named f races
     ∙ ap (λ (b : BookState). is_booked b.races f) c.self.view_is

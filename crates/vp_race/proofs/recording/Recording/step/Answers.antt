@@ -1,20 +1,80 @@
-use Rattle.std.proofs.Common.{Option, ap, subst, sym}
-use Rattle.std.specs.Prelude.{nat_lt}
+use Rattle.std.proofs.Common.{◌≡◌, ◌∙◌, ◌++◌, ◌∷◌, [], ℕ, suc, true, false, if◌then◌else◌, Option, Result, Ok, Err, ap, subst, sym}
+use Rattle.std.specs.Prelude.{OnOk, is_err}
 use Rattle.vp_sim.specs.States.{State}
-use Rattle.vp_race.specs.Recording.{Begun, Stands}
-use Rattle.vp_race.proofs.Standing.{stands_more}
+use Rattle.vp_race.specs.Orders.{is_over}
+use Rattle.vp_race.specs.Recording.{Begun, HasRoom, IsKept, Opened, Recorded, Ring, Segments, Stands, closed_run, last_kept, opened_at, opened_by, with_step}
+use Rattle.vp_race.proofs.Standing.{opened_more, stands_more}
 use Rattle.vp_race.proofs.recording.Recording.step.Goals as goal
+use Rattle.vp_race.proofs.recording.Recording.step.Goals.{then-is_over, else-is_over}
+
+-- what holds of what is no error
+met : {X Y : Type 0} (P : Type 0) (r : Result X Y) → is_err r ≡ false → OnOk r P → P
+met P (Ok x) fine h = h
+met P (Err e) fine h = cc
 
 pub close-requires-clause-stands : goal.close-requires-clause-stands
 close-requires-clause-stands c =
     let s = c.make_ready.new.simulation in
-    let stands = subst (λ (x : State). Stands c.make_ready.new.begun x) (sym c.make_ready.ensures.same) c.make_ready.ensures.stands in
+    let begun = c.make_ready.new.self in
+    let stands = subst (λ (x : State). Stands begun x) (sym c.make_ready.ensures.same) c.make_ready.ensures.stands in
+    let kept = subst (λ (x : State). IsKept begun x) (sym c.make_ready.ensures.same) (met (IsKept begun c.self.inside.simulation) c.make_ready.result (sym c.is_err.ensures.value ∙ c.if-is_err.false) c.make_ready.ensures.kept) in
     subst (λ (b : Option Begun). Stands b c.step.new.self) (sym c.note.ensures)
-    (stands_more c.make_ready.new.begun s c.step.new.self c.args.k (nat_lt 1 c.eligible-several.result) c.in_ok-change.change stands (c.in_ok-change.ensures {u = tt}).ok (ap (nat_lt 1) c.eligible-several.ensures))
+    (stands_more begun s c.step.new.self c.args.k c.source-source.result c.in_ok-change.change stands kept (c.in_ok-change.ensures {u = tt}).ok c.source-source.ensures)
 
 pub invariant_of-self-else-is_over : goal.invariant_of-self-else-is_over
 invariant_of-self-else-is_over c =
     let s = c.make_ready.new.simulation in
-    let stands = subst (λ (x : State). Stands c.make_ready.new.begun x) (sym c.make_ready.ensures.same) c.make_ready.ensures.stands in
+    let begun = c.make_ready.new.self in
+    let stands = subst (λ (x : State). Stands begun x) (sym c.make_ready.ensures.same) c.make_ready.ensures.stands in
+    let kept = subst (λ (x : State). IsKept begun x) (sym c.make_ready.ensures.same) (met (IsKept begun c.self.inside.simulation) c.make_ready.result (sym c.is_err.ensures.value ∙ c.if-is_err.false) c.make_ready.ensures.kept) in
     subst (λ (b : Option Begun). Stands b c.step.new.self) (sym c.note.ensures)
-    (stands_more c.make_ready.new.begun s c.step.new.self c.args.k (nat_lt 1 c.eligible-several.result) c.in_ok-change.change stands (c.in_ok-change.ensures {u = tt}).ok (ap (nat_lt 1) c.eligible-several.ensures))
+    (stands_more begun s c.step.new.self c.args.k c.source-source.result c.in_ok-change.change stands kept (c.in_ok-change.ensures {u = tt}).ok c.source-source.ensures)
+
+-- an open segment after one choice more
+abbrev longer : Opened → ℕ → Opened
+longer o k = record { start = o.start; order = o.order ++ k ∷ [] }
+
+-- where something is left to do the open segment goes on
+goes : (r : Segments) (k : ℕ) (s : State) (o : Opened) → is_over s ≡ false → o ≡ longer r.opened k → record r { opened = o } ≡ with_step r k s
+goes r k s o left is =
+    ap (λ (x : Opened). record r { opened = x }) is
+    ∙ sym (ap (λ b. if b then record r { opened = opened_at s; count = suc r.count; kept = last_kept (r.kept ++ closed_run r k ∷ []) } else record r { opened = longer r.opened k }) left)
+
+-- and else it closes
+ends : (r : Segments) (k : ℕ) (s : State) (o : Opened) → is_over s ≡ true → o ≡ longer r.opened k
+    → record r { opened = opened_at s; count = suc r.count; kept = last_kept (r.kept ++ record { number = suc r.count; start = o.start; order = o.order } ∷ []) } ≡ with_step r k s
+ends r k s o over is =
+    ap (λ (x : Opened). record r { opened = opened_at s; count = suc r.count; kept = last_kept (r.kept ++ record { number = suc r.count; start = x.start; order = x.order } ∷ []) }) is
+    ∙ sym (ap (λ b. if b then record r { opened = opened_at s; count = suc r.count; kept = last_kept (r.kept ++ closed_run r k ∷ []) } else record r { opened = longer r.opened k }) over)
+
+seen : (r t : Recorded) (k : ℕ) (s u : State) (segments : Segments) → segments ≡ with_step r.segments k s → r ≡ t → s ≡ u → segments ≡ with_step t.segments k u
+seen r t k s u segments is same at = is ∙ ap (λ (x : Recorded). with_step x.segments k s) same ∙ ap (with_step t.segments k) at
+
+pub returns-clause-segments : goal.returns-clause-segments
+returns-clause-segments c =
+    let i = c.self.inside in
+    let k = c.args.k in
+    let s = c.make_ready.new.simulation in
+    let begun = c.make_ready.new.self in
+    let next = c.step.new.self in
+    let fine = sym c.is_err.ensures.value ∙ c.if-is_err.false in
+    let room = met (HasRoom begun) c.make_ready.result fine c.make_ready.ensures.room in
+    let kept = subst (λ (x : State). IsKept begun x) (sym c.make_ready.ensures.same) (met (IsKept begun i.simulation) c.make_ready.result fine c.make_ready.ensures.kept) in
+    let before = ap (opened_by begun) c.make_ready.ensures.same ∙ c.make_ready.ensures.seen in
+    let more : opened_by c.note.new.self next ≡ longer (opened_by i.begun i.simulation) k =
+    ap (λ (b : Option Begun). opened_by b next) c.note.ensures
+    ∙ opened_more begun s next k c.source-source.result c.in_ok-change.change room kept (c.in_ok-change.ensures {u = tt}).ok
+    ∙ ap (λ (o : Opened). longer o k) before in
+    let old : Recorded = record { simulation = i.simulation; segments = record { opened = opened_by i.begun i.simulation; count = i.closed.count; kept = i.closed.kept; last_job = i.last_job } } in
+    elim c.if-is_over.branch [
+      | then-is_over w ↦
+          ap (λ (r : Recorded). r.segments) w.self-is
+          ∙ ap (λ (b : Option Begun). record { opened = opened_by b next; count = w.close.new.closed.count; kept = w.close.new.closed.kept; last_job = i.last_job }) w.close.ensures.begun
+          ∙ ap (λ (r : Ring). record { opened = opened_at next; count = r.count; kept = r.kept; last_job = i.last_job }) w.close.ensures.closed
+          ∙ seen old c.args.self.now k next c.if-is_over.self.simulation _ (ends old.segments k next (opened_by c.note.new.self next) (sym c.is_over.ensures ∙ w.if-is_over.true) more) c.self.view_is
+          (sym (ap (λ (r : Recorded). r.simulation) w.self-is))
+      | else-is_over w ↦
+          ap (λ (r : Recorded). r.segments) w.self-is
+          ∙ seen old c.args.self.now k next c.if-is_over.self.simulation _ (goes old.segments k next (opened_by c.note.new.self next) (sym c.is_over.ensures ∙ w.if-is_over.false) more) c.self.view_is
+          (sym (ap (λ (r : Recorded). r.simulation) w.self-is))
+    ]

@@ -26,7 +26,7 @@ returns-in_err-add-clause-refused c =
     let e = c.in_err-add.field-0.0 in
     let there = option_copied c.kept-kept.result in
     let number : c.number.result ≡ f.segment.number =
-    c.number.ensures ∙ ap (λ (r : Run). r.number) (c.segment.ensures.segment ∙ ap (λ (t : FindingState). t.segment) c.value.ensures) in
+    c.number.ensures.number ∙ ap (λ (r : Run). r.number) (c.segment.ensures.segment ∙ ap (λ (t : FindingState). t.segment) c.value.ensures) in
     let kept : there ≡ kept_of inside.run.segments f.segment.number = c.kept-kept.ensures ∙ ap (λ (n : ℕ). kept_of inside.run.segments n) number in
     let told : Explains race_error.NoMemory (refusal_of_finding inside.book there f) e = search rules in
     let by_book = booking_explained inside.book there f e told in
