@@ -25,7 +25,7 @@ use vp_elab::{Design, ObjectId};
 use vp_expr::{Change, Checked, Values};
 use vp_policy::{Policy, PolicyError, UserId};
 use vp_pragma::Right;
-use vp_race::Finding;
+use vp_race::BookedFinding;
 use vp_replay::{AuditError, GrantItem, Item, OwnEvent};
 use vp_text::{Sequence, Shared};
 use vp_vpi::ShownRace;
@@ -45,7 +45,7 @@ pub struct LogReader<'a> {
     numbers: Vec<Option<u32>>,
     values: Vec<Bits>,
     /// The races that were booked.
-    book: Vec<Shared<Finding>>,
+    book: Vec<Shared<BookedFinding>>,
     /// In time units.
     time: u64,
     finished: bool,

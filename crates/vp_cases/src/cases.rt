@@ -1,3 +1,4 @@
+use crate::events::{answers, limits_of};
 use std::alloc::{AllocError, Global};
 use std::io;
 use std::io::BufRead;
@@ -6,6 +7,7 @@ use vp_script::{
     Audited, Ran, SEED_COUNT, ServeFault, audit_script, bundle_refused, run_bundle, run_script,
 };
 use vp_wire::Counted;
+use vp_world::Limits;
 
 /// The count and the text of a line that stands for so many copies of the text, after its mark.
 fn copies(line: &str) -> Option<(usize, &str)> {
@@ -84,6 +86,8 @@ pub struct Case {
     seeds: u64,
     /// The diagnostic of its fault is printed as well.
     diagnosed: bool,
+    /// Its third part are events of a world of these limits, and no script.
+    limits: Option<Limits>,
     pub wanted: String,
     in_bundle: bool,
 }
@@ -97,6 +101,7 @@ impl Case {
             audits: Vec::new(alloc),
             seeds: SEED_COUNT,
             diagnosed: false,
+            limits: None,
             wanted: String::new(alloc),
             in_bundle: true,
         })
@@ -114,6 +119,8 @@ impl Case {
             self.wanted.push('\n')?;
         } else if line == "%!" {
             self.diagnosed = true;
+        } else if let Some(words) = line.strip_prefix("%~") {
+            self.limits = Some(limits_of(words));
         } else if let Some(seeds) = line.strip_prefix("%= ") {
             self.seeds = seeds.parse().unwrap_or(SEED_COUNT);
         } else if let Some(user) = line.strip_prefix("%@ ") {
@@ -202,8 +209,23 @@ impl Case {
         }
     }
 
+    /// What its events are answered in a world of these limits.
+    fn happen(&self, alloc: Global, limits: Limits) -> Result<String, AllocError> {
+        let Some((design, policy, lines)) = parts(self.bundle.as_str()) else {
+            return fault_line(
+                alloc,
+                ServeFault::BadBundle.code(),
+                ServeFault::BadBundle.line(),
+            );
+        };
+        answers(alloc, design, policy, limits, lines)
+    }
+
     /// What the bundle prints, and after it the lines for each user who is audited.
     pub fn printed(&self, alloc: Global) -> Result<String, AllocError> {
+        if let Some(limits) = self.limits {
+            return self.happen(alloc, limits);
+        }
         let mut printed = self.run(alloc)?;
         for audits in &self.audits {
             let lines = self.audit(alloc, audits)?;

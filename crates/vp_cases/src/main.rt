@@ -3,11 +3,13 @@
 //! newline. A line `%* COUNT TEXT` of a bundle stands for so many copies of the text, and a newline; of a line `%+ COUNT TEXT` the
 //! next line goes on. For each line `%@ USER`, which is no line of the bundle, the user is audited by its script, and a line more is
 //! printed, which begins with his name; for each line `%? USER` what he was shown is explained as well, by lines after that. For a line `%!` the diagnostic of the bundle's fault is
-//! printed after the line of the fault. Then it runs designs and policies of files on the script of standard input, checks them, reports
+//! printed after the line of the fault. After a line `%~`, with limits as ` log=100`, the bundle's third part are events of a world, each answered
+//! by a line. Then it runs designs and policies of files on the script of standard input, checks them, reports
 //! what users see of them, and audits users. Last it reports the faults of a server whose replies and log do not agree.
 #![tactic(auto)]
 
 mod cases;
+mod events;
 mod vectors;
 
 use crate::cases::{Case, audit_lines, fault_line, read_cases};

@@ -24,5 +24,5 @@ bare = record {
     members = [];
     operator = None;
   };
-  limits = record { log = 0; book = 0; sessions = 0 };
+  limits = record { log = 0; book = record { races = 0; steps = 0 }; sessions = 0 };
 }

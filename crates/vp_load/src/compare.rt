@@ -1,6 +1,7 @@
 //! What was shown, beside the log.
-ghost use Rattle.std.specs.Prelude.{◌≡◌};
+ghost use Rattle.std.specs.Prelude.{◌≡◌, IfOk};
 ghost use Rattle.std.specs.Arc.{arc_value};
+ghost use Rattle.vp_world.specs.declared.event.Event.TheVariants as event;
 ghost use Rattle.vp_world.specs.Events.{IsWellFormed};
 ghost use Rattle.vp_load.specs.Logs.{AreWellFormed};
 
@@ -15,7 +16,8 @@ use std::alloc::Global;
 use std::sync::Arc;
 use vp_answer::{GrantChange, Reply, Request, SessionId};
 use vp_expr::Checked;
-use vp_text::Same;
+use vp_race::{BookedFinding, Finding, RaceError, check};
+use vp_text::{Same, Shared};
 use vp_wire::{reply_line, request};
 use vp_world::{Entry, Event, Limits, LoggedEvent, World};
 
@@ -56,14 +58,74 @@ fn check_time(world: &World, index: usize, entry: &Entry) -> Result<(), Differen
     }
 }
 
-/// Lets the event of the entry at an index of a log happen to a world, which is to answer it as the entry has it, and to come to the same time.
+/// A booked race, found again in a world by its order in the kept segment of its number; or why there is none.
+fn found_again(
+    alloc: Global,
+    world: &World,
+    booked: &BookedFinding,
+) -> Result<Shared<Finding>, RaceError>
+    ensures { IfOk result (λ f. IsWellFormed world.now.opening.design (event.Book f)) }
+{
+    let Some(segment) = world.kept(booked.number()) else {
+        return Err(RaceError::SegmentGone);
+    };
+    let segment = Arc::new(alloc, segment.try_clone(alloc)?)?;
+    let order = Vec::from_slice(alloc, booked.second())?;
+    let finding = check(alloc, &segment, order, booked.object())?;
+    let _race = finding.segment();
+    Ok(Shared::new(alloc, finding)?)
+}
+
+/// The event of the entry at an index of a log, for a world to which all that stands before it has happened.
+fn event_at(alloc: Global, world: &World, index: usize, entry: &Entry) -> Result<Event, Difference>
+    requires { IsWellFormed world.now.opening.design entry.now.event }
+    ensures { IfOk result (λ e. IsWellFormed world.now.opening.design e) }
+{
+    if let LoggedEvent::Book { finding } = &entry.happening {
+        return match found_again(alloc, world, finding.value()) {
+            Ok(finding) => Ok(Event::Book(finding)),
+            Err(error) => {
+                let code = error.code();
+                Err(Difference::Refusal { index, code })
+            }
+        };
+    }
+    match event_of(alloc, &entry.happening)? {
+        Some(event) => Ok(event),
+        None => Err(Difference::Race { index }),
+    }
+}
+
+/// What the book keeps of two findings is the same.
+fn are_alike(finding: &BookedFinding, other: &BookedFinding) -> bool {
+    finding.number() == other.number()
+        && finding.time() == other.time()
+        && finding.object() == other.object()
+        && finding.values() == other.values()
+        && finding.first_sources() == other.first_sources()
+        && finding.second_sources() == other.second_sources()
+}
+
+/// Where the entry at an index of a log booked a race, the last race in a world's book is that one.
+fn check_race(world: &World, index: usize, entry: &Entry) -> Result<(), Difference> {
+    let LoggedEvent::Book { finding } = &entry.happening else {
+        return Ok(());
+    };
+    match world.book().last() {
+        Some(own) if are_alike(own.value(), finding.value()) => Ok(()),
+        _ => Err(Difference::Race { index }),
+    }
+}
+
+/// Lets the event of the entry at an index of a log happen to a world, which is to answer it as the entry has it, and to come to the same.
 fn repeat(alloc: Global, world: &mut World, index: usize, entry: &Entry) -> Result<(), Difference>
     requires { IsWellFormed world.old.opening.design entry.now.event }
     ensures { world.new.opening ≡ world.old.opening }
 {
-    let event = event_of(alloc, &entry.happening)?;
+    let event = event_at(alloc, world, index, entry)?;
     let reply = answer(world, index, event)?;
     check_reply(alloc, &reply, index, entry)?;
+    check_race(world, index, entry)?;
     check_time(world, index, entry)
 }
 

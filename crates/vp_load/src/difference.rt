@@ -27,6 +27,8 @@ pub enum Difference {
     Refusal { index: usize, code: u32 },
     #[error("entry {index}: a fresh world answers it otherwise")]
     Reply { index: usize },
+    #[error("entry {index}: a fresh world books another race")]
+    Race { index: usize },
     #[error("entry {index}: the time or the finish behind it is another in a fresh world")]
     Time { index: usize },
     #[error("entry {index}: its session is of no client")]

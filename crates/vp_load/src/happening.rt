@@ -1,5 +1,5 @@
 //! The event of an entry of a log, and the line of its reply.
-ghost use Rattle.std.specs.Prelude.{◌≡◌, IfOk};
+ghost use Rattle.std.specs.Prelude.{◌≡◌, IfOk, IfSome};
 ghost use Rattle.vp_wire.specs.Lines as lines;
 ghost use Rattle.vp_world.specs.Entries.{event_in, reply_in};
 
@@ -9,11 +9,11 @@ use vp_text::Text;
 use vp_wire::{WireError, reply_line};
 use vp_world::{Event, LoggedEvent};
 
-/// The event of what happened. Takes memory.
-pub fn event_of(alloc: Global, happening: &LoggedEvent) -> Result<Event, AllocError>
-    ensures { IfOk result (λ e. e ≡ event_in happening.now) }
+/// The event of what happened; none for a booking, whose finding is found again in a world. Takes memory.
+pub fn event_of(alloc: Global, happening: &LoggedEvent) -> Result<Option<Event>, AllocError>
+    ensures { IfOk result (λ event. IfSome event (λ e. e ≡ event_in happening.now)) }
 {
-    Ok(match happening {
+    Ok(Some(match happening {
         LoggedEvent::Open { login, .. } => Event::Open {
             user: Text::copy(alloc, login.user.as_str())?,
             token: Text::copy(alloc, login.token.as_str())?,
@@ -27,8 +27,8 @@ pub fn event_of(alloc: Global, happening: &LoggedEvent) -> Result<Event, AllocEr
         LoggedEvent::Step { k } | LoggedEvent::StepWithChange { k, .. } => Event::Step(*k),
         LoggedEvent::Advance => Event::Advance,
         LoggedEvent::TakeJob { .. } => Event::TakeJob,
-        LoggedEvent::Book { finding } => Event::Book(finding.try_clone()?),
-    })
+        LoggedEvent::Book { .. } => return Ok(None),
+    }))
 }
 
 /// The reply to what happened.

@@ -12,3 +12,4 @@ pub mod Found
 pub mod Numbering
 pub mod Standing
 pub mod Naming
+pub mod Crossing

@@ -3,7 +3,7 @@ ghost use Rattle.vp_race.specs.Segments.{choices_refusal};
 ghost use Rattle.vp_text.specs.Refusals.{MayExplain};
 ghost use Rattle.vp_race.specs.declared.error.RaceError.TheVariants.{NoMemory};
 ghost use Rattle.vp_race.specs.Orders.{HasEnd, after_choices, is_over, is_signal, reached, sources_of};
-ghost use Rattle.vp_sim.specs.States.{step};
+ghost use Rattle.vp_sim.specs.States.{source_of, step};
 
 use crate::error::RaceError;
 use crate::first_choice::FirstChoice;
@@ -35,14 +35,15 @@ pub fn is_signal(simulation: &Sim, object: ObjectId) -> bool
     }
 }
 
-/// Takes the event of a choice. Refused where the choice is no step's (1201), or out of memory (1207).
-fn take(simulation: &mut Sim, choice: u32) -> Result<(), RaceError>
+/// Takes the event of a choice, and reports whose it is. Refused where the choice is no step's (1201), or out of memory (1207).
+fn take(simulation: &mut Sim, choice: u32) -> Result<ObjectId, RaceError>
     ensures ok { OnOk result (reached (step simulation.old choice) ≡ Some simulation.new) }
+    ensures source { IfOk result (λ source. source ≡ source_of simulation.old choice) }
     ensures refused { IfErr result (MayExplain NoMemory
         (choices_refusal (reached (step simulation.old choice)))) }
 {
     match simulation.step(choice as usize) {
-        Ok(_) => Ok(()),
+        Ok(stepped) => Ok(stepped.source),
         Err(SimError::NoMemory) => Err(RaceError::NoMemory),
         Err(_) => Err(RaceError::NotAnOrder),
     }
@@ -62,8 +63,8 @@ pub fn follow(
         (choices_refusal (after_choices simulation.old choices.now))) }
 {
     for choice in choices {
-        sources.push(simulation.source(*choice as usize))?;
-        take(simulation, *choice)?;
+        let source = take(simulation, *choice)?;
+        sources.push(source)?;
     }
     Ok(())
 }

@@ -5,6 +5,8 @@
 #![tactic(auto)]
 
 mod book;
+mod book_limits;
+mod booked_finding;
 mod comparison;
 mod error;
 mod finding;
@@ -22,6 +24,8 @@ mod start;
 mod trial;
 
 pub use book::Book;
+pub use book_limits::BookLimits;
+pub use booked_finding::BookedFinding;
 pub use comparison::check;
 pub use error::RaceError;
 pub use finding::Finding;

@@ -1,4 +1,5 @@
 ghost use Rattle.std.specs.Prelude.{◌≡◌, IfOk};
+ghost use Rattle.std.specs.Arc.{arc_value};
 ghost use Rattle.vp_race.specs.Orders.{HasEnd, sources_of};
 
 use crate::follow::Order;
@@ -60,6 +61,23 @@ impl OrderPair {
         ensures end { HasEnd self.now.segment.start self.now.second }
     {
         self.second.choices.as_slice()
+    }
+
+    /// The run's order for one holder more; or an error where they can't be counted.
+    pub fn first_order(&self) -> Result<Arc<Order>, AllocError>
+        ensures { IfOk result (λ order. (arc_value order).sources.items
+            ≡ sources_of self.now.segment.start self.now.segment.order) }
+    {
+        Ok(Arc::try_clone(&self.first)?)
+    }
+
+    /// The same of the order beside it.
+    pub fn second_order(&self) -> Result<Arc<Order>, AllocError>
+        ensures choices { IfOk result (λ order. (arc_value order).choices.items ≡ self.now.second) }
+        ensures sources { IfOk result (λ order. (arc_value order).sources.items
+            ≡ sources_of self.now.segment.start self.now.second) }
+    {
+        Ok(Arc::try_clone(&self.second)?)
     }
 
     /// The objects of the processes whose events the run took, in order; of a connection its port.

@@ -96,13 +96,12 @@ impl Recording {
             self.simulation.check_step(k as usize)?;
             return Err(SimError::NoMemory);
         }
-        let source = self.simulation.source(k as usize);
-        let change = self.simulation.step(k as usize)?;
-        self.begun.note(k, source);
+        let stepped = self.simulation.step(k as usize)?;
+        self.begun.note(k, stepped.source);
         if is_over(&self.simulation) {
             self.begun.close(&mut self.closed, &self.simulation);
         }
-        Ok(change)
+        Ok(stepped.change)
     }
 
     /// Goes on to the time of the next future event, where a segment begins. Refused where `$finish` was executed (804), where something is left

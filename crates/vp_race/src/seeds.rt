@@ -118,7 +118,11 @@ fn search_from<G: Gate>(
     ensures memory { IsOkUnless result NoMemory }
 {
     let run = Arc::new(alloc, run_order(alloc, choice, first)?)?;
-    let Ok(mut simulation) = Sim::of_kept(choice.state()) else {
+    let Ok(end) = first.checkpoint() else {
+        return Err(RaceError::NoMemory);
+    };
+    // Made after the run's order, when most processes wait: so they are listeners in their order, and not as each order comes to them.
+    let Ok(mut simulation) = Sim::of_kept(&end) else {
         return Err(RaceError::NoMemory);
     };
     search_by(

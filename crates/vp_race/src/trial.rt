@@ -48,13 +48,14 @@ fn take_into(simulation: &mut Sim, order: &mut Order, choice: u32) -> Result<boo
     ensures design { simulation.new.design ≡ simulation.old.design }
     ensures memory { IsOkUnless result NoMemory }
 {
-    order.sources.push(simulation.source(choice as usize))?;
+    let source = match simulation.step(choice as usize) {
+        Ok(stepped) => stepped.source,
+        Err(SimError::NoMemory) => return Err(RaceError::NoMemory),
+        Err(_) => return Ok(false),
+    };
+    order.sources.push(source)?;
     order.choices.push(choice)?;
-    match simulation.step(choice as usize) {
-        Ok(_) => Ok(true),
-        Err(SimError::NoMemory) => Err(RaceError::NoMemory),
-        Err(_) => Ok(false),
-    }
+    Ok(true)
 }
 
 /// The number so many turns after one.

@@ -16,7 +16,7 @@ use Rattle.vp_world.specs.declared.error.WorldError.{WorldError}
 use Rattle.vp_world.specs.declared.error.WorldError.TheVariants as error
 use Rattle.vp_world.specs.History.{is_log_full, refusal_of, refusal_of_job, refused_by, state_after, with_entry}
 use Rattle.vp_world.specs.Worlds.{WorldLog, Opening, State}
-use Rattle.vp_script.specs.Pending.{ArePending, HappensTo, pending}
+use Rattle.vp_script.specs.Pending.{ArePending, HappensTo, pending, running_of}
 use Rattle.vp_script.specs.Scripts.{Happen, Running, Runs, next_event, next_event_by, searched, step_limit, turned, turned_by, with_event_if}
 
 -- an event of the simulation that is accepted finds the log not full
@@ -248,10 +248,11 @@ nothing_pending design segment fs none nothing =
     subst (λ (o : Option Run). ArePending design o fs) (sym none)
     (subst (λ (gs : List FindingState). All (λ (f : FindingState). f.segment.start.design ≡ design) gs) (sym nothing) (λ k f within. absurd (omega (arith, within))))
 
--- all races are booked
+-- one thing after another happens, after which all races are booked
 pub all_booked :
-    (seeds : ℕ) (r : Running) (w : WorldLog) (segment : Option Run) (fs : List FindingState)
-    → HappensTo r (record { world = w; found = pending seeds segment fs; seeds = seeds }) → segment ≡ None → fs ≡ []
+    (seeds : ℕ) (r q : Running) (w : WorldLog) (segment : Option Run) (fs : List FindingState)
+    → HappensTo r q → HappensTo q (running_of seeds w segment fs) → segment ≡ None → fs ≡ []
     → HappensTo r (record { world = w; found = []; seeds = seeds })
-all_booked seeds r w segment fs h none nothing =
-    subst (λ (gs : List FindingState). HappensTo r (record { world = w; found = gs; seeds = seeds })) (none_pending seeds segment fs none nothing) h
+all_booked seeds r q w segment fs first last none nothing =
+    subst (λ (gs : List FindingState). HappensTo r (record { world = w; found = gs; seeds = seeds })) (none_pending seeds segment fs none nothing)
+    (happens_then r q (running_of seeds w segment fs) first last)

@@ -6,6 +6,7 @@ use Rattle.vp_race.specs.Segments.{FindingState, Run}
 use Rattle.vp_answer.specs.declared.reply.Refusal.TheVariants as refusal
 use Rattle.vp_answer.specs.declared.reply.Reply.{Reply}
 use Rattle.vp_answer.specs.declared.reply.Reply.TheVariants as reply
+use Rattle.vp_world.specs.Worlds.{WorldLog}
 use Rattle.vp_script.specs.Scripts.{Happen, Running, step_limit}
 
 -- a reply is that there is no memory
@@ -17,6 +18,10 @@ is_no_memory answer = false
 abbrev pub pending : (seeds : ℕ) → Option Run → List FindingState → List FindingState
 pending seeds None findings = findings
 pending seeds (Some segment) findings = found segment step_limit seeds
+
+-- a world that runs, with the races that are still to be booked
+abbrev pub running_of : (seeds : ℕ) → WorldLog → Option Run → List FindingState → Running
+running_of seeds world segment findings = record { world = world; found = pending seeds segment findings; seeds = seeds }
 
 -- they are of a design; and while a segment is still to be searched nothing else is to be booked
 abbrev pub ArePending : Elaborated → Option Run → List FindingState → Type 0

@@ -8,7 +8,7 @@ ghost use Rattle.vp_world.specs.Events.{IsWellFormed};
 ghost use Rattle.vp_world.specs.History.{Applies, IsLegal, refused_by, with_entry};
 ghost use Rattle.vp_world.specs.declared.error.WorldError.TheVariants.{NoMemory};
 ghost use Rattle.vp_world.specs.declared.event.Event.TheVariants as event;
-ghost use Rattle.vp_script.specs.Pending.{ArePending, HappensTo, is_no_memory, pending};
+ghost use Rattle.vp_script.specs.Pending.{ArePending, HappensTo, is_no_memory, pending, running_of};
 ghost use Rattle.vp_script.specs.Scripts.{Applied, Runs, next_event, searched, step_limit, turned, with_event_if, with_world};
 
 use std::alloc::{AllocError, Global};
@@ -165,15 +165,9 @@ fn book_pending(
 ) -> Result<(), AllocError>
     requires { ArePending world.old.opening.design (option_map arc_value segment.old)
         findings.old.items }
-    ensures happened { HappensTo (record {
-      world = world.old;
-      found = pending seeds (option_map arc_value segment.old) findings.old.items;
-      seeds = seeds;
-    }) (record {
-      world = world.new;
-      found = pending seeds (option_map arc_value segment.new) findings.new.items;
-      seeds = seeds;
-    }) }
+    ensures happened { HappensTo
+        (running_of seeds world.old (option_map arc_value segment.old) findings.old.items)
+        (running_of seeds world.new (option_map arc_value segment.new) findings.new.items) }
     ensures all { OnOk result ((segment.new ≡ None) × (findings.new.items ≡ [])) }
     ensures pending { ArePending world.new.opening.design (option_map arc_value segment.new)
         findings.new.items }
@@ -218,11 +212,8 @@ fn take_job(
         → (is_none (refused_by world.old event.TakeJob) ≡ false) × (world.new ≡ world.old)
         × (segment.new ≡ segment.old)) }
     ensures some { IfOk result (λ taken. taken ≡ true
-        → (turned (record { world = world.old; found = []; seeds = seeds }) ≡ Some (record {
-          world = world.new;
-          found = pending seeds (option_map arc_value segment.new) [];
-          seeds = seeds;
-        }))
+        → (turned (running_of seeds world.old None [])
+        ≡ Some (running_of seeds world.new (option_map arc_value segment.new) []))
         × ArePending world.new.opening.design (option_map arc_value segment.new) []) }
     ensures unchanged { OnErr result ((world.new ≡ world.old) × (segment.new ≡ segment.old)) }
 {
@@ -244,15 +235,9 @@ fn run(
 ) -> Result<(), AllocError>
     requires { ArePending world.old.opening.design (option_map arc_value segment.old)
         findings.old.items }
-    ensures runs { Runs (is_err result) (record {
-      world = world.old;
-      found = pending seeds (option_map arc_value segment.old) findings.old.items;
-      seeds = seeds;
-    }) (record {
-      world = world.new;
-      found = pending seeds (option_map arc_value segment.new) findings.new.items;
-      seeds = seeds;
-    }) }
+    ensures runs { Runs (is_err result)
+        (running_of seeds world.old (option_map arc_value segment.old) findings.old.items)
+        (running_of seeds world.new (option_map arc_value segment.new) findings.new.items) }
     ensures pending { ArePending world.new.opening.design (option_map arc_value segment.new)
         findings.new.items }
 {
@@ -285,16 +270,13 @@ pub struct RunningWorld {
 impl Model for RunningWorld {
     ghost use Rattle.std.specs.Prelude.{option_map};
     ghost use Rattle.std.specs.Arc.{arc_value};
-    ghost use Rattle.vp_script.specs.Pending.{ArePending, pending};
+    ghost use Rattle.vp_script.specs.Pending.{ArePending, running_of};
     ghost use Rattle.vp_script.specs.Scripts.{Running};
 
     ghost Value = { Running };
 
-    ghost view = { λ r. record {
-      world = r.world;
-      found = pending r.seeds (option_map arc_value r.segment) r.findings.items;
-      seeds = r.seeds;
-    } };
+    ghost view = { λ r. running_of r.seeds r.world (option_map arc_value r.segment)
+        r.findings.items };
 
     ghost invariant = { λ r. ArePending r.world.opening.design (option_map arc_value r.segment)
         r.findings.items };

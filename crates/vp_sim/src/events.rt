@@ -2,6 +2,7 @@ ghost use Rattle.std.specs.Prelude.{◌≡◌, ◌<◌, ◌≤◌, ℕ, Bool, le
 ghost use Rattle.vp_sim.specs.States.{refusal_in, Goes, IsStep, Refuses, with_activation, driven, evaluated, happened, without_event, step, run_procedure, with_event};
 ghost use Rattle.vp_text.specs.Refusals.{Explains};
 ghost use Rattle.vp_expr.specs.Tables.{tables_of};
+ghost use Rattle.vp_strata.specs.Queues.{peeked};
 ghost use Rattle.vp_active_events.specs.declared.event.Event.TheVariants.{NetUpdate};
 ghost use Rattle.vp_sim.specs.declared.error.SimError.TheVariants.{NoMemory};
 ghost use Rattle.vp_expr.specs.Changes.{change_of, net_at, updated_by};
@@ -16,10 +17,12 @@ use vp_waking::{Waiting, net_at, process_at};
 
 impl Machine {
     /// The event that a step takes, the k-th of the eligible ones; else the refusal (804, 801, 802).
+    #[inline(always)]
     pub fn event(&self, k: usize) -> Result<Event, SimError>
         ensures ok { IfOk result (λ event. step self.now.state k
             ≡ happened (tables_of self.now.state.design) (with_activation self.now.state) k
             (Some event)) }
+        ensures event { IfOk result (λ event. peeked self.now.state.queue k ≡ Some event) }
         ensures refused { IfErr result (λ e. step self.now.state k ≡ Refuses e) }
     {
         if self.finished {
@@ -185,6 +188,8 @@ impl Machine {
     }
 
     /// The evaluation of a procedure in an instance is legal, whichever of the eligible events it is; else the refusal (805).
+    #[cold]
+    #[inline(never)]
     fn check_turn(&self, process: usize, instance: ObjectId) -> Result<(), SimError>
         ensures ok { OnOk result ((k : ℕ) → (repeats : Bool) → (body : ℕ)
             → IsStep (run_procedure (tables_of self.now.state.design)

@@ -9,9 +9,11 @@ mod machine;
 mod procedure;
 mod remaining;
 mod sim;
+mod stepped;
 mod steps;
 
 pub use error::SimError;
 pub use kept::SimCheckpoint;
 pub use sim::Sim;
+pub use stepped::Stepped;
 pub use vp_expr::{Change, Checked};

@@ -121,6 +121,7 @@ impl Machine {
     }
 
     /// The activation that a step begins with.
+    #[inline(always)]
     pub fn activate(&mut self)
         ensures state { self.new.state ≡ with_activation self.old.state }
         ensures spare { self.new.spare ≡ self.old.spare }

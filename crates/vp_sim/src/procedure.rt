@@ -87,6 +87,7 @@ impl Machine {
     }
 
     /// What the event at a place does in an instance.
+    #[inline(always)]
     pub fn effect(&self, instance: ObjectId, event: u32) -> Effect
         ensures { result ≡ next_effect (tables_of self.now.state.design) self.now.state instance
             event }
@@ -110,6 +111,7 @@ impl Machine {
     }
 
     /// A procedure goes on with a statement after its event, the k-th of the eligible ones, which is over where it goes on with none.
+    #[inline(always)]
     fn resume_at(&mut self, k: usize, process: usize, rest: Option<u32>)
         ensures state { self.new.state ≡ record (with_activation self.old.state) {
           remaining = slice_set self.old.state.remaining process rest;
@@ -126,6 +128,7 @@ impl Machine {
     }
 
     /// A procedure goes on with a statement when it goes on at all; its event, the k-th of the eligible ones, is over.
+    #[inline(always)]
     fn suspend(&mut self, k: usize, process: usize, next: u32)
         ensures state { self.new.state ≡ record (with_activation self.old.state) {
           remaining = slice_set self.old.state.remaining process (Some next);

@@ -8,6 +8,7 @@ ghost use Rattle.vp_sim.specs.declared.error.SimError.TheVariants.{NoMemory};
 use crate::error::SimError;
 use crate::kept::SimCheckpoint;
 use crate::machine::Machine;
+use crate::stepped::Stepped;
 use std::alloc::Global;
 use std::marker::Model;
 use std::sync::Arc;
@@ -135,11 +136,12 @@ impl Sim {
         self.machine.source(k)
     }
 
-    /// Takes the k-th of the events that a step can take, and reports what it changed. Refused where `$finish` was executed (804), where
+    /// Takes the k-th of the events that a step can take, and reports what it changed and whose event that was. Refused where `$finish` was executed (804), where
     /// nothing is left to do at the current time (801), where there are not so many events (802), where something would happen at
     /// 2^62 or later (805), or out of memory (806). A refusal leaves the simulation as it was.
-    pub fn step(&mut self, k: usize) -> Result<Option<Change>, SimError>
-        ensures ok { IfOk result (λ change. step self.old k ≡ Goes self.new change) }
+    pub fn step(&mut self, k: usize) -> Result<Stepped, SimError>
+        ensures ok { IfOk result (λ stepped. step self.old k ≡ Goes self.new stepped.change) }
+        ensures source { IfOk result (λ stepped. stepped.source ≡ source_of self.old k) }
         ensures refused { IfErr result (Explains NoMemory (refusal_in (step self.old k))) }
         ensures unchanged { OnErr result (self.new ≡ self.old) }
     {

@@ -1,18 +1,20 @@
-ghost use Rattle.std.specs.Prelude.{◌≡◌, length, map, None, Some, IfErr, IfOk, OnErr, OnOk, IsOkUnless};
+ghost use Rattle.std.specs.Option.{option_map_or};
+ghost use Rattle.std.specs.Prelude.{◌≡◌, length, map, slice_get, slice_index_or, None, Some, IfErr, IfOk, IfSome, OnErr, OnOk, IsOkUnless};
 ghost use Rattle.std.specs.Arc.{arc_value};
-ghost use Rattle.vp_sim.specs.States.{refusal_in, Goes, IsStep, Refuses, advance, advanced_to, eligible, next_time, put, slot_done, source_of, start, step};
+ghost use Rattle.vp_sim.specs.States.{refusal_in, Goes, IsStep, Refuses, advance, advanced_to, eligible, next_time, put, slot_done, source_of, start, step, with_activation, with_change, without_event};
 ghost use Rattle.vp_text.specs.Refusals.{Explains};
 ghost use Rattle.vp_elab.specs.Tree.{below};
 ghost use Rattle.vp_active_events.specs.declared.event.Event.TheVariants.{Evaluation};
 ghost use Rattle.vp_active_events.specs.Events.{process_of};
 ghost use Rattle.vp_strata.specs.Queues.{no_events, with_active};
-ghost use Rattle.vp_expr.specs.Tables.{tables_of};
+ghost use Rattle.vp_expr.specs.Tables.{process_object, tables_of};
 ghost use Rattle.vp_statement.specs.Walking.{flow_of};
 ghost use Rattle.vp_sim.specs.declared.error.SimError.TheVariants.{NoMemory};
 
 use crate::error::SimError;
 use crate::lists::first_lists;
 use crate::machine::Machine;
+use crate::stepped::Stepped;
 use std::alloc::{AllocError, Global};
 use std::sync::Arc;
 use vp_bits::Bits;
@@ -128,33 +130,78 @@ impl Machine {
     pub fn source(&self, k: usize) -> ObjectId
         ensures { result ≡ source_of self.now.state k }
     {
-        let Some(event) = self.queue.peek(k) else {
-            return ObjectId(0);
-        };
-        match process_at(self.listeners.checked(), process_of(event)) {
+        match self.queue.peek(k) {
+            Some(event) => self.object_of(process_of(event)),
+            None => ObjectId(0),
+        }
+    }
+
+    /// The object of a process; the first object where there is none.
+    #[inline(always)]
+    fn object_of(&self, process: usize) -> ObjectId
+        ensures { result ≡ option_map_or process_object
+            (slice_get (tables_of self.now.state.design).processes process) (record { 0 = 0 }) }
+    {
+        match process_at(self.listeners.checked(), process) {
             Some(process) => process.object(),
             None => ObjectId(0),
         }
     }
 
-    /// Takes the k-th of the events that a step can take, and reports what it changed; else the refusal (804, 801, 802, 805, 806).
-    pub fn step(&mut self, k: usize) -> Result<Option<Change>, SimError>
-        ensures ok { IfOk result (λ change. step self.old.state k ≡ Goes self.new.state change) }
+    /// An update that makes this change, if it makes one, is the k-th of the eligible events; it is of a process. Or out of memory (806).
+    fn step_update(
+        &mut self,
+        k: usize,
+        process: usize,
+        change: Option<Change>,
+    ) -> Result<Stepped, SimError>
+        requires fits { IfSome change
+            (λ c. length (slice_index_or self.old.state.values c.object.0 c.value)
+            ≡ length c.value) }
+        ensures ok { OnOk result (self.new.state
+            ≡ with_change (tables_of self.old.state.design)
+            (without_event (with_activation self.old.state) k) change) }
+        ensures change { IfOk result (λ stepped. stepped.change ≡ change) }
+        ensures source { IfOk result (λ stepped. stepped.source
+            ≡ option_map_or process_object
+            (slice_get (tables_of self.old.state.design).processes process) (record { 0 = 0 })) }
+        ensures refused { IsOkUnless result NoMemory }
+        ensures unchanged { OnErr result (self.new.state ≡ self.old.state) }
+    {
+        let source = self.object_of(process);
+        self.update(k, &change)?;
+        Ok(Stepped { change, source })
+    }
+
+    /// Takes the k-th of the events that a step can take, and reports what it changed and whose event that was; else the refusal (804,
+    /// 801, 802, 805, 806).
+    pub fn step(&mut self, k: usize) -> Result<Stepped, SimError>
+        ensures ok { IfOk result
+            (λ stepped. step self.old.state k ≡ Goes self.new.state stepped.change) }
+        ensures source { IfOk result (λ stepped. stepped.source ≡ source_of self.old.state k) }
         ensures refused { IfErr result (Explains NoMemory (refusal_in (step self.old.state k))) }
         ensures unchanged { OnErr result (self.new.state ≡ self.old.state) }
     {
-        let change = match self.event(k)? {
-            Event::Evaluation { process } => return self.evaluate(k, process),
-            Event::NetUpdate { process, value } => self.change_by_net(process, value),
-            Event::Nonblocking { update } => {
-                self.set_change(update.object, update.place, update.value)
+        match self.event(k)? {
+            Event::Evaluation { process } => {
+                let source = self.object_of(process);
+                let change = self.evaluate(k, process)?;
+                Ok(Stepped { change, source })
             }
-        };
-        self.update(k, &change)?;
-        Ok(change)
+            Event::NetUpdate { process, value } => {
+                let change = self.change_by_net(process, value);
+                self.step_update(k, process, change)
+            }
+            Event::Nonblocking { update } => {
+                let change = self.set_change(update.object, update.place, update.value);
+                self.step_update(k, update.process, change)
+            }
+        }
     }
 
     /// A step that takes the k-th of the events is legal; else its refusal (804, 801, 802, 805).
+    #[cold]
+    #[inline(never)]
     pub fn check_step(&self, k: usize) -> Result<(), SimError>
         ensures ok { OnOk result (IsStep (step self.now.state k)) }
         ensures refused { IfErr result (λ e. step self.now.state k ≡ Refuses e) }

@@ -1,5 +1,5 @@
 mod audits;
-mod callbacks;
+mod closed;
 mod command_line;
 mod designs;
 mod dialogues;
@@ -15,4 +15,3 @@ mod simulations;
 mod tokens;
 mod views;
 mod world_copies;
-mod worlds;

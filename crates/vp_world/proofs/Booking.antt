@@ -1,11 +1,11 @@
 -- An error of the book explains its refusal.
 use Rattle.std.proofs.Common.{◌≡◌, ◌≢◌, ◌∙◌, Bool, true, false, Option, Some, None, sym, ap, refl}
-use Rattle.std.specs.Prelude.{if◌then◌else◌, nat_le, length, option_map}
+use Rattle.std.specs.Prelude.{if◌then◌else◌, option_map}
 use Rattle.vp_world.specs.declared.error.WorldError.TheVariants as world_error
 use Rattle.vp_text.specs.Refusals.{Explains}
 use Rattle.vp_race.specs.declared.error.RaceError.{RaceError}
 use Rattle.vp_race.specs.declared.error.RaceError.TheVariants.{NotAnOrder, NotComplete, SameValue, SegmentGone, Booked, BookFull, NoMemory}
-use Rattle.vp_race.specs.Booking.{BookState, is_booked, refusal_of_finding, refusal_of_race}
+use Rattle.vp_race.specs.Booking.{BookState, is_booked, is_full_for, refusal_of_finding, refusal_of_race}
 use Rattle.vp_race.specs.Same.{same_run}
 use Rattle.vp_race.specs.Segments.{Run, FindingState}
 use Rattle.vp_world.specs.declared.error.WorldError.TheVariants.{Race}
@@ -21,7 +21,7 @@ either true x y h k = h
 either false x y h k = k
 
 race_own : (b : BookState) (f : FindingState) → IsOwn (refusal_of_race b f)
-race_own b f = either (is_booked b.races f) _ _ (λ e. cc) (either (nat_le b.limit (length b.races)) _ _ (λ e. cc) tt)
+race_own b f = either (is_booked b.races f) _ _ (λ e. cc) (either (is_full_for b f) _ _ (λ e. cc) tt)
 
 -- the book refuses a finding for a reason of its own
 finding_own : (b : BookState) (kept : Option Run) (f : FindingState) → IsOwn (refusal_of_finding b kept f)

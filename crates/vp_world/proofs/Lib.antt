@@ -15,3 +15,4 @@ pub mod Booking
 pub mod OfDesign
 pub mod Reached
 pub mod HiddenNames
+pub mod Crossing

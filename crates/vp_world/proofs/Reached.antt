@@ -111,7 +111,7 @@ after_event opening log e event.Advance formed none all =
 after_event opening log e event.TakeJob formed none all = all_stay opening log e (state_after opening log).book all
 after_event opening log e (event.Book f) formed none all =
     let s = state_after opening log in
-    let there = kept_there (record { races = s.book; limit = opening.limits.book }) (kept_of s.segments f.segment.number) f (not_refused (is_log_full opening log) (book_refusal opening s f) none) in
+    let there = kept_there (record { races = s.book; limits = opening.limits.book }) (kept_of s.segments f.segment.number) f (not_refused (is_log_full opening log) (book_refusal opening s f) none) in
     let new : IsReached opening (log ++ e ∷ []) f = record {
       before = log;
       rest = e ∷ [];

@@ -116,7 +116,7 @@ abbrev opening : Opening
 opening = record {
   design = record { source = source; tree = tree };
   policy = record { tree = tree; members = ann ∷ []; operator = Some (codes "op") };
-  limits = record { log = 7; book = 65536; sessions = 1 };
+  limits = record { log = 7; book = record { races = 65536; steps = 16777216 }; sessions = 1 };
 }
 
 abbrev first : SessionId
@@ -276,7 +276,7 @@ bob = record {
 }
 
 abbrev shared : Opening
-shared = record opening { policy = record { tree = tree; members = bob ∷ []; operator = Some (codes "op") }; limits = record { log = 7; book = 65536; sessions = 2 } }
+shared = record opening { policy = record { tree = tree; members = bob ∷ []; operator = Some (codes "op") }; limits = record { log = 7; book = record { races = 65536; steps = 16777216 }; sessions = 2 } }
 
 abbrev second : SessionId
 second = record { user = record { 0 = 0 }; opens = 2 }

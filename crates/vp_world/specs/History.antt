@@ -97,7 +97,7 @@ refusal_of_job full job = if full then Some error.LogFull else if is_none job th
 -- why the book refuses a finding, if it does: beside the kept segment of its number (profile)
 abbrev pub book_refusal : Opening → State → FindingState → Option RaceError
 book_refusal opening s f =
-    refusal_of_finding (record { races = s.book; limit = opening.limits.book }) (kept_of s.segments f.segment.number) f
+    refusal_of_finding (record { races = s.book; limits = opening.limits.book }) (kept_of s.segments f.segment.number) f
 
 -- why a booking is refused: a full log, then the book's refusal (profile)
 abbrev pub refusal_of_booking : Bool → Option RaceError → Option WorldError

@@ -7,7 +7,7 @@ use std::marker::Model;
 use std::sync::Arc;
 use vp_answer::{GrantChange, Query, Reply, SessionId};
 use vp_expr::Change;
-use vp_race::Finding;
+use vp_race::BookedFinding;
 use vp_text::{Same, Shared, Text};
 
 /// The name and the token with which a user opens a session.
@@ -67,7 +67,7 @@ pub enum LoggedEvent {
     },
     /// A race was booked.
     Book {
-        finding: Shared<Finding>,
+        finding: Shared<BookedFinding>,
     },
 }
 

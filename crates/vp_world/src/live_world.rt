@@ -23,7 +23,7 @@ use std::sync::Arc;
 use vp_answer::{GrantChange, OpenSession, Query, SessionId, retire_sessions, session_index};
 use vp_expr::Change;
 use vp_policy::{Policy, UserId};
-use vp_race::{Book, Finding, Recording, Segment};
+use vp_race::{Book, BookedFinding, Finding, Recording, Segment};
 use vp_sim::Checked;
 use vp_text::Shared;
 
@@ -62,7 +62,7 @@ impl Model for LiveWorld {
         w.sessions.items w.opens.items w.goal };
 
     ghost invariant = { λ w. (all_marked w.watched.items w.sessions.items ≡ true)
-        × (w.book.limit ≡ w.limits.book) × AreOfDesign w.run
+        × (w.book.limits ≡ w.limits.book) × AreOfDesign w.run
         × Fits w.policy w.run.simulation.design.tree };
 }
 
@@ -428,9 +428,10 @@ impl LiveWorld {
         }
     }
 
-    /// The kept segment of a number; none where it is not kept.
+    /// The kept segment of a number; none where it is not kept. It is of the world's design.
     pub fn kept(&self, number: u64) -> Option<&Segment>
-        ensures { option_copied result ≡ kept_of self.now.state.segments number }
+        ensures kept { option_copied result ≡ kept_of self.now.state.segments number }
+        ensures design { IfSome result (λ s. s.now.start.design ≡ self.now.opening.design) }
     {
         self.run.kept(number)
     }
@@ -444,7 +445,7 @@ impl LiveWorld {
     }
 
     /// The races in the book, in the order in which they were booked.
-    pub fn races(&self) -> &[Shared<Finding>]
+    pub fn races(&self) -> &[Shared<BookedFinding>]
         ensures { result.now ≡ self.now.state.book }
     {
         self.book.races()
@@ -488,20 +489,21 @@ impl LiveWorld {
         self.book.check(kept, finding).map_err(WorldError::Race)
     }
 
-    /// Books a finding; else the book's refusal (1309), or out of memory (1307), which leaves the world as it was.
-    pub fn book(&mut self, finding: Shared<Finding>) -> Result<(), WorldError>
-        requires { finding.segment.start.design ≡ self.old.opening.design }
+    /// Books a finding, and gives what the book keeps of it; else the book's refusal (1309), or out of memory (1307), which leaves the
+    /// world as it was.
+    pub fn book(&mut self, finding: &Finding) -> Result<Shared<BookedFinding>, WorldError>
+        requires { finding.now.segment.start.design ≡ self.old.opening.design }
         ensures accepted { OnOk result
-            (book_refusal self.old.opening self.old.state finding ≡ None) }
+            (book_refusal self.old.opening self.old.state finding.now ≡ None) }
+        ensures booked { IfOk result (λ race. race ≡ finding.now) }
         ensures after { OnOk result
-            (self.new ≡ with_state self.old (with_booked self.old.state finding)) }
+            (self.new ≡ with_state self.old (with_booked self.old.state finding.now)) }
         ensures refused { IfErr result (Explains world_error.NoMemory (option_map world_error.Race
-            (book_refusal self.old.opening self.old.state finding))) }
+            (book_refusal self.old.opening self.old.state finding.now))) }
         ensures unchanged { OnErr result (self.new ≡ self.old) }
     {
-        let kept = self.run.kept(finding.value().segment().number());
-        self.book.add(kept, finding)?;
-        Ok(())
+        let kept = self.run.kept(finding.segment().number());
+        Ok(self.book.add(kept, finding)?)
     }
 
     /// Answers a query of the session at an index, whose change is due to the callbacks on it; or out of memory (1307), which leaves

@@ -8,7 +8,7 @@ use std::alloc::{AllocError, Global};
 use vp_elab::{Design, Kind, ObjectId};
 use vp_policy::{Policy, UserId};
 use vp_pragma::Right;
-use vp_race::Finding;
+use vp_race::BookedFinding;
 use vp_text::{Sequence, Shared, Text};
 use vp_vpi::ShownRace;
 
@@ -49,7 +49,7 @@ fn steps_seen(
 }
 
 /// A user of a policy is shown a race: he has the race right on its object.
-pub fn is_race_shown(policy: &Policy, user: UserId, finding: &Finding) -> bool
+pub fn is_race_shown(policy: &Policy, user: UserId, finding: &BookedFinding) -> bool
     ensures { result ≡ is_shown policy.now.tree (member_at policy.now.members user.0) finding.now }
 {
     !policy.is_denied(user, finding.object(), Right::Race)
@@ -61,7 +61,7 @@ pub fn seen_race(
     design: &Design,
     policy: &Policy,
     user: UserId,
-    finding: &Finding,
+    finding: &BookedFinding,
 ) -> Result<ShownRace, AllocError>
     requires { Fits policy.now design.now.tree }
     ensures { let member = member_at policy.now.members user.0 in
@@ -69,7 +69,7 @@ pub fn seen_race(
 {
     Ok(ShownRace {
         name: design.full_name(alloc, finding.object())?,
-        time: finding.segment().time(),
+        time: finding.time(),
         values: finding.values(),
         first_steps: steps_seen(alloc, design, policy, user, finding.first_sources())?,
         second_steps: steps_seen(alloc, design, policy, user, finding.second_sources())?,
@@ -82,7 +82,7 @@ pub fn seen_races(
     design: &Design,
     policy: &Policy,
     user: UserId,
-    book: &[Shared<Finding>],
+    book: &[Shared<BookedFinding>],
 ) -> Result<Sequence<Shared<ShownRace>>, AllocError>
     requires { Fits policy.now design.now.tree }
     ensures { let member = member_at policy.now.members user.0 in

@@ -14,7 +14,7 @@ use vp_bits::Bits;
 use vp_elab::{Kind, ObjectId};
 use vp_policy::{DenialText, Look, Policy, UserId};
 use vp_pragma::Right;
-use vp_race::{Book, Finding, Sim};
+use vp_race::{Book, BookedFinding, Sim};
 use vp_text::{Sequence, Text};
 use vp_vpi::{Found, Observe, RaceDetails, RaceLine, is_of};
 
@@ -50,7 +50,7 @@ impl<'a> UserObserver<'a> {
 
 impl UserObserver<'_> {
     /// The user is shown a race.
-    fn is_shown(&self, finding: &Finding) -> bool
+    fn is_shown(&self, finding: &BookedFinding) -> bool
         ensures { let member = member_at self.now.policy.now.members self.now.user.0 in
             result ≡ is_shown self.now.policy.now.tree member finding.now }
     {
@@ -76,7 +76,7 @@ impl UserObserver<'_> {
     fn race_line(
         &self,
         alloc: Global,
-        finding: &Finding,
+        finding: &BookedFinding,
         number: u64,
     ) -> Result<RaceLine, AllocError>
         ensures { let member = member_at self.now.policy.now.members self.now.user.0 in
@@ -87,13 +87,13 @@ impl UserObserver<'_> {
         Ok(RaceLine {
             name,
             number,
-            time: finding.segment().time(),
+            time: finding.time(),
             values: finding.values(),
         })
     }
 
     /// The finding of the race of a number among those that the user is shown, if there is one.
-    fn finding_at(&self, number: u64) -> Option<&Finding>
+    fn finding_at(&self, number: u64) -> Option<&BookedFinding>
         ensures { let member = member_at self.now.policy.now.members self.now.user.0 in
             let shown = filter (is_shown self.now.policy.now.tree member) self.now.book.now.races in
             option_copied result ≡ shown_at shown number }

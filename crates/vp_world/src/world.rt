@@ -19,7 +19,7 @@ use std::marker::Model;
 use std::sync::Arc;
 use vp_answer::{GrantChange, Query, Reply, SessionId};
 use vp_policy::Policy;
-use vp_race::{Finding, Segment};
+use vp_race::{BookedFinding, Finding, Segment};
 use vp_sim::Checked;
 use vp_text::{Shared, Text};
 
@@ -183,23 +183,20 @@ impl World {
             self.present.check_booking(finding.value())?;
             return Err(WorldError::from(missing_right));
         }
-        let Ok(logged) = finding.try_clone() else {
-            self.present.check_booking(finding.value())?;
-            return Err(WorldError::NoMemory);
-        };
-        self.present.book(finding)?;
+        let booked = self.present.book(finding.value())?;
         self.log.push_reserved(Entry {
-            happening: LoggedEvent::Book { finding: logged },
+            happening: LoggedEvent::Book { finding: booked },
             time: self.present.time(),
             finished: self.present.finished(),
         });
         Ok(Reply::Done)
     }
 
-    /// The kept segment of a number; none where no segment of that number closed, or it is no longer kept.
+    /// The kept segment of a number; none where no segment of that number closed, or it is no longer kept. It is of the world's design.
     pub fn kept(&self, number: u64) -> Option<&Segment>
-        ensures { option_copied result ≡ kept_of
+        ensures kept { option_copied result ≡ kept_of
             (state_after self.now.opening self.now.log).segments number }
+        ensures design { IfSome result (λ s. s.now.start.design ≡ self.now.opening.design) }
     {
         self.present.kept(number)
     }
@@ -214,7 +211,7 @@ impl World {
     }
 
     /// The races in the book, in the order in which they were booked. Each is a race of a segment that was kept when it was booked.
-    pub fn book(&self) -> &[Shared<Finding>]
+    pub fn book(&self) -> &[Shared<BookedFinding>]
         ensures races { result.now ≡ (state_after self.now.opening self.now.log).book }
         ensures reached { All (λ f. IsReached self.now.opening self.now.log f) result.now }
     {

@@ -7,7 +7,7 @@ use std::net::{Net, TcpStream};
 use std::thread;
 use std::time::{Clock, Duration};
 use vp_hub::{Limits, Settings};
-use vp_race::OpenGate;
+use vp_race::{BookLimits, OpenGate};
 
 /// A design whose simulation never ends, with an empty envelope.
 const ENDLESS: &str = "module top;
@@ -21,7 +21,10 @@ endmodule
 /// A world whose log has room for some thousand events.
 const SMALL: Limits = Limits {
     log: 20_000,
-    book: 16,
+    book: BookLimits {
+        races: 16,
+        steps: 1_000,
+    },
     sessions: 64,
 };
 

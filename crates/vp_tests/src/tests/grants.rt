@@ -1,8 +1,7 @@
-//! Grants that change: what they come to in a world of several sessions, and on a policy alone.
+//! Grants that change, in a world of several sessions and on a policy alone.
 ghost use Rattle.vp_policy.specs.PolicyState.{Fits};
 
-use crate::tests::fresh::world_of;
-use crate::tests::sessions::{find_in, open_as, order_in, poll_in, put_in};
+use crate::tests::sessions::{find_in, open_as, order_in, put_in};
 use std::alloc::Global;
 use vp_answer::{GrantChange, Query, SessionId};
 use vp_design::shared_of;
@@ -10,7 +9,7 @@ use vp_elab::{Design, ObjectId};
 use vp_policy::{Access, Policy, UserId, read_policy};
 use vp_pragma::{Right, access};
 use vp_text::Text;
-use vp_world::{Event, Limits, World};
+use vp_world::{Event, World};
 
 /// A module whose reg `k` stands in an envelope. Its objects are `top` (0) and `k` (1).
 pub const DESIGN: &str = "module top;
@@ -78,61 +77,6 @@ pub fn watch_both(alloc: Global, world: &mut World) -> Option<()> {
     watch(alloc, world, 0)?;
     watch(alloc, world, 1)?;
     put_in(alloc, world, session_of(1), "1")
-}
-
-/// How many notices Ann and Bob are given then after a change of Ann's grant.
-fn counts_after_grant(alloc: Global, world: &mut World, access: &str) -> Option<(usize, usize)> {
-    open_both(alloc, world)?;
-    watch_both(alloc, world)?;
-    grant(alloc, world, "op", 1, access)?;
-    Some((
-        poll_in(world, session_of(0))?,
-        poll_in(world, session_of(1))?,
-    ))
-}
-
-/// The same in a new world.
-fn counts_in_new_world(alloc: Global, access: &str) -> Option<(usize, usize)> {
-    let mut world = world_of(alloc, DESIGN, POLICY, Limits::GREATEST)?;
-    let counts = counts_after_grant(alloc, &mut world, access);
-    drop(world);
-    counts
-}
-
-#[test]
-fn a_grant_that_ends_silences_its_user_alone(rt: HostRuntime) {
-    assert_eq!(rt; counts_in_new_world(rt.alloc(), "put"), Some((0, 1)));
-    assert_eq!(rt; counts_in_new_world(rt.alloc(), "watch"), Some((1, 1)));
-}
-
-/// What changes of Ann's grant come to in a world whose log is full after the first, and how long it is.
-fn refusals_in(alloc: Global, world: &mut World) -> ([Option<u32>; 5], usize) {
-    let codes = [
-        grant(alloc, world, "op", 1, ""),
-        grant(alloc, world, "op", 1, ""),
-        grant(alloc, world, "no", 1, ""),
-        grant(alloc, world, "op", 2, ""),
-        grant(alloc, world, "", 0, ""),
-    ];
-    (codes, world.log().len())
-}
-
-/// The same in a new world.
-fn refusals(alloc: Global) -> Option<([Option<u32>; 5], usize)> {
-    let limits = Limits {
-        log: 1,
-        ..Limits::GREATEST
-    };
-    let mut world = world_of(alloc, DESIGN, POLICY, limits)?;
-    let refusals = refusals_in(alloc, &mut world);
-    drop(world);
-    Some(refusals)
-}
-
-#[test]
-fn a_grant_meets_a_full_log_last(rt: HostRuntime) {
-    let codes = [Some(0), Some(1304), Some(1310), Some(1312), Some(1310)];
-    assert_eq!(rt; refusals(rt.alloc()), Some((codes, 1)));
 }
 
 /// Whether Ann may watch `k` by a policy.

@@ -7,8 +7,7 @@ use std::alloc::Global;
 use std::sync::Arc;
 use vp_bits::Bits;
 use vp_elab::ObjectId;
-use vp_race::{Book, Finding, OpenGate, RaceError, Recording, Segment, check, search};
-use vp_text::Shared;
+use vp_race::{Book, BookLimits, Finding, OpenGate, RaceError, Recording, Segment, check, search};
 
 /// The finding of an object by an order, or the refusal.
 fn finding_at(
@@ -158,18 +157,17 @@ fn no_race_without_choice(rt: HostRuntime) {
 }
 
 /// A race of `SWAPPED` at an object, to be booked.
-fn race_at(alloc: Global, segment: &Arc<Segment>, object: u32) -> Option<Shared<Finding>>
+fn race_at(alloc: Global, segment: &Arc<Segment>, object: u32) -> Option<Finding>
     ensures { IfSome result (λ f. f.segment ≡ arc_value segment.now) }
 {
-    let finding = finding_at(alloc, segment, &[0, 1, 0, 0, 0], object).ok()?;
-    Shared::new(alloc, finding).ok()
+    finding_at(alloc, segment, &[0, 1, 0, 0, 0], object).ok()
 }
 
 /// The refusal where a race at an object is booked beside its segment, which is kept; 0 where it is booked.
 fn booking(alloc: Global, book: &mut Book, segment: &Arc<Segment>, object: u32) -> Option<u32> {
     let finding = race_at(alloc, segment, object)?;
-    Some(match book.add(Some(segment), finding) {
-        Ok(()) => 0,
+    Some(match book.add(Some(segment), &finding) {
+        Ok(_) => 0,
         Err(error) => error.code(),
     })
 }
@@ -177,7 +175,7 @@ fn booking(alloc: Global, book: &mut Book, segment: &Arc<Segment>, object: u32) 
 /// The refusal where the segment of a race is no longer kept.
 fn late_booking(alloc: Global, book: &mut Book, segment: &Arc<Segment>) -> Option<u32> {
     let finding = race_at(alloc, segment, 1)?;
-    book.add(None, finding).err().map(|error| error.code())
+    book.add(None, &finding).err().map(|error| error.code())
 }
 
 /// What a book of one race says of a race whose segment is gone, of one, of the same again, and of another.
@@ -190,10 +188,10 @@ fn bookings_in(alloc: Global, book: &mut Book, segment: &Arc<Segment>) -> Option
     ])
 }
 
-/// The same of a new book.
-fn bookings(alloc: Global) -> Option<[u32; 4]> {
+/// The same of a new book, which may have so many races of so many steps.
+fn bookings(alloc: Global, races: usize, steps: usize) -> Option<[u32; 4]> {
     let segment = race(alloc)?;
-    let mut book = Book::new(alloc, 1);
+    let mut book = Book::new(alloc, BookLimits { races, steps });
     let bookings = bookings_in(alloc, &mut book, &segment);
     drop((book, segment));
     bookings
@@ -201,5 +199,8 @@ fn bookings(alloc: Global) -> Option<[u32; 4]> {
 
 #[test]
 fn races_that_are_booked(rt: HostRuntime) {
-    assert_eq!(rt; bookings(rt.alloc()), Some([1204, 0, 1205, 1206]));
+    assert_eq!(rt; bookings(rt.alloc(), 1, 100), Some([1204, 0, 1205, 1206]));
+    // Each of the two races has two orders of five steps.
+    assert_eq!(rt; bookings(rt.alloc(), 2, 20), Some([1204, 0, 1205, 0]));
+    assert_eq!(rt; bookings(rt.alloc(), 2, 19), Some([1204, 0, 1205, 1206]));
 }

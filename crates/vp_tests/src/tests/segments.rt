@@ -92,32 +92,6 @@ fn a_segment_begins_anew_with_a_put(rt: HostRuntime) {
     );
 }
 
-/// The number of the refusal of an order at `top.a`; 0 where it is a race.
-fn refusal(alloc: Global, segment: &Arc<Segment>, order: &[u32]) -> Option<u32> {
-    let choices = Vec::from_slice(alloc, order).ok()?;
-    match check(alloc, segment, choices, ObjectId(1)).err() {
-        None => Some(0),
-        Some(error) => Some(error.code()),
-    }
-}
-
-/// The refusals of two orders of that segment: the second has the step before the put.
-fn refusals_after_put(alloc: Global) -> Option<[Option<u32>; 2]> {
-    let segment = race(alloc)?;
-    let refusals = [
-        refusal(alloc, &segment, &[1, 1, 0, 0]),
-        refusal(alloc, &segment, &[0, 0, 0, 0, 0]),
-    ];
-    drop(segment);
-    Some(refusals)
-}
-
-#[test]
-fn orders_of_a_segment_after_a_put(rt: HostRuntime) {
-    let wanted = [Some(1203), Some(1201)];
-    assert_eq!(rt; refusals_after_put(rt.alloc()), Some(wanted));
-}
-
 /// A reg `top.a` (1) for which two processes race at time 0, and one that changes at each time.
 const RACED: &str =
     "module top; reg a, t; initial a = 0; initial a = 1; always #1 t = 1; endmodule";

@@ -1,6 +1,6 @@
 use Rattle.std.proofs.Common.{option_map}
 use Rattle.std.specs.Arc.{arc_value}
-use Rattle.vp_script.specs.Pending.{ArePending, HappensTo, pending}
+use Rattle.vp_script.specs.Pending.{ArePending, HappensTo, running_of}
 use Rattle.vp_script.proofs.Turns.{room}
 use Rattle.vp_script.proofs.running.run.Given as goal
 
@@ -8,8 +8,8 @@ use Rattle.vp_script.proofs.running.run.Given as goal
 abbrev pub invariant-loop-world : goal.invariant-loop-world
 invariant-loop-world l = record {
   happened :
-      HappensTo (record { world = l.fn.world; found = pending l.fn.seeds (option_map arc_value l.fn.segment) l.fn.findings.items; seeds = l.fn.seeds })
-      (record { world = l.world; found = pending l.fn.seeds (option_map arc_value l.segment) l.findings.items; seeds = l.fn.seeds });
+      HappensTo (running_of l.fn.seeds l.fn.world (option_map arc_value l.fn.segment) l.fn.findings.items)
+      (running_of l.fn.seeds l.world (option_map arc_value l.segment) l.findings.items);
   pending : ArePending l.world.opening.design (option_map arc_value l.segment) l.findings.items;
 }
 

@@ -8,15 +8,13 @@ use Rattle.vp_race.proofs.book.Book.add.Goals as goal
 
 pub add_name-requires : goal.add_name-requires
 add_name-requires c =
-    let f = c.args.finding in
+    let f = c.args.finding.now in
     let keys = c.self.inside.names.keys in
-    let number : c.number-number.result ≡ f.segment.number =
-    c.number-number.ensures.number ∙ ap (λ (r : Run). r.number) (c.segment.ensures.segment ∙ ap (λ (t : FindingState). t.segment) c.value-2.ensures) in
-    let object : c.object-object.result ≡ f.object = c.object-object.ensures ∙ ap (λ (t : FindingState). t.object) c.value-3.ensures in
-    ap (λ n. list_any (is_name n c.object-object.result.0) keys) number
+    let number : c.number-number.result ≡ f.segment.number = c.number-number.ensures.number ∙ ap (λ (r : Run). r.number) c.segment.ensures.segment in
+    let object : c.object.result ≡ f.object = c.object.ensures in
+    ap (λ n. list_any (is_name n c.object.result.0) keys) number
     ∙ ap (λ (o : ObjectId). list_any (is_name f.segment.number o.0) keys) object
-    ∙ ap (λ ks. list_any (is_name f.segment.number f.object.0) ks) c.self.invariant
+    ∙ ap (λ ks. list_any (is_name f.segment.number f.object.0) ks) c.self.invariant.0
     ∙ any_named f c.self.inside.races.items
     ∙ ap (λ (b : BookState). is_booked b.races f) c.self.view_is
-    ∙ ap (λ (t : FindingState). is_booked c.args.self.now.races t) (sym c.value.ensures)
-    ∙ (c.in_ok-check.ensures {u = tt}).new
+    ∙ (c.in_ok-steps.ensures {u = tt}).new

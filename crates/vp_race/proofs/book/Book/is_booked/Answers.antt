@@ -11,7 +11,7 @@ returns c =
     let f = c.args.finding.now in
     let races = c.self.inside.races.items in
     c.contains.ensures
-    ∙ ap (λ ks. list_any (is_name c.number.result c.object.result.0) ks) c.self.invariant
+    ∙ ap (λ ks. list_any (is_name c.number.result c.object.result.0) ks) c.self.invariant.0
     ∙ ap (λ n. list_any (is_name n c.object.result.0) (map name_of races)) (c.number.ensures.number ∙ ap (λ (r : Run). r.number) c.segment.ensures.segment)
     ∙ ap (λ (o : ObjectId). list_any (is_name f.segment.number o.0) (map name_of races)) c.object.ensures
     ∙ any_named f races

@@ -19,7 +19,7 @@ close-requires-clause-stands c =
     let stands = subst (λ (x : State). Stands begun x) (sym c.make_ready.ensures.same) c.make_ready.ensures.stands in
     let kept = subst (λ (x : State). IsKept begun x) (sym c.make_ready.ensures.same) (met (IsKept begun c.self.inside.simulation) c.make_ready.result (sym c.is_err.ensures.value ∙ c.if-is_err.false) c.make_ready.ensures.kept) in
     subst (λ (b : Option Begun). Stands b c.step.new.self) (sym c.note.ensures)
-    (stands_more begun s c.step.new.self c.args.k c.source-source.result c.in_ok-change.change stands kept (c.in_ok-change.ensures {u = tt}).ok c.source-source.ensures)
+    (stands_more begun s c.step.new.self c.args.k c.in_ok-stepped.stepped.source c.in_ok-stepped.stepped.change stands kept (c.in_ok-stepped.ensures {u = tt}).ok (c.in_ok-stepped.ensures {u = tt}).source)
 
 pub invariant_of-self-else-is_over : goal.invariant_of-self-else-is_over
 invariant_of-self-else-is_over c =
@@ -28,7 +28,7 @@ invariant_of-self-else-is_over c =
     let stands = subst (λ (x : State). Stands begun x) (sym c.make_ready.ensures.same) c.make_ready.ensures.stands in
     let kept = subst (λ (x : State). IsKept begun x) (sym c.make_ready.ensures.same) (met (IsKept begun c.self.inside.simulation) c.make_ready.result (sym c.is_err.ensures.value ∙ c.if-is_err.false) c.make_ready.ensures.kept) in
     subst (λ (b : Option Begun). Stands b c.step.new.self) (sym c.note.ensures)
-    (stands_more begun s c.step.new.self c.args.k c.source-source.result c.in_ok-change.change stands kept (c.in_ok-change.ensures {u = tt}).ok c.source-source.ensures)
+    (stands_more begun s c.step.new.self c.args.k c.in_ok-stepped.stepped.source c.in_ok-stepped.stepped.change stands kept (c.in_ok-stepped.ensures {u = tt}).ok (c.in_ok-stepped.ensures {u = tt}).source)
 
 -- an open segment after one choice more
 abbrev longer : Opened → ℕ → Opened
@@ -63,7 +63,7 @@ returns-clause-segments c =
     let before = ap (opened_by begun) c.make_ready.ensures.same ∙ c.make_ready.ensures.seen in
     let more : opened_by c.note.new.self next ≡ longer (opened_by i.begun i.simulation) k =
     ap (λ (b : Option Begun). opened_by b next) c.note.ensures
-    ∙ opened_more begun s next k c.source-source.result c.in_ok-change.change room kept (c.in_ok-change.ensures {u = tt}).ok
+    ∙ opened_more begun s next k c.in_ok-stepped.stepped.source c.in_ok-stepped.stepped.change room kept (c.in_ok-stepped.ensures {u = tt}).ok
     ∙ ap (λ (o : Opened). longer o k) before in
     let old : Recorded = record { simulation = i.simulation; segments = record { opened = opened_by i.begun i.simulation; count = i.closed.count; kept = i.closed.kept; last_job = i.last_job } } in
     elim c.if-is_over.branch [

@@ -4,13 +4,13 @@ use Rattle.vp_world.specs.Entries.{Entry}
 use Rattle.vp_world.specs.declared.event.Event.{Event}
 use Rattle.vp_world.specs.declared.event.Event.TheVariants as event
 use Rattle.vp_answer.specs.declared.reply.Reply.TheVariants as reply
-use Rattle.vp_world.specs.History.{after, entry_of, refusal_after, state_after, with_state}
+use Rattle.vp_world.specs.History.{after, entry_of, refusal_after, state_after, with_booked, with_state}
 use Rattle.vp_world.specs.Events.{IsWellFormed}
 use Rattle.vp_world.specs.Worlds.{WorldLog, WorldState}
 use Rattle.vp_world.proofs.Logs.{entry_is, keeps_more, seen_more}
 use Rattle.vp_world.proofs.world.World.apply_booking.Goals as goal
 
-module _ (c : goal.After-push_reserved) where
+module _ (c : goal.After-drop-finding-inside-2) where
   abbrev w : WorldState
   w = c.self.inside.present
 
@@ -28,14 +28,14 @@ module _ (c : goal.After-push_reserved) where
   entry = entry_of_finding c.args.finding
 
   following : c.book.new.self ≡ with_state w (after w.opening w.state happens)
-  following = (c.in_ok-book.ensures {u = tt}).after
+  following = (c.in_ok-booked.ensures {u = tt}).after ∙ ap (λ (f : FindingState). with_state w (with_booked w.state f)) c.value-2.ensures
 
-  same : c.in-Ok.logged ≡ c.args.finding
-  same = search rules
+  same : c.in_ok-booked.booked ≡ c.args.finding
+  same = (c.in_ok-booked.ensures {u = tt}).booked ∙ c.value-2.ensures
 
   added : c.push_reserved.new.self.items ≡ log ++ entry ∷ []
   added =
-      let as_logged : c.push_reserved.new.self.items ≡ log ++ entry_of_finding c.in-Ok.logged ∷ [] = search rules in
+      let as_logged : c.push_reserved.new.self.items ≡ log ++ entry_of_finding c.in_ok-booked.booked ∷ [] = search rules in
       as_logged ∙ ap (λ (f : FindingState). log ++ entry_of_finding f ∷ []) same
 
   made : entry ≡ entry_of w.opening (state_after w.opening log) happens

@@ -1,0 +1,219 @@
+//! Worlds to which the events of a case happen, one a line, and the lines that they are answered.
+ghost use Rattle.std.specs.Prelude.{IfOk, IfSome};
+ghost use Rattle.vp_elab.specs.Built.{Elaborated};
+ghost use Rattle.vp_world.specs.declared.event.Event.TheVariants as event;
+ghost use Rattle.vp_world.specs.Events.{IsWellFormed};
+
+use std::alloc::{AllocError, Global};
+use std::sync::Arc;
+use vp_answer::{Call, Reply, Request, SessionId};
+use vp_design::shared_of;
+use vp_elab::ObjectId;
+use vp_policy::{UserId, read_policy};
+use vp_race::{BookLimits, Finding, RaceError, check};
+use vp_text::Shared;
+use vp_wire::{reply_line, request};
+use vp_world::{Event, Limits, World, WorldError};
+
+/// The limits of some words as `log=100`; the greatest where no word has another.
+pub fn limits_of(words: &str) -> Limits {
+    let mut limits = Limits::GREATEST;
+    for word in words.split_whitespace() {
+        if let Some((name, number)) = word.split_once('=')
+            && let Ok(number) = number.parse::<usize>()
+        {
+            limits = with_limit(limits, name, number);
+        }
+    }
+    limits
+}
+
+/// The limits with another of a name.
+fn with_limit(limits: Limits, name: &str, number: usize) -> Limits {
+    match name {
+        "log" => Limits {
+            log: number,
+            ..limits
+        },
+        "races" => Limits {
+            book: BookLimits {
+                races: number,
+                ..limits.book
+            },
+            ..limits
+        },
+        "steps" => Limits {
+            book: BookLimits {
+                steps: number,
+                ..limits.book
+            },
+            ..limits
+        },
+        "sessions" => Limits {
+            sessions: number,
+            ..limits
+        },
+        _ => limits,
+    }
+}
+
+/// The event of a line of JSON, of a session where it is a session's; none where it is no request, or out of memory.
+fn requested(alloc: Global, session: Option<SessionId>, line: &str) -> Option<Event>
+    ensures { (design : Elaborated) → IfSome result (IsWellFormed design) }
+{
+    match request(alloc, line.as_bytes()).ok()? {
+        Request::Open { user, token } => Some(Event::Open { user, token }),
+        Request::Grant(change) => Some(Event::Grant(change)),
+        Request::Call(Call::Query(query)) => Some(Event::Ask {
+            session: session?,
+            query,
+        }),
+        Request::Call(Call::Close) => Some(Event::Close { session: session? }),
+    }
+}
+
+/// The session of a word as `0.1`: the number of its user, and the how-many-th of the user's it is.
+fn session_of(word: &str) -> Option<SessionId> {
+    let (user, opens) = word.split_once('.')?;
+    Some(SessionId {
+        user: UserId(user.parse::<usize>().ok()?),
+        opens: opens.parse::<u64>().ok()?,
+    })
+}
+
+/// The event of a line, but for a booking: `step K`, `advance`, `job`, or a line of JSON after its session, or after `-` where it is of none.
+fn event_of(alloc: Global, line: &str) -> Option<Event>
+    ensures { (design : Elaborated) → IfSome result (IsWellFormed design) }
+{
+    match line.split_once(' ') {
+        None if line == "advance" => Some(Event::Advance),
+        None if line == "job" => Some(Event::TakeJob),
+        None => None,
+        Some(("step", k)) => Some(Event::Step(k.parse::<u32>().ok()?)),
+        Some(("-", line)) => requested(alloc, None, line),
+        Some((word, line)) => requested(alloc, Some(session_of(word)?), line),
+    }
+}
+
+/// The race of an object by an order in the kept segment of a number; or why there is none.
+fn race_of(
+    alloc: Global,
+    world: &World,
+    number: u64,
+    object: u32,
+    order: Vec<u32>,
+) -> Result<Shared<Finding>, RaceError>
+    ensures { IfOk result (λ f. IsWellFormed world.now.opening.design (event.Book f)) }
+{
+    let Some(segment) = world.kept(number) else {
+        return Err(RaceError::SegmentGone);
+    };
+    let segment = Arc::new(alloc, segment.try_clone(alloc)?)?;
+    let finding = check(alloc, &segment, order, ObjectId(object))?;
+    // Read, so that the check knows that it is a race.
+    let _segment = finding.segment();
+    Ok(Shared::new(alloc, finding)?)
+}
+
+/// The line of what an event is answered.
+fn line_of(alloc: Global, answer: Result<Reply, WorldError>) -> Result<String, AllocError> {
+    let reply = match answer {
+        Ok(reply) => reply,
+        Err(WorldError::Sim(error)) => {
+            let code = error.code();
+            return format!(in alloc; "refused 1308 {code}\n");
+        }
+        Err(WorldError::Race(error)) => {
+            let code = error.code();
+            return format!(in alloc; "refused 1309 {code}\n");
+        }
+        Err(error) => {
+            let code = error.code();
+            return format!(in alloc; "refused {code}\n");
+        }
+    };
+    match reply_line(alloc, &reply) {
+        Ok(line) => String::from_utf8_lossy(alloc, &line),
+        Err(_) => Err(AllocError),
+    }
+}
+
+/// The numbers of some words; none where a word is no number, or out of memory.
+fn numbers_of(alloc: Global, words: &str) -> Option<Vec<u32>> {
+    let mut numbers = Vec::new(alloc);
+    for word in words.split(' ') {
+        numbers.push(word.parse::<u32>().ok()?).ok()?;
+    }
+    Some(numbers)
+}
+
+/// The segment's number, the object's, and the choices of a booking's words, as `1 2 0 1 0`; none where a word is no number, or out of memory.
+fn booking_of(alloc: Global, words: &str) -> Option<(u64, u32, Vec<u32>)> {
+    let (number, words) = words.split_once(' ')?;
+    let (object, words) = words.split_once(' ')?;
+    let order = numbers_of(alloc, words)?;
+    let object = object.parse::<u32>().ok()?;
+    Some((number.parse::<u64>().ok()?, object, order))
+}
+
+/// The line of what a world answers to a booking of some words.
+fn booked_line(alloc: Global, world: &mut World, words: &str) -> Result<String, AllocError> {
+    let Some((number, object, order)) = booking_of(alloc, words) else {
+        return String::from_str(alloc, "no booking\n");
+    };
+    match race_of(alloc, world, number, object, order) {
+        Ok(finding) => line_of(alloc, world.apply(Event::Book(finding))),
+        Err(error) => {
+            let code = error.code();
+            format!(in alloc; "no race {code}\n")
+        }
+    }
+}
+
+/// What a world answers to a line of a case, as a line: of `entries` how long its log is, of another line what its event is answered.
+fn answer_line(alloc: Global, world: &mut World, line: &str) -> Result<String, AllocError> {
+    if line == "entries" {
+        let count = world.log().len();
+        return format!(in alloc; "entries {count}\n");
+    }
+    if let Some(words) = line.strip_prefix("book ") {
+        return booked_line(alloc, world, words);
+    }
+    match event_of(alloc, line) {
+        Some(event) => line_of(alloc, world.apply(event)),
+        None => String::from_str(alloc, "no event\n"),
+    }
+}
+
+/// What a world answers to the lines of a case, one after another.
+fn answers_in(alloc: Global, world: &mut World, lines: &str) -> Result<String, AllocError> {
+    let mut printed = String::new(alloc);
+    for line in lines.lines() {
+        let answered = answer_line(alloc, world, line)?;
+        printed.push_str(&answered)?;
+    }
+    Ok(printed)
+}
+
+/// A world of a text and a policy in which nothing has happened; none where one of them is refused, or out of memory.
+fn world_of(alloc: Global, text: &str, policy: &[u8], limits: Limits) -> Option<World> {
+    let checked = shared_of(alloc, text)?;
+    let policy = read_policy(alloc, policy, checked.design()).ok()?;
+    World::new(alloc, checked, policy, limits).ok()
+}
+
+/// What a new world of a text, a policy and some limits answers to the lines of a case, one after another.
+pub fn answers(
+    alloc: Global,
+    text: &str,
+    policy: &str,
+    limits: Limits,
+    lines: &str,
+) -> Result<String, AllocError> {
+    let Some(mut world) = world_of(alloc, text, policy.as_bytes(), limits) else {
+        return String::from_str(alloc, "no world\n");
+    };
+    let printed = answers_in(alloc, &mut world, lines);
+    drop(world);
+    printed
+}
