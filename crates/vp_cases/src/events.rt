@@ -10,7 +10,7 @@ use vp_answer::{Call, Reply, Request, SessionId};
 use vp_design::shared_of;
 use vp_elab::ObjectId;
 use vp_policy::{UserId, read_policy};
-use vp_race::{BookLimits, Finding, RaceError, check};
+use vp_race::{BookLimits, Finding, OpenGate, RaceError, Segment, check, search};
 use vp_text::Shared;
 use vp_wire::{reply_line, request};
 use vp_world::{Event, Limits, World, WorldError};
@@ -115,6 +115,84 @@ fn race_of(
     Ok(Shared::new(alloc, finding)?)
 }
 
+/// A search of a segment tries at most so many steps of an order.
+const MOST_STEPS: u64 = 10_000;
+
+/// Adds some numbers as words, each after a space.
+fn add_words(printed: &mut String, alloc: Global, numbers: &[u32]) -> Result<(), AllocError> {
+    for number in numbers {
+        let word = format!(in alloc; " {number}")?;
+        printed.push_str(&word)?;
+    }
+    Ok(())
+}
+
+/// Adds the objects of some events as words, after the word `by`.
+fn add_sources(
+    printed: &mut String,
+    alloc: Global,
+    sources: &[ObjectId],
+) -> Result<(), AllocError> {
+    printed.push_str(" by")?;
+    for source in sources {
+        let number = source.0;
+        let word = format!(in alloc; " {number}")?;
+        printed.push_str(&word)?;
+    }
+    Ok(())
+}
+
+/// Adds the line of a race: its object, both values, the second order, and whose events the orders took.
+fn add_race(printed: &mut String, alloc: Global, finding: &Finding) -> Result<(), AllocError> {
+    let object = finding.object().0;
+    let (first, second) = finding.values();
+    let (Ok(first), Ok(second)) = (first.to_bin(alloc), second.to_bin(alloc)) else {
+        return Err(AllocError);
+    };
+    let word = format!(in alloc; "race {object} {first} {second}")?;
+    printed.push_str(&word)?;
+    add_words(printed, alloc, finding.second())?;
+    add_sources(printed, alloc, finding.first_sources())?;
+    add_sources(printed, alloc, finding.second_sources())?;
+    printed.push('\n')
+}
+
+/// Adds the line of a segment, with its time and order, and those of the races that a search by so many seeds finds in it.
+fn add_segment(
+    printed: &mut String,
+    alloc: Global,
+    segment: &Segment,
+    seeds: u64,
+) -> Result<(), AllocError> {
+    let number = segment.number();
+    let time = segment.time();
+    let word = format!(in alloc; "segment {number} {time}")?;
+    printed.push_str(&word)?;
+    add_words(printed, alloc, &segment.order(alloc)?)?;
+    printed.push('\n')?;
+    let segment = Arc::new(alloc, segment.try_clone(alloc)?)?;
+    let Ok(findings) = search(alloc, &segment, seeds, MOST_STEPS, &OpenGate) else {
+        return Err(AllocError);
+    };
+    for finding in &findings {
+        add_race(printed, alloc, finding)?;
+    }
+    Ok(())
+}
+
+/// The lines of all kept segments of a world, and of the races that a search by so many seeds finds in each.
+fn segment_lines(alloc: Global, world: &World, seeds: &str) -> Result<String, AllocError> {
+    let mut printed = String::new(alloc);
+    let seeds = seeds.parse::<u64>().unwrap_or(0);
+    for number in 1..u64::MAX {
+        let Some(segment) = world.kept(number) else {
+            return Ok(printed);
+        };
+        add_segment(&mut printed, alloc, segment, seeds)?;
+    }
+    Ok(printed)
+}
+
 /// The line of what an event is answered.
 fn line_of(alloc: Global, answer: Result<Reply, WorldError>) -> Result<String, AllocError> {
     let reply = match answer {
@@ -170,11 +248,37 @@ fn booked_line(alloc: Global, world: &mut World, words: &str) -> Result<String, 
     }
 }
 
+/// What a world answers to events of some words, as a line: each word is the choice of a step, or `a` for an advance, and of each stands
+/// 0 where it was done, or the refusal's own code.
+fn run_line(alloc: Global, world: &mut World, words: &str) -> Result<String, AllocError> {
+    let mut printed = String::from_str(alloc, "run")?;
+    for word in words.split(' ') {
+        let event = match word.parse::<u32>() {
+            Ok(k) => Event::Step(k),
+            Err(_) => Event::Advance,
+        };
+        let code = match world.apply(event) {
+            Ok(_) => 0,
+            Err(WorldError::Sim(error)) => error.code(),
+            Err(error) => error.code(),
+        };
+        add_words(&mut printed, alloc, &[code])?;
+    }
+    printed.push('\n')?;
+    Ok(printed)
+}
+
 /// What a world answers to a line of a case, as a line: of `entries` how long its log is, of another line what its event is answered.
 fn answer_line(alloc: Global, world: &mut World, line: &str) -> Result<String, AllocError> {
     if line == "entries" {
         let count = world.log().len();
         return format!(in alloc; "entries {count}\n");
+    }
+    if let Some(seeds) = line.strip_prefix("races ") {
+        return segment_lines(alloc, world, seeds);
+    }
+    if let Some(words) = line.strip_prefix("run ") {
+        return run_line(alloc, world, words);
     }
     if let Some(words) = line.strip_prefix("book ") {
         return booked_line(alloc, world, words);
