@@ -56,11 +56,13 @@ whole=$(allocations_of "$program" run "$work/slot.v" "$work/policy.json" < "$wor
 plain=$(allocations_of "$work/world_speed" 1 < "$work/slot.v")
 echo "a search of slots of 1,000 procedures: $(awk "BEGIN { printf \"%.3f\", ($whole - $plain) / (16 * 3005) }") allocations a step"
 
-design races racing 200 1 59000
-design alike racing 200 0 59000
-found=$(($(searched races 3) - $(searched races 1)))
-none=$(($(searched alike 3) - $(searched alike 1)))
-echo "a race that is found and booked beside 60,000 objects: $(((found - none) / 400)) instructions"
+for others in 800 59000; do
+    design races racing 200 1 "$others"
+    design alike racing 200 0 "$others"
+    found=$(($(searched races 3) - $(searched races 1)))
+    none=$(($(searched alike 3) - $(searched alike 1)))
+    echo "a race that is found and booked beside $((others + 200)) regs: $(((found - none) / 400)) instructions"
+done
 
 design races racing 1000 1 0
 {
