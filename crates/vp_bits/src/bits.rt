@@ -209,7 +209,8 @@ impl Bits {
         }
     }
 
-    fn bit(&self, place: u8) -> Bit
+    /// The bit at a place, counted from 0 for the least significant one.
+    pub fn bit(&self, place: u8) -> Bit
         requires { place < length self.now }
         ensures { slice_get self.now place ≡ Some result }
     {

@@ -428,14 +428,6 @@ fn block_of<T: Copy + Drop>(base: &Parts<T, Blocks<T>, 16384>, number: usize) ->
 }
 
 impl<T: Copy + Drop + Same> ChunkedList<T> {
-    /// The chunk of a number has these items.
-    pub(crate) fn has_chunk(&self, number: usize, list: &[T]) -> bool
-        requires { 64 * number < length self.now }
-        ensures { result ≡ true → take 64 (drop (64 * number) self.now) ≡ list.now }
-    {
-        are_same(self.chunk(number).items.as_slice(), list)
-    }
-
     /// Two lists have the same items. It takes time for each item at most, chunk by chunk, and no memory.
     #[tactic(auto, using(crate::specs::laws::Copies::chunk_within, crate::specs::laws::Copies::next_same, crate::specs::laws::Copies::all_same))]
     pub fn is_same(&self, other: &ChunkedList<T>) -> bool

@@ -87,14 +87,6 @@ impl<T: Copy + Drop> SharedList<T> {
 }
 
 impl<T: Copy + Drop + Same> SharedList<T> {
-    /// The chunk of a number has these items.
-    pub(crate) fn has_chunk(&self, number: usize, list: &[T]) -> bool
-        requires { 64 * number < length self.now }
-        ensures { result ≡ true → take 64 (drop (64 * number) self.now) ≡ list.now }
-    {
-        self.list.has_chunk(number, list)
-    }
-
     /// Two lists have the same items. It takes time for each item at most, chunk by chunk, and no memory.
     pub fn is_same(&self, other: &SharedList<T>) -> bool
         ensures same { result ≡ true → self.now ≡ other.now }

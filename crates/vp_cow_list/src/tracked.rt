@@ -1,20 +1,11 @@
-ghost use Rattle.std.specs.Prelude.{◌≡◌, ◌<◌, ◌≤◌, ◌+◌, ◌*◌, ◌/◌, ℕ, [], Some, drop, length, slice_get, slice_set, take, true, IfOk, OnErr, OnOk};
-ghost use Rattle.std.specs.List.{Contains};
-ghost use Rattle.vp_cow_list.specs.Tracked.{AreMarked, IsRenewed, IsWritten, Lags, Lets, MayBeWritten};
+ghost use Rattle.std.specs.Prelude.{◌≡◌, ◌<◌, ◌≤◌, ◌+◌, ◌*◌, ◌/◌, ℕ, drop, length, slice_get, slice_index_or, slice_set, take, true, IfOk, OnErr, OnOk};
+ghost use Rattle.vp_cow_list.specs.Tracked.{AreMarked, HasWritten, IsRenewed, IsWritten, Lags};
 
+use crate::chunks::Chunk;
 use crate::shared_list::SharedList;
 use std::alloc::{AllocError, Global};
 use std::marker::Model;
 use vp_text::Same;
-
-/// What is known to have been written in a chunk since the last copy.
-#[derive(Clone, Copy)]
-pub(crate) enum Written {
-    Nothing,
-    /// At most one place, by its number in the list.
-    Place(usize),
-    Any,
-}
 
 /// A list that is written in place, and of which copies are kept: a copy shares its chunks of 64 items with the one before it, but for
 /// those that were written since. A contract sees its items, in order.
@@ -26,8 +17,8 @@ pub struct TrackedList<T: Copy + Drop + Same> {
     copy: SharedList<T>,
     /// The numbers of the chunks that were written since.
     changed: Vec<usize>,
-    /// What was written in each chunk.
-    marks: Vec<Written>,
+    /// Of each chunk a bit for each place that was written since, the first place's lowest.
+    written: Vec<u64>,
     /// There was a copy, and each chunk that was written since is one of those.
     is_complete: bool,
 }
@@ -40,9 +31,9 @@ impl<T: Copy + Drop + Same> Model for TrackedList<T> {
 
     ghost view = { λ t. t.items.items };
 
-    ghost invariant = { λ t. AreMarked t.changed.items t.marks.items
+    ghost invariant = { λ t. AreMarked t.changed.items t.written.items
         × (t.is_complete ≡ true → (length t.copy ≡ length t.items.items)
-        × AreCopied t.copy t.items.items t.changed.items t.marks.items) };
+        × AreCopied t.copy t.items.items t.written.items) };
 }
 
 impl<T: Copy + Drop + Same> TrackedList<T> {
@@ -50,13 +41,13 @@ impl<T: Copy + Drop + Same> TrackedList<T> {
     pub fn from_vec(alloc: Global, items: Vec<T>) -> Result<TrackedList<T>, AllocError>
         ensures { IfOk result (λ t. t ≡ items.items) }
     {
-        let marks = vec![in alloc; Written::Nothing; items.len().div_ceil(64)]?;
+        let written = vec![in alloc; 0u64; items.len().div_ceil(64)]?;
         Ok(TrackedList {
             alloc,
             items,
             copy: SharedList::from_slice(alloc, &[])?,
             changed: Vec::new(alloc),
-            marks,
+            written,
             is_complete: false,
         })
     }
@@ -65,13 +56,13 @@ impl<T: Copy + Drop + Same> TrackedList<T> {
     pub fn of_kept(alloc: Global, kept: &SharedList<T>) -> Result<TrackedList<T>, AllocError>
         ensures { IfOk result (λ t. t ≡ kept.now) }
     {
-        let marks = vec![in alloc; Written::Nothing; kept.len().div_ceil(64)]?;
+        let written = vec![in alloc; 0u64; kept.len().div_ceil(64)]?;
         Ok(TrackedList {
             alloc,
             items: kept.to_vec(alloc)?,
             copy: kept.try_clone()?,
             changed: Vec::new(alloc),
-            marks,
+            written,
             is_complete: true,
         })
     }
@@ -94,7 +85,7 @@ impl<T: Copy + Drop + Same> TrackedList<T> {
         self.is_complete = mark_written(
             self.is_complete,
             &mut self.changed,
-            &mut self.marks,
+            &mut self.written,
             place,
         );
     }
@@ -113,99 +104,71 @@ impl<T: Copy + Drop + Same> TrackedList<T> {
             &mut self.copy,
             self.items.as_slice(),
             &mut self.changed,
-            &mut self.marks,
+            &mut self.written,
         )?;
         self.copy.try_clone()
     }
 }
 
 /// Remembers that a place is written, where all others are, and reports so; but not where there is no memory for that.
+#[inline(always)]
 fn mark_written(
     is_complete: bool,
     changed: &mut Vec<usize>,
-    marks: &mut Vec<Written>,
+    written: &mut Vec<u64>,
     place: usize,
 ) -> bool
-    requires marked { AreMarked changed.old.items marks.old.items }
-    ensures marked { AreMarked changed.new.items marks.new.items }
-    ensures others { (k : ℕ) → MayBeWritten changed.old.items marks.old.items k
-        → MayBeWritten changed.new.items marks.new.items k }
-    ensures there { result ≡ true → (is_complete ≡ true)
-        × MayBeWritten changed.new.items marks.new.items place }
+    requires marked { AreMarked changed.old.items written.old.items }
+    ensures marked { AreMarked changed.new.items written.new.items }
+    ensures others { (k : ℕ) → IsWritten written.old.items k → IsWritten written.new.items k }
+    ensures there { result ≡ true → (is_complete ≡ true) × IsWritten written.new.items place }
 {
     if !is_complete {
         return false;
     }
     let number = place / 64;
-    let written = written_in(marks, number);
-    if !remember_chunk(changed, number, written) {
+    if number >= written.len() {
         return false;
     }
-    mark(marks, number, with_place(written, place));
+    let bits = written_in(written, number);
+    if bits == 0 && changed.push(number).is_err() {
+        return false;
+    }
+    written[number] = bits | (1 << (place % 64));
     true
 }
 
-/// Remembers that a chunk is written, where it is not known yet, and reports so; but not where there is no memory for that.
-fn remember_chunk(changed: &mut Vec<usize>, number: usize, written: Option<Written>) -> bool
-    requires marked { IsWritten written → Contains changed.old.items number }
-    ensures others { (n : ℕ) → Contains changed.old.items n → Contains changed.new.items n }
-    ensures there { result ≡ true → Contains changed.new.items number }
+/// The places that were written in the chunk of a number, as bits; none where there is no such chunk.
+#[inline(always)]
+fn written_in(written: &Vec<u64>, number: usize) -> u64
+    ensures { result ≡ slice_index_or written.now.items number 0 }
 {
-    match written {
-        Some(Written::Place(_)) | Some(Written::Any) => true,
-        _ => changed.push(number).is_ok(),
+    match written.get(number) {
+        Some(bits) => *bits,
+        None => 0,
     }
 }
 
-/// What is known of a chunk when one place more is written.
-fn with_place(written: Option<Written>, place: usize) -> Written
-    ensures there { Lets (Some result) place }
-    ensures others { (k : ℕ) → Lets written k → Lets (Some result) k }
+/// No place of a chunk is written any more, if there is one of this number.
+fn clear(written: &mut Vec<u64>, number: usize)
+    ensures { written.new.items ≡ slice_set written.old.items number 0 }
 {
-    match written {
-        Some(Written::Nothing) => Written::Place(place),
-        Some(Written::Place(other)) if other == place => Written::Place(place),
-        _ => Written::Any,
+    if number < written.len() {
+        written[number] = 0;
     }
 }
 
-/// What is known of a chunk, if there is one of this number.
-fn written_in(marks: &Vec<Written>, number: usize) -> Option<Written>
-    ensures { result ≡ slice_get marks.now.items number }
-{
-    marks.get(number).copied()
-}
-
-/// Sets what is known of a chunk, if there is one of this number.
-fn mark(marks: &mut Vec<Written>, number: usize, written: Written)
-    ensures { marks.new.items ≡ slice_set marks.old.items number written }
-{
-    if number < marks.len() {
-        marks[number] = written;
-    }
-}
-
-/// A copy has the item of a list at a place where there is one.
-fn has_item<T: Copy + Drop + Same>(copy: &SharedList<T>, items: &[T], place: usize) -> bool
-    ensures { result ≡ true → slice_get copy.now place ≡ slice_get items.now place }
-{
-    match (copy.get(place), items.get(place)) {
-        (Some(first), Some(second)) => first.is_same(second),
-        _ => false,
-    }
-}
-
-/// Takes a chunk of a list, of which it is known what was written in it, into a copy of it, if there is one of this number.
+/// Takes a chunk of a list, of which these places were written, into a copy of it, if there is one of this number.
 #[tactic(auto, using(crate::specs::laws::Tracked::own_past))]
 fn take_over<T: Copy + Drop + Same>(
     copy: &mut SharedList<T>,
     items: &[T],
     number: usize,
-    written: Option<Written>,
+    bits: u64,
 ) -> Result<(), AllocError>
     requires length { length copy.old ≡ length items.now }
     ensures length { length copy.new ≡ length copy.old }
-    ensures own { OnOk result (IsRenewed copy.old copy.new items.now number written) }
+    ensures own { OnOk result (IsRenewed copy.old copy.new items.now number bits) }
     ensures others { OnOk result ((k : ℕ) → (k / 64 ≡ number → ⊥)
         → slice_get copy.new k ≡ slice_get copy.old k) }
     ensures unchanged { OnErr result (copy.new ≡ copy.old) }
@@ -213,11 +176,12 @@ fn take_over<T: Copy + Drop + Same>(
     if number >= items.len().div_ceil(64) {
         return Ok(());
     }
+    let chunk = chunk_of(items, number);
     // What is the same again needs no copy.
-    if is_same_chunk(copy, items, number, written) {
+    if has_items(copy.chunk(number), chunk, bits) {
         return Ok(());
     }
-    copy.set_chunk(number, chunk_of(items, number))
+    copy.set_chunk(number, chunk)
 }
 
 /// The chunk of 64 items, or fewer at the end, of a number.
@@ -232,20 +196,27 @@ fn chunk_of<T>(items: &[T], number: usize) -> &[T]
     &rest[..rest.len().min(64)]
 }
 
-/// A copy has the items of a chunk, if it has those that were not written in it.
-fn is_same_chunk<T: Copy + Drop + Same>(
-    copy: &SharedList<T>,
-    items: &[T],
-    number: usize,
-    written: Option<Written>,
-) -> bool
-    requires there { 64 * number < length items.now }
-    requires length { length copy.now ≡ length items.now }
-    ensures { result ≡ true → IsRenewed copy.now copy.now items.now number written }
+/// A chunk has the items of a list at the places of these bits.
+fn has_items<T: Copy + Drop + Same>(chunk: &Chunk<T>, items: &[T], bits: u64) -> bool
+    requires { length items.now ≤ 64 }
+    ensures { result ≡ true → HasWritten chunk.now items.now bits }
 {
-    match written {
-        Some(Written::Place(place)) => has_item(copy, items, place),
-        _ => copy.has_chunk(number, chunk_of(items, number)),
+    for place in 0..items.len() {
+        if (bits >> place) & 1 == 1 && !has_item(chunk, items, place) {
+            return false;
+        }
+    }
+    true
+}
+
+/// A chunk has the item of a list at a place where there is one.
+#[inline(always)]
+fn has_item<T: Copy + Drop + Same>(chunk: &Chunk<T>, items: &[T], place: usize) -> bool
+    ensures { result ≡ true → slice_get chunk.now place ≡ slice_get items.now place }
+{
+    match (chunk.get(place), items.get(place)) {
+        (Some(first), Some(second)) => first.is_same(second),
+        _ => false,
     }
 }
 
@@ -255,15 +226,15 @@ fn renew<T: Copy + Drop + Same>(
     copy: &mut SharedList<T>,
     items: &[T],
     changed: &mut Vec<usize>,
-    marks: &mut Vec<Written>,
+    written: &mut Vec<u64>,
 ) -> Result<(), AllocError>
-    requires lags { Lags copy.old items.now changed.old.items marks.old.items }
+    requires lags { Lags copy.old items.now changed.old.items written.old.items }
     ensures all { OnOk result (copy.new ≡ items.now) }
-    ensures lags { Lags copy.new items.now changed.new.items marks.new.items }
+    ensures lags { Lags copy.new items.now changed.new.items written.new.items }
 {
     while let Some(number) = changed.as_slice().last().copied() {
-        take_over(copy, items, number, written_in(marks, number))?;
-        mark(marks, number, Written::Nothing);
+        take_over(copy, items, number, written_in(written, number))?;
+        clear(written, number);
         let _ = changed.pop();
     }
     Ok(())

@@ -2,11 +2,14 @@
 use Rattle.std.specs.Prelude.{◌≡◌, ℕ, ◌-◌, ◌≤◌, ◌==◌, suc, nat_lt, true, false, if◌then◌else◌, List, [], ◌∷◌, ◌++◌, length, replicate, Option, Some, None, IfSome}
 use Rattle.std.specs.List.{find}
 use Rattle.std.specs.Option.{option_map_or}
+use Rattle.std.specs.Arc.{arc_value}
 use Rattle.circular_buffer.specs.Buffer.{keep_last}
 use Rattle.vp_elab.specs.declared.object.ObjectId.{ObjectId}
 use Rattle.vp_sim.specs.States.{State, eligible, source_of, step}
 use Rattle.vp_race.specs.Orders.{HasEnd, after_choices, has_choice, is_over, reached}
 use Rattle.vp_race.specs.Segments.{Run}
+use Rattle.vp_race.specs.declared.start.Seen.{Seen}
+use Rattle.vp_race.specs.declared.start.Seen.TheVariants.{First, Again}
 
 -- a segment that is not closed: the state with which it began, and what the run chose since
 pub record Opened : Type 0 where
@@ -70,6 +73,11 @@ abbrev pub with_job : Segments → Run → Segments
 with_job r run = record r { last_job = run.number }
 
 -- ---- as it is kept
+
+-- the state of a simulation that was seen
+abbrev pub state_seen : Seen → State
+state_seen (First s) = s.value
+state_seen (Again s) = (arc_value s).value.value
 
 -- closed segments that are kept, and how many closed
 pub record Ring : Type 0 where

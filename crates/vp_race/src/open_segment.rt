@@ -65,21 +65,19 @@ impl OpenSegment {
         self.choice = None;
     }
 
-    /// It begins with a simulation as it is, if it is not begun; or an error where there is no memory.
-    fn begin(&mut self, simulation: &Sim) -> Result<(), AllocError>
+    /// It begins with a simulation as it is, if it is not begun.
+    fn begin(&mut self, simulation: &Sim)
         requires { Stands self.old simulation.now }
         ensures seen { opened_by self.new simulation.now ≡ opened_by self.old simulation.now }
         ensures stands { Stands self.new simulation.now }
-        ensures begun { OnOk result (IsSome self.new) }
+        ensures begun { IsSome self.new }
     {
         if self.start.is_some() {
-            return Ok(());
+            return;
         }
-        let start = Start::new(self.alloc, simulation)?;
         self.sources.clear();
         self.choice = None;
-        self.start = Some(start);
-        Ok(())
+        self.start = Some(Start::new(simulation));
     }
 
     /// Where the run has its first choice now, the simulation is kept; or an error where there is no memory.
@@ -95,7 +93,8 @@ impl OpenSegment {
         if self.choice.is_some() || simulation.eligible() <= 1 || is_over(simulation) {
             return Ok(());
         }
-        let order = Vec::with_capacity(self.alloc, 4)?;
+        // Each event that is eligible takes a step at least.
+        let order = Vec::with_capacity(self.alloc, simulation.eligible())?;
         let Ok(state) = simulation.checkpoint() else {
             return Err(AllocError);
         };
@@ -129,7 +128,7 @@ impl OpenSegment {
         ensures stands { Stands self.new simulation.old }
         ensures same { simulation.new ≡ simulation.old }
     {
-        self.begin(simulation)?;
+        self.begin(simulation);
         self.keep_choice(simulation)?;
         self.make_room()
     }

@@ -1,6 +1,6 @@
 ghost use Rattle.std.specs.Prelude.{◌≡◌, ◌<◌, ◌+◌, ◌^◌, None, option_copied, option_map, IfErr, IfOk, IsOkUnless, MatchOption, OnErr, OnOk};
 ghost use Rattle.std.specs.Arc.{arc_value};
-ghost use Rattle.vp_sim.specs.States.{refusal_in, Goes, advance, put, start, step};
+ghost use Rattle.vp_sim.specs.States.{refusal_in, Goes, advance, change_in, put, start, step};
 ghost use Rattle.vp_text.specs.Refusals.{Explains};
 ghost use Rattle.vp_sim.specs.declared.error.SimError.TheVariants.{NoMemory};
 ghost use Rattle.vp_race.specs.Recording.{first_segments, kept_of, next_job, with_anew, with_job, with_step};
@@ -77,14 +77,14 @@ impl Recording {
         self.closed.count()
     }
 
-    /// Takes the k-th of the events that a step can take, and reports what it changed. It belongs to the open segment, which closes where nothing is left
-    /// to do in the time slot after it. Refused where `$finish` was executed (804), where nothing is left to do at the current time (801), where
+    /// Takes the k-th of the events that a step can take, and reports which net or reg it changed. It belongs to the open segment, which closes where nothing
+    /// is left to do in the time slot after it. Refused where `$finish` was executed (804), where nothing is left to do at the current time (801), where
     /// there are not so many events (802), where something would happen at 2^62 or later (805), or out of memory (806). A refusal leaves
     /// all as it was.
-    pub fn step(&mut self, k: u32) -> Result<Option<Change>, SimError>
+    pub fn step(&mut self, k: u32) -> Result<Option<ObjectId>, SimError>
         requires { self.old.segments.count + 1 < 2 ^ 64 }
-        ensures ok { IfOk result
-            (λ change. step self.old.simulation k ≡ Goes self.new.simulation change) }
+        ensures ok { IfOk result (λ changed. step self.old.simulation k
+            ≡ Goes self.new.simulation (change_in self.new.simulation changed)) }
         ensures segments { OnOk result
             (self.new.segments ≡ with_step self.old.segments k self.new.simulation) }
         ensures refused { IfErr result (Explains NoMemory
@@ -101,7 +101,7 @@ impl Recording {
         if is_over(&self.simulation) {
             self.begun.close(&mut self.closed, &self.simulation);
         }
-        Ok(stepped.change)
+        Ok(stepped.changed)
     }
 
     /// Goes on to the time of the next future event, where a segment begins. Refused where `$finish` was executed (804), where something is left

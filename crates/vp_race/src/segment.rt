@@ -69,7 +69,7 @@ impl Segment {
         };
         Ok(Segment {
             number: self.number,
-            start: self.start.try_clone()?,
+            start: self.start.try_clone(alloc)?,
             forced: self.forced,
             choice,
         })

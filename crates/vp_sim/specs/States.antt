@@ -228,6 +228,11 @@ evaluated tables s k process (Some (Connection port net)) = Goes (driven s k pro
 
 -- ---- steps
 
+-- what an object that changed last has become, if one has
+abbrev pub change_in : State → Option ObjectId → Option Change
+change_in s None = None
+change_in s (Some object) = Some (record { object = object; value = value_in s.values object.0 })
+
 -- the k-th of the eligible events happens, if there is one
 abbrev pub happened : Tables → State → (k : ℕ) → Option Event → Outcome
 happened tables s k None = Refuses NoSuchChoice

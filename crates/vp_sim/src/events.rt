@@ -3,7 +3,7 @@ ghost use Rattle.vp_sim.specs.States.{refusal_in, Goes, IsStep, Refuses, with_ac
 ghost use Rattle.vp_text.specs.Refusals.{Explains};
 ghost use Rattle.vp_expr.specs.Tables.{tables_of};
 ghost use Rattle.vp_strata.specs.Queues.{peeked};
-ghost use Rattle.vp_active_events.specs.declared.event.Event.TheVariants.{NetUpdate};
+ghost use Rattle.vp_active_events.specs.declared.event.Event.TheVariants.{Evaluation, NetUpdate};
 ghost use Rattle.vp_sim.specs.declared.error.SimError.TheVariants.{NoMemory};
 ghost use Rattle.vp_expr.specs.Changes.{change_of, net_at, updated_by};
 
@@ -35,6 +35,21 @@ impl Machine {
             Some(event) => Ok(event),
             None => Err(SimError::NoSuchChoice),
         }
+    }
+
+    /// The process whose evaluation a step takes as the k-th of the eligible events, where that is known without a search.
+    #[inline(always)]
+    pub fn front_evaluation(&self, k: usize) -> Option<usize>
+        ensures step { IfSome result (λ process. step self.now.state k
+            ≡ happened (tables_of self.now.state.design) (with_activation self.now.state) k
+            (Some (Evaluation process))) }
+        ensures event { IfSome result (λ process.
+            peeked self.now.state.queue k ≡ Some (Evaluation process)) }
+    {
+        if k > 0 || self.finished {
+            return None;
+        }
+        self.queue.front_evaluation()
     }
 
     /// What giving an object a value changes.

@@ -1,6 +1,6 @@
 ghost use Rattle.std.specs.Prelude.{◌≡◌, length, slice_index_or, None, IfErr, IfOk, OnErr, OnOk, IsOkUnless};
 ghost use Rattle.std.specs.Arc.{arc_value};
-ghost use Rattle.vp_sim.specs.States.{refusal_in, Goes, IsStep, Refuses, advance, eligible, next_time, put, slot_done, source_of, start, step};
+ghost use Rattle.vp_sim.specs.States.{refusal_in, Goes, IsStep, Refuses, advance, change_in, eligible, next_time, put, slot_done, source_of, start, step};
 ghost use Rattle.vp_text.specs.Refusals.{Explains};
 ghost use Rattle.vp_operand.specs.Values.{no_value};
 ghost use Rattle.vp_sim.specs.declared.error.SimError.TheVariants.{NoMemory};
@@ -140,12 +140,23 @@ impl Sim {
     /// nothing is left to do at the current time (801), where there are not so many events (802), where something would happen at
     /// 2^62 or later (805), or out of memory (806). A refusal leaves the simulation as it was.
     pub fn step(&mut self, k: usize) -> Result<Stepped, SimError>
-        ensures ok { IfOk result (λ stepped. step self.old k ≡ Goes self.new stepped.change) }
+        ensures ok { IfOk result
+            (λ stepped. step self.old k ≡ Goes self.new (change_in self.new stepped.changed)) }
         ensures source { IfOk result (λ stepped. stepped.source ≡ source_of self.old k) }
         ensures refused { IfErr result (Explains NoMemory (refusal_in (step self.old k))) }
         ensures unchanged { OnErr result (self.new ≡ self.old) }
     {
         self.machine.step(k)
+    }
+
+    /// What the object has become that a step changed, if it changed one.
+    #[inline(always)]
+    pub fn change_in(&self, changed: Option<ObjectId>) -> Option<Change>
+        ensures { result ≡ change_in self.now changed }
+    {
+        let object = changed?;
+        let value = self.value(object);
+        Some(Change { object, value })
     }
 
     /// A step that takes the k-th of the events is legal; else its refusal (804, 801, 802, 805).

@@ -1,7 +1,8 @@
 ghost use Rattle.std.specs.Option.{option_map_or};
 ghost use Rattle.std.specs.Prelude.{◌≡◌, length, map, slice_get, slice_index_or, None, Some, IfErr, IfOk, IfSome, OnErr, OnOk, IsOkUnless};
 ghost use Rattle.std.specs.Arc.{arc_value};
-ghost use Rattle.vp_sim.specs.States.{refusal_in, Goes, IsStep, Refuses, advance, advanced_to, eligible, next_time, put, slot_done, source_of, start, step, with_activation, with_change, without_event};
+ghost use Rattle.vp_sim.specs.States.{refusal_in, Goes, IsStep, Refuses, advance, advanced_to, change_in, eligible, next_time, put, slot_done, source_of, start, step, with_activation, with_change, without_event};
+ghost use Rattle.vp_sim.specs.laws.Changing.{changed_by};
 ghost use Rattle.vp_text.specs.Refusals.{Explains};
 ghost use Rattle.vp_elab.specs.Tree.{below};
 ghost use Rattle.vp_active_events.specs.declared.event.Event.TheVariants.{Evaluation};
@@ -56,6 +57,16 @@ fn process_of(event: Event) -> usize
     match event {
         Event::Evaluation { process } | Event::NetUpdate { process, .. } => process,
         Event::Nonblocking { update } => update.process,
+    }
+}
+
+/// The object of a change, if there is one.
+fn changed_by(change: &Option<Change>) -> Option<ObjectId>
+    ensures { result ≡ changed_by change.now }
+{
+    match change {
+        Some(change) => Some(change.object),
+        None => None,
     }
 }
 
@@ -161,7 +172,7 @@ impl Machine {
         ensures ok { OnOk result (self.new.state
             ≡ with_change (tables_of self.old.state.design)
             (without_event (with_activation self.old.state) k) change) }
-        ensures change { IfOk result (λ stepped. stepped.change ≡ change) }
+        ensures changed { IfOk result (λ stepped. stepped.changed ≡ changed_by change) }
         ensures source { IfOk result (λ stepped. stepped.source
             ≡ option_map_or process_object
             (slice_get (tables_of self.old.state.design).processes process) (record { 0 = 0 })) }
@@ -170,33 +181,43 @@ impl Machine {
     {
         let source = self.object_of(process);
         self.update(k, &change)?;
-        Ok(Stepped { change, source })
+        Ok(Stepped {
+            changed: changed_by(&change),
+            source,
+        })
     }
 
     /// Takes the k-th of the events that a step can take, and reports what it changed and whose event that was; else the refusal (804,
     /// 801, 802, 805, 806).
+    #[tactic(auto, using(crate::specs::laws::Changing::step_changes))]
     pub fn step(&mut self, k: usize) -> Result<Stepped, SimError>
-        ensures ok { IfOk result
-            (λ stepped. step self.old.state k ≡ Goes self.new.state stepped.change) }
+        ensures ok { IfOk result (λ stepped. step self.old.state k
+            ≡ Goes self.new.state (change_in self.new.state stepped.changed)) }
         ensures source { IfOk result (λ stepped. stepped.source ≡ source_of self.old.state k) }
         ensures refused { IfErr result (Explains NoMemory (refusal_in (step self.old.state k))) }
         ensures unchanged { OnErr result (self.new.state ≡ self.old.state) }
     {
-        match self.event(k)? {
-            Event::Evaluation { process } => {
-                let source = self.object_of(process);
-                let change = self.evaluate(k, process)?;
-                Ok(Stepped { change, source })
-            }
-            Event::NetUpdate { process, value } => {
-                let change = self.change_by_net(process, value);
-                self.step_update(k, process, change)
-            }
-            Event::Nonblocking { update } => {
-                let change = self.set_change(update.object, update.place, update.value);
-                self.step_update(k, update.process, change)
-            }
-        }
+        // Most events are evaluations that are found at once: no other event is handed on by value then.
+        let process = match self.front_evaluation(k) {
+            Some(process) => process,
+            None => match self.event(k)? {
+                Event::Evaluation { process } => process,
+                Event::NetUpdate { process, value } => {
+                    let change = self.change_by_net(process, value);
+                    return self.step_update(k, process, change);
+                }
+                Event::Nonblocking { update } => {
+                    let change = self.set_change(update.object, update.place, update.value);
+                    return self.step_update(k, update.process, change);
+                }
+            },
+        };
+        let source = self.object_of(process);
+        let change = self.evaluate(k, process)?;
+        Ok(Stepped {
+            changed: changed_by(&change),
+            source,
+        })
     }
 
     /// A step that takes the k-th of the events is legal; else its refusal (804, 801, 802, 805).

@@ -1,5 +1,5 @@
 -- Future events in the order of their times.
-use Rattle.std.proofs.Common.{◌≡◌, ◌∙◌, ℕ, zero, suc, ◌-◌, ◌==◌, ◌<◌, ◌≤◌, nat_le, Bool, true, false, cond, not, List, [], ◌∷◌, ◌++◌, ap, sym, arith, filter, length, take, drop, get_or, insert, Some, refl, inl, inr}
+use Rattle.std.proofs.Common.{◌≡◌, ◌∙◌, ℕ, zero, suc, ◌-◌, ◌==◌, ◌<◌, ◌≤◌, nat_le, Bool, true, false, cond, not, List, [], ◌∷◌, ◌++◌, ap, sym, arith, filter, length, take, drop, get_or, insert, Some, refl, inl, inr, IfSome}
 use Rattle.std.specs.List.{AllWithin}
 use Rattle.std.proofs.lemmas.Bool.{cases_eq, cases_lt, leb-true, leb-false, le-leb, lt-leb, ne_eqb, eq-eqb}
 use Rattle.std.proofs.lemmas.List.Edits.{get_or-insert_at, get_or-insert_below, get_or-insert_above, length-insert}
@@ -55,6 +55,12 @@ at_first xs time i ordered first before following within =
       parted.0 ∙ same_kept (is_by time) (is_at time) xs same,
       parted.1 ∙ same_kept (λ e. not (is_by time e)) (λ e. not (is_at time e)) xs (λ k d h. ap not (same k d h)),
     )
+
+-- an event alone comes at the first time
+pub alone : (es : List Timed) → length es ≤ 1 → IfSome (first_time es) (λ time. (take (length es) es ≡ filter (is_at time) es) × (drop (length es) es ≡ filter (λ e. not (is_at time e)) es))
+alone [] few = tt
+alone (e ∷ []) few = rw (eq-eqb e.time e.time refl) (refl, refl)
+alone (e ∷ f ∷ es) few = absurd (omega arith)
 
 -- ---- one more event
 

@@ -79,7 +79,25 @@ impl FutureRegion {
     }
 
     /// How many events come at the time of the first.
+    #[tactic(auto, using(crate::proofs::Times::alone))]
     pub fn count_first(&self) -> usize
+        ensures first { IfSome (first_time self.now)
+            (λ time. take result self.now ≡ filter (is_at time) self.now) }
+        ensures last { IfSome (first_time self.now)
+            (λ time. drop result self.now ≡ filter (λ e. not (is_at time e)) self.now) }
+        ensures none { IfNone (first_time self.now) (result ≡ 0) }
+        ensures within { result ≤ length self.now }
+    {
+        // A clock is often the only event that is to come.
+        if self.count <= 1 {
+            self.count
+        } else {
+            self.count_at_first()
+        }
+    }
+
+    /// The same, where it is looked for.
+    fn count_at_first(&self) -> usize
         ensures first { IfSome (first_time self.now)
             (λ time. take result self.now ≡ filter (is_at time) self.now) }
         ensures last { IfSome (first_time self.now)

@@ -1,4 +1,4 @@
-ghost use Rattle.std.specs.Prelude.{◌≡◌, ◌<◌, ◌≤◌, ◌+◌, ◌==◌, ◌++◌, ◌∷◌, [], drop, length, option_and_then, slice_get, Err, IfErr, IfOk, IsOk, OnErr, OnOk};
+ghost use Rattle.std.specs.Prelude.{◌≡◌, ◌<◌, ◌≤◌, ◌+◌, ◌==◌, ◌++◌, ◌∷◌, [], drop, length, option_and_then, slice_get, false, Some, Err, IfErr, IfOk, IfSome, IsOk, OnErr, OnOk};
 ghost use Rattle.vp_strata.specs.declared.error.StrataError.TheVariants.{NoMemory, TimeLimit};
 ghost use Rattle.vp_active_events.specs.declared.event.Event.TheVariants.{Evaluation, NetUpdate};
 ghost use Rattle.vp_active_events.specs.Events.{eligible_places};
@@ -13,7 +13,7 @@ use std::alloc::{AllocError, Global};
 use std::collections::VecDeque;
 use std::marker::Model;
 use std::mem::swap;
-use vp_active_events::{ActiveRegion, Event, NonblockingUpdate};
+use vp_active_events::{ActiveRegion, Event, NonblockingUpdate, Slot};
 use vp_bits::Bits;
 
 /// Room is made for at least so many events at once, so that few of the events that follow have to ask for memory.
@@ -294,6 +294,22 @@ impl Strata {
             return self.inactive.len();
         }
         self.nonblocking.len().min(1)
+    }
+
+    /// The process whose evaluation is the first of the eligible events, where that is known without a search.
+    #[inline(always)]
+    pub fn front_evaluation(&self) -> Option<usize>
+        ensures first { IfSome result (λ process.
+            peeked self.now.queue 0 ≡ Some (Evaluation process)) }
+        ensures some { IfSome result (λ process. is_done self.now.queue ≡ false) }
+    {
+        if !self.assignments.is_empty() {
+            return None;
+        }
+        match self.active.front()? {
+            Slot::Evaluation { process } => Some(*process),
+            Slot::Empty | Slot::NetUpdate { .. } => None,
+        }
     }
 
     /// The k-th of the eligible events, counted from 0, after the activation that a step would make; none where there are not so many.

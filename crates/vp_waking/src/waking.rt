@@ -18,16 +18,7 @@ use vp_strata::Strata;
 fn first_bit(bits: Bits) -> Bit
     ensures { result ≡ first_bit bits }
 {
-    let first = bits.select(0, 1);
-    if first == Bits::zeros(1) {
-        Bit::Zero
-    } else if first == Bits::unknown(1) {
-        Bit::Unknown
-    } else if first == Bits::high_impedance(1) {
-        Bit::HighImpedance
-    } else {
-        Bit::One
-    }
+    bits.bit(0)
 }
 
 /// A change of a bit is a posedge (9.7.2).

@@ -5,6 +5,7 @@ ghost use Rattle.vp_policy.specs.PolicyState.{Fits};
 ghost use Rattle.vp_policy.specs.Users.{login_of, user_of};
 ghost use Rattle.vp_race.specs.Recording.{kept_of, next_job, with_anew, with_step};
 ghost use Rattle.vp_sim.specs.States as sim;
+ghost use Rattle.vp_sim.specs.declared.error.SimError.TheVariants as sim_error;
 ghost use Rattle.vp_world.specs.declared.event.Event.TheVariants as event;
 ghost use Rattle.vp_world.specs.declared.error.WorldError.TheVariants as world_error;
 ghost use Rattle.vp_answer.specs.declared.reply.Reply.TheVariants as reply;
@@ -24,7 +25,7 @@ use vp_answer::{GrantChange, OpenSession, Query, SessionId, retire_sessions, ses
 use vp_expr::Change;
 use vp_policy::{Policy, UserId};
 use vp_race::{Book, BookedFinding, Finding, Recording, Segment};
-use vp_sim::Checked;
+use vp_sim::{Checked, SimError};
 use vp_text::Shared;
 
 /// A world without its log: a design with a policy, its simulation, and the sessions of its users. A contract sees how it began
@@ -122,6 +123,23 @@ fn set_count(opens: &mut Vec<u64>, user: UserId, count: u64)
     if let Some(index) = opens.get_mut(user.0) {
         *index = count;
     }
+}
+
+/// Takes the k-th of the events that a step of a recording can take, and reports what it changed; else the simulation's refusal, or out of memory,
+/// which leave all as it was.
+#[inline(always)]
+fn step_of(run: &mut Recording, k: u32) -> Result<Option<Change>, SimError>
+    requires { run.old.segments.count + 1 < 2 ^ 64 }
+    ensures ok { IfOk result
+        (λ change. sim.step run.old.simulation k ≡ sim.Goes run.new.simulation change) }
+    ensures segments { OnOk result
+        (run.new.segments ≡ with_step run.old.segments k run.new.simulation) }
+    ensures refused { IfErr result (Explains sim_error.NoMemory
+        (sim.refusal_in (sim.step run.old.simulation k))) }
+    ensures unchanged { OnErr result (run.new ≡ run.old) }
+{
+    let changed = run.step(k)?;
+    Ok(run.simulation().change_in(changed))
 }
 
 impl LiveWorld {
@@ -397,7 +415,7 @@ impl LiveWorld {
             (Explains world_error.NoMemory (refusal_of_outcome (sim.step self.old.state.run k))) }
         ensures unchanged { OnErr result (self.new ≡ self.old) }
     {
-        match self.run.step(k) {
+        match step_of(&mut self.run, k) {
             Ok(change) => {
                 let time = self.run.simulation().time();
                 notify(&mut self.sessions, &mut self.watched, change.as_ref(), time);

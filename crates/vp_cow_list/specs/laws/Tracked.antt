@@ -1,18 +1,18 @@
 -- Laws of lists of which copies are kept.
 use Rattle.std.proofs.Common.{◌≡◌, ℕ, zero, suc, ◌+◌, ◌-◌, ◌*◌, ◌/◌, ◌<◌, ◌≤◌, List, [], ◌∷◌, ◌++◌, length, min, take, drop, get_or, Option, Some, None, refl, ap, sym, subst, inl, inr, ◌∙◌, arith}
-use Rattle.std.specs.Prelude.{slice_get, slice_set, replicate}
+use Rattle.std.specs.Int.{bit_at}
+use Rattle.std.specs.Prelude.{◌⊎◌, ◌%◌, ◌^◌, bit_or, slice_get, slice_index_or, slice_set, replicate}
 use Rattle.std.specs.Option.{option_to_list}
 use Rattle.std.specs.List.{Contains}
 use Rattle.std.proofs.Math.Nat.{mod-lt}
 use Rattle.std.proofs.lemmas.Bool.{cases_eq, cases_lt}
 use Rattle.std.proofs.lemmas.Nat.{div-add-mod'}
-use Rattle.std.proofs.lemmas.List.{length-take, length-take-le, length-drop}
+use Rattle.std.proofs.lemmas.List.{length-take, length-take-le, length-drop, get_or-set_same, get_or-set_other}
+use Rattle.std.proofs.lemmas.Nat.Bits.{bit_at_or, bit_at-lt, bit_at-pow_same, bit_at-zero}
 use Rattle.std.proofs.lemmas.List.Elements.{Contains-push_cases}
 use Rattle.std.proofs.lemmas.Option.{slice_get_past}
 use Rattle.vp_cow_list.specs.Chunks.{with_items}
-use Rattle.vp_cow_list.specs.declared.tracked.Written.{Written}
-use Rattle.vp_cow_list.specs.declared.tracked.Written.TheVariants.{Nothing}
-use Rattle.vp_cow_list.specs.Tracked.{AreCopied, AreMarked, IsRenewed, IsWritten, Lets, MayBeWritten}
+use Rattle.vp_cow_list.specs.Tracked.{AreCopied, AreMarked, HasWritten, IsRenewed, IsWritten}
 use Rattle.vp_cow_list.specs.laws.Chunks.{get_back, get_front}
 
 -- lists with the same item at each place are the same
@@ -106,21 +106,27 @@ get_chunk xs number k own h =
     ∙ get_drop (64 * number) xs (k - 64 * number)
     ∙ ap (slice_get xs) e
 
--- where a copy has a chunk of the list already, its items are those of the list
-pub own_same : {X : Type 0} (copy items : List X) (number k : ℕ) → length copy ≡ length items
-    → take 64 (drop (64 * number) copy) ≡ chunk_of items number → k / 64 ≡ number → slice_get copy k ≡ slice_get items k
-own_same copy items number k same e own =
-    let rest = div-add-mod' k 64 in
-    let less = mod-lt k {m = 64} (omega arith) in
-    let at : 64 * number + (k - 64 * number) ≡ k = omega (arith, rest, less) in
-    elim (cases_lt k (length items)) [
-      | inl h ↦
-          sym (get_take 64 (drop (64 * number) copy) (k - 64 * number) (omega (arith, rest, less))
-          ∙ get_drop (64 * number) copy (k - 64 * number)
-          ∙ ap (slice_get copy) at)
-          ∙ ap (λ xs. slice_get xs (k - 64 * number)) e
-          ∙ get_chunk items number k own h
-      | inr h ↦ slice_get_past copy k (omega arith) ∙ sym (slice_get_past items k h)
+-- where a copy has what was written in a chunk already, its items there are those of the list
+pub own_same : {X : Type 0} (copy items : List X) (number bits k : ℕ) → length copy ≡ length items
+    → HasWritten (chunk_of copy number) (chunk_of items number) bits → k / 64 ≡ number
+    → (slice_get copy k ≡ slice_get items k) ⊎ (bit_at bits (k % 64) ≡ 1) → slice_get copy k ≡ slice_get items k
+own_same copy items number bits k same has own either =
+    elim either [
+      | inl e ↦ e
+      | inr set ↦ elim (cases_lt k (length items)) [
+        | inl within ↦
+            let long = chunk_length items number in
+            let rest = div-add-mod' k 64 in
+            let less = mod-lt k {m = 64} (omega arith) in
+            let at : k - 64 * number ≡ k % 64 = omega (arith, rest, less) in
+            let equal = has (k % 64) (omega (arith, long, rest, less)) set in
+            sym (get_chunk copy number k own (omega arith))
+            ∙ ap (slice_get (chunk_of copy number)) at
+            ∙ equal
+            ∙ ap (slice_get (chunk_of items number)) (sym at)
+            ∙ get_chunk items number k own within
+        | inr past ↦ slice_get_past copy k (omega arith) ∙ sym (slice_get_past items k past)
+      ]
     ]
 
 -- a chunk is put in: its items are those of the list
@@ -166,120 +172,131 @@ own_past copy items number k same past own =
     slice_get_past copy k (omega (arith, rest)) ∙ sym (slice_get_past items k (omega (arith, rest)))
 
 -- an item is written at a place of which that is remembered
-pub copied_set : {X : Type 0} (copy items : List X) (changed more : List ℕ) (marks new : List Written) (p : ℕ) (x : X) → AreCopied copy items changed marks
-    → ((k : ℕ) → MayBeWritten changed marks k → MayBeWritten more new k) → MayBeWritten more new p
-    → AreCopied copy (slice_set items p x) more new
-copied_set copy items changed more marks new p x h others there k =
+pub copied_set : {X : Type 0} (copy items : List X) (written new : List ℕ) (p : ℕ) (x : X) → AreCopied copy items written
+    → ((k : ℕ) → IsWritten written k → IsWritten new k) → IsWritten new p
+    → AreCopied copy (slice_set items p x) new
+copied_set copy items written new p x h others there k =
     elim (cases_eq k p) [
-      | inl e ↦ inr (subst (λ (n : ℕ). MayBeWritten more new n) (sym e) there)
+      | inl e ↦ inr (subst (λ (n : ℕ). IsWritten new n) (sym e) there)
       | inr n ↦ elim (h k) [
         | inl e ↦ inl (e ∙ sym (get_other items p k x n))
         | inr c ↦ inr (others k c)
       ]
     ]
 
--- what is known of a chunk is what was set last, if there is such a chunk
-lets_set : (marks : List Written) (number : ℕ) (written : Written) (k : ℕ) → Lets (Some written) k → Lets (slice_get (slice_set marks number written) number) k
-lets_set [] number written k h = tt
-lets_set (m ∷ marks) zero written k h = h
-lets_set (m ∷ marks) (suc number) written k h = lets_set marks number written k h
+-- a bit that a number has stays where another is added
+bit_stays : (bits k i : ℕ) → bit_at bits i ≡ 1 → bit_at (bit_or bits (2 ^ k)) i ≡ 1
+bit_stays bits k i h = omega (arith, bit_at_or bits (2 ^ k) i, bit_at-lt (2 ^ k) i, h)
 
--- what is known of one chunk is set to what lets more places: of all others it stays
-pub written_more : (changed more : List ℕ) (marks new : List Written) (number : ℕ) (written : Written)
-    → ((n : ℕ) → Contains changed n → Contains more n) → ((k : ℕ) → Lets (slice_get marks number) k → Lets (Some written) k)
-    → new ≡ slice_set marks number written → (k : ℕ) → MayBeWritten changed marks k → MayBeWritten more new k
-written_more changed more marks new number written grow lets set k may =
-    let now = subst (λ (ms : List Written). Lets (slice_get ms (k / 64)) k) (sym set) in
+-- and the other is there
+bit_added : (bits k : ℕ) → bit_at (bit_or bits (2 ^ k)) k ≡ 1
+bit_added bits k = omega (arith, bit_at_or bits (2 ^ k) k, bit_at-pow_same k, bit_at-lt bits k)
+
+-- a place more is written in a chunk: what was written still is
+pub written_more : (written new : List ℕ) (number bits at k : ℕ) → number < length written → bits ≡ slice_index_or written number 0
+    → new ≡ slice_set written number (bit_or bits (2 ^ at)) → IsWritten written k → IsWritten new k
+written_more written new number bits at k within read set h =
     elim (cases_eq (k / 64) number) [
       | inl same ↦
-          let was = subst (λ (n : ℕ). Lets (slice_get marks n) k) same may.1 in
-          let here = subst (λ (n : ℕ). Lets (slice_get (slice_set marks number written) n) k) (sym same) (lets_set marks number written k (lets k was)) in
-          (grow (k / 64) may.0, now here)
-      | inr other ↦ (grow (k / 64) may.0, now (subst (λ w. Lets w k) (sym (get_other marks number (k / 64) written other)) may.1))
+          let was = ap (λ (n : ℕ). slice_index_or written n 0) same ∙ sym read in
+          let now = ap (λ (ns : List ℕ). slice_index_or ns (k / 64) 0) set
+          ∙ ap (λ (n : ℕ). slice_index_or (slice_set written number (bit_or bits (2 ^ at))) n 0) same
+          ∙ get_or-set_same written number (bit_or bits (2 ^ at)) 0 within in
+          ap (λ (n : ℕ). bit_at n (k % 64)) now ∙ bit_stays bits at (k % 64) (ap (λ (n : ℕ). bit_at n (k % 64)) (sym was) ∙ h)
+      | inr other ↦
+          let now = ap (λ (ns : List ℕ). slice_index_or ns (k / 64) 0) set
+          ∙ get_or-set_other written number (k / 64) (bit_or bits (2 ^ at)) 0 other in
+          ap (λ (n : ℕ). bit_at n (k % 64)) now ∙ h
     ]
 
--- and the place that is written is let
-pub written_there : (more : List ℕ) (marks new : List Written) (number : ℕ) (written : Written) (place : ℕ) → number ≡ place / 64
-    → Contains more number → Lets (Some written) place → new ≡ slice_set marks number written → MayBeWritten more new place
-written_there more marks new number written place own there lets set =
-    let here = subst (λ (n : ℕ). Lets (slice_get (slice_set marks number written) n) place) own (lets_set marks number written place lets) in (
-      subst (λ (n : ℕ). Contains more n) own there,
-      subst (λ (ms : List Written). Lets (slice_get ms (place / 64)) place) (sym set) here,
-    )
+-- and so is the place
+pub written_there : (written new : List ℕ) (bits place : ℕ) → place / 64 < length written
+    → new ≡ slice_set written (place / 64) (bit_or bits (2 ^ (place % 64))) → IsWritten new place
+written_there written new bits place within set =
+    let now = ap (λ (ns : List ℕ). slice_index_or ns (place / 64) 0) set
+    ∙ get_or-set_same written (place / 64) (bit_or bits (2 ^ (place % 64))) 0 within in
+    ap (λ (n : ℕ). bit_at n (place % 64)) now ∙ bit_added bits (place % 64)
 
--- a chunk is marked that is remembered
-pub marked_more : (changed more : List ℕ) (marks new : List Written) (number : ℕ) (written : Written) → AreMarked changed marks
-    → ((n : ℕ) → Contains changed n → Contains more n) → Contains more number → new ≡ slice_set marks number written → AreMarked more new
-marked_more changed more marks new number written h grow there set n is =
+-- a chunk in which a place is written is remembered
+pub marked_more : (changed more written new : List ℕ) (number bits : ℕ) → AreMarked changed written
+    → ((n : ℕ) → Contains changed n → Contains more n) → Contains more number → new ≡ slice_set written number bits → AreMarked more new
+marked_more changed more written new number bits h grow there set n is =
     elim (cases_eq n number) [
       | inl same ↦ subst (λ (m : ℕ). Contains more m) (sym same) there
       | inr other ↦
-          let was = subst (λ w. IsWritten w) (get_other marks number n written other) (subst (λ (ms : List Written). IsWritten (slice_get ms n)) set is) in
-          grow n (h n was)
+          let now = ap (λ (ns : List ℕ). slice_index_or ns n 0) set ∙ get_or-set_other written number n bits 0 other in
+          grow n (h n (omega (arith, now, is)))
     ]
 
 -- the last of those chunks is forgotten: the others still are all that are after
-pub copied_less : {X : Type 0} (copy items taken : List X) (changed rest : List ℕ) (marks new : List Written) (number : ℕ) → AreCopied copy items changed marks
-    → changed ≡ rest ++ number ∷ []
-    → IsRenewed copy taken items number (slice_get marks number)
+pub copied_less : {X : Type 0} (copy items taken : List X) (written new : List ℕ) (number : ℕ) → AreCopied copy items written
+    → IsRenewed copy taken items number (slice_index_or written number 0)
     → ((k : ℕ) → (k / 64 ≡ number → ⊥) → slice_get taken k ≡ slice_get copy k)
-    → new ≡ slice_set marks number Nothing → AreCopied taken items rest new
-copied_less copy items taken changed rest marks new number h e own others set k =
+    → new ≡ slice_set written number 0 → AreCopied taken items new
+copied_less copy items taken written new number h own others set k =
     elim (cases_eq (k / 64) number) [
       | inl same ↦ elim (h k) [
         | inl equal ↦ inl (own k same (inl equal))
-        | inr c ↦ inl (own k same (inr (subst (λ (n : ℕ). Lets (slice_get marks n) k) same c.1)))
+        | inr c ↦ inl (own k same (inr (ap (λ (n : ℕ). bit_at (slice_index_or written n 0) (k % 64)) (sym same) ∙ c)))
       ]
       | inr other ↦ elim (h k) [
-        | inl same ↦ inl (others k other ∙ same)
-        | inr c ↦ elim (Contains-push_cases rest number (k / 64) (subst (λ (cs : List ℕ). Contains cs (k / 64)) e c.0)) [
-          | inl there ↦
-              let still = subst (λ w. Lets w k) (sym (get_other marks number (k / 64) Nothing other)) c.1 in
-              inr (there, subst (λ (ms : List Written). Lets (slice_get ms (k / 64)) k) (sym set) still)
-          | inr same ↦ absurd (other (sym same))
-        ]
+        | inl equal ↦ inl (others k other ∙ equal)
+        | inr c ↦
+            let now = ap (λ (ns : List ℕ). slice_index_or ns (k / 64) 0) set ∙ get_or-set_other written number (k / 64) 0 0 other in
+            inr (ap (λ (n : ℕ). bit_at n (k % 64)) now ∙ c)
       ]
     ]
 
--- a chunk of which nothing is known to be written is not marked
-not_marked : (marks : List Written) (n : ℕ) → IsWritten (slice_get (slice_set marks n Nothing) n) → ⊥
-not_marked [] n is = is
-not_marked (m ∷ marks) zero is = is
-not_marked (m ∷ marks) (suc n) is = not_marked marks n is
+-- nothing is written in a chunk that is forgotten
+none_there : (written : List ℕ) (n : ℕ) → slice_index_or (slice_set written n 0) n 0 ≡ 0
+none_there [] n = refl
+none_there (b ∷ written) zero = refl
+none_there (b ∷ written) (suc n) = none_there written n
 
 -- and all that are marked
-pub marked_less : (changed rest : List ℕ) (marks new : List Written) (number : ℕ) → AreMarked changed marks
-    → changed ≡ rest ++ number ∷ [] → new ≡ slice_set marks number Nothing → AreMarked rest new
-marked_less changed rest marks new number h e set n is =
-    let now = subst (λ (ms : List Written). IsWritten (slice_get ms n)) set is in
+pub marked_less : (changed rest written new : List ℕ) (number : ℕ) → AreMarked changed written
+    → changed ≡ rest ++ number ∷ [] → new ≡ slice_set written number 0 → AreMarked rest new
+marked_less changed rest written new number h e set n is =
+    let now = ap (λ (ns : List ℕ). slice_index_or ns n 0) set in
     elim (cases_eq n number) [
-      | inl same ↦ absurd (not_marked marks number (subst (λ (m : ℕ). IsWritten (slice_get (slice_set marks number Nothing) m)) same now))
+      | inl same ↦
+          let none = ap (λ (m : ℕ). slice_index_or (slice_set written number 0) m 0) same ∙ none_there written number in
+          absurd (omega (arith, now, none, is))
       | inr other ↦
-          let was = subst (λ w. IsWritten w) (get_other marks number n Nothing other) now in
-          elim (Contains-push_cases rest number n (subst (λ (cs : List ℕ). Contains cs n) e (h n was))) [
+          let was = get_or-set_other written number n 0 0 other in
+          elim (Contains-push_cases rest number n (subst (λ (cs : List ℕ). Contains cs n) e (h n (omega (arith, now, was, is))))) [
             | inl there ↦ there
             | inr same ↦ absurd (other (sym same))
           ]
     ]
 
+-- a number with a bit is not 0
+some_bit : (n i : ℕ) → bit_at n i ≡ 1 → 0 < n
+some_bit zero i h = omega (arith, bit_at-zero i, h)
+some_bit (suc n) i h = omega arith
+
 -- a copy that is behind by no chunk has the items
-pub copied_whole : {X : Type 0} (copy items : List X) (changed : List ℕ) (marks : List Written) → AreCopied copy items changed marks
+pub copied_whole : {X : Type 0} (copy items : List X) (changed written : List ℕ) → AreCopied copy items written → AreMarked changed written
     → length changed ≡ 0 → copy ≡ items
-copied_whole copy items changed marks h none =
-    same_items copy items (λ k. elim (h k) [ inl e ↦ e | inr c ↦ absurd (omega (arith, c.0.1, none)) ])
+copied_whole copy items changed written h marked none =
+    same_items copy items (λ k. elim (h k) [
+      | inl e ↦ e
+      | inr c ↦ let there = marked (k / 64) (some_bit _ (k % 64) c) in absurd (omega (arith, there.1, none))
+    ])
 
 -- a new copy is behind by none
-pub copied_anew : {X : Type 0} (items : List X) (changed : List ℕ) (marks : List Written) → AreCopied items items changed marks
-copied_anew items changed marks k = inl refl
+pub copied_anew : {X : Type 0} (items : List X) (written : List ℕ) → AreCopied items items written
+copied_anew items written k = inl refl
 
-not_in_none : (n k : ℕ) → IsWritten (slice_get (replicate n Nothing) k) → ⊥
-not_in_none zero k is = is
-not_in_none (suc n) zero is = is
-not_in_none (suc n) (suc k) is = not_in_none n k is
+not_in_none : (n k : ℕ) → ◌≡◌ {A = ℕ} (slice_index_or (replicate n 0) k 0) 0
+not_in_none zero k = refl
+not_in_none (suc n) zero = refl
+not_in_none (suc n) (suc k) = not_in_none n k
 
 -- at first no chunk is marked
-pub none_marked : (n : ℕ) (marks : List Written) (changed : List ℕ) → marks ≡ replicate n Nothing → AreMarked changed marks
-none_marked n marks changed e k is = absurd (not_in_none n k (subst (λ (ms : List Written). IsWritten (slice_get ms k)) e is))
+pub none_marked : (n : ℕ) (written changed : List ℕ) → written ≡ replicate n 0 → AreMarked changed written
+none_marked n written changed e k is =
+    absurd (omega (arith, ap (λ (ns : List ℕ). slice_index_or ns k 0) e, not_in_none n k, is))
 
 -- the item that is read at a place
 get_read : {X : Type 0} (xs : List X) (i : ℕ) (x d : X) → slice_get xs i ≡ Some x → get_or xs i d ≡ x

@@ -27,8 +27,8 @@ fn simulation(alloc: Global, text: &str) -> Option<Sim> {
 /// The object that a step changes, or the number of its refusal.
 fn step(simulation: &mut Sim, k: usize) -> u32 {
     match simulation.step(k) {
-        Ok(stepped) => match stepped.change {
-            Some(change) => change.object.0,
+        Ok(stepped) => match stepped.changed {
+            Some(object) => object.0,
             None => NOTHING,
         },
         Err(error) => error.code(),

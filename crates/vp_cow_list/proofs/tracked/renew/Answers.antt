@@ -1,4 +1,4 @@
-use Rattle.std.proofs.Common.{◌≡◌, ◌∙◌, ◌-◌, Some, None, length, subst, sym, arith}
+use Rattle.std.proofs.Common.{◌≡◌, ◌∙◌, ◌-◌, ℕ, Some, None, length, subst, sym, arith}
 use Rattle.std.specs.Prelude.{slice_get}
 use Rattle.std.specs.Vec.{vec_len}
 use Rattle.vp_cow_list.specs.Tracked.{IsRenewed}
@@ -17,13 +17,13 @@ loop-number-preserved g c =
     let taken = c.in_ok-take_over.ensures {u = tt} in
     record {
       length = taken.length ∙ c.loop-number.invariant.length;
-      others = copied_less c.loop-number.copy c.args.items.now c.take_over.new.copy xs c.pop.new.self.items c.loop-number.marks.items c.mark.new.marks.items number c.loop-number.invariant.others e
-          (subst (λ w. IsRenewed c.loop-number.copy c.take_over.new.copy c.args.items.now number w) c.written_in.ensures taken.own) taken.others c.mark.ensures;
-      marked = marked_less xs c.pop.new.self.items c.loop-number.marks.items c.mark.new.marks.items number c.loop-number.invariant.marked e c.mark.ensures;
+      others = copied_less c.loop-number.copy c.args.items.now c.take_over.new.copy c.loop-number.written.items c.clear.new.written.items number c.loop-number.invariant.others
+          (subst (λ (bits : ℕ). IsRenewed c.loop-number.copy c.take_over.new.copy c.args.items.now number bits) c.written_in.ensures taken.own) taken.others c.clear.ensures;
+      marked = marked_less xs c.pop.new.self.items c.loop-number.written.items c.clear.new.written.items number c.loop-number.invariant.marked e c.clear.ensures;
     }
 
 pub returns-clause-all : goal.returns-clause-all
 returns-clause-all g c =
     let xs = c.loop-number.changed.items in
     let none = subst (λ s. slice_get s (length s - 1) ≡ None) c.as_slice.ensures.value (sym c.last.ensures.value ∙ sym c.copied.ensures ∙ c.in_default.is) in
-    copied_whole c.loop-number.copy c.args.items.now xs c.loop-number.marks.items c.loop-number.invariant.others (last_none xs none)
+    copied_whole c.loop-number.copy c.args.items.now xs c.loop-number.written.items c.loop-number.invariant.others c.loop-number.invariant.marked (last_none xs none)

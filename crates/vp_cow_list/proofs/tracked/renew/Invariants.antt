@@ -8,4 +8,4 @@ decreases-loop-number g l = length l.changed.items
 
 -- the copy is behind by those that are still to be taken
 abbrev pub invariant-loop-number : goal.invariant-loop-number
-invariant-loop-number g l = Lags l.copy l.items l.changed.items l.marks.items
+invariant-loop-number g l = Lags l.copy l.items l.changed.items l.written.items

@@ -11,6 +11,6 @@ invariant_of-self g c =
       λ h.
           let complete = c.self.invariant.1 (known.there h).0 in (
             complete.0 ∙ sym (length-set old.items.items c.args.place c.args.item),
-            copied_set old.copy old.items.items old.changed.items c.mark_written-self-inside.new.changed.items old.marks.items c.mark_written-self-inside.new.marks.items c.args.place c.args.item complete.1 known.others (known.there h).1,
+            copied_set old.copy old.items.items old.written.items c.mark_written-self-inside.new.written.items c.args.place c.args.item complete.1 known.others (known.there h).1,
           ),
     )

@@ -14,7 +14,7 @@ use Rattle.vp_world.proofs.live_world.LiveWorld.step.Goals as goal
 pub invariant_of-self : goal.invariant_of-self
 invariant_of-self c =
     let inside = c.self.inside in
-    let next = c.step.new.self in
+    let next = c.step_of.new.run in
     let goes : sim.step inside.run.simulation c.args.k ≡ sim.Goes next.simulation c.in-Ok.change = search rules in
     let closes : next.segments ≡ with_step inside.run.segments c.args.k next.simulation = search rules in (
       ap (all_marked c.notify.new.watched.items) (with_items_is inside.sessions c.notify.new.sessions (search rules)) ∙ c.notify.ensures.marked,
@@ -26,7 +26,7 @@ invariant_of-self c =
 pub returns-in-Ok-clause-after : goal.returns-in-Ok-clause-after
 returns-in-Ok-clause-after c =
     let inside = c.self.inside in
-    let next = c.step.new.self in
+    let next = c.step_of.new.run in
     let goes : sim.step inside.run.simulation c.args.k ≡ sim.Goes next.simulation c.in-Ok.change = search rules in
     let closes : next.segments ≡ with_step inside.run.segments c.args.k next.simulation = search rules in
     let tells : c.notify.new.sessions ≡ noticed c.in-Ok.change next.simulation.time inside.sessions.items =

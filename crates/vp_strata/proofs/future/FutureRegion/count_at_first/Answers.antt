@@ -4,7 +4,7 @@ use Rattle.vp_strata.specs.Chunks.{position}
 use Rattle.vp_strata.specs.Queues.{first_time}
 use Rattle.vp_strata.proofs.Found.{position_fits}
 use Rattle.vp_strata.proofs.Times.{at_first}
-use Rattle.vp_strata.proofs.future.FutureRegion.count_first.Goals as goal
+use Rattle.vp_strata.proofs.future.FutureRegion.count_at_first.Goals as goal
 
 pub position-requires-clause-fits : goal.position-requires-clause-fits
 position-requires-clause-fits c =
