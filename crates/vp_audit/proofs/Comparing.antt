@@ -1,5 +1,5 @@
 -- Replies that are compared place by place.
-use Rattle.std.proofs.Common.{◌≡◌, ◌∙◌, ℕ, zero, suc, ◌+◌, ◌≤◌, ◌<◌, true, List, [], ◌∷◌, ◌++◌, Option, Some, None, drop, length, take, refl, ap, arith, sym}
+use Rattle.std.proofs.Common.{◌≡◌, ◌∙◌, ℕ, zero, suc, ◌+◌, ◌≤◌, ◌<◌, false, true, List, [], ◌∷◌, ◌++◌, Option, Some, None, drop, length, take, refl, ap, arith, sym}
 use Rattle.std.specs.Prelude.{slice_get, is_some, option_map}
 use Rattle.std.specs.List.{cons_option}
 use Rattle.vp_answer.specs.declared.reply.Reply.{Reply}
@@ -36,6 +36,23 @@ pub replies_own : (u : ℕ) (log : List Entry) (n : ℕ) (e : Entry) → slice_g
 replies_own u log n e there own_event =
     ap (replies_of u) (entry_first log n e there)
     ∙ ap (λ (r : Option Reply). cons_option r (replies_of u (drop (n + 1) log))) (given e.reply (own_of u e.event e.reply) own_event)
+
+-- an entry that is not his own adds no reply
+none_given : {A B : Type 0} (b : B) (o : Option A) → is_some o ≡ false → option_map (λ (a : A). b) o ≡ None
+none_given b None h = refl
+none_given b (Some a) h = absurd (cc)
+
+pub replies_others : (u : ℕ) (log : List Entry) (n : ℕ) (e : Entry) → slice_get log n ≡ Some e → is_own u e ≡ false → replies_of u (drop n log) ≡ replies_of u (drop (n + 1) log)
+replies_others u log n e there other =
+    ap (replies_of u) (entry_first log n e there)
+    ∙ ap (λ (r : Option Reply). cons_option r (replies_of u (drop (n + 1) log))) (none_given e.reply (own_of u e.event e.reply) other)
+
+-- one more of a list is taken
+pub taken_more : {X : Type 0} (xs ys : List X) (n : ℕ) (x : X) → slice_get xs n ≡ Some x → take n xs ++ x ∷ ys ≡ take (suc n) xs ++ ys
+taken_more [] ys zero x h = absurd (cc)
+taken_more [] ys (suc n) x h = absurd (cc)
+taken_more (z ∷ xs) ys zero x h = (let same : x ≡ z = cc in ap (λ y. y ∷ ys) same)
+taken_more (z ∷ xs) ys (suc n) x h = ap (λ zs. z ∷ zs) (taken_more xs ys n x h)
 
 -- the first other reply, after so many that are the same
 pub first_other : (told replayed rest : List Reply) (n : ℕ) → n ≤ length replayed → told ≡ take n replayed ++ rest → (slice_get rest 0 ≡ slice_get replayed n → ⊥) → IsFirstOther told replayed (n + 1)

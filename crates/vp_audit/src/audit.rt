@@ -15,7 +15,7 @@ use vp_answer::Reply;
 use vp_expr::Checked;
 use vp_policy::{Policy, UserId};
 use vp_replay::AuditError;
-use vp_world::{Entry, LoggedEvent};
+use vp_world::{Entry, Log, LoggedEvent};
 
 /// Whether the replies that a user was shown are those that were replayed.
 #[derive(Clone, Copy, Debug, PartialEq, Eq)]
@@ -37,12 +37,13 @@ fn is_own(entry: &Entry, user: UserId) -> bool
     session.user.0 == user.0
 }
 
-/// Compares the replies to a user's own events in a log with others.
-fn compared(log: &[Entry], user: UserId, replayed: &[Reply]) -> Audit
-    ensures { IsAudit (replies_of user.0 log.now) replayed.now result }
+/// Compares the replies to a user's own events in a log, whose entries can be made in a place for one, with others.
+fn compared(log: &Log, made: &mut Entry, user: UserId, replayed: &[Reply]) -> Audit
+    ensures { IsAudit (replies_of user.0 log.now.entries) replayed.now result }
 {
     let mut number = 0;
-    for entry in log {
+    for index in 0..log.len() {
+        let entry = log.entry(index, made);
         if is_own(entry, user) {
             match replayed.get(number) {
                 Some(reply) if entry.happening.is_answered(reply) => number += 1,
@@ -72,23 +73,27 @@ pub fn audit_user(
     alloc: Global,
     checked: &Checked,
     policy: &Policy,
-    log: &[Entry],
+    log: &Log,
     user: UserId,
 ) -> Result<Audit, AuditError>
     requires { Fits policy.now checked.now.tree }
     ensures same { (opening : Opening) → IsRight opening → opening.design ≡ checked.now
-        → opening.policy ≡ policy.now → IsLegal opening [] log.now
+        → opening.policy ≡ policy.now → IsLegal opening [] log.now.entries
         → IfOk result (λ a. a ≡ record {
           same = true;
-          number = length (replies_of user.0 log.now);
+          number = length (replies_of user.0 log.now.entries);
         }) }
     ensures refused { (opening : Opening) → IsRight opening → opening.design ≡ checked.now
-        → opening.policy ≡ policy.now → IsLegal opening [] log.now → IsOkUnless result NoMemory }
+        → opening.policy ≡ policy.now → IsLegal opening [] log.now.entries → IsOkUnless result NoMemory }
 {
     let Ok(view) = policy.view(alloc, checked.design(), user) else {
         return Err(AuditError::NoMemory);
     };
     let projection = project(alloc, checked, policy, log, user)?;
     let replies = replay(alloc, &view, &projection)?;
-    Ok(compared(log, user, replies.as_slice()))
+    let mut made = Entry::blank();
+    let audit = compared(log, &mut made, user, replies.as_slice());
+    // Dropped by a call, so that how an entry is dropped is no part of this function's proof.
+    drop(made);
+    Ok(audit)
 }

@@ -13,22 +13,25 @@ use vp_expr::Checked;
 use vp_policy::{Policy, UserId};
 use vp_replay::{AuditError, Projection};
 use vp_text::Sequence;
-use vp_world::Entry;
+use vp_world::{Entry, Log};
 
-/// What of a log goes to the user of a reading that has read nothing of it. Refused when out of memory (1307).
+/// What of a log, whose entries can be made in a place for one, goes to the user of a reading that has read nothing of it. Refused when out of
+/// memory (1307).
 fn read_log(
     alloc: Global,
     reading: &mut LogReader<'_>,
-    log: &[Entry],
+    made: &mut Entry,
+    log: &Log,
 ) -> Result<Projection, AuditError>
     ensures projection { (opening : Opening) → (u : ℕ)
         → reading.old ≡ reading_of u (start opening) (known_at_first opening u)
-        → IsLegal opening [] log.now → IfOk result (λ p. p ≡ projection opening u log.now) }
+        → IsLegal opening [] log.now.entries → IfOk result (λ p. p ≡ projection opening u log.now.entries) }
     ensures refused { IsOkUnless result NoMemory }
 {
     let values = reading.values_seen()?;
     let mut items = Vec::new(alloc);
-    for entry in log {
+    for index in 0..log.len() {
+        let entry = log.entry(index, made);
         if let Some(item) = reading.item(entry)? {
             items.push(item)?;
         }
@@ -45,18 +48,20 @@ pub fn project(
     alloc: Global,
     checked: &Checked,
     policy: &Policy,
-    log: &[Entry],
+    log: &Log,
     user: UserId,
 ) -> Result<Projection, AuditError>
     requires { Fits policy.now checked.now.tree }
     ensures projection { (opening : Opening) → opening.design ≡ checked.now
-        → opening.policy ≡ policy.now → IsLegal opening [] log.now
-        → IfOk result (λ p. p ≡ projection opening user.0 log.now) }
+        → opening.policy ≡ policy.now → IsLegal opening [] log.now.entries
+        → IfOk result (λ p. p ≡ projection opening user.0 log.now.entries) }
     ensures refused { IsOkUnless result NoMemory }
 {
     let mut reading = LogReader::new(alloc, checked, policy, user)?;
-    let projection = read_log(alloc, &mut reading, log);
-    // Dropped by a call, so that how a reading is dropped is no part of this function's proof.
+    let mut made = Entry::blank();
+    let projection = read_log(alloc, &mut reading, &mut made, log);
+    // Dropped by calls, so that how these are dropped is no part of this function's proof.
+    drop(made);
     drop(reading);
     projection
 }

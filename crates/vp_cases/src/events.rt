@@ -151,9 +151,10 @@ fn add_race(printed: &mut String, alloc: Global, finding: &Finding) -> Result<()
     };
     let word = format!(in alloc; "race {object} {first} {second}")?;
     printed.push_str(&word)?;
-    add_words(printed, alloc, finding.second())?;
-    add_sources(printed, alloc, finding.first_sources())?;
-    add_sources(printed, alloc, finding.second_sources())?;
+    let orders = finding.orders();
+    add_words(printed, alloc, orders.second())?;
+    add_sources(printed, alloc, orders.first_sources())?;
+    add_sources(printed, alloc, orders.second_sources())?;
     printed.push('\n')
 }
 

@@ -12,7 +12,7 @@ use crate::receipt::Receipt;
 use std::alloc::{AllocError, Global};
 use vp_answer::SessionId;
 use vp_text::Sequence;
-use vp_world::{Entry, World};
+use vp_world::{Entry, Log, World};
 
 /// What is left of a hub: its world, with the log, and for each pass that was handed back the indexes of its calls, in order.
 #[derive(Drop)]
@@ -23,8 +23,8 @@ pub struct Closed {
 
 impl Closed {
     /// What has happened, in order.
-    pub fn log(&self) -> &[Entry]
-        ensures { result.now ≡ self.now.world.log }
+    pub fn log(&self) -> &Log
+        ensures { result.now.entries ≡ self.now.world.log }
     {
         self.world.log()
     }
@@ -43,27 +43,38 @@ fn is_own(entry: &Entry, session: SessionId) -> bool
 /// The places of a session's entries in a log, in order. Takes memory.
 fn entry_indexes(
     alloc: Global,
-    log: &[Entry],
+    log: &Log,
     session: SessionId,
 ) -> Result<Sequence<usize>, AllocError>
-    ensures { IfOk result (λ indexes. indexes ≡ entry_indexes log.now session) }
+    ensures { IfOk result (λ indexes. indexes ≡ entry_indexes log.now.entries session) }
 {
     let mut indexes = Vec::new(alloc);
     for index in 0..log.len() {
-        if is_own(&log[index], session) {
+        let mut made = Entry::blank();
+        let entry = log.entry(index, &mut made);
+        if is_own(entry, session) {
             indexes.push(index)?;
         }
     }
     Ok(Sequence::from_vec(indexes))
 }
 
+/// An entry is of some session.
+fn is_of_session(entry: &Entry) -> bool
+    ensures { result ≡ is_of_session entry.now.event }
+{
+    entry.happening.session().is_some()
+}
+
 /// How many entries of a log are of sessions.
-fn count_entries(log: &[Entry]) -> usize
-    ensures { result ≡ session_entries log.now }
+fn count_entries(log: &Log) -> usize
+    ensures { result ≡ session_entries log.now.entries }
 {
     let mut count = 0;
-    for entry in log {
-        if entry.happening.session().is_some() {
+    for index in 0..log.len() {
+        let mut made = Entry::blank();
+        let entry = log.entry(index, &mut made);
+        if is_of_session(entry) {
             count += 1;
         }
     }
@@ -71,8 +82,8 @@ fn count_entries(log: &[Entry]) -> usize
 }
 
 /// Receipts of a session all stand in a log.
-fn all_stand(log: &[Entry], session: SessionId, receipts: &[Receipt]) -> bool
-    ensures { result ≡ true → All (Stands log.now session) receipts.now }
+fn all_stand(log: &Log, session: SessionId, receipts: &[Receipt]) -> bool
+    ensures { result ≡ true → All (Stands log.now.entries session) receipts.now }
 {
     for receipt in receipts {
         if !stands(log, session, receipt) {
@@ -101,12 +112,12 @@ fn are_of(receipts: &[Receipt], indexes: &[usize]) -> bool
 /// receipts as entries (1402). Takes memory.
 fn own_indexes<L: NamesOpening>(
     alloc: Global,
-    log: &[Entry],
+    log: &Log,
     pass: &Pass<L>,
 ) -> Result<Sequence<usize>, HubError>
-    ensures indexes { IfOk result (λ indexes. indexes ≡ entry_indexes log.now pass.now.session) }
+    ensures indexes { IfOk result (λ indexes. indexes ≡ entry_indexes log.now.entries pass.now.session) }
     ensures own { OnOk result
-        (map (λ r. r.index) pass.now.receipts ≡ entry_indexes log.now pass.now.session) }
+        (map (λ r. r.index) pass.now.receipts ≡ entry_indexes log.now.entries pass.now.session) }
 {
     let indexes = entry_indexes(alloc, log, pass.session())?;
     if !are_of(pass.receipts(), indexes.as_slice()) {
@@ -118,13 +129,13 @@ fn own_indexes<L: NamesOpening>(
 /// The same of each of these passes.
 fn all_indexes<L: NamesOpening>(
     alloc: Global,
-    log: &[Entry],
+    log: &Log,
     passes: &[Pass<L>],
 ) -> Result<Sequence<Sequence<usize>>, HubError>
     ensures indexes { IfOk result
-        (λ lists. lists ≡ map (λ p. entry_indexes log.now p.session) passes.now) }
+        (λ lists. lists ≡ map (λ p. entry_indexes log.now.entries p.session) passes.now) }
     ensures own { OnOk result
-        (All (λ p. map (λ r. r.index) p.receipts ≡ entry_indexes log.now p.session) passes.now) }
+        (All (λ p. map (λ r. r.index) p.receipts ≡ entry_indexes log.now.entries p.session) passes.now) }
 {
     let mut lists = Vec::new(alloc);
     for pass in passes {
@@ -160,9 +171,9 @@ fn is_new<L: NamesOpening>(passes: &[Pass<L>], session: SessionId) -> bool
 }
 
 /// All receipts of these passes stand in a log, and no two of the passes are of one session; else a receipt is wrong (1401).
-fn check_receipts<L: NamesOpening>(log: &[Entry], passes: &[Pass<L>]) -> Result<(), HubError>
+fn check_receipts<L: NamesOpening>(log: &Log, passes: &[Pass<L>]) -> Result<(), HubError>
     ensures stand { OnOk result
-        (All (λ p. All (Stands log.now p.session) p.receipts) passes.now) }
+        (All (λ p. All (Stands log.now.entries p.session) p.receipts) passes.now) }
     ensures apart { OnOk result (AllPairs (λ p q. p.session ≢ q.session) passes.now) }
 {
     for number in 0..passes.len() {

@@ -23,7 +23,7 @@ use std::sync::ledger::{Blank, Book, Share};
 use vp_answer::{Call, Reply};
 use vp_race::{Finding, Segment, SimError};
 use vp_text::{Shared, Text};
-use vp_world::{Entry, Event, World, WorldError};
+use vp_world::{Event, Log, World, WorldError};
 
 /// What stands behind the lock of a hub: a world, and the total of the ledger of its sessions' calls. A contract sees both, and how
 /// many parts of the ledger are left for passes to come.
@@ -137,11 +137,11 @@ impl<L: NamesOpening> Desk<L> {
     }
 
     /// What has happened, in order: the log is legal, and the total of the ledger is the number of its entries of sessions.
-    pub fn log(&self) -> &[Entry]
-        ensures log { result.now ≡ self.now.world.log }
-        ensures legal { IsLegal L.opening [] result.now }
+    pub fn log(&self) -> &Log
+        ensures log { result.now.entries ≡ self.now.world.log }
+        ensures legal { IsLegal L.opening [] result.now.entries }
         ensures opening { self.now.world.opening ≡ L.opening }
-        ensures counted { self.now.total ≡ session_entries result.now }
+        ensures counted { self.now.total ≡ session_entries result.now.entries }
     {
         self.world.log()
     }

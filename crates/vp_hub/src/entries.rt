@@ -12,7 +12,7 @@ ghost use Rattle.vp_hub.specs.Calls.{Stands, event_of, is_of_session};
 use crate::receipt::{Receipt, SessionRequest};
 use vp_answer::{Call, SessionId};
 use vp_text::Same;
-use vp_world::{Asked, Entry, Event, LoggedEvent, Login};
+use vp_world::{Asked, Entry, Event, Log, LoggedEvent, Login};
 
 /// The event of a session's call.
 pub fn event_of(session: SessionId, call: Call) -> Event
@@ -74,15 +74,15 @@ fn is_event_of(happening: &LoggedEvent, session: SessionId, request: &SessionReq
 }
 
 /// A receipt of a session stands in a log.
-pub fn stands(log: &[Entry], session: SessionId, receipt: &Receipt) -> bool
-    ensures stands { result ≡ true → Stands log.now session receipt.now }
-    ensures apart { Stands log.now session receipt.now → result ≡ true }
+pub fn stands(log: &Log, session: SessionId, receipt: &Receipt) -> bool
+    ensures stands { result ≡ true → Stands log.now.entries session receipt.now }
+    ensures apart { Stands log.now.entries session receipt.now → result ≡ true }
 {
-    match log.get(receipt.index) {
-        Some(entry) => {
-            is_event_of(&entry.happening, session, &receipt.request)
-                && entry.happening.is_answered(&receipt.reply)
-        }
-        None => false,
+    if receipt.index >= log.len() {
+        return false;
     }
+    let mut made = Entry::blank();
+    let entry = log.entry(receipt.index, &mut made);
+    is_event_of(&entry.happening, session, &receipt.request)
+        && entry.happening.is_answered(&receipt.reply)
 }

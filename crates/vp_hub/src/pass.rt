@@ -7,7 +7,7 @@ use crate::receipt::Receipt;
 use std::marker::Model;
 use std::sync::ledger::Share;
 use vp_answer::SessionId;
-use vp_world::Entry;
+use vp_world::Log;
 
 /// A session of a hub. A contract sees its name, the receipts of its calls in order, of which the first is of its opening, and its share
 /// of the ledger, whose amount is their number.
@@ -49,9 +49,9 @@ impl<L: NamesOpening> Pass<L> {
     }
 
     /// The last receipt stands in a log.
-    pub(crate) fn stands_in(&self, log: &[Entry]) -> bool
-        ensures stands { result ≡ true → LastStands log.now self.now }
-        ensures apart { LastStands log.now self.now → result ≡ true }
+    pub(crate) fn stands_in(&self, log: &Log) -> bool
+        ensures stands { result ≡ true → LastStands log.now.entries self.now }
+        ensures apart { LastStands log.now.entries self.now → result ≡ true }
     {
         match self.receipts.as_slice().last() {
             Some(receipt) => stands(log, self.session, receipt),

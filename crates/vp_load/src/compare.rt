@@ -3,7 +3,7 @@ ghost use Rattle.std.specs.Prelude.{◌≡◌, IfOk};
 ghost use Rattle.std.specs.Arc.{arc_value};
 ghost use Rattle.vp_world.specs.declared.event.Event.TheVariants as event;
 ghost use Rattle.vp_world.specs.Events.{IsWellFormed};
-ghost use Rattle.vp_load.specs.Logs.{AreWellFormed};
+ghost use Rattle.vp_load.specs.Logs.{AreWellFormed, IsFoundAgain, Repeats};
 
 use crate::difference::Difference;
 use crate::happening::{event_of, line_of};
@@ -19,7 +19,7 @@ use vp_expr::Checked;
 use vp_race::{BookedFinding, Finding, RaceError, check};
 use vp_text::{Same, Shared};
 use vp_wire::{reply_line, request};
-use vp_world::{Entry, Event, Limits, LoggedEvent, World};
+use vp_world::{Entry, Event, Limits, Log, LoggedEvent, World};
 
 /// What a world answers to the event of the entry at an index of a log; or by which number it refuses it.
 fn answer(world: &mut World, index: usize, event: Event) -> Result<Reply, Difference>
@@ -52,9 +52,16 @@ fn check_reply(
 
 /// The last that has happened to a world has left it at the time, and as finished, as the entry at an index of a log has it.
 fn check_time(world: &World, index: usize, entry: &Entry) -> Result<(), Difference> {
-    match world.log().last() {
-        Some(own) if own.time == entry.time && own.finished == entry.finished => Ok(()),
-        _ => Err(Difference::Time { index }),
+    let log = world.log();
+    let Some(last) = log.len().checked_sub(1) else {
+        return Err(Difference::Time { index });
+    };
+    let mut made = Entry::blank();
+    let own = log.entry(last, &mut made);
+    if own.time == entry.time && own.finished == entry.finished {
+        Ok(())
+    } else {
+        Err(Difference::Time { index })
     }
 }
 
@@ -64,13 +71,14 @@ fn found_again(
     world: &World,
     booked: &BookedFinding,
 ) -> Result<Shared<Finding>, RaceError>
-    ensures { IfOk result (λ f. IsWellFormed world.now.opening.design (event.Book f)) }
+    ensures well { IfOk result (λ f. IsWellFormed world.now.opening.design (event.Book f)) }
+    ensures again { IfOk result (λ f. IsFoundAgain (event.Book booked.now) (event.Book f)) }
 {
     let Some(segment) = world.kept(booked.number()) else {
         return Err(RaceError::SegmentGone);
     };
     let segment = Arc::new(alloc, segment.try_clone(alloc)?)?;
-    let order = Vec::from_slice(alloc, booked.second())?;
+    let order = Vec::from_slice(alloc, booked.orders().second())?;
     let finding = check(alloc, &segment, order, booked.object())?;
     let _race = finding.segment();
     Ok(Shared::new(alloc, finding)?)
@@ -79,7 +87,8 @@ fn found_again(
 /// The event of the entry at an index of a log, for a world to which all that stands before it has happened.
 fn event_at(alloc: Global, world: &World, index: usize, entry: &Entry) -> Result<Event, Difference>
     requires { IsWellFormed world.now.opening.design entry.now.event }
-    ensures { IfOk result (λ e. IsWellFormed world.now.opening.design e) }
+    ensures well { IfOk result (λ e. IsWellFormed world.now.opening.design e) }
+    ensures repeats { IfOk result (Repeats entry.now.event) }
 {
     if let LoggedEvent::Book { finding } = &entry.happening {
         return match found_again(alloc, world, finding.value()) {
@@ -98,12 +107,14 @@ fn event_at(alloc: Global, world: &World, index: usize, entry: &Entry) -> Result
 
 /// What the book keeps of two findings is the same.
 fn are_alike(finding: &BookedFinding, other: &BookedFinding) -> bool {
+    let (own, others) = (finding.orders(), other.orders());
     finding.number() == other.number()
         && finding.time() == other.time()
         && finding.object() == other.object()
         && finding.values() == other.values()
-        && finding.first_sources() == other.first_sources()
-        && finding.second_sources() == other.second_sources()
+        && own.second() == others.second()
+        && own.first_sources() == others.first_sources()
+        && own.second_sources() == others.second_sources()
 }
 
 /// Where the entry at an index of a log booked a race, the last race in a world's book is that one.
@@ -130,11 +141,13 @@ fn repeat(alloc: Global, world: &mut World, index: usize, entry: &Entry) -> Resu
 }
 
 /// The events of a log, one by one, come to the same in a fresh world.
-pub fn compare_world(alloc: Global, world: World, log: &[Entry]) -> Result<(), Difference>
-    requires { AreWellFormed world.opening.design log.now }
+pub fn compare_world(alloc: Global, world: World, log: &Log) -> Result<(), Difference>
+    requires { AreWellFormed world.opening.design log.now.entries }
 {
     let mut world = world;
-    for (index, entry) in log.iter().enumerate() {
+    for index in 0..log.len() {
+        let mut made = Entry::blank();
+        let entry = log.entry(index, &mut made);
         repeat(alloc, &mut world, index, entry)?;
     }
     drop(world);
@@ -195,10 +208,17 @@ fn check_no_rest(rests: &[&[u8]]) -> Result<(), Difference> {
     Ok(())
 }
 
-/// What each user was shown are the lines of the replies to his session's events in a log, in order.
-fn compare_users(alloc: Global, users: &[Vec<u8>], log: &[Entry]) -> Result<(), Difference> {
+/// What each user was shown are the lines of the replies to his session's events in a log from an index on, in order.
+fn compare_users(
+    alloc: Global,
+    users: &[Vec<u8>],
+    log: &Log,
+    first: usize,
+) -> Result<(), Difference> {
     let mut rests = whole_rests(alloc, users)?;
-    for (index, entry) in log.iter().enumerate() {
+    for index in first..log.len() {
+        let mut made = Entry::blank();
+        let entry = log.entry(index, &mut made);
         if let Some(session) = entry.happening.session() {
             take_line(alloc, &mut rests, session, index, entry)?;
         }
@@ -226,11 +246,18 @@ fn changes_of(alloc: Global, orders: &[Order]) -> Result<Vec<(usize, GrantChange
     Ok(changes)
 }
 
-/// The changes of grants in a log are those of which the operator was answered that they are done: each once, in order.
-fn compare_grants(alloc: Global, orders: &[Order], log: &[Entry]) -> Result<(), Difference> {
+/// The changes of grants in a log from an index on are those of which the operator was answered that they are done: each once, in order.
+fn compare_grants(
+    alloc: Global,
+    orders: &[Order],
+    log: &Log,
+    first: usize,
+) -> Result<(), Difference> {
     let changes = changes_of(alloc, orders)?;
     let mut next = 0usize;
-    for (index, entry) in log.iter().enumerate() {
+    for index in first..log.len() {
+        let mut made = Entry::blank();
+        let entry = log.entry(index, &mut made);
         if let LoggedEvent::Grant { change } = &entry.happening {
             match changes.get(next) {
                 Some((_, own)) if own.is_same(change) => next = next.saturating_add(1),
@@ -245,7 +272,7 @@ fn compare_grants(alloc: Global, orders: &[Order], log: &[Entry]) -> Result<(), 
 }
 
 /// A log has something of each kind that is wanted.
-fn check_kinds(log: &[Entry]) -> Result<(), Difference> {
+fn check_kinds(log: &Log) -> Result<(), Difference> {
     for kind in WANTED {
         if count(log, kind) == 0 {
             return Err(Difference::NoneOf(kind));
@@ -254,14 +281,15 @@ fn check_kinds(log: &[Entry]) -> Result<(), Difference> {
     Ok(())
 }
 
-/// Compares a log with what the clients and the operator were shown.
+/// Compares the entries of a log from an index on with what the clients and the operator were shown.
 pub fn compare_transcripts(
     alloc: Global,
-    log: &[Entry],
+    log: &Log,
+    first: usize,
     transcripts: &Transcripts,
 ) -> Result<(), Difference> {
-    compare_users(alloc, transcripts.users.as_slice(), log)?;
-    compare_grants(alloc, transcripts.orders.as_slice(), log)?;
+    compare_users(alloc, transcripts.users.as_slice(), log, first)?;
+    compare_grants(alloc, transcripts.orders.as_slice(), log, first)?;
     check_kinds(log)
 }
 
@@ -269,14 +297,14 @@ pub fn compare_transcripts(
 pub fn compare(
     alloc: Global,
     checked: &Arc<Checked>,
-    log: &[Entry],
+    log: &Log,
     transcripts: &Transcripts,
 ) -> Result<(), Difference>
-    requires { AreWellFormed (arc_value checked.now) log.now }
+    requires { AreWellFormed (arc_value checked.now) log.now.entries }
 {
     let Some(world) = world_of(alloc, checked, Limits::GREATEST) else {
         return Err(Difference::NoWorld);
     };
     compare_world(alloc, world, log)?;
-    compare_transcripts(alloc, log, transcripts)
+    compare_transcripts(alloc, log, 0, transcripts)
 }

@@ -1,6 +1,6 @@
 //! What can happen, by its kind.
 use std::fmt;
-use vp_world::{Entry, LoggedEvent};
+use vp_world::{Entry, Log, LoggedEvent};
 
 /// The kind of what happened.
 #[derive(Clone, Copy, Debug, PartialEq, Eq)]
@@ -72,8 +72,13 @@ fn kind_of(happening: &LoggedEvent) -> Kind {
 }
 
 /// So many entries of a log are of a kind.
-pub fn count(log: &[Entry], kind: Kind) -> usize {
-    log.iter()
-        .filter(|entry| kind_of(&entry.happening) == kind)
-        .count()
+pub fn count(log: &Log, kind: Kind) -> usize {
+    let mut count = 0usize;
+    for index in 0..log.len() {
+        let mut made = Entry::blank();
+        if kind_of(&log.entry(index, &mut made).happening) == kind {
+            count = count.saturating_add(1);
+        }
+    }
+    count
 }

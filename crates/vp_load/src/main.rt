@@ -39,10 +39,10 @@ use std::thread::Threads;
 use std::time::Clock;
 use std::{env, io};
 use vp_expr::Checked;
-use vp_world::Entry;
+use vp_world::Log;
 
 /// Reports on standard error how many entries a log has, of which kinds, and how many came in a second.
-fn tell_entries<R: Eprint>(rt: &R, log: &[Entry], milliseconds: u64) -> io::Result<()> {
+fn tell_entries<R: Eprint>(rt: &R, log: &Log, milliseconds: u64) -> io::Result<()> {
     for kind in KINDS {
         let entries = count(log, kind);
         eprintln!(rt; "{kind}: {entries}")?;

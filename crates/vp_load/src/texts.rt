@@ -108,5 +108,8 @@ pub fn world_of(alloc: Global, checked: &Arc<Checked>, limits: Limits) -> Option
     let policy = policy_text(alloc).ok()?;
     let checked = Arc::try_clone(checked).ok()?;
     let policy = read_policy(alloc, policy.as_bytes(), checked.design()).ok()?;
-    World::new(alloc, checked, policy, limits).ok()
+    match World::new(alloc, checked, policy, limits) {
+        Ok(world) => Some(world),
+        Err(_) => None,
+    }
 }

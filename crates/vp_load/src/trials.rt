@@ -15,15 +15,15 @@ use vp_answer::{Query, Reply, SessionId};
 use vp_expr::Checked;
 use vp_policy::UserId;
 use vp_text::Text;
-use vp_world::{Asked, Entry, Limits, LoggedEvent, Login};
+use vp_world::{Asked, Entry, Limits, Log, LoggedEvent, Login};
 
 /// What first differs between a log and what was shown.
-fn first_difference(alloc: Global, log: &[Entry], transcripts: &Transcripts) -> Option<Difference> {
-    compare_transcripts(alloc, log, transcripts).err()
+fn first_difference(alloc: Global, log: &Log, transcripts: &Transcripts) -> Option<Difference> {
+    compare_transcripts(alloc, log, 0, transcripts).err()
 }
 
 /// That the last byte that user 6 was shown is another is found.
-fn is_byte_found(alloc: Global, log: &[Entry], transcripts: &mut Transcripts) -> Option<bool> {
+fn is_byte_found(alloc: Global, log: &Log, transcripts: &mut Transcripts) -> Option<bool> {
     let own = transcripts.users.get_mut(5)?;
     let last = own.pop()?;
     own.push(b' ').ok()?;
@@ -35,7 +35,7 @@ fn is_byte_found(alloc: Global, log: &[Entry], transcripts: &mut Transcripts) ->
 }
 
 /// That user 8 was shown a byte more is found.
-fn is_excess_found(alloc: Global, log: &[Entry], transcripts: &mut Transcripts) -> Option<bool> {
+fn is_excess_found(alloc: Global, log: &Log, transcripts: &mut Transcripts) -> Option<bool> {
     transcripts.users.get_mut(7)?.push(b'\n').ok()?;
     let difference = first_difference(alloc, log, transcripts);
     transcripts.users.get_mut(7)?.pop()?;
@@ -51,7 +51,7 @@ fn again(order: &Order) -> Result<Order, AllocError> {
 }
 
 /// That the operator did not order the last grant of the log is found, and that the log lacks one that he ordered.
-fn are_orders_found(alloc: Global, log: &[Entry], transcripts: &mut Transcripts) -> Option<bool> {
+fn are_orders_found(alloc: Global, log: &Log, transcripts: &mut Transcripts) -> Option<bool> {
     let last = transcripts.orders.pop()?;
     let missing = first_difference(alloc, log, transcripts);
     let twin = again(&last).ok()?;
@@ -66,9 +66,14 @@ fn are_orders_found(alloc: Global, log: &[Entry], transcripts: &mut Transcripts)
 }
 
 /// That a log lacks its first entry is found: a grant by what the operator ordered, another by what a user was shown.
-fn is_lack_found(alloc: Global, log: &[Entry], transcripts: &Transcripts) -> Option<bool> {
-    let difference = first_difference(alloc, log.get(1..)?, transcripts)?;
-    let is_grant = matches!(&log.first()?.happening, LoggedEvent::Grant { .. });
+fn is_lack_found(alloc: Global, log: &Log, transcripts: &Transcripts) -> Option<bool> {
+    if log.len() == 0 {
+        return None;
+    }
+    let difference = compare_transcripts(alloc, log, 1, transcripts).err()?;
+    let mut made = Entry::blank();
+    let first = log.entry(0, &mut made);
+    let is_grant = matches!(&first.happening, LoggedEvent::Grant { .. });
     Some(match difference {
         Difference::Transcript { .. } => !is_grant,
         Difference::Grant { .. } | Difference::LostOrder { .. } => is_grant,
@@ -77,8 +82,8 @@ fn is_lack_found(alloc: Global, log: &[Entry], transcripts: &Transcripts) -> Opt
 }
 
 /// A log in which u1 opened a session and asked the time, which he was answered with this, and such was the time after it.
-fn short_log(alloc: Global, reply: Reply, time: u64) -> Result<Vec<Entry>, AllocError>
-    ensures { (design : Elaborated) → IfOk result (λ log. AreWellFormed design log.items) }
+fn short_log(alloc: Global, reply: Reply, time: u64) -> Result<Log, AllocError>
+    ensures { (design : Elaborated) → IfOk result (λ log. AreWellFormed design log.entries) }
 {
     let session = SessionId {
         user: UserId(0),
@@ -98,17 +103,19 @@ fn short_log(alloc: Global, reply: Reply, time: u64) -> Result<Vec<Entry>, Alloc
             query: Query::Time,
         },
     )?;
-    let mut log = Vec::new(alloc);
+    let mut log = Log::new(alloc);
+    log.reserve()?;
     log.push(Entry {
         happening: LoggedEvent::Open { login, session },
         time: 0,
         finished: false,
-    })?;
+    });
+    log.reserve()?;
     log.push(Entry {
         happening: LoggedEvent::Ask { asked, reply },
         time,
         finished: false,
-    })?;
+    });
     Ok(log)
 }
 
@@ -144,7 +151,7 @@ fn are_replies_found(alloc: Global, checked: &Arc<Checked>) -> bool {
 pub fn first_missed(
     alloc: Global,
     checked: &Arc<Checked>,
-    log: &[Entry],
+    log: &Log,
     transcripts: &mut Transcripts,
 ) -> Option<&'static str> {
     if is_byte_found(alloc, log, transcripts) != Some(true) {

@@ -55,6 +55,17 @@ accepted segment choices object first end values h k over some =
     decided segment choices object first end h k over
     ∙ ap (λ (b : Bool). if b then None else Some SameValue) (some_apart (differs first end object) _ values some)
 
+-- what was found is what a test allowed
+pub allowed : {X : Type 0} (b : Bool) (o : Option X) (x y : X) → o ≡ Some x → o ≡ (if b then Some y else None) → x ≡ y
+allowed true o x y h k = cc
+allowed false o x y h k = cc
+
+-- something was found where the values differ
+pub found_accepted : {X : Type 0} (segment : Run) (choices : List ℕ) (object : ℕ) (first end : State) (o : Option X) (x y : X) → after_choices segment.start segment.order ≡ Some first → after_choices segment.start choices ≡ Some end → is_over end ≡ true → o ≡ Some x → o ≡ (if differs first end object then Some y else None) → check_refusal segment choices object ≡ None
+found_accepted segment choices object first end o x y h k over some found =
+    decided segment choices object first end h k over
+    ∙ ap (λ (b : Bool). if b then None else Some SameValue) (some_apart (differs first end object) y x (sym found ∙ some))
+
 -- an error that is the refusal explains it
 pub explains_own : (o : Option RaceError) (e : RaceError) → o ≡ Some e → MayExplain NoMemory o e
 explains_own o e h other = h

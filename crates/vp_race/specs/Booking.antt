@@ -8,23 +8,21 @@ use Rattle.vp_race.specs.declared.error.RaceError.{RaceError}
 use Rattle.vp_race.specs.declared.error.RaceError.TheVariants.{SegmentGone, Booked, BookFull}
 use Rattle.vp_race.specs.Same.{same_run}
 use Rattle.vp_race.specs.Orders.{sources_of}
-use Rattle.vp_race.specs.Segments.{Run, FindingState, value_after}
+use Rattle.vp_race.specs.Segments.{FindingState, Run, ShownOrders, orders_of, value_after}
 
 -- a book: its races, in the order in which they were booked, and how many it may have, of how many steps
 pub record BookState : Type 0 where
   pub races : List FindingState
   pub limits : BookLimits
 
--- what the book keeps of a finding: the number and the time of its segment, its object, the object's values after both orders, the order
--- beside the run's, and the processes of the steps of both, by their objects
+-- what the book keeps of a finding: the number and the time of its segment, its object, the object's values after both orders, and what
+-- is shown of these
 pub record BookedDetails : Type 0 where
   pub number : ℕ
   pub time : ℕ
   pub object : ObjectId
   pub values : List Bit × List Bit
-  pub second : List ℕ
-  pub first_sources : List ObjectId
-  pub second_sources : List ObjectId
+  pub orders : ShownOrders
 
 -- the same
 abbrev pub details_of : FindingState → BookedDetails
@@ -33,9 +31,7 @@ details_of f = record {
   time = f.segment.start.time;
   object = f.object;
   values = (value_after f.segment.start f.segment.order f.object.0, value_after f.segment.start f.second f.object.0);
-  second = f.second;
-  first_sources = sources_of f.segment.start f.segment.order;
-  second_sources = sources_of f.segment.start f.second;
+  orders = orders_of f.segment f.second;
 }
 
 -- how many steps the orders of a finding have

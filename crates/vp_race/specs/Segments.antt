@@ -60,12 +60,25 @@ abbrev pub choices_refusal : Option State → Option RaceError
 choices_refusal None = Some NotAnOrder
 choices_refusal (Some end) = None
 
--- both are orders of the segment's time slot, and these are the sources of their steps
-pub record AreOrders (b : Beside) (first_sources second_sources : List ObjectId) : Type 0 where
+-- what is shown of two orders: the choices of the one beside the run's, and the processes of the steps of both, by their objects
+pub record ShownOrders : Type 0 where
+  pub second : List ℕ
+  pub first_sources : List ObjectId
+  pub second_sources : List ObjectId
+
+-- the same of a segment's order and one beside it
+abbrev pub orders_of : Run → (second : List ℕ) → ShownOrders
+orders_of segment second = record {
+  second = second;
+  first_sources = sources_of segment.start segment.order;
+  second_sources = sources_of segment.start second;
+}
+
+-- both are orders of the segment's time slot, and this is shown of them
+pub record AreOrders (b : Beside) (orders : ShownOrders) : Type 0 where
   pub first : HasEnd b.segment.start b.segment.order
   pub second : HasEnd b.segment.start b.second
-  pub of_first : first_sources ≡ sources_of b.segment.start b.segment.order
-  pub of_second : second_sources ≡ sources_of b.segment.start b.second
+  pub shown : orders ≡ orders_of b.segment b.second
 
 -- an object has these values after both orders, and they are a race
 pub record AreApart (b : Beside) (object : ObjectId) (values : List Bit × List Bit) : Type 0 where

@@ -87,9 +87,10 @@ impl Book {
         ensures none { IfNone result (nat_lt self.now.limits.steps
             (steps_in self.now.races + steps_of finding.now) ≡ true) }
     {
+        let orders = finding.orders();
         let room = self.limits.steps.checked_sub(self.steps)?;
-        let room = room.checked_sub(finding.first_sources().len())?;
-        let room = room.checked_sub(finding.second_sources().len())?;
+        let room = room.checked_sub(orders.first_sources().len())?;
+        let room = room.checked_sub(orders.second_sources().len())?;
         Some(self.limits.steps - room)
     }
 

@@ -1,13 +1,11 @@
 ghost use Rattle.std.specs.Prelude.{◌≡◌, IfOk};
-ghost use Rattle.vp_race.specs.Orders.{sources_of};
-ghost use Rattle.vp_race.specs.Segments.{IsRaceOf, value_after};
+ghost use Rattle.vp_race.specs.Segments.{IsRaceOf, orders_of, value_after};
 
 use crate::finding::Finding;
-use crate::follow::Order;
+use crate::pair::OrderPair;
 use std::alloc::AllocError;
 use std::marker::Model;
 use std::snapshot::Snapshot;
-use std::sync::Arc;
 use vp_bits::Bits;
 use vp_elab::ObjectId;
 
@@ -21,14 +19,11 @@ pub struct BookedFinding {
     time: u64,
     object: ObjectId,
     values: (Bits, Bits),
-    /// The run's order and the other, each shared by the races of a search.
-    first: Arc<Order>,
-    second: Arc<Order>,
+    orders: OrderPair,
 }
 
 impl Model for BookedFinding {
     ghost use Rattle.std.specs.Prelude.{◌≡◌};
-    ghost use Rattle.std.specs.Arc.{arc_value};
     ghost use Rattle.vp_race.specs.Booking.{details_of};
     ghost use Rattle.vp_race.specs.Segments.{IsRaceOf, FindingState};
 
@@ -41,9 +36,7 @@ impl Model for BookedFinding {
       time = r.time;
       object = r.object;
       values = r.values;
-      second = (arc_value r.second).choices.items;
-      first_sources = (arc_value r.first).sources.items;
-      second_sources = (arc_value r.second).sources.items;
+      orders = r.orders;
     }) };
 }
 
@@ -59,8 +52,7 @@ impl BookedFinding {
             time: segment.time(),
             object: finding.object(),
             values: finding.values(),
-            first: finding.orders.first_order()?,
-            second: finding.orders.second_order()?,
+            orders: finding.orders().try_clone()?,
         })
     }
 
@@ -77,13 +69,6 @@ impl BookedFinding {
         ensures { result ≡ self.now.segment.start.time }
     {
         self.time
-    }
-
-    /// The choices of the order beside the run's.
-    pub fn second(&self) -> &[u32]
-        ensures { result.now ≡ self.now.second }
-    {
-        self.second.choices.as_slice()
     }
 
     /// The net or reg.
@@ -103,17 +88,10 @@ impl BookedFinding {
         self.values
     }
 
-    /// The objects of the processes whose events the run took, in order; of a connection its port.
-    pub fn first_sources(&self) -> &[ObjectId]
-        ensures { result.now ≡ sources_of self.now.segment.start self.now.segment.order }
+    /// The run's order and the one beside it.
+    pub fn orders(&self) -> &OrderPair
+        ensures { result.now ≡ orders_of self.now.segment self.now.second }
     {
-        self.first.sources.as_slice()
-    }
-
-    /// The same of the order beside the run's.
-    pub fn second_sources(&self) -> &[ObjectId]
-        ensures { result.now ≡ sources_of self.now.segment.start self.now.second }
-    {
-        self.second.sources.as_slice()
+        &self.orders
     }
 }

@@ -13,7 +13,7 @@ use crate::error::RaceError;
 use crate::finding::Finding;
 use crate::first_choice::FirstChoice;
 use crate::follow::{Order, follow, is_over, is_signal, run_order};
-use crate::pair::OrderPair;
+use crate::pair::{OrderPair, SegmentOrders};
 use crate::segment::Segment;
 use std::alloc::Global;
 use std::sync::Arc;
@@ -39,27 +39,27 @@ fn values_apart(first: &Sim, second: &Sim, object: ObjectId) -> Option<(Bits, Bi
 /// The finding of an object, if it is a net or reg that has different values in the simulations after two orders; or out of memory
 /// (1207).
 pub fn finding_at(
-    orders: &OrderPair,
+    beside: &SegmentOrders,
     first: &Sim,
     second: &Sim,
     object: ObjectId,
 ) -> Result<Option<Finding>, RaceError>
-    requires first { let segment = orders.now.segment in
+    requires first { let segment = beside.now.segment in
         after_choices segment.start segment.order ≡ Some first.now }
-    requires second { let segment = orders.now.segment in
-        after_choices segment.start orders.now.second ≡ Some second.now }
+    requires second { let segment = beside.now.segment in
+        after_choices segment.start beside.now.second ≡ Some second.now }
     ensures found { IfOk result (λ f. f ≡ (if differs first.now second.now object.0
-        then Some (finding_of orders.now.segment orders.now.second object.0) else None)) }
+        then Some (finding_of beside.now.segment beside.now.second object.0) else None)) }
     ensures memory { IsOkUnless result NoMemory }
 {
-    let _run = orders.segment();
-    let _other = orders.second();
+    let _run = beside.segment();
+    let _other = beside.orders();
     let Some(values) = values_apart(first, second, object) else {
         return Ok(None);
     };
-    let orders = orders.try_clone()?;
+    let beside = beside.try_clone()?;
     Ok(Some(Finding {
-        orders,
+        beside,
         object,
         values,
     }))
@@ -108,7 +108,7 @@ fn pair_of(
     first: &mut Sim,
     second: &mut Sim,
     choices: Vec<u32>,
-) -> Result<OrderPair, RaceError>
+) -> Result<SegmentOrders, RaceError>
     requires choice { IsFirstOf (arc_value segment.now) choice.now }
     requires first { first.old ≡ choice.now.state }
     requires second { second.old ≡ choice.now.state }
@@ -131,10 +131,13 @@ fn pair_of(
     if !is_over(second) {
         return Err(RaceError::NotComplete);
     }
-    Ok(OrderPair {
-        segment: Arc::try_clone(segment)?,
+    let orders = OrderPair {
         first: Arc::new(alloc, run)?,
         second: Arc::new(alloc, Order { choices, sources })?,
+    };
+    Ok(SegmentOrders {
+        segment: Arc::try_clone(segment)?,
+        orders,
     })
 }
 
@@ -159,8 +162,8 @@ fn check_by(
         (check_refusal (arc_value segment.now) choices.items object.0)) }
 {
     let _number = segment.number();
-    let orders = pair_of(alloc, segment, choice, first, second, choices)?;
-    match finding_at(&orders, first, second, object)? {
+    let beside = pair_of(alloc, segment, choice, first, second, choices)?;
+    match finding_at(&beside, first, second, object)? {
         Some(finding) => Ok(finding),
         None => Err(RaceError::SameValue),
     }

@@ -1,8 +1,7 @@
 ghost use Rattle.std.specs.Prelude.{◌≡◌};
-ghost use Rattle.vp_race.specs.Orders.{sources_of};
-ghost use Rattle.vp_race.specs.Segments.{IsRaceOf, value_after};
+ghost use Rattle.vp_race.specs.Segments.{IsRaceOf, orders_of, value_after};
 
-use crate::pair::OrderPair;
+use crate::pair::{OrderPair, SegmentOrders};
 use crate::segment::Segment;
 use std::marker::Model;
 use vp_bits::Bits;
@@ -12,7 +11,7 @@ use vp_elab::ObjectId;
 /// which are a race.
 #[derive(Drop)]
 pub struct Finding {
-    pub(crate) orders: OrderPair,
+    pub(crate) beside: SegmentOrders,
     pub(crate) object: ObjectId,
     /// The object's values after the run's order and after the other.
     pub(crate) values: (Bits, Bits),
@@ -24,12 +23,12 @@ impl Model for Finding {
     ghost Value = { FindingState };
 
     ghost view = { λ f. record {
-      segment = f.orders.segment;
+      segment = f.beside.segment;
       object = f.object;
-      second = f.orders.second;
+      second = f.beside.second;
     } };
 
-    ghost invariant = { λ f. AreApart f.orders f.object f.values };
+    ghost invariant = { λ f. AreApart f.beside f.object f.values };
 }
 
 impl Finding {
@@ -38,7 +37,7 @@ impl Finding {
         ensures segment { result.now ≡ self.now.segment }
         ensures race { IsRaceOf self.now }
     {
-        self.orders.segment()
+        self.beside.segment()
     }
 
     /// The net or reg.
@@ -46,13 +45,6 @@ impl Finding {
         ensures { result ≡ self.now.object }
     {
         self.object
-    }
-
-    /// The choices of the order beside the run's.
-    pub fn second(&self) -> &[u32]
-        ensures { result.now ≡ self.now.second }
-    {
-        self.orders.second()
     }
 
     /// Its values after the run's order and after the other.
@@ -65,17 +57,10 @@ impl Finding {
         self.values
     }
 
-    /// The objects of the processes whose events the run took, in order; of a connection its port.
-    pub fn first_sources(&self) -> &[ObjectId]
-        ensures { result.now ≡ sources_of self.now.segment.start self.now.segment.order }
+    /// The run's order and the one beside it.
+    pub fn orders(&self) -> &OrderPair
+        ensures { result.now ≡ orders_of self.now.segment self.now.second }
     {
-        self.orders.first_sources()
-    }
-
-    /// The same of the order beside the run's.
-    pub fn second_sources(&self) -> &[ObjectId]
-        ensures { result.now ≡ sources_of self.now.segment.start self.now.second }
-    {
-        self.orders.second_sources()
+        self.beside.orders()
     }
 }

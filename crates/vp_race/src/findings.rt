@@ -6,7 +6,7 @@ ghost use Rattle.vp_race.specs.Search.{finding_of, found_after, is_among, object
 use crate::comparison::finding_at;
 use crate::error::RaceError;
 use crate::finding::Finding;
-use crate::pair::OrderPair;
+use crate::pair::SegmentOrders;
 use std::alloc::{AllocError, Global};
 use std::marker::Model;
 use vp_elab::ObjectId;
@@ -75,27 +75,27 @@ impl Findings {
     /// memory (1207).
     fn find_at(
         &mut self,
-        orders: &OrderPair,
+        beside: &SegmentOrders,
         first: &Sim,
         second: &Sim,
         object: ObjectId,
     ) -> Result<(), RaceError>
-        requires first { let segment = orders.now.segment in
+        requires first { let segment = beside.now.segment in
             after_choices segment.start segment.order ≡ Some first.now }
-        requires second { let segment = orders.now.segment in
-            after_choices segment.start orders.now.second ≡ Some second.now }
+        requires second { let segment = beside.now.segment in
+            after_choices segment.start beside.now.second ≡ Some second.now }
         requires within { object.0 < self.old.objects }
         ensures found { OnOk result (self.new.findings ≡ self.old.findings
             ++ (if differs first.now second.now object.0
             && not (is_among (objects_of self.old.findings) object.0)
-            then finding_of orders.now.segment orders.now.second object.0 ∷ [] else [])) }
+            then finding_of beside.now.segment beside.now.second object.0 ∷ [] else [])) }
         ensures objects { self.new.objects ≡ self.old.objects }
         ensures memory { IsOkUnless result NoMemory }
     {
         if self.has(object) {
             return Ok(());
         }
-        if let Some(finding) = finding_at(orders, first, second, object)? {
+        if let Some(finding) = finding_at(beside, first, second, object)? {
             self.push(finding)?;
         }
         Ok(())
@@ -104,23 +104,23 @@ impl Findings {
     /// Finds each net and reg that is not found and has different values in the simulations after two orders; or out of memory (1207).
     pub fn find_after(
         &mut self,
-        orders: &OrderPair,
+        beside: &SegmentOrders,
         first: &Sim,
         second: &Sim,
     ) -> Result<(), RaceError>
-        requires first { let segment = orders.now.segment in
+        requires first { let segment = beside.now.segment in
             after_choices segment.start segment.order ≡ Some first.now }
-        requires second { let segment = orders.now.segment in
-            after_choices segment.start orders.now.second ≡ Some second.now }
+        requires second { let segment = beside.now.segment in
+            after_choices segment.start beside.now.second ≡ Some second.now }
         requires objects { self.old.objects ≡ length first.now.design.tree.nodes }
         ensures found { OnOk result (self.new.findings ≡ self.old.findings
-            ++ found_after orders.now.segment (objects_of self.old.findings) first.now
-            orders.now.second (Some second.now)) }
+            ++ found_after beside.now.segment (objects_of self.old.findings) first.now
+            beside.now.second (Some second.now)) }
         ensures objects { self.new.objects ≡ self.old.objects }
         ensures memory { IsOkUnless result NoMemory }
     {
         for object in 0..first.design().count() {
-            self.find_at(orders, first, second, ObjectId(object))?;
+            self.find_at(beside, first, second, ObjectId(object))?;
         }
         Ok(())
     }

@@ -1,5 +1,5 @@
-ghost use Rattle.std.specs.Prelude.{◌≡◌, ◌<◌, ◌+◌, ◌^◌, true, None, Some, IfOk, IsSome, OnOk, option_map};
-ghost use Rattle.vp_sim.specs.States.{State};
+ghost use Rattle.std.specs.Prelude.{◌≡◌, ◌<◌, ◌+◌, ◌^◌, false, length, true, None, Some, IfOk, IfSome, IsSome, OnOk, option_map};
+ghost use Rattle.vp_sim.specs.States.{State, eligible};
 ghost use Rattle.vp_race.specs.Orders.{is_over};
 ghost use Rattle.vp_race.specs.Recording.{HasRoom, IsKept, Stands, opened_by, with_choice, with_closed};
 
@@ -81,6 +81,7 @@ impl OpenSegment {
     }
 
     /// Where the run has its first choice now, the simulation is kept; or an error where there is no memory.
+    #[inline(always)]
     fn keep_choice(&mut self, simulation: &mut Sim) -> Result<(), AllocError>
         requires stands { Stands self.old simulation.old }
         requires begun { IsSome self.old }
@@ -93,8 +94,26 @@ impl OpenSegment {
         if self.choice.is_some() || simulation.eligible() <= 1 || is_over(simulation) {
             return Ok(());
         }
-        // Each event that is eligible takes a step at least.
-        let order = Vec::with_capacity(self.alloc, simulation.eligible())?;
+        self.keep(simulation)
+    }
+
+    /// Keeps the simulation where the run has its first choice; or an error where there is no memory.
+    // Few steps come here: what it needs room for is not made ready at each.
+    #[inline(never)]
+    fn keep(&mut self, simulation: &mut Sim) -> Result<(), AllocError>
+        requires stands { Stands self.old simulation.old }
+        requires begun { IsSome self.old }
+        requires first { IfSome self.old (λ begun. begun.chosen ≡ None) }
+        requires choice { 1 < length (eligible simulation.old) }
+        requires unfinished { is_over simulation.old ≡ false }
+        ensures seen { opened_by self.new simulation.old ≡ opened_by self.old simulation.old }
+        ensures stands { Stands self.new simulation.old }
+        ensures begun { IsSome self.new }
+        ensures kept { OnOk result (IsKept self.new simulation.old) }
+        ensures same { simulation.new ≡ simulation.old }
+    {
+        // Each event that is eligible takes a step at least, and most take several.
+        let order = Vec::with_capacity(self.alloc, simulation.eligible().max(16))?;
         let Ok(state) = simulation.checkpoint() else {
             return Err(AllocError);
         };

@@ -11,7 +11,7 @@ use crate::findings::Findings;
 use crate::first_choice::FirstChoice;
 use crate::follow::{Order, run_order};
 use crate::gate::Gate;
-use crate::pair::OrderPair;
+use crate::pair::{OrderPair, SegmentOrders};
 use crate::segment::Segment;
 use crate::trial::try_order;
 use std::alloc::Global;
@@ -48,11 +48,14 @@ fn try_seed(
         return Ok(());
     };
     let orders = OrderPair {
-        segment: Arc::try_clone(segment)?,
         first: Arc::try_clone(run)?,
         second: Arc::new(alloc, order)?,
     };
-    findings.find_after(&orders, first, simulation)
+    let beside = SegmentOrders {
+        segment: Arc::try_clone(segment)?,
+        orders,
+    };
+    findings.find_after(&beside, first, simulation)
 }
 
 /// The same as `search`, by a simulation after the run's order, which is given, and by one of the same design.

@@ -19,7 +19,7 @@ use vp_answer::{Refusal, Reply};
 use vp_race::{Finding, OpenGate, Segment, search};
 use vp_sim::SimError;
 use vp_text::Shared;
-use vp_world::{Entry, Event, World, WorldError};
+use vp_world::{Event, Log, World, WorldError};
 
 /// A search tries orders of at most so many steps.
 const STEP_LIMIT: u64 = 10_000;
@@ -297,8 +297,8 @@ impl RunningWorld {
     }
 
     /// What has happened in the world, in order.
-    pub fn log(&self) -> &[Entry]
-        ensures log { result.now ≡ self.now.world.log }
+    pub fn log(&self) -> &Log
+        ensures log { result.now.entries ≡ self.now.world.log }
         ensures legal { IsLegal self.now.world.opening [] self.now.world.log }
     {
         self.world.log()

@@ -11,7 +11,7 @@ use crate::running::RunningWorld;
 use std::alloc::Global;
 use vp_answer::{Call, Refusal, Reply, Request, SessionId};
 use vp_wire::Caller;
-use vp_world::{Entry, Event, World};
+use vp_world::{Event, Log, World};
 
 /// The event of a request; none where it is of a session and none was opened.
 fn event_of(session: Option<SessionId>, request: Request) -> Option<Event>
@@ -69,8 +69,8 @@ impl ScriptSession {
     }
 
     /// What has happened in the world, in order.
-    pub fn log(&self) -> &[Entry]
-        ensures log { result.now ≡ self.now.running.world.log }
+    pub fn log(&self) -> &Log
+        ensures log { result.now.entries ≡ self.now.running.world.log }
         ensures legal { let world = self.now.running.world in IsLegal world.opening [] world.log }
     {
         self.running.log()

@@ -8,6 +8,9 @@ use std::collections::VecDeque;
 pub fn copied<T: Copy>(alloc: Global, items: &VecDeque<T>) -> Result<Vec<T>, AllocError>
     ensures { IfOk result (λ copy. copy.items ≡ items.now.items) }
 {
+    if items.is_empty() {
+        return Ok(Vec::new(alloc));
+    }
     let (first, second) = items.as_slices();
     let mut copy = Vec::with_capacity(alloc, items.len())?;
     copy.extend_from_slice(first)?;

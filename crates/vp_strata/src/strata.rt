@@ -1,4 +1,4 @@
-ghost use Rattle.std.specs.Prelude.{◌≡◌, ◌<◌, ◌≤◌, ◌+◌, ◌==◌, ◌++◌, ◌∷◌, [], drop, length, option_and_then, slice_get, false, Some, Err, IfErr, IfOk, IfSome, IsOk, OnErr, OnOk};
+ghost use Rattle.std.specs.Prelude.{◌≡◌, ◌<◌, ◌≤◌, ◌+◌, ◌==◌, ◌++◌, ◌∷◌, [], drop, length, option_and_then, slice_get, false, true, Some, Err, IfErr, IfOk, IfSome, IsOk, OnErr, OnOk};
 ghost use Rattle.vp_strata.specs.declared.error.StrataError.TheVariants.{NoMemory, TimeLimit};
 ghost use Rattle.vp_active_events.specs.declared.event.Event.TheVariants.{Evaluation, NetUpdate};
 ghost use Rattle.vp_active_events.specs.Events.{eligible_places};
@@ -427,14 +427,26 @@ impl Strata {
     }
 
     /// While no event is active, all inactive events are activated, or if there are none, all updates of nonblocking assignments (11.4).
+    #[inline(always)]
     pub fn activate(&mut self)
         ensures queue { self.new.queue ≡ activated self.old.queue }
         ensures spare { self.new.spare ≡ self.old.spare }
         ensures processes { self.new.processes ≡ self.old.processes }
     {
-        if !self.is_idle() {
-            return;
+        // Most steps take an event that is active.
+        if self.is_idle() {
+            self.activate_next();
         }
+    }
+
+    /// The same, where no event is active.
+    #[inline(never)]
+    fn activate_next(&mut self)
+        requires { (length self.old.queue.active == 0) ≡ true }
+        ensures queue { self.new.queue ≡ activated self.old.queue }
+        ensures spare { self.new.spare ≡ self.old.spare }
+        ensures processes { self.new.processes ≡ self.old.processes }
+    {
         if self.inactive.is_empty() {
             self.activate_nonblocking();
         } else {

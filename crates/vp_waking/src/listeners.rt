@@ -270,6 +270,7 @@ impl Listeners {
     }
 
     /// A process is known to wait so.
+    #[inline(always)]
     fn knows(&self, process: usize, waiting: Waiting) -> bool
         ensures { result ≡ true → IsHeard self.now.lists
             (awaited_by (tables_of self.now.design) waiting process) process }
@@ -278,6 +279,7 @@ impl Listeners {
     }
 
     /// A process begins to wait so: it stands among the listeners of the objects that it awaits. Takes memory the first time.
+    #[inline(always)]
     pub fn listen(&mut self, process: usize, waiting: Waiting) -> Result<(), AllocError>
         ensures design { self.new.design ≡ self.old.design }
         ensures kept { AreKept self.old.lists self.new.lists }
@@ -287,6 +289,17 @@ impl Listeners {
         if self.knows(process, waiting) {
             return Ok(());
         }
+        self.begin_to_listen(process, waiting)
+    }
+
+    /// The same where it is not known to wait so.
+    #[inline(never)]
+    fn begin_to_listen(&mut self, process: usize, waiting: Waiting) -> Result<(), AllocError>
+        ensures design { self.new.design ≡ self.old.design }
+        ensures kept { AreKept self.old.lists self.new.lists }
+        ensures heard { OnOk result (IsHeard self.new.lists
+            (awaited_by (tables_of self.old.design) waiting process) process) }
+    {
         if let Some(kind) = process_at(&self.checked, process) {
             self.add_process(process, kind, waiting)?;
         }

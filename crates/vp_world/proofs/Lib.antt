@@ -8,6 +8,7 @@ pub mod Marks
 pub mod MarksAsked
 pub mod Asking
 pub mod WorldRows
+pub mod LogRecords
 pub mod Logs
 pub mod Outcomes
 pub mod Jobs

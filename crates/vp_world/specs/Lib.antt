@@ -8,6 +8,7 @@ pub mod Events
 pub mod Faults
 pub mod Refusals
 pub mod Entries
+pub mod LogRecords
 pub mod Worlds
 pub mod UserObservers
 pub mod Races

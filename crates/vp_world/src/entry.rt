@@ -1,5 +1,3 @@
-ghost use Rattle.std.specs.Prelude.{◌≡◌, ◌<◌, ◌++◌, ◌∷◌, []};
-ghost use Rattle.std.specs.Vec.{vec_capacity, vec_len};
 ghost use Rattle.vp_world.specs.declared.event.Event.TheVariants as event;
 ghost use Rattle.vp_answer.specs.declared.reply.Reply.TheVariants as reply;
 
@@ -151,28 +149,18 @@ impl Model for Entry {
     ghost view = { λ e. entry_shown e.happening e.time e.finished };
 }
 
-/// Adds the entry of a step to a log with room for it: the simulation took the k-th of the events, this changed, and such are the time and
-/// `$finish` after it. Each kind of entry is written at once where it stays.
-pub fn add_step(log: &mut Vec<Entry>, k: u32, change: Option<Change>, time: u64, finished: bool)
-    requires { vec_len log.old < vec_capacity log.old }
-    ensures { log.new.items ≡ log.old.items ++ record {
-      event = event.Step k;
-      reply = reply.Done;
-      change = change;
-      time = time;
-      finished = finished;
-    } ∷ [] }
-{
-    match change {
-        Some(change) => log.push_reserved(Entry {
-            happening: LoggedEvent::StepWithChange { k, change },
-            time,
-            finished,
-        }),
-        None => log.push_reserved(Entry {
-            happening: LoggedEvent::Step { k },
-            time,
-            finished,
-        }),
+impl Entry {
+    ghost use Rattle.std.specs.Prelude.{◌≡◌};
+    ghost use Rattle.vp_world.specs.LogRecords.{no_entry};
+
+    /// A place for an entry that a log makes when it is read.
+    pub fn blank() -> Entry
+        ensures { result ≡ no_entry }
+    {
+        Entry {
+            happening: LoggedEvent::Advance,
+            time: 0,
+            finished: false,
+        }
     }
 }

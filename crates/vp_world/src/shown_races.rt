@@ -67,12 +67,13 @@ pub fn seen_race(
     ensures { let member = member_at policy.now.members user.0 in
         IfOk result (λ race. race ≡ race_seen design.now.tree member finding.now) }
 {
+    let orders = finding.orders();
     Ok(ShownRace {
         name: design.full_name(alloc, finding.object())?,
         time: finding.time(),
         values: finding.values(),
-        first_steps: steps_seen(alloc, design, policy, user, finding.first_sources())?,
-        second_steps: steps_seen(alloc, design, policy, user, finding.second_sources())?,
+        first_steps: steps_seen(alloc, design, policy, user, orders.first_sources())?,
+        second_steps: steps_seen(alloc, design, policy, user, orders.second_sources())?,
     })
 }
 

@@ -9,11 +9,12 @@ ghost use Rattle.vp_world.specs.Events.{IsWellFormed};
 ghost use Rattle.vp_world.specs.HiddenNames.{HidesAlike};
 ghost use Rattle.vp_world.specs.History.{Applies, IsLegal, IsReached, answered_by, is_log_full, refused_by, state_after};
 
-use crate::entry::{Asked, Entry, LoggedEvent, Login, add_step};
+use crate::entry::{Asked, Entry, LoggedEvent, Login};
 use crate::error::WorldError;
 use crate::event::Event;
 use crate::limits::Limits;
 use crate::live_world::LiveWorld;
+use crate::log::Log;
 use std::alloc::Global;
 use std::marker::Model;
 use std::sync::Arc;
@@ -29,7 +30,7 @@ use vp_text::{Shared, Text};
 pub struct World {
     alloc: Global,
     present: LiveWorld,
-    log: Vec<Entry>,
+    log: Log,
 }
 
 impl Model for World {
@@ -38,9 +39,9 @@ impl Model for World {
 
     ghost Value = { WorldLog };
 
-    ghost view = { λ w. record { opening = w.present.opening; log = w.log.items } };
+    ghost view = { λ w. record { opening = w.present.opening; log = w.log.entries } };
 
-    ghost invariant = { λ w. Keeps w.present w.log.items };
+    ghost invariant = { λ w. Keeps w.present w.log.entries };
 }
 
 impl World {
@@ -67,16 +68,16 @@ impl World {
         Ok(World {
             alloc,
             present,
-            log: Vec::new(alloc),
+            log: Log::new(alloc),
         })
     }
 
     /// What has happened, in order.
-    pub fn log(&self) -> &[Entry]
-        ensures log { result.now ≡ self.now.log }
+    pub fn log(&self) -> &Log
+        ensures log { result.now.entries ≡ self.now.log }
         ensures legal { IsLegal self.now.opening [] self.now.log }
     {
-        self.log.as_slice()
+        &self.log
     }
 
     /// The log has as many entries as it may.
@@ -139,7 +140,7 @@ impl World {
     {
         let full = self.is_full();
         self.present.check_goal(full)?;
-        if let Err(missing_right) = self.log.reserve(1) {
+        if let Err(missing_right) = self.log.reserve() {
             // The simulation's own refusal comes before out of memory.
             self.present.check_step(k)?;
             return Err(WorldError::from(missing_right));
@@ -147,7 +148,7 @@ impl World {
         let change = self.present.step(k)?;
         let time = self.present.time();
         let finished = self.present.finished();
-        add_step(&mut self.log, k, change, time, finished);
+        self.log.push_step(k, change, time, finished);
         Ok(())
     }
 
@@ -158,11 +159,11 @@ impl World {
     {
         let full = self.is_full();
         self.present.check_job(full)?;
-        self.log.reserve(1)?;
+        self.log.reserve()?;
         let Some(number) = self.present.take_job() else {
             unreachable!()
         };
-        self.log.push_reserved(Entry {
+        self.log.push(Entry {
             happening: LoggedEvent::TakeJob { number },
             time: self.present.time(),
             finished: self.present.finished(),
@@ -179,12 +180,12 @@ impl World {
         if self.is_full() {
             return Err(WorldError::LogFull);
         }
-        if let Err(missing_right) = self.log.reserve(1) {
+        if let Err(missing_right) = self.log.reserve() {
             self.present.check_booking(finding.value())?;
             return Err(WorldError::from(missing_right));
         }
         let booked = self.present.book(finding.value())?;
-        self.log.push_reserved(Entry {
+        self.log.push(Entry {
             happening: LoggedEvent::Book { finding: booked },
             time: self.present.time(),
             finished: self.present.finished(),
@@ -234,12 +235,12 @@ impl World {
     {
         let full = self.is_full();
         self.present.check_next_goal(full)?;
-        if let Err(missing_right) = self.log.reserve(1) {
+        if let Err(missing_right) = self.log.reserve() {
             self.present.check_advance()?;
             return Err(WorldError::from(missing_right));
         }
         self.present.advance()?;
-        self.log.push_reserved(Entry {
+        self.log.push(Entry {
             happening: LoggedEvent::Advance,
             time: self.present.time(),
             finished: self.present.finished(),
@@ -255,10 +256,10 @@ impl World {
     {
         let full = self.is_full();
         let number = self.present.admit(user.as_str(), token.as_str(), full)?;
-        self.log.reserve(1)?;
+        self.log.reserve()?;
         let login = Arc::new(self.alloc, Login { user, token })?;
         let session = self.present.open_for(number)?;
-        self.log.push_reserved(Entry {
+        self.log.push(Entry {
             happening: LoggedEvent::Open { login, session },
             time: self.present.time(),
             finished: self.present.finished(),
@@ -274,7 +275,7 @@ impl World {
     {
         let full = self.is_full();
         let index = self.present.index(session, full)?;
-        self.log.reserve(1)?;
+        self.log.reserve()?;
         let asked = Arc::new(self.alloc, Asked { session, query })?;
         let answer = self.present.ask(index, &asked.query)?;
         let entry = Entry {
@@ -282,7 +283,7 @@ impl World {
             time: self.present.time(),
             finished: self.present.finished(),
         };
-        self.log.push_reserved(entry);
+        self.log.push(entry);
         Ok(answer.reply)
     }
 
@@ -293,9 +294,9 @@ impl World {
     {
         let full = self.is_full();
         let index = self.present.index(session, full)?;
-        self.log.reserve(1)?;
+        self.log.reserve()?;
         self.present.close(index);
-        self.log.push_reserved(Entry {
+        self.log.push(Entry {
             happening: LoggedEvent::Close { session },
             time: self.present.time(),
             finished: self.present.finished(),
@@ -310,10 +311,10 @@ impl World {
     {
         let full = self.is_full();
         let user = self.present.grantee(&change, full)?;
-        self.log.reserve(1)?;
+        self.log.reserve()?;
         let change = Arc::new(self.alloc, change)?;
         self.present.grant(user, &change)?;
-        self.log.push_reserved(Entry {
+        self.log.push(Entry {
             happening: LoggedEvent::Grant { change },
             time: self.present.time(),
             finished: self.present.finished(),

@@ -9,7 +9,7 @@ use std::sync::ledger::Blank;
 use vp_answer::{Call, Query};
 use vp_hub::{Desk, NamesOpening, Pass};
 use vp_text::Text;
-use vp_world::{Event, LoggedEvent, World};
+use vp_world::{Entry, Event, LoggedEvent, World};
 
 /// The numbers of the refusal of an opening by another token than Ann's.
 fn opening<L: NamesOpening>(alloc: Global, desk: &mut Desk<L>) -> Option<(u32, u32)> {
@@ -37,7 +37,8 @@ fn has_two_entries<L: NamesOpening>(desk: &Desk<L>) -> bool {
     if log.len() != 2 {
         return false;
     }
-    let (opened, asked) = (&log[0], &log[1]);
+    let (mut first, mut second) = (Entry::blank(), Entry::blank());
+    let (opened, asked) = (log.entry(0, &mut first), log.entry(1, &mut second));
     matches!(opened.happening, LoggedEvent::Open { .. })
         && matches!(asked.happening, LoggedEvent::Ask { .. })
 }

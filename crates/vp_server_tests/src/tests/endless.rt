@@ -12,7 +12,7 @@ use std::thread;
 use std::thread::Threads;
 use vp_answer::{Call, Query};
 use vp_hub::{Closed, Desk, Hub, NamesOpening, Pass};
-use vp_world::{Entry, LoggedEvent, World};
+use vp_world::{Entry, Log, LoggedEvent, World};
 
 /// The log holds so many entries: enough that the simulation is not over before a thread that was woken comes to run.
 const ENTRIES: u32 = 262_144;
@@ -105,11 +105,13 @@ fn is_of_simulation(entry: &Entry) -> bool {
 }
 
 /// How many entries of a log are of requests that stand between two entries of the simulation.
-fn count_between(log: &[Entry]) -> usize {
+fn count_between(log: &Log) -> usize {
     let mut has_begun = false;
     let mut waiting = 0usize;
     let mut count = 0usize;
-    for entry in log {
+    for index in 0..log.len() {
+        let mut made = Entry::blank();
+        let entry = log.entry(index, &mut made);
         if is_of_simulation(entry) {
             has_begun = true;
             count = count.saturating_add(waiting);

@@ -5,7 +5,7 @@ use vp_bits::Bits;
 use vp_policy::ShownBarrier;
 use vp_pragma::Right;
 use vp_text::Same;
-use vp_world::{Entry, LoggedEvent};
+use vp_world::{Entry, Log, LoggedEvent};
 
 /// What Bob, who has watched `k` and given it a value, may see at an index of the log.
 #[derive(Clone, Copy)]
@@ -85,13 +85,15 @@ fn is_at(replies: &[Reply], index: usize, reply: &Reply) -> bool {
 }
 
 /// The replies to polls and reads in a log are these, in order, and each is that of the grants before it.
-pub fn are_right(log: &[Entry], replies: &[Reply]) -> bool {
+pub fn are_right(log: &Log, replies: &[Reply]) -> bool {
     let mut watch = Watch {
         is_open: true,
         waiting: 1,
     };
     let mut count = 0usize;
-    for entry in log {
+    for index in 0..log.len() {
+        let mut made = Entry::blank();
+        let entry = log.entry(index, &mut made);
         match &entry.happening {
             LoggedEvent::Grant { change } => watch = after_grant(watch, change),
             LoggedEvent::Ask { asked, reply } if is_poll_or_read(&asked.query) => {
@@ -117,9 +119,11 @@ fn is_grant_at(grants: &[GrantChange], index: usize, change: &GrantChange) -> bo
 }
 
 /// The grants in a log are these, each once and in order.
-pub fn are_logged(log: &[Entry], grants: &[GrantChange]) -> bool {
+pub fn are_logged(log: &Log, grants: &[GrantChange]) -> bool {
     let mut count = 0usize;
-    for entry in log {
+    for index in 0..log.len() {
+        let mut made = Entry::blank();
+        let entry = log.entry(index, &mut made);
         if let LoggedEvent::Grant { change } = &entry.happening {
             if !is_grant_at(grants, count, change) {
                 return false;

@@ -16,7 +16,7 @@ use vp_bits::Bits;
 use vp_elab::ObjectId;
 use vp_hub::{Closed, Desk, Hub, NamesOpening, Pass};
 use vp_vpi::PutValue;
-use vp_world::{Entry, LoggedEvent, World};
+use vp_world::{Entry, Log, LoggedEvent, World};
 
 /// The log holds so many entries.
 const ENTRIES: u32 = 16_384;
@@ -188,10 +188,12 @@ fn value_told(entry: &Entry, session: SessionId) -> Option<Bits> {
 }
 
 /// A session read these values, each the one that `c` was given last before it in the log.
-fn are_those_given(log: &[Entry], session: SessionId, values: &[Bits]) -> bool {
+fn are_those_given(log: &Log, session: SessionId, values: &[Bits]) -> bool {
     let mut given = None;
     let mut count = 0;
-    for entry in log {
+    for index in 0..log.len() {
+        let mut made = Entry::blank();
+        let entry = log.entry(index, &mut made);
         if let Some(told) = value_told(entry, session) {
             if given != Some(told) || values.get(count) != Some(&told) {
                 return false;
@@ -204,9 +206,11 @@ fn are_those_given(log: &[Entry], session: SessionId, values: &[Bits]) -> bool {
 }
 
 /// The design changed `c` after the first put in a log.
-fn is_changed_by_design(log: &[Entry]) -> bool {
+fn is_changed_by_design(log: &Log) -> bool {
     let mut is_put = false;
-    for entry in log {
+    for index in 0..log.len() {
+        let mut made = Entry::blank();
+        let entry = log.entry(index, &mut made);
         match &entry.happening {
             LoggedEvent::Put { .. } => is_put = true,
             LoggedEvent::StepWithChange { change, .. } if is_put && change.object == CLOCK => {
@@ -232,10 +236,12 @@ fn is_own(entry: &Entry, session: SessionId) -> bool {
 }
 
 /// These are the indexes of a session's entries in a log, in order, and no others.
-fn are_own_indexes(log: &[Entry], session: SessionId, indexes: &[usize]) -> bool {
+fn are_own_indexes(log: &Log, session: SessionId, indexes: &[usize]) -> bool {
     let mut count = 0;
     for index in 0..log.len() {
-        if is_own(&log[index], session) {
+        let mut made = Entry::blank();
+        let entry = log.entry(index, &mut made);
+        if is_own(entry, session) {
             if indexes.get(count) != Some(&index) {
                 return false;
             }

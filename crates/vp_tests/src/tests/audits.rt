@@ -7,7 +7,7 @@ use vp_answer::{Query, ValueFormat};
 use vp_audit::{Audit, audit_user};
 use vp_design::shared_of;
 use vp_policy::{UserId, read_policy};
-use vp_world::{Entry, Limits, World};
+use vp_world::{Limits, Log, World};
 
 /// Ann and Bob watch `k`, of which Bob is notified, and Ann no more after her grant has changed. Each has five events of his own.
 fn happens(alloc: Global, world: &mut World) -> Option<()> {
@@ -22,7 +22,7 @@ fn happens(alloc: Global, world: &mut World) -> Option<()> {
 }
 
 /// The audit of a user of a log, by the number of the user.
-fn audit_of_log(alloc: Global, log: &[Entry], user: usize) -> Option<Audit> {
+fn audit_of_log(alloc: Global, log: &Log, user: usize) -> Option<Audit> {
     let checked = shared_of(alloc, DESIGN)?;
     let policy = read_policy(alloc, POLICY, checked.design()).ok()?;
     let audit = audit_user(alloc, &checked, &policy, log, UserId(user)).ok();

@@ -80,7 +80,7 @@ fn is_found(findings: &[Finding], index: usize, object: u32) -> bool {
     finding.object() == ObjectId(object)
         && values.0 == Bits::of_number(1, 1)
         && values.1 == Bits::of_number(1, 0)
-        && finding.second() == [0, 1, 1, 0, 0].as_slice()
+        && finding.orders().second() == [0, 1, 1, 0, 0].as_slice()
 }
 
 /// Two findings: of `top.a` and of `top.b`.

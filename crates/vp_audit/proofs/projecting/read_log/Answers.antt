@@ -1,4 +1,4 @@
-use Rattle.std.proofs.Common.{◌≡◌, ◌∙◌, ◌+◌, ℕ, List, Vec, Global, Ok, Some, ap, refl, subst, sym}
+use Rattle.std.proofs.Common.{arith, ◌≡◌, ◌∙◌, ◌+◌, ℕ, List, Vec, Global, Ok, Some, ap, refl, subst, sym}
 use Rattle.std.specs.Prelude.{slice_get}
 use Rattle.std.proofs.lemmas.Option.{slice_get-get_or}
 use Rattle.vp_policy.specs.Users.{member_at}
@@ -11,15 +11,15 @@ use Rattle.vp_audit.proofs.LogReading.{IsAt, all_read, continues, next_at, proje
 use Rattle.vp_audit.proofs.projecting.read_log.Goals.{in-Some+in_ok-push, in_default}
 use Rattle.vp_audit.proofs.projecting.read_log.Goals as goal
 
-pub loop-entry-preserved : goal.loop-entry-preserved
-loop-entry-preserved c opening u first legal =
-    let log : List Entry = c.args.log.now in
-    let n = c.loop-entry.entry-index in
-    let done : List Item = c.loop-entry.items.items in
-    let reading : LogReader = c.loop-entry.reading in
-    let e : Entry = c.entry-item.result in
-    let at = c.loop-entry.invariant opening u first legal in
-    let there : slice_get log n ≡ Some e = slice_get-get_or log n e c.loop-entry-test.true ∙ ap Some (sym c.entry-item.is) in
+pub loop-index-preserved : goal.loop-index-preserved
+loop-index-preserved c opening u first legal =
+    let log : List Entry = c.args.log.now.entries in
+    let n = c.loop-index.index in
+    let done : List Item = c.loop-index.items.items in
+    let reading : LogReader = c.loop-index.reading in
+    let e : Entry = c.entry-entry.result.now in
+    let at = c.loop-index.invariant opening u first legal in
+    let there : slice_get log n ≡ Some e = c.entry-entry.ensures in
     let goes = continues opening u log n done reading at e there in
     let his : reading ≡ reading_of reading.user at.state at.known = subst (λ (r : LogReader). r ≡ reading_of r.user at.state at.known) (sym at.reads) refl in
     let reads : Reads u opening at.state at.known e (Ok c.in_ok-item.field-0) c.item.new.self =
@@ -36,9 +36,9 @@ loop-entry-preserved c opening u first legal =
 
 pub returns-clause-projection : goal.returns-clause-projection
 returns-clause-projection c opening u first legal =
-    let log : List Entry = c.args.log.now in
+    let log : List Entry = c.args.log.now.entries in
     projection_is opening u log c.in_ok-values.values c.from_vec.result
     (c.in_ok-values.ensures {u = tt} (sim.start opening.design) (sym (ap (λ (r : LogReader). r.design) first)) (sym (ap (λ (r : LogReader). r.values) first))
     ∙ ap (λ (r : LogReader). values_seen (sim.start opening.design) (member_at r.policy.members r.user) r.known) first)
     (c.from_vec.ensures
-    ∙ sym (all_read opening u log c.loop-entry.entry-index c.loop-entry.items.items c.loop-entry.reading (c.loop-entry.invariant opening u first legal) c.loop-entry-test.false))
+    ∙ sym (all_read opening u log c.loop-index.index c.loop-index.items.items c.loop-index.reading (c.loop-index.invariant opening u first legal) (omega (arith, c.len-index-end.ensures, c.loop-index-test.false))))

@@ -7,7 +7,7 @@ use Rattle.vp_audit.proofs.LogReading.{IsAt}
 use Rattle.vp_audit.proofs.projecting.read_log.Given as goal
 
 -- the reading stands where the entries so far lead to
-abbrev pub invariant-loop-entry : goal.invariant-loop-entry
-invariant-loop-entry l =
-    (opening : Opening) → (u : ℕ) → l.fn.reading ≡ reading_of u (start opening) (known_at_first opening u) → IsLegal opening [] l.fn.log
-    → IsAt opening u l.fn.log l.entry-index l.items.items l.reading
+abbrev pub invariant-loop-index : goal.invariant-loop-index
+invariant-loop-index l =
+    (opening : Opening) → (u : ℕ) → l.fn.reading ≡ reading_of u (start opening) (known_at_first opening u) → IsLegal opening [] l.fn.log.entries
+    → IsAt opening u l.fn.log.entries l.index l.items.items l.reading

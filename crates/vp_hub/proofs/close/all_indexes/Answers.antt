@@ -7,7 +7,7 @@ use Rattle.vp_hub.proofs.close.all_indexes.Goals as goal
 
 pub loop-pass-preserved : goal.loop-pass-preserved
 loop-pass-preserved g c =
-    let log = c.args.log.now in
+    let log = c.args.log.now.entries in
     let passes : List Passed = c.args.passes.now in
     let i = c.loop-pass.pass-index in
     let p : Passed = c.pass-item.result in

@@ -7,6 +7,6 @@ use Rattle.vp_hub.proofs.close.all_indexes.Given as goal
 -- the indexes of those so far
 abbrev pub invariant-loop-pass : goal.invariant-loop-pass
 invariant-loop-pass g l = record {
-  indexes : l.lists.items ≡ map (λ (p : Passed). entry_indexes l.log p.session) (take l.pass-index l.passes);
-  own : All (λ (p : Passed). map (λ (r : Receipt). r.index) p.receipts ≡ entry_indexes l.log p.session) (take l.pass-index l.passes);
+  indexes : l.lists.items ≡ map (λ (p : Passed). entry_indexes l.log.entries p.session) (take l.pass-index l.passes);
+  own : All (λ (p : Passed). map (λ (r : Receipt). r.index) p.receipts ≡ entry_indexes l.log.entries p.session) (take l.pass-index l.passes);
 }

@@ -4,4 +4,4 @@ use Rattle.vp_hub.proofs.close.all_stand.Given as goal
 
 -- those so far stand
 abbrev pub invariant-loop-receipt : goal.invariant-loop-receipt
-invariant-loop-receipt l = All (Stands l.log l.session) (take l.receipt-index l.receipts)
+invariant-loop-receipt l = All (Stands l.log.entries l.session) (take l.receipt-index l.receipts)

@@ -8,11 +8,11 @@ use Rattle.vp_hub.proofs.close.entry_indexes.Goals as goal
 
 pub loop-index-preserved : goal.loop-index-preserved
 loop-index-preserved c =
-    let log = c.args.log.now in
+    let log = c.args.log.now.entries in
     let id = c.args.session in
     let n = c.loop-index.index in
-    let e : Entry = c.index-log-index.result in
-    let at : slice_get log n ≡ Some e = slice_get-get_or log n e c.loop-index-test.true ∙ ap Some (sym c.index-log-index.is) in
+    let e : Entry = c.entry-entry.result.now in
+    let at : slice_get log n ≡ Some e = c.entry-entry.ensures in
     elim c.if-is_own.branch [
       | then-is_own+in_ok-push w ↦
           ap (λ v. v.items) w.indexes-is ∙ (w.in_ok-push.ensures {u = tt}).items ∙ ap (λ ns. ns ++ n ∷ []) c.loop-index.invariant

@@ -5,4 +5,4 @@ use Rattle.vp_hub.proofs.close.entry_indexes.Given as goal
 
 -- the indexes so far
 abbrev pub invariant-loop-index : goal.invariant-loop-index
-invariant-loop-index l = l.indexes.items ≡ filter (is_own_at l.log l.session) (below l.index)
+invariant-loop-index l = l.indexes.items ≡ filter (is_own_at l.log.entries l.session) (below l.index)

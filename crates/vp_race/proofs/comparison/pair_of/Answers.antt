@@ -19,16 +19,17 @@ are_orders :
     → HasEnd segment.start segment.order → after_choices segment.start choices ≡ Some end → is_over end ≡ true
     → firsts ≡ sources_of segment.start segment.order → seconds ≡ sources_of segment.start choices
     → held ≡ segment → second ≡ choices → ones ≡ firsts → others ≡ seconds
-    → AreOrders (record { segment = held; second = second }) ones others
+    → AreOrders (record { segment = held; second = second }) (record { second = second; first_sources = ones; second_sources = others })
 are_orders segment held choices second end ones others firsts seconds whole leads over s t same chosen first other =
-    let all : AreOrders (record { segment = segment; second = choices }) ones others = record {
+    let all : AreOrders (record { segment = segment; second = choices }) (record { second = choices; first_sources = ones; second_sources = others }) = record {
       first = whole;
       second = record { end = end; is_order = record { leads = leads; over = over } };
-      of_first = first ∙ s;
-      of_second = other ∙ t;
+      shown =
+          ap (λ (os : List ObjectId). record { second = choices; first_sources = os; second_sources = others }) (first ∙ s)
+          ∙ ap (λ (os : List ObjectId). record { second = choices; first_sources = sources_of segment.start segment.order; second_sources = os }) (other ∙ t);
     } in
-    subst (λ (r : Run). AreOrders (record { segment = r; second = second }) ones others) (sym same)
-    (subst (λ (ks : List ℕ). AreOrders (record { segment = segment; second = ks }) ones others) (sym chosen) all)
+    subst (λ (r : Run). AreOrders (record { segment = r; second = second }) (record { second = second; first_sources = ones; second_sources = others })) (sym same)
+    (subst (λ (ks : List ℕ). AreOrders (record { segment = segment; second = ks }) (record { second = ks; first_sources = ones; second_sources = others })) (sym chosen) all)
 
 pub returns-clause-first : goal.returns-clause-first
 returns-clause-first c =

@@ -11,7 +11,7 @@ pub returns-in-Ok-clause-audit : goal.returns-in-Ok-clause-audit
 returns-in-Ok-clause-audit c =
     let w : WorldLog = c.args.script_session.now.running.world in
     let u = c.args.user.0 in
-    let log : List Entry = c.log.result.now in
+    let log : List Entry = c.log.result.now.entries in
     let legal : IsLegal w.opening [] log = subst (IsLegal w.opening []) (sym c.log.ensures.log) c.log.ensures.legal in
     let same = c.audit_user.ensures.same w.opening c.requires.right c.requires.design c.requires.policy legal in
     subst (λ (es : List Entry). c.in-Ok.audit ≡ audit_of u es) c.log.ensures.log (IfOk-at_ok (λ (a : Audit). a ≡ audit_of u log) c.in-Ok.is same)

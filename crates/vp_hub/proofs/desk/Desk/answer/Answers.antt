@@ -31,13 +31,14 @@ returns-in-Ok-count g c =
     let happens : Event = event_of p.session (request.Call c.args.call) in
     let stood : LastStands d.world.log p = subst (λ (l : List Entry). LastStands l p) c.log.ensures.log (c.stands_in.ensures.stands c.if-not-stands_in.false) in
     let is_event : c.event_of-event.result ≡ happens = c.event_of-event.ensures.event ∙ ap (λ (x : Passed). event_of x.session (request.Call c.args.call)) c.pass.view_is in
-    let log_is : c.log-index.result.now ≡ d.world.log = c.log-index.ensures.log ∙ ap (λ (x : Desked). x.world.log) c.self.view_is in
+    let log_is : c.log-2.result.now.entries ≡ d.world.log = c.log-2.ensures.log ∙ ap (λ (x : Desked). x.world.log) c.self.view_is in
     let yes = c.in-Ok-count.ensures {u = tt} in
     let due : Receipt = receipt_of d happens (request.Call c.args.call) in
     let told : c.in-Ok-count.reply ≡ answered_by d.world happens = yes.reply ∙ ap (λ (v : Event). answered_by d.world v) is_event in
     let copied : c.in-Ok.asked ≡ c.args.call = (c.in-Ok.ensures {u = tt}).copy in
-    let received : (let x : Receipt = record { index = length c.log-index.result.now; request = request.Call c.in-Ok.asked; reply = c.in-Ok-count.reply } in x) ≡ due =
-    λ i. record { index = length (log_is i); request = request.Call (copied i); reply = told i } in
+    let received : (let x : Receipt = record { index = c.len-index.result; request = request.Call c.in-Ok.asked; reply = c.in-Ok-count.reply } in x) ≡ due =
+    let at : c.len-index.result ≡ length d.world.log = c.len-index.ensures ∙ ap (λ (es : List Entry). length es) log_is in
+    λ i. record { index = at i; request = request.Call (copied i); reply = told i } in
     let receipts : c.receive.new.receipts.items ≡ c.pass.inside.receipts.items ++ due ∷ [] =
     c.receive.ensures.receipts ∙ (λ i. c.ready.ensures.same i ++ received i ∷ []) in
     let same : (let x : Passed = record { session = c.pass.inside.session; receipts = c.receive.new.receipts.items; amount = c.count.new.share.amount; parts = c.count.new.share.parts } in x) ≡ with_receipt p due =

@@ -9,10 +9,10 @@ use Rattle.vp_world.proofs.world.World.advance.Goals as goal
 pub invariant_of-self-2 : goal.invariant_of-self-2
 invariant_of-self-2 c =
     let w = c.self.inside.present in
-    let log = c.self.inside.log.items in
+    let log = c.self.inside.log.entries in
     let done = c.in_ok-advance.ensures {u = tt} in
     let entry : Entry = record { event = event.Advance; reply = reply.Done; change = None; time = c.time.result; finished = c.finished.result } in
-    let added : c.push_reserved.new.self.items ≡ log ++ entry ∷ [] = search rules in
+    let added : c.push.new.self.entries ≡ log ++ entry ∷ [] = search rules in
     let accepted : refusal_after w.opening log (event.Advance) ≡ None = search rules in
-    keeps_more w c.advance.new.self log c.push_reserved.new.self.items entry c.self.invariant done.after added tt accepted
+    keeps_more w c.advance.new.self log c.push.new.self.entries entry c.self.invariant done.after added tt accepted
     (entry_is w.opening w.state (state_after w.opening log) entry c.self.invariant.state refl (sym done.change) (search rules) (search rules))

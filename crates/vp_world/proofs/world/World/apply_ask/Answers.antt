@@ -11,12 +11,12 @@ use Rattle.vp_answer.specs.OpenSessions.{index_of}
 use Rattle.vp_world.proofs.Logs.{entry_is, keeps_more, seen_more}
 use Rattle.vp_world.proofs.world.World.apply_ask.Goals as goal
 
-module _ (c : goal.After-push_reserved) where
+module _ (c : goal.After-push) where
   abbrev w : WorldState
   w = c.self.inside.present
 
   abbrev log : List Entry
-  log = c.self.inside.log.items
+  log = c.self.inside.log.entries
 
   abbrev happens : Event
   happens = event.Ask c.args.session c.args.query
@@ -48,7 +48,7 @@ module _ (c : goal.After-push_reserved) where
       ∙ ap (λ (r : Query). changed_in w c.in_ok-index.index r) same
       ∙ ap (λ (o : Option ℕ). changed_by w.state (option_and_then (slice_get w.state.sessions) o) c.args.query) (sym found)
 
-  added : c.push_reserved.new.self.items ≡ log ++ entry ∷ []
+  added : c.push.new.self.entries ≡ log ++ entry ∷ []
   added = search rules
 
   made : entry ≡ entry_of w.opening (state_after w.opening log) happens
@@ -57,13 +57,13 @@ module _ (c : goal.After-push_reserved) where
 pub invariant_of-self-2 : goal.invariant_of-self-2
 invariant_of-self-2 c =
     let accepted : refusal_after (w c).opening (log c) (happens c) ≡ None = search rules in
-    keeps_more (w c) c.ask.new.self (log c) c.push_reserved.new.self.items (entry c) c.self.invariant (following c) (added c) tt accepted (made c)
+    keeps_more (w c) c.ask.new.self (log c) c.push.new.self.entries (entry c) c.self.invariant (following c) (added c) tt accepted (made c)
 
 pub returns-clause-applied : goal.returns-clause-applied
 returns-clause-applied c = record {
   accepted = search rules;
   logged =
-      seen_more (w c) c.ask.new.self (log c) c.push_reserved.new.self.items (entry c) c.args.self.now c.self.view_is
+      seen_more (w c) c.ask.new.self (log c) c.push.new.self.entries (entry c) c.args.self.now c.self.view_is
       (following c ∙ ap (λ (s : WorldState). with_state (w c) s.state) (sym (following c))) (added c) (made c);
   refused = tt;
   unchanged = tt;

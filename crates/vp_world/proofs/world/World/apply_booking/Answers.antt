@@ -15,7 +15,7 @@ module _ (c : goal.After-drop-finding-inside-2) where
   w = c.self.inside.present
 
   abbrev log : List Entry
-  log = c.self.inside.log.items
+  log = c.self.inside.log.entries
 
   abbrev happens : Event
   happens = event.Book c.args.finding
@@ -33,9 +33,9 @@ module _ (c : goal.After-drop-finding-inside-2) where
   same : c.in_ok-booked.booked ≡ c.args.finding
   same = (c.in_ok-booked.ensures {u = tt}).booked ∙ c.value-2.ensures
 
-  added : c.push_reserved.new.self.items ≡ log ++ entry ∷ []
+  added : c.push.new.self.entries ≡ log ++ entry ∷ []
   added =
-      let as_logged : c.push_reserved.new.self.items ≡ log ++ entry_of_finding c.in_ok-booked.booked ∷ [] = search rules in
+      let as_logged : c.push.new.self.entries ≡ log ++ entry_of_finding c.in_ok-booked.booked ∷ [] = search rules in
       as_logged ∙ ap (λ (f : FindingState). log ++ entry_of_finding f ∷ []) same
 
   made : entry ≡ entry_of w.opening (state_after w.opening log) happens
@@ -45,13 +45,13 @@ pub invariant_of-self-2 : goal.invariant_of-self-2
 invariant_of-self-2 c =
     let accepted : refusal_after (w c).opening (log c) (happens c) ≡ None = search rules in
     let formed : IsWellFormed (w c).opening.design (happens c) = subst (λ (v : WorldLog). IsWellFormed v.opening.design (happens c)) (sym c.self.view_is) c.requires in
-    keeps_more (w c) c.book.new.self (log c) c.push_reserved.new.self.items (entry c) c.self.invariant (following c) (added c) formed accepted (made c)
+    keeps_more (w c) c.book.new.self (log c) c.push.new.self.entries (entry c) c.self.invariant (following c) (added c) formed accepted (made c)
 
 pub returns-clause-applied : goal.returns-clause-applied
 returns-clause-applied c = record {
   accepted = search rules;
   logged =
-      seen_more (w c) c.book.new.self (log c) c.push_reserved.new.self.items (entry c) c.args.self.now c.self.view_is
+      seen_more (w c) c.book.new.self (log c) c.push.new.self.entries (entry c) c.args.self.now c.self.view_is
       (following c ∙ ap (λ (s : WorldState). with_state (w c) s.state) (sym (following c))) (added c) (made c);
   refused = tt;
   unchanged = tt;

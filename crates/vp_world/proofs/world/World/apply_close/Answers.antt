@@ -10,12 +10,12 @@ use Rattle.vp_world.proofs.world.World.apply_close.Goals as goal
 pub invariant_of-self-2 : goal.invariant_of-self-2
 invariant_of-self-2 c =
     let w = c.self.inside.present in
-    let log = c.self.inside.log.items in
+    let log = c.self.inside.log.entries in
     let id = c.args.session in
     let found : index_of w.state.sessions id ≡ Some c.in_ok-index.index = (c.in_ok-index.ensures {u = tt}).index in
     let entry : Entry = record { event = event.Close id; reply = reply.Done; change = None; time = c.time.result; finished = c.finished.result } in
-    let added : c.push_reserved.new.self.items ≡ log ++ entry ∷ [] = search rules in
+    let added : c.push.new.self.entries ≡ log ++ entry ∷ [] = search rules in
     let accepted : refusal_after w.opening log (event.Close id) ≡ None = search rules in
     let after = c.close.ensures ∙ ap (λ (o : Option ℕ). with_state w (closed_at w.state o)) (sym found) in
-    keeps_more w c.close.new.self log c.push_reserved.new.self.items entry c.self.invariant after added tt accepted
+    keeps_more w c.close.new.self log c.push.new.self.entries entry c.self.invariant after added tt accepted
     (entry_is w.opening w.state (state_after w.opening log) entry c.self.invariant.state refl refl (search rules) (search rules))

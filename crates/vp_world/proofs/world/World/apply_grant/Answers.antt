@@ -11,12 +11,12 @@ use Rattle.vp_world.specs.Worlds.{WorldState}
 use Rattle.vp_world.proofs.Logs.{entry_is, keeps_more}
 use Rattle.vp_world.proofs.world.World.apply_grant.Goals as goal
 
-module _ (c : goal.After-push_reserved) where
+module _ (c : goal.After-push) where
   abbrev w : WorldState
   w = c.self.inside.present
 
   abbrev log : List Entry
-  log = c.self.inside.log.items
+  log = c.self.inside.log.entries
 
   abbrev happens : Event
   happens = event.Grant c.args.change
@@ -36,7 +36,7 @@ module _ (c : goal.After-push_reserved) where
       ∙ ap (λ (g : GrantChange). with_state w (granted_to w.state g c.in_ok-user.user.0)) same
       ∙ ap (λ (o : Option ℕ). with_state w (option_map_or (granted_to w.state c.args.change) o w.state)) (sym found)
 
-  added : c.push_reserved.new.self.items ≡ log ++ entry ∷ []
+  added : c.push.new.self.entries ≡ log ++ entry ∷ []
   added = search rules
 
   made : entry ≡ entry_of w.opening (state_after w.opening log) happens
@@ -45,4 +45,4 @@ module _ (c : goal.After-push_reserved) where
 pub invariant_of-self-2 : goal.invariant_of-self-2
 invariant_of-self-2 c =
     let accepted : refusal_after (w c).opening (log c) (happens c) ≡ None = search rules in
-    keeps_more (w c) c.grant.new.self (log c) c.push_reserved.new.self.items (entry c) c.self.invariant (following c) (added c) tt accepted (made c)
+    keeps_more (w c) c.grant.new.self (log c) c.push.new.self.entries (entry c) c.self.invariant (following c) (added c) tt accepted (made c)

@@ -9,12 +9,12 @@ use Rattle.vp_world.proofs.Jobs.{job_told}
 use Rattle.vp_world.proofs.Logs.{entry_is, keeps_more, seen_more}
 use Rattle.vp_world.proofs.world.World.apply_job.Goals as goal
 
-module _ (c : goal.After-push_reserved) where
+module _ (c : goal.After-push) where
   abbrev w : WorldState
   w = c.self.inside.present
 
   abbrev log : List Entry
-  log = c.self.inside.log.items
+  log = c.self.inside.log.entries
 
   abbrev entry : Entry
   entry = record { event = event.TakeJob; reply = reply.Job c.in-Some.number; change = None; time = c.time.result; finished = c.finished.result }
@@ -25,7 +25,7 @@ module _ (c : goal.After-push_reserved) where
   told : reply.Job c.in-Some.number ≡ answer w.opening w.state event.TakeJob
   told = job_told (next_job w.state.segments) c.in-Some.number (search rules)
 
-  added : c.push_reserved.new.self.items ≡ log ++ entry ∷ []
+  added : c.push.new.self.entries ≡ log ++ entry ∷ []
   added = search rules
 
   made : entry ≡ entry_of w.opening (state_after w.opening log) event.TakeJob
@@ -34,13 +34,13 @@ module _ (c : goal.After-push_reserved) where
 pub invariant_of-self-2 : goal.invariant_of-self-2
 invariant_of-self-2 c =
     let accepted : refusal_after (w c).opening (log c) event.TakeJob ≡ None = search rules in
-    keeps_more (w c) c.take_job.new.self (log c) c.push_reserved.new.self.items (entry c) c.self.invariant (following c) (added c) tt accepted (made c)
+    keeps_more (w c) c.take_job.new.self (log c) c.push.new.self.entries (entry c) c.self.invariant (following c) (added c) tt accepted (made c)
 
 pub returns-clause-applied : goal.returns-clause-applied
 returns-clause-applied c = record {
   accepted = search rules;
   logged =
-      seen_more (w c) c.take_job.new.self (log c) c.push_reserved.new.self.items (entry c) c.args.self.now c.self.view_is
+      seen_more (w c) c.take_job.new.self (log c) c.push.new.self.entries (entry c) c.args.self.now c.self.view_is
       (following c ∙ ap (λ (s : WorldState). with_state (w c) s.state) (sym (following c))) (added c) (made c);
   refused = tt;
   unchanged = tt;

@@ -21,12 +21,12 @@ returns-in_err-number-clause-applied c =
     let why : refusal_after v.opening v.log happens ≡ Some e = search rules in
     refused_so v happens c.from_residual.result e is why
 
-module _ (c : goal.After-push_reserved) where
+module _ (c : goal.After-push) where
   abbrev w : WorldState
   w = c.self.inside.present
 
   abbrev log : List Entry
-  log = c.self.inside.log.items
+  log = c.self.inside.log.entries
 
   abbrev happens : Event
   happens = event.Open c.args.user c.args.token
@@ -47,7 +47,7 @@ module _ (c : goal.After-push_reserved) where
       ap (λ (id : SessionId). reply.Opened id) (c.in_ok-session.ensures {u = tt}).id
       ∙ ap (λ (o : Option ℕ). option_map_or (λ u. reply.Opened (next_session w.state u)) o (reply.Error refusal.BadToken)) (sym found)
 
-  added : c.push_reserved.new.self.items ≡ log ++ entry ∷ []
+  added : c.push.new.self.entries ≡ log ++ entry ∷ []
   added = search rules
 
   made : entry ≡ entry_of w.opening (state_after w.opening log) happens
@@ -56,13 +56,13 @@ module _ (c : goal.After-push_reserved) where
 pub invariant_of-self-2 : goal.invariant_of-self-2
 invariant_of-self-2 c =
     let accepted : refusal_after (w c).opening (log c) (happens c) ≡ None = search rules in
-    keeps_more (w c) c.open_for.new.self (log c) c.push_reserved.new.self.items (entry c) c.self.invariant (following c) (added c) tt accepted (made c)
+    keeps_more (w c) c.open_for.new.self (log c) c.push.new.self.entries (entry c) c.self.invariant (following c) (added c) tt accepted (made c)
 
 pub returns-clause-applied : goal.returns-clause-applied
 returns-clause-applied c = record {
   accepted = search rules;
   logged =
-      seen_more (w c) c.open_for.new.self (log c) c.push_reserved.new.self.items (entry c) c.args.self.now c.self.view_is
+      seen_more (w c) c.open_for.new.self (log c) c.push.new.self.entries (entry c) c.args.self.now c.self.view_is
       (following c ∙ ap (λ (s : WorldState). with_state (w c) s.state) (sym (following c))) (added c) (made c);
   refused = tt;
   unchanged = tt;

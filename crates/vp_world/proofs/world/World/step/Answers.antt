@@ -11,17 +11,17 @@ use Rattle.vp_world.proofs.world.World.step.Goals as goal
 pub step-requires : goal.step-requires
 step-requires c =
     let w = c.self.inside.present in
-    let log = c.self.inside.log in
-    let same : w.state.segments.count ≡ (state_after w.opening log.items).segments.count = ap (λ (s : State). s.segments.count) c.self.invariant.state in
-    omega (arith, same, count_within w.opening log.items, log.ok.0, log.ok.1, log.small)
+    let log = c.self.inside.log.entries in
+    let same : w.state.segments.count ≡ (state_after w.opening log).segments.count = ap (λ (s : State). s.segments.count) c.self.invariant.state in
+    omega (arith, same, count_within w.opening log, c.reserve.ensures.few)
 
 pub invariant_of-self-2 : goal.invariant_of-self-2
 invariant_of-self-2 c =
     let w = c.self.inside.present in
-    let log = c.self.inside.log.items in
+    let log = c.self.inside.log.entries in
     let done = c.in_ok-change.ensures {u = tt} in
     let entry : Entry = record { event = event.Step c.args.k; reply = reply.Done; change = c.in_ok-change.change; time = c.time-time.result; finished = c.finished-finished.result } in
-    let added : c.add_step.new.log.items ≡ log ++ entry ∷ [] = search rules in
+    let added : c.push_step.new.self.entries ≡ log ++ entry ∷ [] = search rules in
     let accepted : refusal_after w.opening log (event.Step c.args.k) ≡ None = search rules in
-    keeps_more w c.step.new.self log c.add_step.new.log.items entry c.self.invariant done.after added tt accepted
+    keeps_more w c.step.new.self log c.push_step.new.self.entries entry c.self.invariant done.after added tt accepted
     (entry_is w.opening w.state (state_after w.opening log) entry c.self.invariant.state refl done.change (search rules) (search rules))
