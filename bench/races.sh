@@ -64,9 +64,10 @@ for others in 800 59000; do
     echo "a race that is found and booked beside $((others + 200)) regs: $(((found - none) / 400)) instructions"
 done
 
-design races racing 1000 1 0
+# (of few regs, since a book keeps a limited number of steps)
+design races racing 50 1 0
 {
-    printf '%s\n' "$opening" '{"op":"run","until":66}'
+    printf '%s\n' "$opening" '{"op":"run","until":1302}'
     for i in $(seq 200); do echo '{"op":"race","no":65000}'; done
 } > "$work/deep"
 sed 's/65000/1/' "$work/deep" > "$work/first"
