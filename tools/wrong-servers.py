@@ -30,13 +30,13 @@ SPAWN = """    if scope
     {"""
 
 WRONG: List[Wrong] = [
-    Wrong("run_sim_does_nothing", "vp_hub", "hub.rt", "match self.run_next(rt) {", "match Err::<(), HubError>(HubError::World(WorldError::BeyondGoal)) {", "vp_server_tests"),
+    Wrong("run_sim_does_nothing", "vp_hub", "hub.rt", "match desk.run_next() {", "match Err::<(), HubError>(HubError::World(WorldError::BeyondGoal)) {", "vp_server_tests"),
     Wrong("work_once_does_nothing", "vp_hub", "hub.rt", "let Some(segment) = self.take_job(rt)? else {", "let Some(segment) = None::<Arc<Segment>> else {", "vp_server_tests"),
     Wrong("searches_under_the_lock", "vp_hub", "hub.rt", SEARCH, SEARCH.replace("let Ok(findings) = search", "let held = self.desk.lock(rt);\n        let found = search").replace(
         " else {", ";\n        drop(held);\n        let Ok(findings) = found else {"), "vp_server_tests"),
-    Wrong("close_always_mismatched", "vp_hub", "close.rt", "        check_receipts(log, passes)?;\n", "        if log.len() < 100_000_000 {\n            return Err(HubError::Mismatch);\n        }\n", "vp_server_tests"),
+    Wrong("close_always_mismatched", "vp_hub", "close.rt", "        check_sessions(passes)?;\n", "        if log.len() < 100_000_000 {\n            return Err(HubError::Mismatch);\n        }\n", "vp_server_tests"),
     Wrong("open_always_without_memory", "vp_hub", "hub.rt", "        let pass = desk.open(user, token)?;\n", "        let pass = desk.open(user, token)?;\n        drop(pass);\n        let pass = Err(HubError::World(WorldError::NoMemory))?;\n", "vp_server_tests"),
-    Wrong("grant_logs_nothing", "vp_hub", "hub.rt", "self.desk.lock(rt).event(Event::Grant(change))", "{ drop(change); Ok(Reply::Done) }", "vp_server_tests"),
+    Wrong("grant_logs_nothing", "vp_hub", "hub.rt", "self.desk(rt).event(Event::Grant(change))", "{ drop(change); Ok(Reply::Done) }", "vp_server_tests"),
     Wrong("all_connections_on_one_thread", "vp_hub", "accept.rt", SPAWN, "    serve_connection(rt, service, stream);\n    if false {", "vp_server_tests"),
     Wrong("gate_not_asked", "vp_hub", "client.rt", "        let _open = self.gate.turn();\n", "", "vp_server_tests"),
     Wrong("pass_not_handed_back", "vp_hub", "connection.rt", "            let _kept = service.passes.lock(rt).keep(pass);\n", "            drop(pass);\n            service.passes.lock(rt).forget();\n", "vp_server_tests"),

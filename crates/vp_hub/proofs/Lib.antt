@@ -1,5 +1,5 @@
 pub mod Lists
-pub mod Standing
+pub mod Sublists
 pub mod Explaining
 pub mod Calling
 pub mod Receiving

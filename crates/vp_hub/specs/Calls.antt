@@ -1,21 +1,19 @@
 -- The calls of sessions, and where they stand in a log.
-use Rattle.std.specs.Prelude.{◌≡◌, ◌<◌, ℕ, ◌+◌, ◌-◌, All, Bool, true, false, List, [], ◌∷◌, ◌++◌, count_by, length, slice_get, Option, Some, None, option_map}
-use Rattle.vp_answer.specs.declared.reply.Reply.{Reply}
-use Rattle.vp_answer.specs.declared.reply.Reply.TheVariants as reply
-use Rattle.vp_hub.specs.declared.receipt.SessionRequest.{SessionRequest}
-use Rattle.vp_hub.specs.declared.receipt.SessionRequest.TheVariants as request
+use Rattle.std.specs.Prelude.{◌≡◌, ◌<◌, ◌⊎◌, ℕ, ◌+◌, Bool, true, false, List, [], ◌∷◌, ◌++◌, count_by, filter, length, slice_get}
+use Rattle.std.specs.Option.{option_map_or}
+use Rattle.vp_elab.specs.Tree.{below}
+use Rattle.vp_answer.specs.declared.request.Call.{Call}
 use Rattle.vp_answer.specs.declared.request.Call.TheVariants as call
 use Rattle.vp_answer.specs.declared.request.SessionId.{SessionId}
+use Rattle.vp_answer.specs.OpenSessions.{same_session}
 use Rattle.vp_world.specs.declared.event.Event.{Event}
 use Rattle.vp_world.specs.declared.event.Event.TheVariants as event
 use Rattle.vp_world.specs.Entries.{Entry, session_in}
-use Rattle.vp_hub.specs.declared.receipt.Receipt.{Receipt}
 
--- the event of a request of a session
-abbrev pub event_of : SessionId → SessionRequest → Event
-event_of id (request.Open user token) = event.Open user token
-event_of id (request.Call (call.Query query)) = event.Ask id query
-event_of id (request.Call call.Close) = event.Close id
+-- the event of a call of a session
+abbrev pub event_of : SessionId → Call → Event
+event_of id (call.Query query) = event.Ask id query
+event_of id call.Close = event.Close id
 
 -- an event is of a session: it opens one, asks in it or closes it
 abbrev pub is_of_session : Event → Bool
@@ -28,40 +26,47 @@ is_of_session e = false
 abbrev pub session_entries : List Entry → ℕ
 session_entries log = count_by (λ e. is_of_session e.event) log
 
--- the event and the reply at an index of a log, if there is an entry
-abbrev pub call_at : List Entry → ℕ → Option (Event × Reply)
-call_at log index = option_map (λ e. (e.event, e.reply)) (slice_get log index)
+-- an entry is of a session
+abbrev pub is_own : SessionId → Entry → Bool
+is_own id e = option_map_or (λ own. same_session own id) (session_in e.event e.reply) false
 
--- a receipt of a session stands in a log: at its index are its event and its reply
-abbrev pub Stands : List Entry → SessionId → Receipt → Type 0
-Stands log id r = call_at log r.index ≡ Some (event_of id r.request, r.reply)
+-- an entry of a session stands at an index of a log
+abbrev pub is_own_at : List Entry → SessionId → ℕ → Bool
+is_own_at log id index = option_map_or (is_own id) (slice_get log index) false
 
--- a receipt is of a session
-abbrev pub IsOf : SessionId → Receipt → Type 0
-IsOf id r = session_in (event_of id r.request) r.reply ≡ Some id
+-- the indexes at which the entries of a session stand in a log, rising
+abbrev pub entry_indexes : List Entry → SessionId → List ℕ
+entry_indexes log id = filter (is_own_at log id) (below (length log))
 
--- a pass: its session, the receipts of its calls in order, and the amount and the parts of its share of the ledger
+-- a list has the items of another, in its order, but for some
+abbrev pub IsSublist : List ℕ → List ℕ → Type 0
+IsSublist [] ys = Unit {0}
+IsSublist (x ∷ xs) [] = ⊥
+IsSublist (x ∷ xs) (y ∷ ys) = ((x ≡ y) × IsSublist xs ys) ⊎ IsSublist (x ∷ xs) ys
+
+-- a pass: its session, the indexes of its calls, the log as it was after the last of them, and the amount and the parts of its share of
+-- the ledger
 pub record Passed : Type 0 where
   pub session : SessionId
-  pub receipts : List Receipt
+  pub indexes : List ℕ
+  pub seen : List Entry
   pub amount : ℕ
   pub parts : ℕ
 
--- the last receipt of a pass, if it has one
-abbrev pub last_of : Passed → Option Receipt
-last_of p = slice_get p.receipts (length p.receipts - 1)
+-- a pass after one call more, whose entry is at an index, the last of a log
+abbrev pub after_call : Passed → ℕ → List Entry → Passed
+after_call p index log = record p { indexes = p.indexes ++ index ∷ []; seen = log; amount = p.amount + 1 }
 
--- the last receipt of a pass stands in a log
-abbrev pub LastStands : List Entry → Passed → Type 0
-LastStands log p = (r : Receipt) × (last_of p ≡ Some r) × Stands log p.session r
+-- what every pass keeps: its calls are entries of its session, each once and in order; the amount of its share is their number, and it has
+-- some
+pub record Keeps (p : Passed) : Type 0 where
+  pub own : IsSublist p.indexes (entry_indexes p.seen p.session)
+  pub counted : p.amount ≡ length p.indexes
+  pub some : 0 < p.amount
+  pub backed : 0 < p.parts
 
--- a pass with one receipt more
-abbrev pub with_receipt : Passed → Receipt → Passed
-with_receipt p r = record p { receipts = p.receipts ++ r ∷ []; amount = p.amount + 1 }
-
--- what every pass keeps: the amount of its share is the number of its receipts, of which it has some, each of its session
-pub record Keeps (id : SessionId) (receipts : List Receipt) (amount parts : ℕ) : Type 0 where
-  pub counted : amount ≡ length receipts
-  pub some : 0 < amount
-  pub backed : 0 < parts
-  pub own : All (IsOf id) receipts
+-- what stands in a pass beside: so many calls, and the name of the history of which it has seen a front, which is the hub's
+pub record IsPass (history calls name : ℕ) (p : Passed) : Type 0 where
+  pub keeps : Keeps p
+  pub many : calls ≡ length p.indexes
+  pub named : name ≡ history

@@ -9,7 +9,6 @@ use Rattle.vp_answer.specs.declared.request.Request.TheVariants as request
 use Rattle.vp_hub.specs.Faults.{refusal_of}
 use Rattle.vp_world.specs.Worlds.{Opening}
 use Rattle.vp_hub.specs.declared.error.HubError.{HubError}
-use Rattle.vp_hub.specs.declared.receipt.SessionRequest.TheVariants as session_request
 use Rattle.vp_hub.specs.Calls.{Passed}
 use Rattle.vp_hub.specs.Hubs.{IsAnswered, IsOpened}
 
@@ -26,7 +25,7 @@ IsRefused before answer after = (after ≡ before) × (e : Refusal) × (answer �
 abbrev pub IsOpening : Opening → (before : Option Passed) → (user token : List ℕ) → Reply → (after : Option Passed) → Type 0
 IsOpening opening (Some p) user token answer after = IsRefused (Some p) answer after
 IsOpening opening None user token answer after =
-    ((p : Passed) × (after ≡ Some p) × (answer ≡ reply.Opened p.session) × IsOpened opening (session_request.Open user token) p)
+    ((p : Passed) × (after ≡ Some p) × (answer ≡ reply.Opened p.session) × IsOpened opening user token p)
     ⊎ IsRefused None answer after
 
 -- a grant is changed, or that is refused; a session stays as it was
@@ -38,7 +37,7 @@ abbrev pub IsAnsweredTo : Opening → (before : Option Passed) → Call → Repl
 IsAnsweredTo opening None call answer after = IsRefused None answer after
 IsAnsweredTo opening (Some p) call answer after =
     (q : Passed) × (after ≡ Some q) × (result : Result Reply HubError) × (answer ≡ reply_of result)
-    × IsAnswered opening p (session_request.Call call) result q
+    × IsAnswered opening p call result q
 
 -- a client is answered: what becomes of its session
 abbrev pub Answers : Opening → (before : Option Passed) → Request → Reply → (after : Option Passed) → Type 0

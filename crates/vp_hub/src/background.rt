@@ -6,15 +6,18 @@ use std::thread;
 use std::time::{Clock, Duration};
 use vp_race::Gate;
 
+/// A thread that finds nothing to do looks again after so many milliseconds.
+const REST: u64 = 1;
+
 /// Rests a millisecond, as a thread does that finds nothing to do.
 pub(crate) fn rest<R: Clock>(rt: &R) {
-    thread::sleep(rt, Duration::from_millis(1));
+    thread::sleep(rt, Duration::from_millis(REST));
 }
 
 /// So many events of the simulation happen before it is asked whether the server ends.
 const EVENTS_AT_ONCE: u64 = 256;
 
-/// Lets the simulation run, until the server ends.
+/// Lets the simulation run, until the server ends. Where nothing is left to do it rests a millisecond, or until a call wakes it.
 pub(crate) fn run_simulation<L: NamesOpening, R: Wait + Clock, G: Gate>(
     rt: &R,
     service: &Service<'_, L, G>,
@@ -25,7 +28,9 @@ pub(crate) fn run_simulation<L: NamesOpening, R: Wait + Clock, G: Gate>(
         }
         match service.hub.run_sim(rt, EVENTS_AT_ONCE) {
             Ok(ran) if !ran.idle => {}
-            _ => rest(rt),
+            _ => service
+                .simulation
+                .park_timeout(rt, Duration::from_millis(REST)),
         }
     }
 }

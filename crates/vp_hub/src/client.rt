@@ -8,10 +8,16 @@ use crate::pass::Pass;
 use std::net::TcpStream;
 use std::sync::Wait;
 use std::sync::atomic::{AtomicBool, Ordering};
-use vp_answer::{Call, GrantChange, Refusal, Reply, Request};
+use std::thread::Parker;
+use vp_answer::{Call, GrantChange, Query, Refusal, Reply, Request};
 use vp_race::Gate;
 use vp_text::Text;
 use vp_wire::Caller;
+
+/// A call gives the simulation something to do, if it is answered: a later goal, or a value.
+fn moves_simulation(call: &Call) -> bool {
+    matches!(call, Call::Query(Query::Run { .. } | Query::Put { .. }))
+}
 
 /// Who asks by a connection: nobody yet, or the user of a session.
 #[derive(Drop)]
@@ -22,6 +28,8 @@ pub(crate) struct Client<'a, L: NamesOpening, R: Wait, G: Gate> {
     pub(crate) stream: &'a TcpStream,
     /// He has shown a token that holds.
     pub(crate) is_known: &'a AtomicBool,
+    /// The simulation's thread, as it may rest.
+    pub(crate) simulation: &'a Parker,
     pub(crate) pass: Option<Pass<L>>,
 }
 
@@ -70,10 +78,16 @@ impl<'a, L: NamesOpening, R: Wait, G: Gate> Client<'a, L, R, G> {
         let Some(pass) = self.pass.take() else {
             return Reply::Error(Refusal::NotOpen);
         };
+        let wakes = moves_simulation(&call);
         let (pass, answer) = self.hub.call(self.rt, pass, call);
         self.pass = Some(pass);
         match answer {
-            Ok(reply) => reply,
+            Ok(reply) => {
+                if wakes {
+                    self.simulation.unpark();
+                }
+                reply
+            }
             Err(error) => Reply::Error(error.refusal()),
         }
     }

@@ -1,14 +1,13 @@
+ghost use mathlib.Core.List.{IsPrefix};
 ghost use Rattle.std.specs.Prelude.{◌≡◌, ◌≢◌, All, AllPairs, IfOk, OnOk, [], length, map, sum_by, true};
 ghost use Rattle.vp_world.specs.History.{IsLegal};
-ghost use Rattle.vp_hub.specs.Calls.{Passed, Stands, is_of_session, session_entries};
-ghost use Rattle.vp_hub.specs.Closing.{HasAll, IsClosed, is_own, entry_indexes};
+ghost use Rattle.vp_hub.specs.Calls.{Passed, entry_indexes, is_of_session, is_own, session_entries};
+ghost use Rattle.vp_hub.specs.Closing.{HasAll, IsClosed};
 
 use crate::desk::Desk;
-use crate::entries::stands;
 use crate::error::HubError;
 use crate::opens::NamesOpening;
 use crate::pass::Pass;
-use crate::receipt::Receipt;
 use std::alloc::{AllocError, Global};
 use vp_answer::SessionId;
 use vp_text::Sequence;
@@ -81,47 +80,20 @@ fn count_entries(log: &Log) -> usize
     count
 }
 
-/// Receipts of a session all stand in a log.
-fn all_stand(log: &Log, session: SessionId, receipts: &[Receipt]) -> bool
-    ensures { result ≡ true → All (Stands log.now.entries session) receipts.now }
-{
-    for receipt in receipts {
-        if !stands(log, session, receipt) {
-            return false;
-        }
-    }
-    true
-}
-
-/// Receipts are of these indexes, in order.
-fn are_of(receipts: &[Receipt], indexes: &[usize]) -> bool
-    ensures { result ≡ true → map (λ r. r.index) receipts.now ≡ indexes.now }
-{
-    if receipts.len() != indexes.len() {
-        return false;
-    }
-    for number in 0..indexes.len() {
-        if receipts[number].index != indexes[number] {
-            return false;
-        }
-    }
-    true
-}
-
-/// The places of a pass's calls in a log, in order, if these are those of its session's entries there; else that there are not as many
-/// receipts as entries (1402). Takes memory.
+/// The indexes of a pass's calls in a log that goes on from what it has seen, in order; else the log has not as many entries of its session
+/// as it has made calls (1401). Takes memory.
 fn own_indexes<L: NamesOpening>(
     alloc: Global,
     log: &Log,
     pass: &Pass<L>,
 ) -> Result<Sequence<usize>, HubError>
-    ensures indexes { IfOk result (λ indexes. indexes ≡ entry_indexes log.now.entries pass.now.session) }
-    ensures own { OnOk result
-        (map (λ r. r.index) pass.now.receipts ≡ entry_indexes log.now.entries pass.now.session) }
+    requires { IsPrefix pass.now.seen log.now.entries }
+    ensures indexes { IfOk result (λ indexes. indexes ≡ pass.now.indexes) }
+    ensures own { OnOk result (pass.now.indexes ≡ entry_indexes log.now.entries pass.now.session) }
 {
     let indexes = entry_indexes(alloc, log, pass.session())?;
-    if !are_of(pass.receipts(), indexes.as_slice()) {
-        return Err(HubError::Mismatch);
+    if indexes.as_slice().len() as u64 != pass.calls() {
+        return Err(HubError::Receipt);
     }
     Ok(indexes)
 }
@@ -132,10 +104,10 @@ fn all_indexes<L: NamesOpening>(
     log: &Log,
     passes: &[Pass<L>],
 ) -> Result<Sequence<Sequence<usize>>, HubError>
-    ensures indexes { IfOk result
-        (λ lists. lists ≡ map (λ p. entry_indexes log.now.entries p.session) passes.now) }
+    requires { All (λ p. IsPrefix p.seen log.now.entries) passes.now }
+    ensures indexes { IfOk result (λ lists. lists ≡ map (λ p. p.indexes) passes.now) }
     ensures own { OnOk result
-        (All (λ p. map (λ r. r.index) p.receipts ≡ entry_indexes log.now.entries p.session) passes.now) }
+        (All (λ p. p.indexes ≡ entry_indexes log.now.entries p.session) passes.now) }
 {
     let mut lists = Vec::new(alloc);
     for pass in passes {
@@ -144,13 +116,13 @@ fn all_indexes<L: NamesOpening>(
     Ok(Sequence::from_vec(lists))
 }
 
-/// The receipts of these passes are so many.
+/// These passes have made so many calls.
 fn are_so_many<L: NamesOpening>(passes: &[Pass<L>], count: usize) -> bool
-    ensures { result ≡ true → sum_by (λ p. length p.receipts) passes.now ≡ count }
+    ensures { result ≡ true → sum_by (λ p. length p.indexes) passes.now ≡ count }
 {
-    let mut left = count;
+    let mut left = count as u64;
     for pass in passes {
-        match left.checked_sub(pass.receipts().len()) {
+        match left.checked_sub(pass.calls()) {
             Some(rest) => left = rest,
             None => return false,
         }
@@ -170,18 +142,12 @@ fn is_new<L: NamesOpening>(passes: &[Pass<L>], session: SessionId) -> bool
     true
 }
 
-/// All receipts of these passes stand in a log, and no two of the passes are of one session; else a receipt is wrong (1401).
-fn check_receipts<L: NamesOpening>(log: &Log, passes: &[Pass<L>]) -> Result<(), HubError>
-    ensures stand { OnOk result
-        (All (λ p. All (Stands log.now.entries p.session) p.receipts) passes.now) }
-    ensures apart { OnOk result (AllPairs (λ p q. p.session ≢ q.session) passes.now) }
+/// No two of these passes are of one session; else one is wrong (1401).
+fn check_sessions<L: NamesOpening>(passes: &[Pass<L>]) -> Result<(), HubError>
+    ensures { OnOk result (AllPairs (λ p q. p.session ≢ q.session) passes.now) }
 {
     for number in 0..passes.len() {
-        let session = passes[number].session();
-        if !all_stand(log, session, passes[number].receipts()) {
-            return Err(HubError::Receipt);
-        }
-        if !is_new(&passes[..number], session) {
+        if !is_new(&passes[..number], passes[number].session()) {
             return Err(HubError::Receipt);
         }
     }
@@ -189,40 +155,44 @@ fn check_receipts<L: NamesOpening>(log: &Log, passes: &[Pass<L>]) -> Result<(), 
 }
 
 impl<L: NamesOpening> Desk<L> {
-    /// Ends with the passes that were handed back. Refused where a receipt does not stand in the log, or two name one index (1401); where
-    /// the receipts are not as many as the log's entries of sessions (1402); or out of memory.
+    /// Ends with the passes that were handed back. Refused where two are of one session, or the log does not have as many entries of a
+    /// session as its pass has made calls (1401); where they have not made as many as the log has entries of sessions (1402); or when out
+    /// of memory.
     pub(crate) fn close(self, passes: &[Pass<L>]) -> Result<Closed, HubError>
         ensures { IfOk result (λ closed. IsClosed L.opening passes.now closed) }
     {
-        match self.handed_back(passes) {
+        let mut desk = self;
+        match desk.handed_back(passes) {
             Ok(receipts) => Ok(Closed {
-                world: self.into_world(),
+                world: desk.into_world(),
                 receipts,
             }),
             Err(error) => {
                 // Dropped by a call, so that how a desk is dropped is no part of this function's proof.
-                drop(self);
+                drop(desk);
                 Err(error)
             }
         }
     }
 
     /// For each of these passes the indexes of its calls, which are all that the log has of sessions.
-    fn handed_back(&self, passes: &[Pass<L>]) -> Result<Sequence<Sequence<usize>>, HubError>
-        ensures passes { OnOk result (All (HasAll self.now.world.log) passes.now) }
+    fn handed_back(&mut self, passes: &[Pass<L>]) -> Result<Sequence<Sequence<usize>>, HubError>
+        ensures same { self.new ≡ self.old }
+        ensures passes { OnOk result (All (HasAll self.old.world.log) passes.now) }
         ensures apart { OnOk result (AllPairs (λ p q. p.session ≢ q.session) passes.now) }
-        ensures counted { OnOk result (sum_by (λ p. length p.receipts) passes.now
-            ≡ session_entries self.now.world.log) }
-        ensures receipts { IfOk result (λ lists. lists
-            ≡ map (λ p. entry_indexes self.now.world.log p.session) passes.now) }
-        ensures legal { IsLegal L.opening [] self.now.world.log }
-        ensures opening { self.now.world.opening ≡ L.opening }
+        ensures counted { OnOk result (sum_by (λ p. length p.indexes) passes.now
+            ≡ session_entries self.old.world.log) }
+        ensures receipts { IfOk result (λ lists. lists ≡ map (λ p. p.indexes) passes.now) }
+        ensures legal { IsLegal L.opening [] self.old.world.log }
+        ensures opening { self.old.world.opening ≡ L.opening }
     {
+        self.compare(passes);
         let log = self.log();
-        check_receipts(log, passes)?;
+        check_sessions(passes)?;
+        let indexes = all_indexes(self.alloc(), log, passes)?;
         if !are_so_many(passes, count_entries(log)) {
             return Err(HubError::Mismatch);
         }
-        Ok(all_indexes(self.alloc(), log, passes)?)
+        Ok(indexes)
     }
 }

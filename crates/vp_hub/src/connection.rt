@@ -45,6 +45,7 @@ fn answer<L: NamesOpening, R: Wait + Clock, G: Gate>(
         gate: service.gate,
         stream,
         is_known: &is_known,
+        simulation: &service.simulation,
         pass: None,
     };
     let mut reader = Counted::new(incoming);

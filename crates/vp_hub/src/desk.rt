@@ -1,29 +1,29 @@
-ghost use Rattle.std.specs.Prelude.{◌≡◌, ◌<◌, ◌+◌, ◌++◌, ◌∷◌, [], IfErr, IfOk, IsOkUnless, OnErr, OnOk, None, length, true, vec_capacity, vec_len};
+ghost use Rattle.std.specs.Prelude.{◌≡◌, ◌<◌, ◌^◌, ◌+◌, ◌∷◌, [], All, IfErr, IfOk, OnErr, OnOk, None, length, true};
 ghost use Rattle.std.specs.Prelude.{IfSome};
 ghost use Rattle.std.specs.Arc.{arc_value};
+ghost use mathlib.Core.List.{IsPrefix};
 ghost use Rattle.vp_answer.specs.declared.reply.Reply.TheVariants as replies;
-ghost use Rattle.vp_hub.specs.declared.receipt.SessionRequest.TheVariants as requests;
 ghost use Rattle.vp_text.specs.Refusals.{Explains};
 ghost use Rattle.vp_world.specs.declared.event.Event.TheVariants as event;
 ghost use Rattle.vp_world.specs.declared.error.WorldError.TheVariants.{NoMemory};
 ghost use Rattle.vp_world.specs.Events.{IsWellFormed};
 ghost use Rattle.vp_world.specs.History.{IsLegal, answered_by, refused_by};
 ghost use Rattle.vp_hub.specs.Calls.{is_of_session, session_entries};
-ghost use Rattle.vp_hub.specs.Desks.{Calls, IsOther, receipt_of, refusal_of, out_of_memory, with_call, with_event, with_pass};
+ghost use Rattle.vp_hub.specs.Desks.{Calls, IsOther, refusal_of, out_of_memory, with_call, with_event, with_pass};
 
 use crate::entries::event_of;
 use crate::error::HubError;
 use crate::opens::NamesOpening;
-use crate::pass::Pass;
-use crate::receipt::{Receipt, SessionRequest};
+use crate::pass::{Index, Pass};
 use std::alloc::{AllocError, Global};
 use std::marker::Model;
 use std::sync::Arc;
 use std::sync::ledger::{Blank, Book, Share};
 use vp_answer::{Call, Reply};
+use vp_history::{Front, History, Shows};
 use vp_race::{Finding, Segment, SimError};
 use vp_text::{Shared, Text};
-use vp_world::{Event, Log, World, WorldError};
+use vp_world::{Entry, Event, Log, World, WorldError};
 
 /// What stands behind the lock of a hub: a world, and the total of the ledger of its sessions' calls. A contract sees both, and how
 /// many parts of the ledger are left for passes to come.
@@ -35,10 +35,12 @@ pub struct Desk<L: NamesOpening> {
     calls: Book<L>,
     /// The parts for passes to come.
     rest: Share<L>,
+    /// The log, of which passes have seen fronts; for contracts alone.
+    history: History<Entry>,
 }
 
 impl<L: NamesOpening> Model for Desk<L> {
-    ghost use Rattle.vp_hub.specs.Desks.{Desked, IsDesk};
+    ghost use Rattle.vp_hub.specs.Desks.{Desked, IsDesk, IsLogOf};
 
     ghost Value = { Desked };
 
@@ -48,79 +50,39 @@ impl<L: NamesOpening> Model for Desk<L> {
       parts = d.rest.parts;
     } };
 
-    ghost invariant = { λ d. IsDesk L.opening d.world d.calls.total d.rest.parts d.rest.amount };
+    ghost invariant = { λ d. IsDesk L.opening d.world d.calls.total d.rest.parts d.rest.amount
+        × IsLogOf L.history d.world d.history.name d.history.entries };
 }
 
-/// Makes room for one receipt more, and copies its call. Takes memory.
-fn ready(alloc: Global, receipts: &mut Vec<Receipt>, call: &Call) -> Result<Call, AllocError>
-    ensures same { receipts.new.items ≡ receipts.old.items }
-    ensures room { OnOk result (vec_len receipts.new < vec_capacity receipts.new) }
-    ensures copy { IfOk result (λ copy. copy ≡ call.now) }
-{
-    receipts.reserve(1)?;
-    call.try_clone(alloc)
+/// A world shows its log.
+struct ShownLog;
+
+impl Shows<World, Entry> for ShownLog {
+    ghost entries = { λ world. world.log };
 }
 
-/// Adds the receipt of a call to those for which there is room, and shares its reply; or reports out of memory, where it can't be shared.
-fn receive(
-    receipts: &mut Vec<Receipt>,
-    index: usize,
-    call: Call,
-    reply: Reply,
-) -> Result<Reply, HubError>
-    requires { vec_len receipts.old < vec_capacity receipts.old }
-    ensures receipts { receipts.new.items ≡ receipts.old.items ++ record {
-      index = index;
-      request = requests.Call call;
-      reply = reply;
-    } ∷ [] }
-    ensures reply { IfOk result (λ copy. copy ≡ reply) }
-    ensures out_of_memory { IsOkUnless result out_of_memory }
+/// Shows that a hub's history goes on from what each of these passes has seen.
+fn compare_all<L: NamesOpening>(history: &mut History<Entry>, passes: &[Pass<L>])
+    requires { history.old.name ≡ L.history }
+    ensures same { history.new ≡ history.old }
+    ensures seen { All (λ p. IsPrefix p.seen history.old.entries) passes.now }
 {
-    let copy = reply.try_clone();
-    receipts.push_reserved(Receipt {
-        index,
-        request: SessionRequest::Call(call),
-        reply,
-    });
-    Ok(copy?)
-}
-
-/// The request that opens a session. Takes memory.
-fn open_request(alloc: Global, user: &Text, token: &Text) -> Result<SessionRequest, AllocError>
-    ensures { IfOk result (λ request. request ≡ requests.Open user.now token.now) }
-{
-    Ok(SessionRequest::Open {
-        user: Text::copy(alloc, user.as_str())?,
-        token: Text::copy(alloc, token.as_str())?,
-    })
-}
-
-/// The receipts of a new pass, with room for the first, and the request that opens its session. Takes memory.
-fn new_receipts(
-    alloc: Global,
-    user: &Text,
-    token: &Text,
-) -> Result<(Vec<Receipt>, SessionRequest), AllocError>
-    ensures none { IfOk result (λ new. new.0.items ≡ []) }
-    ensures room { IfOk result (λ new. vec_len new.0 < vec_capacity new.0) }
-    ensures request { IfOk result (λ new. new.1 ≡ requests.Open user.now token.now) }
-{
-    let mut receipts = Vec::new(alloc);
-    receipts.reserve(1)?;
-    let request = open_request(alloc, user, token)?;
-    Ok((receipts, request))
+    for pass in passes {
+        history.compare(&pass.seen);
+    }
 }
 
 impl<L: NamesOpening> Desk<L> {
-    /// A desk with a world in which nothing has happened, and a new ledger with a part for each entry that the log may get, and one
-    /// more.
-    pub fn new(alloc: Global, blank: Blank, world: World) -> Desk<L>
+    /// A desk with a world in which nothing has happened, a new ledger with a part for each entry that the log may get, and one
+    /// more, and a new history.
+    pub fn new(alloc: Global, blank: Blank, history: History<Entry>, world: World) -> Desk<L>
         requires name { blank.name ≡ L.name }
         requires parts { blank.parts ≡ L.parts }
         requires room { blank.parts ≡ world.opening.limits.log + 1 }
         requires opening { world.opening ≡ L.opening }
         requires empty { world.log ≡ [] }
+        requires history { history.name ≡ L.history }
+        requires begins { history.entries ≡ [] }
         ensures { result ≡ record {
           world = world;
           total = 0;
@@ -133,6 +95,7 @@ impl<L: NamesOpening> Desk<L> {
             world,
             calls,
             rest,
+            history,
         }
     }
 
@@ -146,15 +109,34 @@ impl<L: NamesOpening> Desk<L> {
         self.world.log()
     }
 
-    /// Lets an event of a session happen, and counts it in a share; else the world's refusal.
-    fn count(&mut self, share: &mut Share<L>, event: Event) -> Result<Reply, WorldError>
+    /// How many entries the log has, which goes on from a front of its history.
+    fn length_from(&mut self, seen: &Front<Entry>) -> usize
+        requires { seen.now.name ≡ L.history }
+        ensures same { self.new ≡ self.old }
+        ensures seen { IsPrefix seen.now.entries self.old.world.log }
+        ensures length { result ≡ length self.old.world.log }
+    {
+        self.history.compare(seen);
+        self.world.log().len()
+    }
+
+    /// Lets an event of a session happen, counts it in a share, and gives what is to be seen of the log with the reply; else the world's
+    /// refusal.
+    fn count(
+        &mut self,
+        share: &mut Share<L>,
+        event: Event,
+    ) -> Result<(Reply, Front<Entry>), WorldError>
         requires backed { 0 < share.old.parts }
         requires well_formed { IsWellFormed self.old.world.opening.design event }
         requires session { is_of_session event ≡ true }
         ensures accepted { OnOk result (refused_by self.old.world event ≡ None) }
         ensures desk { OnOk result (self.new ≡ with_call self.old event) }
-        ensures reply { IfOk result (λ a. a ≡ answered_by self.old.world event) }
+        ensures reply { IfOk result (λ a. a.0 ≡ answered_by self.old.world event) }
+        ensures seen { IfOk result
+            (λ a. (a.1.name ≡ L.history) × (a.1.entries ≡ self.new.world.log)) }
         ensures amount { OnOk result (share.new.amount ≡ share.old.amount + 1) }
+        ensures few { OnOk result (share.new.amount < 2 ^ 64) }
         ensures refused { IfErr result (Explains NoMemory (refused_by self.old.world event)) }
         ensures unchanged { OnErr result (self.new ≡ self.old) }
         ensures kept { OnErr result (share.new.amount ≡ share.old.amount) }
@@ -162,7 +144,11 @@ impl<L: NamesOpening> Desk<L> {
     {
         let reply = self.world.apply(event)?;
         self.calls.add(share, 1);
-        Ok(reply)
+        self.history.advance::<World, ShownLog>(&self.world);
+        // Read, so that the check knows that they are few.
+        self.calls.audit(share);
+        let _entries = self.world.log().len();
+        Ok((reply, self.history.front()))
     }
 
     /// Opens a session for a user, and gives its pass. Refused by the world (1403: 1302, 1301, 1304, then out of memory), which leaves the
@@ -173,18 +159,13 @@ impl<L: NamesOpening> Desk<L> {
         ensures desk { OnOk result (with_pass self.old (event.Open user token) self.new) }
         ensures session { IfOk result (λ p. answered_by self.old.world (event.Open user token)
             ≡ replies.Opened p.session) }
-        ensures receipts { IfOk result (λ p. p.receipts ≡
-            receipt_of self.old (event.Open user token) (requests.Open user token) ∷ []) }
+        ensures indexes { IfOk result (λ p. p.indexes ≡ length self.old.world.log ∷ []) }
+        ensures seen { IfOk result (λ p. p.seen ≡ self.new.world.log) }
         ensures share { IfOk result (λ p. (p.amount ≡ 1) × (p.parts ≡ 1)) }
         ensures refused { IfErr result
             (Explains out_of_memory (refusal_of self.old (event.Open user token))) }
         ensures unchanged { OnErr result (self.new ≡ self.old) }
     {
-        let Ok((mut receipts, request)) = new_receipts(self.alloc, &user, &token) else {
-            // The world's own refusal comes before out of memory.
-            self.world.check_open(user.as_str(), token.as_str())?;
-            return Err(HubError::from(WorldError::NoMemory));
-        };
         let index = self.world.log().len();
         let reply = self.world.apply(Event::Open { user, token })?;
         let Reply::Opened(session) = reply else {
@@ -192,23 +173,22 @@ impl<L: NamesOpening> Desk<L> {
         };
         let mut share = self.rest.split_off(1, 0);
         self.calls.add(&mut share, 1);
-        receipts.push_reserved(Receipt {
-            index,
-            request,
-            reply: Reply::Opened(session),
-        });
+        self.history.advance::<World, ShownLog>(&self.world);
+        let mut indexes = History::new();
+        indexes.push::<usize, Index>(&index);
         Ok(Pass {
             session,
-            receipts,
+            calls: 1,
+            indexes,
+            seen: self.history.front(),
             share,
         })
     }
 
-    /// Answers a call of a session, and gives its pass back, with the receipt of the call. Refused where the pass's last receipt
-    /// does not stand in the log (1401), else by the world (1403: 1303, 1304), or out of memory: then desk and pass are as they
-    /// were. But where the reply can't be shared between the pass and the caller, out of memory is reported of a call that was made.
+    /// Answers a call of a session, and gives its pass back, which has made it. Refused by the world (1403: 1303, 1304), or out of memory:
+    /// then desk and pass are as they were.
     pub fn call(&mut self, pass: Pass<L>, call: Call) -> (Pass<L>, Result<Reply, HubError>)
-        ensures called { Calls self.old pass (requests.Call call) result.1 self.new result.0 }
+        ensures called { Calls self.old pass call result.1 self.new result.0 }
         ensures legal { IsLegal L.opening [] self.new.world.log }
     {
         let mut pass = pass;
@@ -220,25 +200,15 @@ impl<L: NamesOpening> Desk<L> {
 
     /// The same of a pass that is lent.
     fn answer(&mut self, pass: &mut Pass<L>, call: Call) -> Result<Reply, HubError>
-        ensures { Calls self.old pass.old (requests.Call call) result self.new pass.new }
+        ensures { Calls self.old pass.old call result self.new pass.new }
     {
-        if !pass.stands_in(self.log()) {
-            drop(call);
-            return Err(HubError::Receipt);
-        }
-        let Ok(asked) = ready(self.alloc, &mut pass.receipts, &call) else {
-            drop(call);
-            return Err(HubError::World(WorldError::NoMemory));
-        };
-        let index = self.world.log().len();
+        let index = self.length_from(&pass.seen);
         let event = event_of(pass.session, call);
-        match self.count(&mut pass.share, event) {
-            Ok(reply) => receive(&mut pass.receipts, index, asked, reply),
-            Err(error) => {
-                drop(asked);
-                Err(HubError::World(error))
-            }
-        }
+        let (reply, seen) = self.count(&mut pass.share, event)?;
+        pass.calls += 1;
+        pass.indexes.push::<usize, Index>(&index);
+        pass.seen = seen;
+        Ok(reply)
     }
 
     /// Lets an event happen that is of no session; else the world's refusal (1403), or out of memory, which leave the desk as it
@@ -252,7 +222,9 @@ impl<L: NamesOpening> Desk<L> {
         ensures refused { IfErr result (Explains out_of_memory (refusal_of self.old event)) }
         ensures unchanged { OnErr result (self.new ≡ self.old) }
     {
-        Ok(self.world.apply(event)?)
+        let reply = self.world.apply(event)?;
+        self.history.advance::<World, ShownLog>(&self.world);
+        Ok(reply)
     }
 }
 
@@ -313,6 +285,14 @@ impl<L: NamesOpening> Desk<L> {
     /// Its allocator.
     pub(crate) fn alloc(&self) -> Global {
         self.alloc
+    }
+
+    /// Shows that the log goes on from what each of these passes has seen.
+    pub(crate) fn compare(&mut self, passes: &[Pass<L>])
+        ensures same { self.new ≡ self.old }
+        ensures seen { All (λ p. IsPrefix p.seen self.old.world.log) passes.now }
+    {
+        compare_all(&mut self.history, passes);
     }
 
     /// Its world.

@@ -2,7 +2,6 @@ ghost use Rattle.std.specs.Prelude.{◌≡◌, ◌≤◌, ◌<◌, ◌∷◌, []
 ghost use Rattle.std.specs.Arc.{arc_value};
 ghost use Rattle.std.specs.List.{All};
 ghost use Rattle.vp_answer.specs.declared.reply.Reply.TheVariants as replies;
-ghost use Rattle.vp_hub.specs.declared.receipt.SessionRequest.TheVariants as requests;
 ghost use Rattle.vp_hub.specs.Closing.{IsClosed};
 ghost use Rattle.vp_hub.specs.Hubs.{IsAnswered, IsOpened};
 
@@ -13,7 +12,9 @@ use crate::opens::NamesOpening;
 use crate::pass::Pass;
 use std::alloc::Global;
 use std::collections::VecDeque;
-use std::sync::{Arc, Mutex, Wait};
+use std::hint::spin_loop;
+use std::sync::atomic::{AtomicUsize, Ordering};
+use std::sync::{Arc, Mutex, MutexGuard, Wait};
 use vp_answer::{Call, GrantChange, Reply};
 use vp_race::{Finding, Gate, Segment, search};
 use vp_text::Text;
@@ -24,6 +25,12 @@ const SEED_COUNT: u64 = 16;
 
 /// By orders of at most so many steps.
 const STEP_LIMIT: u64 = 10_000;
+
+/// So many events of the simulation happen at most while its thread holds the lock.
+const EVENTS_UNDER_LOCK: u64 = 64;
+
+/// So often the simulation's thread looks whether those who wait for the lock have it.
+const LOOKS: u32 = 100;
 
 /// How far a simulation ran.
 #[derive(Clone, Copy, Debug, PartialEq, Eq)]
@@ -43,12 +50,45 @@ pub struct Worked {
     pub booked: u32,
 }
 
+/// Lets at most so many events of a desk's simulation happen, and no more once somebody waits for the desk.
+fn run_events<L: NamesOpening>(
+    desk: &mut Desk<L>,
+    most: u64,
+    waiting: &AtomicUsize,
+) -> Result<Ran, HubError>
+    ensures most { IfOk result (λ ran. ran.events ≤ most) }
+    ensures some { IfOk result (λ ran. ran.idle ≡ false → 0 < most → 0 < ran.events) }
+    ensures idle { IfOk result (λ ran. ran.idle ≡ true → ran.events < most) }
+{
+    for events in 0..most {
+        match desk.run_next() {
+            Ok(()) => {}
+            Err(HubError::World(WorldError::BeyondGoal | WorldError::Sim(_))) => {
+                return Ok(Ran { events, idle: true });
+            }
+            Err(error) => return Err(error),
+        }
+        if waiting.load(Ordering::SeqCst) > 0 {
+            return Ok(Ran {
+                events: events + 1,
+                idle: false,
+            });
+        }
+    }
+    Ok(Ran {
+        events: most,
+        idle: false,
+    })
+}
+
 /// A world that threads share: a desk behind a lock. Whenever the lock is free, the desk's log is legal for the world that L names,
 /// and the ledger's total is the number of its entries of sessions.
 #[derive(Drop)]
 pub struct Hub<L: NamesOpening> {
     alloc: Global,
     desk: Mutex<Desk<L>>,
+    /// So many threads wait for the lock, that of the simulation apart.
+    waiting: AtomicUsize,
 }
 
 impl<L: NamesOpening> Hub<L> {
@@ -57,54 +97,64 @@ impl<L: NamesOpening> Hub<L> {
         Hub {
             alloc,
             desk: Mutex::new(desk),
+            waiting: AtomicUsize::new(0),
         }
+    }
+
+    /// The desk, once nobody else has it. The simulation's thread sees that somebody waits.
+    fn desk<R: Wait>(&self, rt: &R) -> MutexGuard<'_, Desk<L>> {
+        self.waiting.fetch_add(1, Ordering::SeqCst);
+        let desk = self.desk.lock(rt);
+        self.waiting.fetch_sub(1, Ordering::SeqCst);
+        desk
     }
 
     /// Opens a session for a user, and gives its pass; else what `Desk::open` is refused by.
     pub fn open<R: Wait>(&self, rt: &R, user: Text, token: Text) -> Result<Pass<L>, HubError>
-        ensures { IfOk result (λ p. IsOpened L.opening (requests.Open user token) p) }
+        ensures { IfOk result (λ p. IsOpened L.opening user token p) }
     {
-        let mut desk = self.desk.lock(rt);
+        let mut desk = self.desk(rt);
         let pass = desk.open(user, token)?;
         // Read, so that the check knows that it is legal.
         let _log = desk.log();
         Ok(pass)
     }
 
-    /// Answers a call of a session, and gives its pass back, with the receipt of the call; else what `Desk::call` is refused by.
+    /// Answers a call of a session, and gives its pass back, which has made it; else what `Desk::call` is refused by.
     pub fn call<R: Wait>(
         &self,
         rt: &R,
         pass: Pass<L>,
         call: Call,
     ) -> (Pass<L>, Result<Reply, HubError>)
-        ensures { IsAnswered L.opening pass (requests.Call call) result.1 result.0 }
+        ensures { IsAnswered L.opening pass call result.1 result.0 }
     {
-        self.desk.lock(rt).call(pass, call)
+        self.desk(rt).call(pass, call)
     }
 
     /// Changes a user's grant for an envelope; else the world's refusal (1403: 1310, 1311, 1312, 1304, 1307).
     pub fn grant<R: Wait>(&self, rt: &R, change: GrantChange) -> Result<Reply, HubError>
         ensures { IfOk result (λ a. a ≡ replies.Done) }
     {
-        self.desk.lock(rt).event(Event::Grant(change))
+        self.desk(rt).event(Event::Grant(change))
     }
 
-    /// Lets at most so many events of the simulation happen, of which each takes the lock anew. Refused by a full log (1403: 1304) or
-    /// when out of memory (1403: 1307); what happened till then has happened.
+    /// Lets at most so many events of the simulation happen. The lock is held for up to 64 of them, and given up after the event during
+    /// which somebody begins to wait for it. Refused by a full log (1403: 1304) or when out of memory (1403: 1307); what happened till then
+    /// has happened.
     pub fn run_sim<R: Wait>(&self, rt: &R, most: u64) -> Result<Ran, HubError>
         ensures most { IfOk result (λ ran. ran.events ≤ most) }
         ensures all { IfOk result (λ ran. ran.idle ≡ false → ran.events ≡ most) }
         ensures idle { IfOk result (λ ran. ran.idle ≡ true → ran.events < most) }
     {
-        for events in 0..most {
-            match self.run_next(rt) {
-                Ok(()) => {}
-                Err(HubError::World(WorldError::BeyondGoal | WorldError::Sim(_))) => {
-                    return Ok(Ran { events, idle: true });
-                }
-                Err(error) => return Err(error),
+        let mut events = 0;
+        while events < most {
+            let ran = self.run_some(rt, most - events)?;
+            events += ran.events;
+            if ran.idle {
+                return Ok(Ran { events, idle: true });
             }
+            self.give_way();
         }
         Ok(Ran {
             events: most,
@@ -112,9 +162,24 @@ impl<L: NamesOpening> Hub<L> {
         })
     }
 
-    /// Lets the next event of the simulation happen.
-    fn run_next<R: Wait>(&self, rt: &R) -> Result<(), HubError> {
-        self.desk.lock(rt).run_next()
+    /// Takes the lock for some of so many events of the simulation: at least one, unless it is idle.
+    fn run_some<R: Wait>(&self, rt: &R, most: u64) -> Result<Ran, HubError>
+        ensures most { IfOk result (λ ran. ran.events ≤ most) }
+        ensures some { IfOk result (λ ran. ran.idle ≡ false → 0 < most → 0 < ran.events) }
+        ensures idle { IfOk result (λ ran. ran.idle ≡ true → ran.events < most) }
+    {
+        let mut desk = self.desk.lock(rt);
+        run_events(&mut desk, most.min(EVENTS_UNDER_LOCK), &self.waiting)
+    }
+
+    /// Leaves the lock for a moment to those who wait for it.
+    fn give_way(&self) {
+        for _ in 0..LOOKS {
+            if self.waiting.load(Ordering::SeqCst) == 0 {
+                break;
+            }
+            spin_loop();
+        }
     }
 
     /// Takes the oldest kept segment that was not handed out, if there is one, searches it for races without the lock, and books them.
@@ -144,14 +209,14 @@ impl<L: NamesOpening> Hub<L> {
         ensures { IfOk result (λ job. IfSome job
             (λ s. (arc_value s).start.design ≡ L.opening.design)) }
     {
-        self.desk.lock(rt).take_job()
+        self.desk(rt).take_job()
     }
 
     /// Books a race unless the book refuses it, and reports whether it was booked.
     fn book<R: Wait>(&self, rt: &R, finding: Finding) -> Result<bool, HubError>
         requires { finding.segment.start.design ≡ L.opening.design }
     {
-        self.desk.lock(rt).book(finding)
+        self.desk(rt).book(finding)
     }
 
     /// Books these races, one after another, each unless the book refuses it, and reports how many were booked.
@@ -168,9 +233,9 @@ impl<L: NamesOpening> Hub<L> {
         Ok(booked)
     }
 
-    /// Ends with the passes that were handed back: the log, and for each pass the indexes of its calls, in order. Refused where a receipt
-    /// does not stand in the log, or two name one index (1401); where the receipts are not as many as the log's entries of sessions
-    /// (1402); or out of memory (1403: 1307).
+    /// Ends with the passes that were handed back: the log, and for each pass the indexes of its calls, in order. Refused where two passes
+    /// are of one session, or the log does not have as many entries of a session as its pass has made calls (1401); where the passes have
+    /// not made as many as the log has entries of sessions (1402); or when out of memory (1403: 1307).
     pub fn close(self, passes: Vec<Pass<L>>) -> Result<Closed, HubError>
         ensures { IfOk result (λ closed. IsClosed L.opening passes.items closed) }
     {

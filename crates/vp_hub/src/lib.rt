@@ -1,5 +1,5 @@
-//! The hub: many threads share one world. Each event is applied under one lock, and each session keeps receipts of its calls. Over it the
-//! server: connections, and threads that let the simulation run and search it for races.
+//! The hub: many threads share one world. Each event is applied under one lock, and each session's pass says which calls it has made. Over
+//! it the server: connections, and threads that let the simulation run and search it for races.
 #![tactic(auto)]
 
 mod accept;
@@ -16,7 +16,6 @@ mod opens;
 mod outgoing;
 mod pass;
 mod passes;
-mod receipt;
 mod server;
 mod server_error;
 mod service;
@@ -28,8 +27,8 @@ pub use error::HubError;
 pub use hub::{Hub, Ran, Worked};
 pub use opens::NamesOpening;
 pub use pass::Pass;
-pub use receipt::{Receipt, SessionRequest};
 pub use server::serve;
 pub use server_error::ServerError;
 pub use settings::Settings;
-pub use vp_world::{Limits, World};
+pub use vp_history::History;
+pub use vp_world::{Entry, Limits, World};

@@ -1,36 +1,54 @@
-ghost use Rattle.std.specs.Prelude.{◌≡◌, true};
-ghost use Rattle.vp_hub.specs.Calls.{LastStands};
+ghost use Rattle.std.specs.Prelude.{◌≡◌, length};
+ghost use Rattle.vp_hub.specs.Calls.{IsSublist, entry_indexes};
 
-use crate::entries::stands;
 use crate::opens::NamesOpening;
-use crate::receipt::Receipt;
 use std::marker::Model;
 use std::sync::ledger::Share;
 use vp_answer::SessionId;
-use vp_world::Log;
+use vp_history::{Front, History, Names};
+use vp_world::Entry;
 
-/// A session of a hub. A contract sees its name, the receipts of its calls in order, of which the first is of its opening, and its share
-/// of the ledger, whose amount is their number.
+/// An index is what it stands for.
+pub(crate) struct Index;
+
+impl Names<usize, usize> for Index {
+    ghost entry = { λ index. index };
+}
+
+/// A session of a hub. A contract sees its name, the indexes of its calls in order, of which the first is of its opening, the log as it was
+/// after the last of them, and its share of the ledger, whose amount is their number. So many calls as it has made, it takes no memory.
 #[derive(Drop)]
 pub struct Pass<L: NamesOpening> {
     pub(crate) session: SessionId,
-    pub(crate) receipts: Vec<Receipt>,
+    /// So many calls.
+    pub(crate) calls: u64,
+    /// Their indexes, for contracts alone.
+    pub(crate) indexes: History<usize>,
+    /// The log as it was after the last of them, for contracts alone.
+    pub(crate) seen: Front<Entry>,
     pub(crate) share: Share<L>,
 }
 
 impl<L: NamesOpening> Model for Pass<L> {
-    ghost use Rattle.vp_hub.specs.Calls.{Keeps, Passed};
+    ghost use Rattle.vp_hub.specs.Calls.{IsPass, Passed};
 
     ghost Value = { Passed };
 
     ghost view = { λ p. record {
       session = p.session;
-      receipts = p.receipts.items;
+      indexes = p.indexes.entries;
+      seen = p.seen.entries;
       amount = p.share.amount;
       parts = p.share.parts;
     } };
 
-    ghost invariant = { λ p. Keeps p.session p.receipts.items p.share.amount p.share.parts };
+    ghost invariant = { λ p. IsPass L.history p.calls p.seen.name (record {
+      session = p.session;
+      indexes = p.indexes.entries;
+      seen = p.seen.entries;
+      amount = p.share.amount;
+      parts = p.share.parts;
+    }) };
 }
 
 impl<L: NamesOpening> Pass<L> {
@@ -41,21 +59,11 @@ impl<L: NamesOpening> Pass<L> {
         self.session
     }
 
-    /// The receipts of its calls, in order.
-    pub fn receipts(&self) -> &[Receipt]
-        ensures { result.now ≡ self.now.receipts }
+    /// How many calls it has made, its opening among them: entries of its session in the log that it has seen.
+    pub fn calls(&self) -> u64
+        ensures many { result ≡ length self.now.indexes }
+        ensures own { IsSublist self.now.indexes (entry_indexes self.now.seen self.now.session) }
     {
-        self.receipts.as_slice()
-    }
-
-    /// The last receipt stands in a log.
-    pub(crate) fn stands_in(&self, log: &Log) -> bool
-        ensures stands { result ≡ true → LastStands log.now.entries self.now }
-        ensures apart { LastStands log.now.entries self.now → result ≡ true }
-    {
-        match self.receipts.as_slice().last() {
-            Some(receipt) => stands(log, self.session, receipt),
-            None => false,
-        }
+        self.calls
     }
 }

@@ -20,8 +20,9 @@ use std::sync::ledger::Blank;
 use std::thread;
 use std::thread::{Scope, Threads};
 use std::time::Clock;
+use vp_history::History;
 use vp_race::Gate;
-use vp_world::{Limits, World};
+use vp_world::{Entry, Limits, World};
 
 /// Starts the thread of the simulation and those of the workers, and reports whether all could be started.
 fn start<
@@ -67,6 +68,7 @@ fn serve_world<L: NamesOpening + Send + Sync, R: Threads + Wait + Clock + Sync, 
     rt: &R,
     alloc: Global,
     blank: Blank,
+    history: History<Entry>,
     world: World,
     settings: Settings,
     listener: &TcpListener,
@@ -77,10 +79,12 @@ fn serve_world<L: NamesOpening + Send + Sync, R: Threads + Wait + Clock + Sync, 
     requires room { blank.parts ≡ world.opening.limits.log + 1 }
     requires opening { world.opening ≡ L.opening }
     requires empty { world.log ≡ [] }
+    requires history { history.name ≡ L.history }
+    requires begins { history.entries ≡ [] }
     ensures closed { IfOk result
         (λ closed. (passes : List Passed) × IsClosed world.opening passes closed) }
 {
-    let hub = Hub::new(alloc, Desk::<L>::new(alloc, blank, world));
+    let hub = Hub::new(alloc, Desk::<L>::new(alloc, blank, history, world));
     let service = Service::new(alloc, settings, hub, gate);
     if !run(rt, &service, listener) {
         return Err(ServerError::NoThread);
@@ -113,5 +117,6 @@ where
         (λ closed. (passes : List Passed) × IsClosed world.opening passes closed) }
 {
     let blank = Blank::new((limits.log as u64) + 1);
-    serve_world::<Brand, R, G>(rt, alloc, blank, world, settings, listener, gate)
+    let history = History::new();
+    serve_world::<Brand, R, G>(rt, alloc, blank, history, world, settings, listener, gate)
 }

@@ -5,6 +5,7 @@ use crate::settings::Settings;
 use std::alloc::Global;
 use std::sync::Mutex;
 use std::sync::atomic::{AtomicBool, AtomicUsize};
+use std::thread::Parker;
 
 /// What the threads of a server share.
 #[derive(Drop)]
@@ -17,6 +18,8 @@ pub(crate) struct Service<'a, L: NamesOpening, G> {
     pub(crate) passes: Mutex<Passes<L>>,
     /// So many connections are open.
     pub(crate) connections: AtomicUsize,
+    /// The simulation's thread rests on it while nothing is left to do.
+    pub(crate) simulation: Parker,
     /// The simulation and the workers are to end.
     pub(crate) ending: AtomicBool,
 }
@@ -36,6 +39,7 @@ impl<'a, L: NamesOpening, G> Service<'a, L, G> {
             gate,
             passes: Mutex::new(Passes::new(alloc)),
             connections: AtomicUsize::new(0),
+            simulation: Parker::new(),
             ending: AtomicBool::new(false),
         }
     }

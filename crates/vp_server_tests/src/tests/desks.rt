@@ -7,7 +7,7 @@ use std::alloc::Global;
 use std::marker::Brand;
 use std::sync::ledger::Blank;
 use vp_answer::{Call, Query};
-use vp_hub::{Desk, NamesOpening, Pass};
+use vp_hub::{Desk, History, NamesOpening, Pass};
 use vp_text::Text;
 use vp_world::{Entry, Event, LoggedEvent, World};
 
@@ -66,6 +66,7 @@ fn refusals_at<L: NamesOpening>(
 fn refusals_of<L: NamesOpening>(
     alloc: Global,
     blank: Blank,
+    history: History<Entry>,
     world: World,
 ) -> Option<((u32, u32), [(u32, u32); 3], bool)>
     requires name { blank.name ≡ L.name }
@@ -73,8 +74,10 @@ fn refusals_of<L: NamesOpening>(
     requires room { blank.parts ≡ world.opening.limits.log + 1 }
     requires opening { world.opening ≡ L.opening }
     requires empty { world.log ≡ [] }
+    requires history { history.name ≡ L.history }
+    requires begins { history.entries ≡ [] }
 {
-    let mut desk = Desk::<L>::new(alloc, blank, world);
+    let mut desk = Desk::<L>::new(alloc, blank, history, world);
     let refusals = refusals_at(alloc, &mut desk);
     drop(desk);
     refusals
@@ -83,7 +86,7 @@ fn refusals_of<L: NamesOpening>(
 /// The same at a new desk whose log holds two entries.
 fn refusals(alloc: Global) -> Option<((u32, u32), [(u32, u32); 3], bool)> {
     let world = world_of(alloc, CLOCKED, USERS, 2)?;
-    refusals_of::<Brand>(alloc, blank_of(2), world)
+    refusals_of::<Brand>(alloc, blank_of(2), History::new(), world)
 }
 
 #[test]

@@ -11,7 +11,7 @@ use std::sync::ledger::Blank;
 use std::thread;
 use std::thread::Threads;
 use vp_answer::{Call, Query};
-use vp_hub::{Closed, Desk, Hub, NamesOpening, Pass};
+use vp_hub::{Closed, Desk, History, Hub, NamesOpening, Pass};
 use vp_world::{Entry, Log, LoggedEvent, World};
 
 /// The log holds so many entries: enough that the simulation is not over before a thread that was woken comes to run.
@@ -67,6 +67,7 @@ fn end_anew_of<L: NamesOpening + Send + Sync, R: Threads + Wait + Sync>(
     rt: &R,
     alloc: Global,
     blank: Blank,
+    history: History<Entry>,
     world: World,
 ) -> Option<Ended>
     requires name { blank.name ≡ L.name }
@@ -74,8 +75,10 @@ fn end_anew_of<L: NamesOpening + Send + Sync, R: Threads + Wait + Sync>(
     requires room { blank.parts ≡ world.opening.limits.log + 1 }
     requires opening { world.opening ≡ L.opening }
     requires empty { world.log ≡ [] }
+    requires history { history.name ≡ L.history }
+    requires begins { history.entries ≡ [] }
 {
-    let hub = Hub::<L>::new(alloc, Desk::<L>::new(alloc, blank, world));
+    let hub = Hub::<L>::new(alloc, Desk::<L>::new(alloc, blank, history, world));
     let pass = open(rt, &hub, alloc, "ann", "t1")?;
     let pass = order(rt, &hub, pass, Query::Run { until: UNTIL })?;
     let stage = Stage::new(alloc, hub);
@@ -93,7 +96,7 @@ fn end_anew_of<L: NamesOpening + Send + Sync, R: Threads + Wait + Sync>(
 /// The same of a new hub.
 fn end_anew<R: Threads + Wait + Sync>(rt: &R, alloc: Global) -> Option<Ended> {
     let world = world_of(alloc, ENDLESS, TWO_USERS, ENTRIES)?;
-    end_anew_of::<Brand, R>(rt, alloc, blank_of(ENTRIES), world)
+    end_anew_of::<Brand, R>(rt, alloc, blank_of(ENTRIES), History::new(), world)
 }
 
 /// An entry is of the simulation.

@@ -13,10 +13,10 @@ use std::thread;
 use std::thread::Threads;
 use std::time::Clock;
 use vp_answer::{GrantChange, Query, Reply};
-use vp_hub::{Closed, Desk, Hub, NamesOpening, Pass};
+use vp_hub::{Closed, Desk, History, Hub, NamesOpening, Pass};
 use vp_policy::Access;
 use vp_text::Text;
-use vp_world::World;
+use vp_world::{Entry, World};
 
 /// The log holds so many entries.
 const ENTRIES: u32 = 4_096;
@@ -147,6 +147,7 @@ fn end_anew_of<L: NamesOpening + Send + Sync, R: Threads + Wait + Clock + Sync>(
     rt: &R,
     alloc: Global,
     blank: Blank,
+    history: History<Entry>,
     world: World,
 ) -> Option<Ended>
     requires name { blank.name ≡ L.name }
@@ -154,8 +155,10 @@ fn end_anew_of<L: NamesOpening + Send + Sync, R: Threads + Wait + Clock + Sync>(
     requires room { blank.parts ≡ world.opening.limits.log + 1 }
     requires opening { world.opening ≡ L.opening }
     requires empty { world.log ≡ [] }
+    requires history { history.name ≡ L.history }
+    requires begins { history.entries ≡ [] }
 {
-    let hub = Hub::<L>::new(alloc, Desk::<L>::new(alloc, blank, world));
+    let hub = Hub::<L>::new(alloc, Desk::<L>::new(alloc, blank, history, world));
     let pass = begin(rt, &hub, alloc)?;
     let stage = Stage::new(alloc, hub);
     let (told, grants) = beside(rt, &stage, pass)?;
@@ -169,7 +172,7 @@ fn end_anew_of<L: NamesOpening + Send + Sync, R: Threads + Wait + Clock + Sync>(
 /// The same of a new hub.
 fn end_anew<R: Threads + Wait + Clock + Sync>(rt: &R, alloc: Global) -> Option<Ended> {
     let world = world_of(alloc, CLOCKED, OPERATED, ENTRIES)?;
-    end_anew_of::<Brand, R>(rt, alloc, blank_of(ENTRIES), world)
+    end_anew_of::<Brand, R>(rt, alloc, blank_of(ENTRIES), History::new(), world)
 }
 
 #[test]

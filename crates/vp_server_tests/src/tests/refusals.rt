@@ -8,9 +8,9 @@ use std::marker::Brand;
 use std::sync::Wait;
 use std::sync::ledger::Blank;
 use vp_answer::{Call, Query};
-use vp_hub::{Desk, Hub, NamesOpening, Pass};
+use vp_hub::{Desk, History, Hub, NamesOpening, Pass};
 use vp_text::Text;
-use vp_world::World;
+use vp_world::{Entry, World};
 
 /// The numbers of the refusal of an opening by another token than Ann's.
 fn opening<L: NamesOpening, R: Wait>(rt: &R, hub: &Hub<L>, alloc: Global) -> Option<(u32, u32)> {
@@ -51,6 +51,7 @@ fn refusals_of<L: NamesOpening, R: Wait>(
     rt: &R,
     alloc: Global,
     blank: Blank,
+    history: History<Entry>,
     world: World,
 ) -> Option<[(u32, u32); 3]>
     requires name { blank.name ≡ L.name }
@@ -58,8 +59,10 @@ fn refusals_of<L: NamesOpening, R: Wait>(
     requires room { blank.parts ≡ world.opening.limits.log + 1 }
     requires opening { world.opening ≡ L.opening }
     requires empty { world.log ≡ [] }
+    requires history { history.name ≡ L.history }
+    requires begins { history.entries ≡ [] }
 {
-    let hub = Hub::<L>::new(alloc, Desk::<L>::new(alloc, blank, world));
+    let hub = Hub::<L>::new(alloc, Desk::<L>::new(alloc, blank, history, world));
     let opening = opening(rt, &hub, alloc)?;
     let (pass, calling) = calling(rt, &hub, alloc)?;
     Some([opening, calling, closing(rt, hub, alloc, pass)?])
@@ -68,7 +71,7 @@ fn refusals_of<L: NamesOpening, R: Wait>(
 /// The same of a new hub.
 fn refusals_anew<R: Wait>(rt: &R, alloc: Global) -> Option<[(u32, u32); 3]> {
     let world = world_of(alloc, CLOCKED, USERS, 16)?;
-    refusals_of::<Brand, R>(rt, alloc, blank_of(16), world)
+    refusals_of::<Brand, R>(rt, alloc, blank_of(16), History::new(), world)
 }
 
 #[test]

@@ -13,9 +13,9 @@ use std::thread::Threads;
 use std::time::{Clock, Duration};
 use vp_answer::Query;
 use vp_bits::Bits;
-use vp_hub::{Desk, Hub, NamesOpening, Pass, Ran, Worked};
+use vp_hub::{Desk, History, Hub, NamesOpening, Pass, Ran, Worked};
 use vp_race::{Gate, OpenGate};
-use vp_world::World;
+use vp_world::{Entry, World};
 
 /// The log holds so many entries.
 const ENTRIES: u32 = 256;
@@ -138,6 +138,7 @@ fn work_of<L: NamesOpening + Send + Sync, R: Threads + Wait + Clock + Copy + Sen
     rt: &R,
     alloc: Global,
     blank: Blank,
+    history: History<Entry>,
     world: World,
 ) -> Option<(Ran, [Worked; 3])>
     requires name { blank.name ≡ L.name }
@@ -145,9 +146,11 @@ fn work_of<L: NamesOpening + Send + Sync, R: Threads + Wait + Clock + Copy + Sen
     requires room { blank.parts ≡ world.opening.limits.log + 1 }
     requires opening { world.opening ≡ L.opening }
     requires empty { world.log ≡ [] }
+    requires history { history.name ≡ L.history }
+    requires begins { history.entries ≡ [] }
 {
     let search = HeldSearch {
-        hub: Hub::<L>::new(alloc, Desk::<L>::new(alloc, blank, world)),
+        hub: Hub::<L>::new(alloc, Desk::<L>::new(alloc, blank, history, world)),
         gate: held_gate(*rt),
     };
     let (pass, ran, jobs) = work(rt, &search, alloc)?;
@@ -161,7 +164,7 @@ fn work_anew<R: Threads + Wait + Clock + Copy + Send + Sync>(
     alloc: Global,
 ) -> Option<(Ran, [Worked; 3])> {
     let world = world_of(alloc, SWAPPED, TWO_USERS, ENTRIES)?;
-    work_of::<Brand, R>(rt, alloc, blank_of(ENTRIES), world)
+    work_of::<Brand, R>(rt, alloc, blank_of(ENTRIES), History::new(), world)
 }
 
 /// What a job comes to.

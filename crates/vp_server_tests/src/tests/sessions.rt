@@ -14,7 +14,7 @@ use std::time::Clock;
 use vp_answer::{Query, Reply, SessionId};
 use vp_bits::Bits;
 use vp_elab::ObjectId;
-use vp_hub::{Closed, Desk, Hub, NamesOpening, Pass};
+use vp_hub::{Closed, Desk, History, Hub, NamesOpening, Pass};
 use vp_vpi::PutValue;
 use vp_world::{Entry, Log, LoggedEvent, World};
 
@@ -134,6 +134,7 @@ fn end_anew_of<L: NamesOpening + Send + Sync, R: Threads + Wait + Clock + Sync>(
     rt: &R,
     alloc: Global,
     blank: Blank,
+    history: History<Entry>,
     world: World,
 ) -> Option<Ended>
     requires name { blank.name ≡ L.name }
@@ -141,10 +142,12 @@ fn end_anew_of<L: NamesOpening + Send + Sync, R: Threads + Wait + Clock + Sync>(
     requires room { blank.parts ≡ world.opening.limits.log + 1 }
     requires opening { world.opening ≡ L.opening }
     requires empty { world.log ≡ [] }
+    requires history { history.name ≡ L.history }
+    requires begins { history.entries ≡ [] }
 {
     let stage = Stage::new(
         alloc,
-        Hub::<L>::new(alloc, Desk::<L>::new(alloc, blank, world)),
+        Hub::<L>::new(alloc, Desk::<L>::new(alloc, blank, history, world)),
     );
     let (first, second) = of_ann(rt, &stage)?;
     end(stage.into_hub(), alloc, first, second)
@@ -153,7 +156,7 @@ fn end_anew_of<L: NamesOpening + Send + Sync, R: Threads + Wait + Clock + Sync>(
 /// The same of a new hub.
 fn end_anew<R: Threads + Wait + Clock + Sync>(rt: &R, alloc: Global) -> Option<Ended> {
     let world = world_of(alloc, CLOCKED, USERS, ENTRIES)?;
-    end_anew_of::<Brand, R>(rt, alloc, blank_of(ENTRIES), world)
+    end_anew_of::<Brand, R>(rt, alloc, blank_of(ENTRIES), History::new(), world)
 }
 
 /// The value that a query gives `c`, if it is a put.

@@ -1,6 +1,5 @@
 use Rattle.std.proofs.Common.{◌≡◌, ◌∙◌, ◌∷◌, ◌++◌, [], Some, ap, sym}
 use Rattle.std.specs.Prelude.{slice_get}
-use Rattle.std.proofs.lemmas.Option.{slice_get-get_or}
 use Rattle.vp_world.specs.Entries.{Entry}
 use Rattle.vp_hub.proofs.Closings.{own_more, own_same}
 use Rattle.vp_hub.proofs.close.entry_indexes.Goals.{then-is_own+in_ok-push, else-is_own}

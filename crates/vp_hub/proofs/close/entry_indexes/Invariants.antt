@@ -1,6 +1,6 @@
 use Rattle.std.proofs.Common.{◌≡◌, filter}
 use Rattle.vp_elab.specs.Tree.{below}
-use Rattle.vp_hub.specs.Closing.{is_own_at}
+use Rattle.vp_hub.specs.Calls.{is_own_at}
 use Rattle.vp_hub.proofs.close.entry_indexes.Given as goal
 
 -- the indexes so far

@@ -7,11 +7,11 @@ use Rattle.vp_hub.specs.Desks.{refusal_of, out_of_memory}
 use Rattle.vp_hub.proofs.Explaining.{explains}
 use Rattle.vp_hub.proofs.desk.Desk.event.Goals as goal
 
-pub returns-in_err-apply-clause-refused : goal.returns-in_err-apply-clause-refused
-returns-in_err-apply-clause-refused g c =
+pub returns-in_err-reply-clause-refused : goal.returns-in_err-reply-clause-refused
+returns-in_err-reply-clause-refused g c =
     let happens = c.args.event in
     let w = c.args.self.now.world in
-    let e = c.in_err-apply.field-0.0 in
+    let e = c.in_err-reply.field-0.0 in
     let is : c.from_residual.result ≡ Err (World e) = search rules in
     let why : Explains NoMemory (refused_by w happens) e = search rules in
     subst (λ r. IfErr r (Explains out_of_memory (refusal_of c.args.self.now happens))) (sym is) (explains (refused_by w happens) e why)

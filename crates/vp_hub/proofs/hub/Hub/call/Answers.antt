@@ -1,6 +1,5 @@
-use Rattle.vp_hub.specs.declared.receipt.SessionRequest.TheVariants as request
 use Rattle.vp_hub.proofs.Receiving.{answered}
 use Rattle.vp_hub.proofs.hub.Hub.call.Goals as goal
 
 pub returns : goal.returns
-returns g c = answered g.L.NamesOpening.opening c.deref_mut.result.now c.call.new.self c.args.pass c.call.result.0 (request.Call c.args.call) c.call.result.1 c.call.ensures.called c.call.ensures.legal
+returns g c = answered g.L.NamesOpening.opening c.deref_mut.result.now c.call.new.self c.args.pass c.call.result.0 c.args.call c.call.result.1 c.call.ensures.called c.call.ensures.legal

@@ -9,5 +9,5 @@ pub returns : goal.returns
 returns g c =
     let opens = c.in_ok-pass.ensures {u = tt} in
     let log = c.log-log.ensures.log ∙ ap (λ (d : Desked). d.world.log) c.deref.ensures in
-    opened g.L.NamesOpening.opening c.deref_mut.result.now c.open.new.self c.in_ok-pass.pass c.args.user c.args.token opens.desk opens.session opens.receipts opens.share
+    opened g.L.NamesOpening.opening c.deref_mut.result.now c.open.new.self c.in_ok-pass.pass c.args.user c.args.token opens.desk opens.session opens.indexes opens.seen opens.share
     (subst (λ (l : List Entry). IsLegal g.L.NamesOpening.opening [] l) log c.log-log.ensures.legal)
